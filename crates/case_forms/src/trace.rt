@@ -1,0 +1,162 @@
+//! The header and the event lines of a trace.
+
+ghost use Rattle.std.specs.Prelude.{◌≡◌, [], ◌∷◌, ◌++◌, IfOk, OnOk, OnErr};
+ghost use Rattle.case_forms.specs.Traces.{first_event_line};
+
+use crate::calls::{Answer, Call};
+use crate::OutOfMemory;
+use std::alloc::Global;
+use std::marker::Model;
+
+/// Byte columns of a line, from 0, half open. Lines are counted from 1.
+#[derive(Clone, Copy, Debug, PartialEq, Eq)]
+pub struct Span {
+    pub line: u64,
+    pub start: usize,
+    pub stop: usize,
+}
+
+/// What a trace says before its event lines. Times are microseconds.
+#[derive(Clone, Copy, Debug, PartialEq, Eq)]
+pub struct Header {
+    /// By how much a step may be later than its line, 0 to 10^9.
+    pub skew: u64,
+    /// The maximum segment lifetime (RFC 9293, 3.4.2), 1 to 3600000000.
+    pub msl: u64,
+    /// The clock granularity of the retransmission timer (RFC 6298, 2), 0 to 60000000.
+    pub grain: u64,
+    /// The least retransmission timeout (RFC 6298, 2.4), 0 to 60000000.
+    pub minrto: u64,
+    /// How many children a listen queue may hold above its backlog.
+    pub extra: u16,
+}
+
+impl Header {
+    /// The number of the first event line, which stands behind the lines of the header.
+    pub fn first_event_line(&self) -> u64
+        ensures { result ≡ first_event_line self.now }
+    {
+        7
+    }
+}
+
+/// What a line of a trace tells.
+#[derive(Debug, PartialEq, Eq, Drop)]
+pub enum Event {
+    /// `B`: the thread begins a call.
+    CallBegin(Call),
+    /// `E`: its open call ends with this answer.
+    CallEnd(Answer),
+}
+
+impl Event {
+    /// An equal event.
+    pub fn copy(&self) -> Result<Event, OutOfMemory>
+        ensures { IfOk result (λ event. event ≡ self.now) }
+    {
+        match self {
+            Event::CallBegin(call) => Ok(Event::CallBegin(call.copy()?)),
+            Event::CallEnd(answer) => Ok(Event::CallEnd(answer.copy()?)),
+        }
+    }
+}
+
+/// An event line of a trace.
+#[derive(Debug, PartialEq, Eq, Drop)]
+pub struct Line {
+    /// Its number among all lines of the trace, the header's too.
+    pub number: u64,
+    /// When it was recorded, in microseconds.
+    pub moment: u64,
+    pub thread: u32,
+    pub event: Event,
+    /// The whole line, without its end.
+    pub span: Span,
+}
+
+impl Line {
+    /// An equal line.
+    pub fn copy(&self) -> Result<Line, OutOfMemory>
+        ensures { IfOk result (λ line. line ≡ self.now) }
+    {
+        Ok(Line {
+            number: self.number,
+            moment: self.moment,
+            thread: self.thread,
+            event: self.event.copy()?,
+            span: self.span,
+        })
+    }
+}
+
+/// The event lines of a trace, which contracts see as a list.
+#[derive(Drop)]
+pub struct Lines {
+    items: Vec<Line>,
+}
+
+impl Model for Lines {
+    ghost use Rattle.std.specs.Prelude.{List};
+    ghost use Rattle.case_forms.specs.declared.trace.Line.{Line};
+
+    ghost Value = { List Line };
+
+    ghost view = { λ a. a.items.items };
+}
+
+impl Lines {
+    /// No lines.
+    pub fn new(alloc: Global) -> Self
+        ensures { result ≡ [] }
+    {
+        Lines {
+            items: Vec::new(alloc),
+        }
+    }
+
+    /// One more line at the end. Where memory runs out the lines are as they were.
+    pub fn push(&mut self, line: Line) -> Result<(), OutOfMemory>
+        ensures ok { OnOk result (self.new ≡ self.old ++ line ∷ []) }
+        ensures err { OnErr result (self.new ≡ self.old) }
+    {
+        self.items.push(line)?;
+        Ok(())
+    }
+
+    /// The lines in their order.
+    pub fn as_slice(&self) -> &[Line]
+        ensures { result.now ≡ self.now }
+    {
+        self.items.as_slice()
+    }
+
+    /// The same lines again.
+    pub fn copy(&self) -> Result<Lines, OutOfMemory>
+        ensures { IfOk result (λ lines. lines ≡ self.now) }
+    {
+        let mut copied = Lines::new(*self.items.allocator());
+        for line in self.items.as_slice() {
+            copied.push(line.copy()?)?;
+        }
+        Ok(copied)
+    }
+}
+
+/// A trace: its header and its event lines.
+#[derive(Drop)]
+pub struct Trace {
+    pub header: Header,
+    pub lines: Lines,
+}
+
+impl Trace {
+    /// An equal trace.
+    pub fn copy(&self) -> Result<Trace, OutOfMemory>
+        ensures { IfOk result (λ trace. trace ≡ self.now) }
+    {
+        Ok(Trace {
+            header: self.header,
+            lines: self.lines.copy()?,
+        })
+    }
+}

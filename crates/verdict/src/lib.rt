@@ -1,0 +1,6 @@
+//! Verdicts, and the rules that they name.
+#![tactic(auto)]
+
+mod rule;
+
+pub use rule::Rule;
