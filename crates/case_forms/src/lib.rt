@@ -5,15 +5,18 @@
 //!
 //! - `calls`: hosts, socket calls, their answers, and the states of an endpoint (RFC 9293, 3.3.2)
 //! - `trace`: spans, the header, event lines, and a whole trace
+//! - `timer`: the timers of an endpoint
 //! - `steps`: the labels and steps of a witness, and a whole witness
 #![tactic(auto)]
 
 mod calls;
 mod steps;
+mod timer;
 mod trace;
 
 pub use calls::{Answer, Call, Host, State};
 pub use steps::{Extras, Label, Step, Steps, Witness};
+pub use timer::Timer;
 pub use trace::{Event, Header, Line, Lines, Span, Trace};
 
 /// Memory ran out. Nothing was changed.

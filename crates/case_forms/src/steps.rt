@@ -3,9 +3,9 @@
 ghost use Rattle.std.specs.Prelude.{◌≡◌, [], ◌∷◌, ◌++◌, IfOk, OnOk, OnErr};
 ghost use Rattle.case_forms.specs.Steps.{extras_count};
 
+use crate::OutOfMemory;
 use crate::calls::Answer;
 use crate::trace::Span;
-use crate::OutOfMemory;
 use std::alloc::Global;
 use std::marker::Model;
 

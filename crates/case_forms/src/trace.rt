@@ -3,8 +3,8 @@
 ghost use Rattle.std.specs.Prelude.{◌≡◌, [], ◌∷◌, ◌++◌, IfOk, OnOk, OnErr};
 ghost use Rattle.case_forms.specs.Traces.{first_event_line};
 
-use crate::calls::{Answer, Call};
 use crate::OutOfMemory;
+use crate::calls::{Answer, Call};
 use std::alloc::Global;
 use std::marker::Model;
 

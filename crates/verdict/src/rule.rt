@@ -1,8 +1,9 @@
 //! The rules that a step may break, by name, in the order in which they are asked.
 
-ghost use Rattle.std.specs.Prelude.{◌≡◌};
+ghost use Rattle.std.specs.Prelude.{◌≡◌, ◌≤◌, Some, length};
 ghost use Rattle.verdict.specs.Rules.{rule_name};
 
+use std::fmt;
 
 /// A rule of the order of lines (the first six) or of the machine. Where a step breaks several, the first of this
 /// list is named.
@@ -91,7 +92,8 @@ pub enum Rule {
 impl Rule {
     /// The rule's name, as a verdict prints it.
     pub fn name(self) -> &'static str
-        ensures { result.now ≡ rule_name self }
+        ensures name { result.now ≡ rule_name self }
+        ensures short { length result.now ≤ 14 }
     {
         match self {
             Rule::LineRange => "line-range",
@@ -134,5 +136,13 @@ impl Rule {
             Rule::ScaleUnread => "scale-unread",
             Rule::Unplaced => "unplaced",
         }
+    }
+}
+
+impl fmt::Display for Rule {
+    ghost output = { λ rule. Some (rule_name rule) };
+
+    fn fmt<W: fmt::Write>(&self, f: &mut fmt::Formatter<W>) -> fmt::Result {
+        f.write_str(self.name())
     }
 }
