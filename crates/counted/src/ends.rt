@@ -1,0 +1,232 @@
+//! A reader or a writer beside its count of failures.
+
+ghost use Rattle.std.specs.Prelude.{◌≡◌, ◌≤◌, ◌^◌};
+
+use std::io;
+use std::io::{BufRead, ErrorKind, Read, Write};
+
+// After so many calls each fails.
+const MOST_CALLS: u64 = 1 << 50;
+
+// The count of failures stays here.
+const MOST_FAILURES: u64 = 1 << 60;
+
+/// A reader or a writer that counts the reads and writes that failed, its own refusals among them: after 2^50 calls
+/// each fails, and so does a write that takes none of its bytes. Nothing else is counted.
+#[derive(Drop)]
+pub struct Counted<X> {
+    inner: X,
+    calls: u64,
+    failures: u64,
+    ghost callable: { calls ≤ 2 ^ 50 },
+    ghost at_most: { failures ≤ 2 ^ 60 },
+}
+
+// The error of a call past the last that may be made.
+fn spent() -> io::Error {
+    io::Error::new(ErrorKind::Other, "too many calls")
+}
+
+// The error of a write that takes none of its bytes.
+fn nothing_taken() -> io::Error {
+    io::Error::new(ErrorKind::WriteZero, "nothing was taken")
+}
+
+impl<X> Counted<X> {
+    ghost use Rattle.std.specs.Prelude.{◌<◌, ◌↔◌, IsTrue};
+    ghost use Rattle.counted.specs.Counting.{failures_of, calls_of, one_call_more, inner_of, one_more, Counts};
+
+    /// A reader or a writer of which nothing has failed.
+    pub fn new(inner: X) -> Counted<X>
+        ensures inner { inner_of result ≡ inner }
+        ensures none { failures_of result ≡ 0 }
+        ensures uncalled { calls_of result ≡ 0 }
+    {
+        Counted {
+            inner,
+            calls: 0,
+            failures: 0,
+        }
+    }
+
+    /// How many reads and writes failed; at 2^60 the count stays.
+    pub fn failures(&self) -> u64
+        ensures { result ≡ failures_of self.now }
+    {
+        self.failures
+    }
+
+    // The answer of a read or write, which is counted where it failed.
+    fn tallied<T>(&mut self, answer: io::Result<T>) -> io::Result<T>
+        ensures answer { result ≡ answer }
+        ensures inner { inner_of self.new ≡ inner_of self.old }
+        ensures calls { calls_of self.new ≡ calls_of self.old }
+        ensures counts { Counts result (failures_of self.old) (failures_of self.new) }
+    {
+        if answer.is_err() {
+            self.count_failure();
+        }
+        answer
+    }
+
+    // One failure more.
+    fn count_failure(&mut self)
+        ensures inner { inner_of self.new ≡ inner_of self.old }
+        ensures calls { calls_of self.new ≡ calls_of self.old }
+        ensures one { failures_of self.new ≡ one_more (failures_of self.old) }
+    {
+        self.failures = (self.failures + 1).min(MOST_FAILURES);
+    }
+
+    // Whether one more call may be made, which is counted.
+    fn may_call(&mut self) -> bool
+        ensures may { IsTrue result ↔ (calls_of self.old < 2 ^ 50) }
+        ensures calls { calls_of self.new ≡ one_call_more (calls_of self.old) }
+        ensures inner { inner_of self.new ≡ inner_of self.old }
+        ensures same { failures_of self.new ≡ failures_of self.old }
+    {
+        if self.calls >= MOST_CALLS {
+            return false;
+        }
+        self.calls += 1;
+        true
+    }
+}
+
+impl<R: Read> Read for Counted<R> {
+    ghost use Rattle.std.specs.Prelude.{◌≡◌, ◌≤◌, ◌^◌, IsErr};
+    ghost use Rattle.std.specs.Io.{ReadsAtMost};
+    ghost use Rattle.std.specs.Io.KnownBytes.{ReadConsumes};
+    ghost use Rattle.counted.specs.Counting.{left_of, failures_of, calls_of, one_call_more, Counts};
+
+    ghost remaining = { left_of R.remaining };
+
+    fn read(&mut self, buf: &mut [u8]) -> io::Result<usize>
+        ensures bound { ReadsAtMost result buf.new }
+        ensures bytes { ReadConsumes (left_of R.remaining self.old) (left_of R.remaining self.new) result buf.new }
+        ensures counts { Counts result (failures_of self.old) (failures_of self.new) }
+        ensures spent { 2 ^ 50 ≤ calls_of self.old → IsErr result }
+        ensures calls { calls_of self.new ≡ one_call_more (calls_of self.old) }
+    {
+        if !self.may_call() {
+            return self.tallied(Err(spent()));
+        }
+        let answer = self.inner.read(buf);
+        self.tallied(answer)
+    }
+}
+
+impl<W: Write> Write for Counted<W> {
+    ghost use Rattle.std.specs.Prelude.{◌≡◌, ◌≤◌, ◌^◌, IsErr, IfOk, OnOk, ◌<◌, length};
+    ghost use Rattle.std.specs.Io.{WritesAtMost};
+    ghost use Rattle.std.specs.Io.KnownBytes.{WriteAppends, Keeps, Appends};
+    ghost use Rattle.counted.specs.Counting.{left_of, failures_of, calls_of, one_call_more, Counts};
+
+    ghost contents = { left_of W.contents };
+
+    fn write(&mut self, buf: &[u8]) -> io::Result<usize>
+        ensures bound { WritesAtMost result buf.now }
+        ensures bytes { WriteAppends (left_of W.contents self.old) (left_of W.contents self.new) result buf.now }
+        ensures counts { Counts result (failures_of self.old) (failures_of self.new) }
+        ensures takes { IfOk result (λ n. 0 < length buf.now → 0 < n) }
+        ensures spent { 2 ^ 50 ≤ calls_of self.old → IsErr result }
+        ensures calls { calls_of self.new ≡ one_call_more (calls_of self.old) }
+    {
+        if !self.may_call() {
+            return self.tallied(Err(spent()));
+        }
+        let answer = match self.inner.write(buf) {
+            Ok(0) if !buf.is_empty() => Err(nothing_taken()),
+            answer => answer,
+        };
+        self.tallied(answer)
+    }
+
+    // It ends at the first call that fails, an interrupted one too.
+    fn write_all(&mut self, buf: &[u8]) -> io::Result<()>
+        ensures bytes { OnOk result (Appends (left_of W.contents self.old) (left_of W.contents self.new) buf.now) }
+        ensures counts { Counts result (failures_of self.old) (failures_of self.new) }
+    {
+        let mut at = 0;
+        while at < buf.len() {
+            at += self.write(&buf[at..])?;
+        }
+        Ok(())
+    }
+
+    fn flush(&mut self) -> io::Result<()>
+        ensures bytes { Keeps (left_of W.contents self.old) (left_of W.contents self.new) }
+        ensures counts { Counts result (failures_of self.old) (failures_of self.new) }
+        ensures spent { 2 ^ 50 ≤ calls_of self.old → IsErr result }
+        ensures calls { calls_of self.new ≡ one_call_more (calls_of self.old) }
+    {
+        if !self.may_call() {
+            return self.tallied(Err(spent()));
+        }
+        let answer = self.inner.flush();
+        self.tallied(answer)
+    }
+}
+
+/// Why not all was read.
+#[derive(Clone, Copy, Debug, PartialEq, Eq)]
+pub enum ReadFault {
+    /// A read failed, and was counted.
+    Read,
+    /// The bytes that were read found no memory. Nothing was counted.
+    OutOfMemory,
+}
+
+impl<B: BufRead> Counted<B> {
+    ghost use Rattle.std.specs.Prelude.{◌≡◌, ◌≤◌, ◌^◌, OnOk, IfSome, OnSome, ◌++◌, true};
+    ghost use Rattle.std.specs.Io.{StartsWith, appended_bytes};
+    ghost use Rattle.std.specs.Io.KnownBytes.{Consumes, IsAtEnd};
+    ghost use Rattle.counted.specs.Counting.{left_of, failures_of, calls_of, one_call_more, one_more};
+
+    /// Appends what one read gives, and says whether the input is at its end, where it gives nothing.
+    pub fn append_piece(&mut self, buf: &mut Vec<u8>) -> Result<bool, ReadFault>
+        ensures appends { StartsWith buf.new.items buf.old.items }
+        ensures bytes { Consumes (left_of B.remaining self.old) (left_of B.remaining self.new) (appended_bytes buf.old.items buf.new.items) }
+        ensures end { result ≡ Ok true → OnSome (left_of B.remaining self.old) (IsAtEnd (left_of B.remaining self.new)) }
+        ensures ok { OnOk result (failures_of self.new ≡ failures_of self.old) }
+        ensures read { result ≡ Err ReadFault.Read → failures_of self.new ≡ one_more (failures_of self.old) }
+        ensures memory { result ≡ Err ReadFault.OutOfMemory → failures_of self.new ≡ failures_of self.old }
+        ensures spent { 2 ^ 50 ≤ calls_of self.old → result ≡ Err ReadFault.Read }
+        ensures calls { calls_of self.new ≡ one_call_more (calls_of self.old) }
+    {
+        if !self.may_call() {
+            self.count_failure();
+            return Err(ReadFault::Read);
+        }
+        let available = match self.inner.fill_buf() {
+            Ok(available) => available,
+            Err(_) => {
+                self.count_failure();
+                return Err(ReadFault::Read);
+            }
+        };
+        let count = available.len();
+        if buf.extend_from_slice(available).is_err() {
+            return Err(ReadFault::OutOfMemory);
+        }
+        self.inner.consume(count);
+        Ok(count == 0)
+    }
+
+    /// Appends all that is left to read. At an error `buf` has what was read before it.
+    pub fn append_all(&mut self, buf: &mut Vec<u8>) -> Result<(), ReadFault>
+        ensures appends { StartsWith buf.new.items buf.old.items }
+        ensures bytes { OnOk result (IfSome (left_of B.remaining self.old) (λ xs. buf.new.items ≡ buf.old.items ++ xs)) }
+        ensures ok { OnOk result (failures_of self.new ≡ failures_of self.old) }
+        ensures read { result ≡ Err ReadFault.Read → failures_of self.new ≡ one_more (failures_of self.old) }
+        ensures memory { result ≡ Err ReadFault.OutOfMemory → failures_of self.new ≡ failures_of self.old }
+    {
+        for _ in 0..MOST_CALLS {
+            if self.append_piece(buf)? {
+                return Ok(());
+            }
+        }
+        self.count_failure();
+        Err(ReadFault::Read)
+    }
+}

@@ -1,0 +1,72 @@
+-- A word in a choice of words, and what follows it.
+use Rattle.std.proofs.Common.{◌≡◌, ℕ, List, [], ◌∷◌, ◌++◌, Bool, true, false, cond, Option, Some, None, Result, Ok, refl, sym, ap, ◌∙◌, subst}
+use Rattle.std.specs.Str.{bytes_eq}
+use Rattle.std.proofs.lemmas.Slice.Eq.{bytes_eq-Decides}
+use Rattle.line_fields.specs.declared.fault.TextFault.{TextFault}
+use Rattle.line_fields.specs.declared.fault.FaultKind.TheVariants.{Field}
+use Rattle.line_fields.specs.Word.{Rest}
+use Rattle.line_fields.specs.Reading.{◌>>=◌, fault_at, or_fault}
+use Rattle.line_fields.specs.Choice.{kind_named, kind_value, kind_field}
+use Rattle.line_fields.specs.Reader.{texts, IsReaderBefore, IsReader}
+use Rattle.line_fields.proofs.Readers.{IsValue, bind_ok, ok_is, reads_field, reads_as}
+
+-- each kind is found by its name: for a list of all kinds, whose names differ, by refl in each case
+abbrev pub AreNamed : {K : Type 0} → (K → List ℕ) → List K → Type 0
+AreNamed {K = K} name kinds = (k : K) → kind_named name kinds (name k) ≡ Some k
+
+abbrev some : {K : Type 0} → K → Option K
+some k = Some k
+
+some_is : {K : Type 0} (j k : K) → some j ≡ Some k → j ≡ k
+some_is j k e = cc
+
+named_test : {K : Type 0} (name : K → List ℕ) (j k : K) (ks : List K) (text : List ℕ) (b : Bool) → bytes_eq text (name j) ≡ b
+    → (kind_named name ks text ≡ Some k → text ≡ name k) → cond b (Some j) (kind_named name ks text) ≡ Some k → text ≡ name k
+named_test name j k ks text true hit others e = (bytes_eq-Decides text (name j)).0 hit ∙ ap name (some_is j k e)
+named_test name j k ks text false hit others e = others e
+
+named_takes : {K : Type 0} (name : K → List ℕ) (kinds : List K) (text : List ℕ) (k : K) → kind_named name kinds text ≡ Some k → text ≡ name k
+named_takes name [] text k e = absurd cc
+named_takes name (j ∷ ks) text k e = named_test name j k ks text (bytes_eq text (name j)) refl (λ h. named_takes name ks text k h) e
+
+or_fault_takes : {K : Type 0} (e : TextFault) (o : Option K) (k : K) → or_fault e o ≡ Ok k → o ≡ Some k
+or_fault_takes e (Some j) k h = ap some (ok_is j k h)
+or_fault_takes e None k h = absurd cc
+
+pub is_kind_value : {K : Type 0} (name : K → List ℕ) (kinds : List K) → AreNamed name kinds → IsValue (kind_value name kinds) (λ k text. text ≡ name k)
+is_kind_value name kinds named = record {
+  takes = λ w k e. named_takes name kinds w.text k (or_fault_takes (fault_at Field w) (kind_named name kinds w.text) k e);
+  again = λ w k v. ap (λ (t : List ℕ). or_fault (fault_at Field w) (kind_named name kinds t)) v ∙ ap (or_fault (fault_at Field w)) (named k);
+}
+
+-- the name of a kind
+pub reads_kind : {K : Type 0} (name : K → List ℕ) (kinds : List K) → AreNamed name kinds → IsReader (kind_field name kinds) (λ k ws. ws ≡ name k ∷ [])
+reads_kind name kinds named =
+    reads_as _ _ _ _ (reads_field (kind_value name kinds) (λ k text. text ≡ name k) (is_kind_value name kinds named))
+    (λ k ws s. s.2 ∙ ap (λ (t : List ℕ). t ∷ []) s.1)
+    (λ k ws s. (name k, refl, s))
+
+-- a value by the word that its fields begin with: read by cases on the word, spelled by cases on the value
+pub reads_choice : {K A : Type 0} (F : List (List ℕ) → Type 0) (name : K → List ℕ) (kinds : List K) → AreNamed name kinds
+    → (behind : K → Rest → Result (A × Rest) TextFault) (head : A → K) (tail : A → List (List ℕ)) (Fits : A → Type 0)
+    → ((k : K) (r : Rest) (x : A × Rest) → behind k r ≡ Ok x → Fits x.0 × (head x.0 ≡ k) × (texts r ≡ tail x.0 ++ texts x.1))
+    → ((a : A) (r : Rest) (more : List (List ℕ)) → F more → Fits a → texts r ≡ tail a ++ more → (rest : Rest) × (behind (head a) r ≡ Ok (a, rest)) × (texts rest ≡ more))
+    → IsReaderBefore F (λ r. kind_field name kinds r >>= λ k. behind k.0 k.1) (λ a ws. Fits a × (ws ≡ name (head a) ∷ tail a))
+reads_choice F name kinds named behind head tail Fits behind_takes behind_again = record {
+  takes = λ r x e.
+      let b = bind_ok (kind_field name kinds r) (λ k. behind k.0 k.1) x e in
+      let p = (reads_kind name kinds named).takes r b.0 b.1 in
+      let q = behind_takes b.0.0 b.0.1 x b.2 in
+      let front : texts r ≡ name b.0.0 ∷ texts b.0.1 = p.2 ∙ ap (λ (us : List (List ℕ)). us ++ texts b.0.1) p.1 in
+      (name (head x.0) ∷ tail x.0, (q.0, refl), front ∙ ap (λ (us : List (List ℕ)). name b.0.0 ∷ us) q.2 ∙ ap (λ k. name k ∷ (tail x.0 ++ texts x.1)) (sym q.1));
+  again = λ r a ws more follows s e.
+      let p = (reads_kind name kinds named).again r (head a) (name (head a) ∷ []) (tail a ++ more) tt refl (e ∙ ap (λ (us : List (List ℕ)). us ++ more) s.1) in
+      let q = behind_again a p.0 more follows s.0 p.2 in
+      (q.0, rw (p.1, q.1) refl, q.2);
+}
+
+-- a value that was read and is known is spelled as that value
+pub is_known : {K A : Type 0} (head : A → K) (tail : A → List (List ℕ)) (Fits : A → Type 0) (k : K) (r rest : Rest) (a b : A) (us : List (List ℕ))
+    → a ≡ b → Fits b → head b ≡ k → us ≡ tail b → texts r ≡ us ++ texts rest → Fits a × (head a ≡ k) × (texts r ≡ tail a ++ texts rest)
+is_known head tail Fits k r rest a b us same fits first others e =
+    (subst Fits (sym same) fits, ap head same ∙ first, e ∙ ap (λ (vs : List (List ℕ)). vs ++ texts rest) (others ∙ ap tail (sym same)))

@@ -1,0 +1,13 @@
+pub mod Decimals
+pub mod Columns
+pub mod Slices
+pub mod Joined
+pub mod Clean
+pub mod Endings
+pub mod LineRests
+pub mod Texts
+pub mod Loop
+pub mod Readers
+pub mod Choices
+pub mod AnswerLaw
+pub mod HostLaw

@@ -1,0 +1,20 @@
+-- The names of faults, and the fault of a line that is missing.
+use Rattle.std.specs.Prelude.{ℕ, List, codes}
+use Rattle.line_fields.specs.declared.fault.FaultKind.{FaultKind}
+use Rattle.line_fields.specs.declared.fault.FaultKind.TheVariants as kinds
+use Rattle.line_fields.specs.declared.fault.TextFault.{TextFault}
+
+-- the name under which a fault is printed
+abbrev pub kind_name : FaultKind → List ℕ
+kind_name kinds.Header = codes "header"
+kind_name kinds.Field = codes "field"
+kind_name kinds.Number = codes "number"
+kind_name kinds.MomentFalls = codes "moment-falls"
+kind_name kinds.LineTooLong = codes "line-too-long"
+kind_name kinds.Cut = codes "cut"
+kind_name kinds.TooManyLines = codes "too-many-lines"
+kind_name kinds.OutOfMemory = codes "memory"
+
+-- a line that has to stand in the text, and does not
+abbrev pub missing_line : ℕ → TextFault
+missing_line number = record { kind = kinds.Header; span = record { line = number; start = 0; stop = 0 } }

@@ -1,0 +1,11 @@
+pub mod Faults
+pub mod Word
+pub mod WordView
+pub mod Reading
+pub mod Reader
+pub mod Choice
+pub mod Hosts
+pub mod Lines
+pub mod Folding
+pub mod Spelling
+pub mod Answers

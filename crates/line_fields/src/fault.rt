@@ -1,0 +1,102 @@
+//! Why a text cannot be read, and where.
+
+ghost use Rattle.std.specs.Prelude.{◌≡◌};
+ghost use Rattle.line_fields.specs.Faults.{kind_name, missing_line};
+ghost use Rattle.line_fields.specs.declared.fault.FaultKind.TheVariants.{OutOfMemory};
+
+use case_forms::Span;
+use std::alloc::{AllocError, AllocFailed};
+use thiserror::Error;
+
+/// What is wrong.
+#[derive(Clone, Copy, Debug, PartialEq, Eq)]
+pub enum FaultKind {
+    /// A line of the header has another word, another count of fields, or is missing.
+    Header,
+    /// A field is missing, empty or one too many, or its word is not known.
+    Field,
+    /// A number is badly written or out of its limits.
+    Number,
+    /// A moment is below that of the line before.
+    MomentFalls,
+    /// A line has more than 140,000 bytes, its end not counted.
+    LineTooLong,
+    /// The last line has no LF.
+    Cut,
+    /// A line is numbered above 10,000,000.
+    TooManyLines,
+    /// Memory ran out; nothing is wrong with the text.
+    OutOfMemory,
+}
+
+impl FaultKind {
+    /// The name under which it is printed.
+    pub fn name(self) -> &'static str
+        ensures { result.now ≡ kind_name self }
+    {
+        match self {
+            FaultKind::Header => "header",
+            FaultKind::Field => "field",
+            FaultKind::Number => "number",
+            FaultKind::MomentFalls => "moment-falls",
+            FaultKind::LineTooLong => "line-too-long",
+            FaultKind::Cut => "cut",
+            FaultKind::TooManyLines => "too-many-lines",
+            FaultKind::OutOfMemory => "memory",
+        }
+    }
+}
+
+/// The first fault of a text, and its place. Where memory ran out the place says nothing.
+#[derive(Clone, Copy, Debug, PartialEq, Eq, Error)]
+#[error("line {}, columns {} to {}: {kind:?}", .span.line, .span.start, .span.stop)]
+pub struct TextFault {
+    pub kind: FaultKind,
+    pub span: Span,
+}
+
+impl TextFault {
+    /// The fault of a line of the header that the text ends before.
+    pub fn missing_line(number: u64) -> TextFault
+        ensures { result ≡ missing_line number }
+    {
+        TextFault {
+            kind: FaultKind::Header,
+            span: Span {
+                line: number,
+                start: 0,
+                stop: 0,
+            },
+        }
+    }
+
+    // No line is at fault where memory runs out.
+    fn out_of_memory() -> TextFault
+        ensures { result.kind ≡ FaultKind.OutOfMemory }
+    {
+        TextFault {
+            kind: FaultKind::OutOfMemory,
+            span: Span {
+                line: 0,
+                start: 0,
+                stop: 0,
+            },
+        }
+    }
+}
+
+impl From<AllocError> for TextFault {
+    ghost from_gives = { λ _ e. e.kind ≡ OutOfMemory };
+
+    fn from(_e: AllocError) -> TextFault {
+        TextFault::out_of_memory()
+    }
+}
+
+impl<T: Drop> From<AllocFailed<T>> for TextFault {
+    ghost from_gives = { λ _ e. e.kind ≡ OutOfMemory };
+
+    fn from(_e: AllocFailed<T>) -> TextFault {
+        TextFault::out_of_memory()
+    }
+}

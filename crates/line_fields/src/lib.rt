@@ -1,0 +1,26 @@
+//! What the texts of a trace and of a witness have in common: lines, fields, answers, and what is wrong with them.
+//!
+//! A text is cut into lines by `bstr`; here a line's bytes become a cursor over its fields, each with its columns. A
+//! reader of some value takes fields from the cursor, and answers the first fault with its place. Each reader is stated
+//! as a function on the list of the fields that are left (specs/Reading.antt), and what it reads is spelled as
+//! specs/Spelling.antt and specs/Answers.antt say.
+//!
+//! - `fault`: why a text can't be read, and where
+//! - `fields`: the cursor, and the numbers and hosts that it reads
+//! - `lines`: a line's end and its limits, and lines that have to stand as they are
+//! - `answers`: the answers of calls, which both texts have
+//! - `printing`: words, numbers and answers as bytes at the end of a `Vec`
+#![tactic(auto)]
+
+mod answers;
+mod fault;
+mod fields;
+mod lines;
+mod printing;
+
+pub use answers::{answer, answer_law, state_name};
+pub use case_forms::{OutOfMemory, Span};
+pub use fault::{FaultKind, TextFault};
+pub use fields::{Fields, Token};
+pub use lines::{content, exact_line, fields_of, next_line};
+pub use printing::{push_answer, push_end, push_host, push_number, push_space, push_word};

@@ -1,0 +1,104 @@
+//! The lines of a text: their ends, their limits, and lines that have to stand as they are.
+
+ghost use Rattle.std.specs.Prelude.{◌≡◌};
+ghost use Rattle.bstr.specs.Text.{without_terminator};
+ghost use Rattle.line_fields.specs.Reading.{Gives};
+ghost use Rattle.line_fields.specs.Lines.{is_ended, line_text, line_rest, exact_line, next_raw};
+
+use crate::fault::{FaultKind, TextFault};
+use crate::fields::{Fields, is_text};
+use bstr::LinesWithTerminator;
+use case_forms::Span;
+
+// How many bytes a line may have, its end not counted.
+const MAX_LINE: usize = 140_000;
+
+// The number of the last line that a text may have.
+const MAX_LINES: u64 = 10_000_000;
+
+/// A line's text, and whether it has an end, which is LF or CR LF.
+pub fn content(raw: &[u8]) -> (&[u8], bool)
+    ensures content { result.0.now ≡ without_terminator raw.now }
+    ensures ended { result.1 ≡ is_ended raw.now }
+{
+    match raw {
+        [line @ .., b'\r', b'\n'] => (line, true),
+        [line @ .., b'\n'] => (line, true),
+        _ => (raw, false),
+    }
+}
+
+// The text of a line of that number, if the line is within its limits.
+#[tactic(auto, unfolding(crate::specs::Lines::line_text))]
+fn text_of(number: u64, raw: &[u8]) -> Result<&[u8], TextFault>
+    ensures { Gives (λ text. text.now) result (line_text number raw.now) }
+{
+    let (text, ended) = content(raw);
+    let span = Span {
+        line: number,
+        start: 0,
+        stop: text.len(),
+    };
+    if text.len() > MAX_LINE {
+        return Err(TextFault {
+            kind: FaultKind::LineTooLong,
+            span,
+        });
+    }
+    if !ended {
+        return Err(TextFault {
+            kind: FaultKind::Cut,
+            span,
+        });
+    }
+    if number > MAX_LINES {
+        return Err(TextFault {
+            kind: FaultKind::TooManyLines,
+            span,
+        });
+    }
+    Ok(text)
+}
+
+/// The fields of the line of that number, whose bytes are given with the line's end. LineTooLong, Cut and TooManyLines
+/// are asked in this order, each at the whole line.
+#[tactic(auto, unfolding(crate::specs::Lines::line_rest))]
+pub fn fields_of(number: u64, raw: &[u8]) -> Result<Fields<'_>, TextFault>
+    ensures { Gives (λ fields. fields) result (line_rest number raw.now) }
+{
+    let text = text_of(number, raw)?;
+    Ok(Fields::new(number, text))
+}
+
+/// Asks that the text of a line is exactly this one. Another text is Header, at the whole line.
+#[tactic(auto, unfolding(crate::specs::Lines::exact_line))]
+pub fn exact_line(number: u64, wanted: &str, raw: &[u8]) -> Result<(), TextFault>
+    ensures { Gives (λ u. u) result (exact_line number wanted.now raw.now) }
+{
+    let text = text_of(number, raw)?;
+    if is_text(text, wanted) {
+        return Ok(());
+    }
+    let span = Span {
+        line: number,
+        start: 0,
+        stop: text.len(),
+    };
+    Err(TextFault {
+        kind: FaultKind::Header,
+        span,
+    })
+}
+
+/// The next line of a text, with its end, where one has to be. A missing one is Header at its number, columns 0 to 0.
+pub fn next_line<'a>(
+    number: u64,
+    lines: &mut LinesWithTerminator<'a>,
+) -> Result<&'a [u8], TextFault>
+    ensures { Gives (λ raw. (raw.now, lines.new)) result (next_raw number lines.old) }
+{
+    match lines.next() {
+        Some(raw) => Ok(raw),
+        None => Err(TextFault::missing_line(number)),
+    }
+}

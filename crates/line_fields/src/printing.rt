@@ -1,0 +1,78 @@
+//! Words, numbers and answers, as bytes at the end of a `Vec`. Where memory runs out a part may have been written.
+
+ghost use Rattle.std.specs.Prelude.{◌≡◌, [], ◌∷◌, ◌++◌, OnOk};
+ghost use Rattle.std.specs.Fmt.{decimal};
+ghost use Rattle.line_fields.specs.Hosts.{host_number};
+ghost use Rattle.line_fields.specs.Spelling.{spaced};
+ghost use Rattle.line_fields.specs.Answers.{answer_words};
+
+use crate::answers::state_name;
+use case_forms::{Answer, Host, OutOfMemory};
+use itoa::Buffer;
+
+/// Writes a word.
+pub fn push_word(out: &mut Vec<u8>, word: &str) -> Result<(), OutOfMemory>
+    ensures { OnOk result (out.new.items ≡ out.old.items ++ word.now) }
+{
+    out.extend_from_slice(word.as_bytes())
+}
+
+/// Writes a decimal number.
+pub fn push_number(out: &mut Vec<u8>, number: u64) -> Result<(), OutOfMemory>
+    ensures { OnOk result (out.new.items ≡ out.old.items ++ decimal number) }
+{
+    let mut digits = Buffer::new();
+    out.extend_from_slice(digits.format(number).as_bytes())
+}
+
+/// Writes a space.
+pub fn push_space(out: &mut Vec<u8>) -> Result<(), OutOfMemory>
+    ensures { OnOk result (out.new.items ≡ out.old.items ++ 32 ∷ []) }
+{
+    out.push(b' ')?;
+    Ok(())
+}
+
+/// Writes the number of a host.
+pub fn push_host(out: &mut Vec<u8>, host: Host) -> Result<(), OutOfMemory>
+    ensures { OnOk result (out.new.items ≡ out.old.items ++ decimal (host_number host)) }
+{
+    push_number(out, host_number(host))
+}
+
+// The number of a host.
+fn host_number(host: Host) -> u64
+    ensures { result ≡ host_number host }
+{
+    match host {
+        Host::Zero => 0,
+        Host::One => 1,
+    }
+}
+
+/// Writes the end of a line, which is LF.
+pub fn push_end(out: &mut Vec<u8>) -> Result<(), OutOfMemory>
+    ensures { OnOk result (out.new.items ≡ out.old.items ++ 10 ∷ []) }
+{
+    out.push(b'\n')?;
+    Ok(())
+}
+
+/// Writes the fields of an answer, each behind a space.
+pub fn push_answer(out: &mut Vec<u8>, answer: &Answer) -> Result<(), OutOfMemory>
+    ensures { OnOk result (out.new.items ≡ out.old.items ++ spaced (answer_words answer.now)) }
+{
+    match answer {
+        Answer::Done => push_word(out, " ok"),
+        Answer::Given(count) => {
+            push_word(out, " ok ")?;
+            push_number(out, u64::from(*count))
+        }
+        Answer::InUse => push_word(out, " inuse"),
+        Answer::BadSocket => push_word(out, " badsocket"),
+        Answer::State(state) => {
+            push_word(out, " state ")?;
+            push_word(out, state_name(*state))
+        }
+    }
+}
