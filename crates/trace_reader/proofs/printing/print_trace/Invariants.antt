@@ -1,0 +1,7 @@
+use Rattle.std.proofs.Common.{◌≡◌, ◌++◌, take}
+use Rattle.trace_reader.specs.Printed.{header_text, lines_text}
+use Rattle.trace_reader.proofs.printing.print_trace.Given as goal
+
+-- the header and the lines so far were written
+abbrev pub invariant-loop-line : goal.invariant-loop-line
+invariant-loop-line l = l.out.items ≡ header_text l.fn.trace.header ++ lines_text (take l.line-index l.line-items)

@@ -1,0 +1,61 @@
+-- Event lines: a moment, a thread and an event.
+use Rattle.std.specs.Prelude.{◌≡◌, ◌≤◌, ℕ, ◌+◌, nat_lt, if◌then◌else◌, List, ◌∷◌, Result, Ok, Err}
+use Rattle.std.specs.Fmt.{decimal}
+use Rattle.case_forms.specs.declared.trace.Event.{Event}
+use Rattle.case_forms.specs.declared.trace.Line.{Line}
+use Rattle.line_fields.specs.declared.fault.FaultKind.TheVariants.{MomentFalls}
+use Rattle.line_fields.specs.declared.fault.TextFault.{TextFault}
+use Rattle.line_fields.specs.Word.{Word, Rest}
+use Rattle.line_fields.specs.Reading.{◌>>=◌, fault_at, next_field, number_value, number_field, no_more}
+use Rattle.line_fields.specs.Lines.{IsLine, whole_line, line_rest}
+use Rattle.line_fields.specs.Spelling.{joined}
+use Rattle.trace_reader.specs.Events.{event_words, IsEvent, event_field}
+
+-- what a line is read by: the moment of the line before, and the line's own number
+abbrev pub Place : Type 0
+Place = ℕ × ℕ
+
+-- the place behind a line
+abbrev pub behind : Place → Line → Place
+behind place line = (line.moment, place.1 + 1)
+
+-- the fields of an event line
+abbrev pub line_words : Line → List (List ℕ)
+line_words line = decimal line.moment ∷ decimal line.thread ∷ event_words line.event
+
+-- the bytes spell the line at its place
+pub record IsEventLine (place : Place) (line : Line) (raw : List ℕ) : Type 0 where
+  pub text : IsLine place.1 (joined (line_words line)) raw
+  pub rises : place.0 ≤ line.moment
+  pub moment : line.moment ≤ 1000000000000000000
+  pub thread : line.thread ≤ 4294967295
+  pub event : IsEvent line.event
+  pub number : line.number ≡ place.1
+  pub span : line.span ≡ whole_line place.1 (joined (line_words line))
+
+-- a moment that is not below the one before
+abbrev pub moment_value : ℕ → Word → Result ℕ TextFault
+moment_value before w = number_value 0 1000000000000000000 w >>= λ m. if nat_lt m before then Err (fault_at MomentFalls w) else Ok m
+
+-- the next field, which is such a moment
+abbrev pub moment_field : ℕ → Rest → Result (ℕ × Rest) TextFault
+moment_field before r = do
+  w ← next_field r
+  m ← moment_value before w.0
+  Ok (m, w.1)
+
+-- moment, thread and event, and no field more
+abbrev pub event_fields : ℕ → Rest → Result (ℕ × ℕ × Event) TextFault
+event_fields before r = do
+  moment ← moment_field before r
+  thread ← number_field 0 4294967295 moment.1
+  event ← event_field thread.1
+  end ← no_more event.1
+  Ok (moment.0, thread.0, event.0)
+
+-- an event line, given with its end
+unfoldable pub line_of : Place → List ℕ → Result Line TextFault
+line_of place raw = do
+  r ← line_rest place.1 raw
+  f ← event_fields place.0 r
+  Ok (record { number = place.1; moment = f.0; thread = f.1; event = f.2; span = record { line = place.1; start = 0; stop = r.stop } })

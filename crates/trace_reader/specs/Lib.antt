@@ -1,0 +1,13 @@
+pub use Rattle.case_forms.specs.Traces
+pub use Rattle.line_fields.specs.Answers
+pub use Rattle.line_fields.specs.Faults
+pub use Rattle.line_fields.specs.Hosts
+pub use Rattle.line_fields.specs.Lines
+pub use Rattle.line_fields.specs.Reading
+pub use Rattle.line_fields.specs.Spelling
+pub mod Headers
+pub mod Calls
+pub mod Events
+pub mod EventLines
+pub mod TraceText
+pub mod Printed

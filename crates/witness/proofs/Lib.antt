@@ -1,0 +1,4 @@
+pub mod LabelLaw
+pub mod StepLaw
+pub mod TextLaw
+pub mod PrintLaw

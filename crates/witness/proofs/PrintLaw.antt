@@ -1,0 +1,66 @@
+-- What is printed of a witness stands for the witness.
+use Rattle.std.proofs.Common.{◌≡◌, ◌<◌, ◌+◌, ℕ, suc, List, [], ◌∷◌, ◌++◌, length, take, get_or, refl, sym, ap, ◌∙◌, append_assoc, arith, inl}
+use Rattle.std.specs.Prelude.{map}
+use Rattle.std.specs.Fmt.{decimal}
+use Rattle.std.specs.List.{concat}
+use Rattle.std.proofs.Math.Seq.{take-suc}
+use Rattle.std.proofs.lemmas.List.{append-nil}
+use Rattle.case_forms.specs.declared.steps.Label.{Label}
+use Rattle.case_forms.specs.declared.steps.Step.{Step}
+use Rattle.case_forms.specs.declared.steps.Witness.{Witness}
+use Rattle.line_fields.specs.Folding.{AreSpelled}
+use Rattle.line_fields.specs.Spelling.{printed}
+use Rattle.witness.specs.FirstLine.{first_text}
+use Rattle.witness.specs.Labels.{label_words}
+use Rattle.witness.specs.Steps.{step_words, IsStepText}
+use Rattle.witness.specs.WitnessText.{number_after, IsWitnessText}
+use Rattle.witness.specs.Printed.{steps_text, witness_text, without_span, without_spans}
+
+abbrev step_line : Step → List ℕ
+step_line s = printed (step_words s)
+
+-- ---- one step after the other
+
+steps_text-push : (steps : List Step) (s : Step) → steps_text (steps ++ s ∷ []) ≡ steps_text steps ++ step_line s
+steps_text-push [] s = append-nil (step_line s)
+steps_text-push (t ∷ steps) s = ap (λ (x : List ℕ). step_line t ++ x) (steps_text-push steps s) ∙ sym (append_assoc (step_line t) (steps_text steps) (step_line s))
+
+-- one more step behind what was written
+pub writes_more : (old new front : List ℕ) (steps : List Step) (i : ℕ) (none : Step) → i < length steps → old ≡ front ++ steps_text (take i steps) → new ≡ old ++ printed (step_words (get_or steps i none))
+    → new ≡ front ++ steps_text (take (i + 1) steps)
+writes_more old new front steps i none lt before wrote =
+    let one : suc i ≡ i + 1 = omega arith in
+    let more : steps_text (take i steps) ++ step_line (get_or steps i none) ≡ steps_text (take (i + 1) steps) =
+    sym (steps_text-push (take i steps) (get_or steps i none)) ∙ ap steps_text (sym (take-suc steps i none lt) ∙ ap (λ (n : ℕ). take n steps) one) in
+    wrote ∙ ap (λ (x : List ℕ). x ++ step_line (get_or steps i none)) before ∙ append_assoc front (steps_text (take i steps)) (step_line (get_or steps i none)) ∙ ap (λ (x : List ℕ). front ++ x) more
+
+-- ---- the whole text
+
+-- steps that some lines spell are spelled by what is printed of them
+printed_again : (number : ℕ) (steps : List Step) (raws : List (List ℕ)) → AreSpelled IsStepText number_after number steps raws → AreSpelled IsStepText number_after number steps (map step_line steps)
+printed_again number [] raws h = tt
+printed_again number (s ∷ steps) [] h = absurd h
+printed_again number (s ∷ steps) (raw ∷ raws) h =
+    let t = h.0 in
+    let line = t.line in
+    (record { line = record { ends = (10 ∷ [], inl refl, refl); short = line.short; count = line.count }; moment = t.moment; label = t.label; span = t.span }, printed_again (number_after number s) steps raws h.1)
+
+-- what is printed says what the steps say
+abbrev said_line : ℕ × Label → List ℕ
+said_line said = printed (decimal said.0 ∷ label_words said.1)
+
+lines_said : (steps : List Step) → map step_line steps ≡ map said_line (map without_span steps)
+lines_said [] = refl
+lines_said (s ∷ steps) = ap (λ (lines : List (List ℕ)). step_line s ∷ lines) (lines_said steps)
+
+pub print_again : (v w : Witness) (text : List ℕ) → IsWitnessText v text → without_spans v ≡ without_spans w → IsWitnessText v (witness_text w)
+print_again v w text t same =
+    let begins = t.begins in
+    let lines : map step_line w.steps ≡ map step_line v.steps = lines_said w.steps ∙ ap (λ (said : List (ℕ × Label)). map said_line said) (sym same) ∙ sym (lines_said v.steps) in
+    record {
+      first = first_text ++ 10 ∷ [];
+      raws = map step_line v.steps;
+      begins = record { ends = (10 ∷ [], inl refl, refl); short = begins.short; count = begins.count };
+      steps = printed_again 2 v.steps t.raws t.steps;
+      parts = ap (λ (ls : List (List ℕ)). (first_text ++ 10 ∷ []) ++ concat ls) lines;
+    }

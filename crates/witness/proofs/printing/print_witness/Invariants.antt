@@ -1,0 +1,8 @@
+use Rattle.std.proofs.Common.{◌≡◌, ◌∷◌, [], ◌++◌, take}
+use Rattle.witness.specs.FirstLine.{first_text}
+use Rattle.witness.specs.Printed.{steps_text}
+use Rattle.witness.proofs.printing.print_witness.Given as goal
+
+-- the first line and the steps so far were printed
+abbrev pub invariant-loop-step : goal.invariant-loop-step
+invariant-loop-step l = l.out.items ≡ (first_text ++ 10 ∷ []) ++ steps_text (take l.step-index l.step-items)

@@ -1,0 +1,25 @@
+-- The text that a witness is printed as.
+use Rattle.std.specs.Prelude.{ℕ, List, [], ◌∷◌, ◌++◌, map}
+use Rattle.std.specs.List.{concat}
+use Rattle.case_forms.specs.declared.steps.Label.{Label}
+use Rattle.case_forms.specs.declared.steps.Step.{Step}
+use Rattle.case_forms.specs.declared.steps.Witness.{Witness}
+use Rattle.line_fields.specs.Spelling.{printed}
+use Rattle.witness.specs.FirstLine.{first_text}
+use Rattle.witness.specs.Steps.{step_words}
+
+-- the lines of steps, each ended by LF
+abbrev pub steps_text : List Step → List ℕ
+steps_text steps = concat (map (λ s. printed (step_words s)) steps)
+
+-- the whole text
+abbrev pub witness_text : Witness → List ℕ
+witness_text w = (first_text ++ 10 ∷ []) ++ steps_text w.steps
+
+-- what a step says
+abbrev pub without_span : Step → ℕ × Label
+without_span s = (s.moment, s.label)
+
+-- what the steps of a witness say, wherever they stand
+abbrev pub without_spans : Witness → List (ℕ × Label)
+without_spans w = map without_span w.steps
