@@ -1,0 +1,47 @@
+use Rattle.std.proofs.Common.{◌≡◌, Option, Some, None, IsSome, nat_eq, false, ap, sym, subst, ◌∙◌}
+use Rattle.std.specs.Option.{option_map}
+use Rattle.indexmap.specs.IndexMap.{get}
+use Rattle.case_forms.specs.declared.trace.Line.{Line}
+use Rattle.interval_order.specs.declared.window.Waiting.{Waiting}
+use Rattle.interval_order.specs.Orders.{Order, taking, held_line, order_after}
+use Rattle.interval_order.specs.OrderRules.{thread_order}
+use Rattle.interval_order.proofs.EntryLemmas.{line_is, lines_without}
+use Rattle.interval_order.proofs.EarlierLemmas.{none_earlier}
+use Rattle.interval_order.proofs.SoundLemmas.{sound_without}
+use Rattle.interval_order.proofs.window.Window.place.Goals as goal
+
+is_none_or : (o : Option Line) → None ≡ o → IsSome o → ⊥
+is_none_or None absent some = cc
+is_none_or (Some line) absent some = cc
+
+pub invariant_of-self : goal.invariant_of-self
+invariant_of-self c =
+    let at = sym c.in-Some.ensures.value in
+    let none = subst (λ (o : Order). thread_order o (taking c.args.moment c.args.line c.args.extras).take ≡ false) (sym c.self.view_is) c.in_ok-admit.ensures.first in
+    sound_without c.self.inside.waiting.entries c.remove.new.self.entries c.self.inside.next c.args.line (get nat_eq c.self.inside.latest) c.in-Some.waiting
+    c.self.invariant
+    c.remove.ensures.entries
+    at
+    (none_earlier c.self.inside.waiting.entries c.args.line c.in-Some.waiting at none)
+    c.remove.ensures.ordered
+    c.remove.ensures.updates.0
+
+pub unreachable-requires : goal.unreachable-requires
+unreachable-requires c =
+    let absent =
+    ap (option_map (λ (w : Waiting). w.line)) c.in-None.ensures.value
+    ∙ sym (line_is c.args.line c.self.inside.waiting.entries)
+    ∙ ap (λ (o : Order). held_line o c.args.line) c.self.view_is
+    in
+    is_none_or _ absent c.in_ok-admit.ensures.held
+
+pub returns-clause-line : goal.returns-clause-line
+returns-clause-line c =
+    sym (ap (option_map (λ (w : Waiting). w.line)) c.in-Some.ensures.value
+    ∙ sym (line_is c.args.line c.self.inside.waiting.entries)
+    ∙ ap (λ (o : Order). held_line o c.args.line) c.self.view_is)
+
+pub returns-clause-ok : goal.returns-clause-ok
+returns-clause-ok c =
+    rw (c.remove.ensures.entries, lines_without c.args.line c.self.inside.waiting.entries c.self.invariant.ordered)
+    (ap (λ (o : Order). order_after o (taking c.args.moment c.args.line c.args.extras)) c.self.view_is)

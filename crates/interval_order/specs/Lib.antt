@@ -1,0 +1,4 @@
+pub mod Orders
+pub mod OrderRules
+pub mod Placed
+pub mod Waits

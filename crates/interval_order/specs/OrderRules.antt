@@ -1,0 +1,61 @@
+-- When a step breaks a rule of the order of lines.
+use Rattle.std.specs.Prelude.{ℕ, ◌+◌, Bool, false, not, ◌&&◌, ◌||◌, ◌==◌, nat_lt, List, [], ◌∷◌, Option, None, Some, is_none}
+use Rattle.std.specs.List.{list_any, find}
+use Rattle.std.specs.Option.{option_map, option_map_or}
+use Rattle.case_forms.specs.declared.trace.Event.{Event}
+use Rattle.case_forms.specs.declared.trace.Event.TheVariants.{CallBegin, CallEnd}
+use Rattle.case_forms.specs.declared.trace.Line.{Line}
+use Rattle.verdict.specs.declared.rule.Rule.{Rule}
+use Rattle.verdict.specs.declared.rule.Rule.TheVariants.{LineRange, LineAgain, ThreadOrder, MomentFalls, MomentOff, Overdue}
+use Rattle.interval_order.specs.Orders.{Take, Move, Order, held_line, is_offered}
+
+-- how many extra numbers follow the number of a line of this kind
+abbrev pub extras_of : Event → ℕ
+extras_of (CallBegin call) = 0
+extras_of (CallEnd answer) = 0
+
+-- it names no event line, or one that is not placed with another count of extra numbers than its kind has
+abbrev pub line_range : Order → Option Take → Bool
+line_range o None = false
+line_range o (Some t) = not (is_offered o t.number) || option_map_or (λ line. not (t.extras == extras_of line.event)) (held_line o t.number) false
+
+-- that line was placed
+abbrev pub line_again : Order → Option Take → Bool
+line_again o None = false
+line_again o (Some t) = is_offered o t.number && is_none (held_line o t.number)
+
+-- a line of the thread that stands before line n is not placed
+abbrev pub has_earlier : Order → ℕ → ℕ → Bool
+has_earlier o n thread = list_any (λ e. nat_lt e.0 n && e.1.thread == thread) o.held
+
+-- an earlier line of its thread is not placed
+abbrev pub thread_order : Order → Option Take → Bool
+thread_order o None = false
+thread_order o (Some t) = option_map_or (λ line. has_earlier o t.number line.thread) (held_line o t.number) false
+
+-- the step is below the step before
+abbrev pub moment_falls : Order → ℕ → Bool
+moment_falls o moment = nat_lt moment o.last
+
+-- the step is below its line's moment, or above it by more than the skew
+abbrev pub moment_off : Order → ℕ → Option Take → Bool
+moment_off o moment None = false
+moment_off o moment (Some t) = option_map_or (λ line. nat_lt moment line.moment || nat_lt (line.moment + o.header.skew) moment) (held_line o t.number) false
+
+-- a line may not wait until this moment
+abbrev pub is_overdue : Order → ℕ → ℕ × Line → Bool
+is_overdue o moment e = nat_lt (e.1.moment + o.header.skew) moment
+
+-- some line that is not placed may not wait until this moment
+abbrev pub has_overdue : Order → ℕ → Bool
+has_overdue o moment = list_any (is_overdue o moment) o.held
+
+-- the number of the first such line
+abbrev pub first_overdue : Order → ℕ → Option ℕ
+first_overdue o moment = option_map (λ e. e.0) (find (is_overdue o moment) o.held)
+
+-- each rule of order, the least first, with whether the step breaks it
+abbrev pub order_rules : Order → Move → List (Rule × Bool)
+order_rules o move =
+    (LineRange, line_range o move.take) ∷ (LineAgain, line_again o move.take) ∷ (ThreadOrder, thread_order o move.take)
+    ∷ (MomentFalls, moment_falls o move.moment) ∷ (MomentOff, moment_off o move.moment move.take) ∷ (Overdue, has_overdue o move.moment) ∷ []

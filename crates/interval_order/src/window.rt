@@ -1,0 +1,336 @@
+//! The lines that no step has taken yet.
+//!
+//! A line that is offered, or a step, costs the logarithm of the number of lines that wait, and one look-up in a table
+//! of threads. Nothing is scanned:
+//!
+//! - Lines wait in a map by their numbers.
+//! - Each line that waits names the line of its thread that was offered before it. The lines of a thread are placed in
+//!   their order, so those that wait are its last ones, and one of them is the first exactly where the line that it
+//!   names does not wait.
+//! - Moments don't fall along the lines, so some line is overdue exactly where the first that waits is.
+
+ghost use Rattle.std.specs.Prelude.{◌≡◌, ◌+◌, ◌<◌, ◌≤◌, ◌^◌, [], length, All, IsSome, IfOk, OnOk, OnErr, Some, false, nat_lt, slice_get};
+ghost use Rattle.std.specs.Option.{option_copied, option_map, option_map_or};
+ghost use Rattle.std.specs.Result.{result_err};
+ghost use Rattle.case_forms.specs.Traces.{first_event_line};
+ghost use Rattle.verdict.specs.Rules.{first_broken};
+ghost use Rattle.interval_order.specs.Orders.{taking, passing, held_line, is_offered, with_line, order_after};
+ghost use Rattle.interval_order.specs.OrderRules.{extras_of, has_earlier, thread_order, order_rules, has_overdue, first_overdue};
+
+use case_forms::{Event, Header, Line, OutOfMemory};
+use indexmap::IndexMap;
+use std::alloc::Global;
+use std::collections::BTreeMap;
+use std::marker::Model;
+use verdict::Rule;
+
+/// A line that waits for its step.
+#[derive(Drop)]
+struct Waiting {
+    line: Line,
+    /// The number of the line of its thread that was offered just before it.
+    previous: Option<u64>,
+}
+
+/// The lines of a trace that were offered and are not placed, and when the last step was.
+#[derive(Drop)]
+pub struct Window {
+    header: Header,
+    /// The number of the next line that is offered.
+    next: u64,
+    /// The lines that wait, by their numbers.
+    waiting: BTreeMap<u64, Waiting>,
+    /// The number of the last line of each thread that was offered.
+    latest: IndexMap<u32, u64>,
+    /// The moment of the last step.
+    last: u64,
+}
+
+impl Model for Window {
+    ghost use Rattle.std.specs.Prelude.{nat_eq};
+    ghost use Rattle.indexmap.specs.IndexMap.{get};
+    ghost use Rattle.interval_order.specs.Orders.{Order};
+    ghost use Rattle.interval_order.specs.Waits.{lines_of, IsSound};
+
+    ghost Value = { Order };
+
+    ghost view = { λ a. record { header = a.header; next = a.next; held = lines_of a.waiting.entries; last = a.last } };
+
+    ghost invariant = { λ a. IsSound a.next a.waiting.entries (get nat_eq a.latest) };
+}
+
+impl Window {
+    /// The window before any line is offered and any step is done.
+    pub fn new(alloc: Global, header: &Header) -> Window
+        ensures { result ≡ record { header = header.now; next = first_event_line header.now; held = []; last = 0 } }
+    {
+        Window {
+            header: *header,
+            next: header.first_event_line(),
+            waiting: BTreeMap::new(alloc),
+            latest: IndexMap::new(alloc),
+            last: 0,
+        }
+    }
+
+    /// One more line of the trace. Where memory runs out the window is as it was.
+    pub fn offer(&mut self, line: Line) -> Result<(), OutOfMemory>
+        requires number { line.number ≡ self.old.next }
+        requires room { self.old.next + 1 < 2 ^ 64 }
+        requires moment { All (λ e. e.1.moment ≤ line.moment) self.old.held }
+        ensures ok { OnOk result (self.new ≡ with_line self.old line) }
+        ensures err { OnErr result (self.new ≡ self.old) }
+    {
+        let number = line.number;
+        let thread = line.thread;
+        let previous = self.latest.get(&thread).copied();
+        self.latest.reserve(1)?;
+        self.waiting.insert(number, Waiting { line, previous })?;
+        self.latest.insert(thread, number)?;
+        self.next = number + 1;
+        Ok(())
+    }
+
+    /// Takes a line for a step at this moment, which is followed by that many extra numbers. Where the step breaks a
+    /// rule of order, the least of them is the error, and the window is as it was.
+    pub fn place(&mut self, line: u64, extras: u8, moment: u64) -> Result<Line, Rule>
+        ensures rule { result_err result ≡ first_broken (order_rules self.old (taking moment line extras)) }
+        ensures line { IfOk result (λ taken. held_line self.old line ≡ Some taken) }
+        ensures ok { OnOk result (self.new ≡ order_after self.old (taking moment line extras)) }
+        ensures err { OnErr result (self.new ≡ self.old) }
+    {
+        self.admit(line, extras, moment)?;
+        match self.waiting.remove(&line) {
+            Some(waiting) => {
+                self.last = moment;
+                Ok(waiting.line)
+            }
+            None => unreachable!(),
+        }
+    }
+
+    /// A hidden step at this moment. Where it breaks a rule of order, the least of them is the error, and the window is
+    /// as it was.
+    pub fn pass(&mut self, moment: u64) -> Result<(), Rule>
+        ensures rule { result_err result ≡ first_broken (order_rules self.old (passing moment)) }
+        ensures ok { OnOk result (self.new ≡ order_after self.old (passing moment)) }
+        ensures err { OnErr result (self.new ≡ self.old) }
+    {
+        if moment < self.last {
+            return Err(Rule::MomentFalls);
+        }
+        if self.has_overdue(moment) {
+            return Err(Rule::Overdue);
+        }
+        self.last = moment;
+        Ok(())
+    }
+
+    /// How many lines wait.
+    pub fn held(&self) -> usize
+        ensures { result ≡ length self.now.held }
+    {
+        self.waiting.len()
+    }
+
+    /// The number of the first line that may not wait until this moment, if there is one.
+    pub fn overdue(&self, moment: u64) -> Option<u64>
+        ensures { result ≡ first_overdue self.now moment }
+    {
+        let (number, waiting) = self.waiting.first_key_value()?;
+        is_past(waiting.line.moment, self.header.skew, moment).then_some(*number)
+    }
+
+    /// The number of the first line that waits, if one does.
+    pub fn first_left(&self) -> Option<u64>
+        ensures { result ≡ option_map (λ e. e.0) (slice_get self.now.held 0) }
+    {
+        self.waiting.first_key_value().map(|(number, _)| *number)
+    }
+}
+
+impl Window {
+    // The least rule of order that is broken by a step that takes a line.
+    fn admit(&self, number: u64, extras: u8, moment: u64) -> Result<(), Rule>
+        ensures rule { result_err result ≡ first_broken (order_rules self.now (taking moment number extras)) }
+        ensures held { OnOk result (IsSome (held_line self.now number)) }
+        ensures first { OnOk result (thread_order self.now (taking moment number extras).take ≡ false) }
+    {
+        if !self.is_offered(number) {
+            return Err(Rule::LineRange);
+        }
+        let Some(line) = self.line(number) else {
+            return Err(Rule::LineAgain);
+        };
+        if extras != extras_of(&line.event) {
+            return Err(Rule::LineRange);
+        }
+        if self.has_earlier(number) {
+            return Err(Rule::ThreadOrder);
+        }
+        if moment < self.last {
+            return Err(Rule::MomentFalls);
+        }
+        if moment < line.moment || is_past(line.moment, self.header.skew, moment) {
+            return Err(Rule::MomentOff);
+        }
+        if self.has_overdue(moment) {
+            return Err(Rule::Overdue);
+        }
+        Ok(())
+    }
+
+    fn is_offered(&self, number: u64) -> bool
+        ensures { result ≡ is_offered self.now number }
+    {
+        self.header.first_event_line() <= number && number < self.next
+    }
+
+    // The line of that number, if it waits.
+    fn line(&self, number: u64) -> Option<&Line>
+        ensures { option_copied result ≡ held_line self.now number }
+    {
+        match self.waiting.get(&number) {
+            Some(waiting) => Some(&waiting.line),
+            None => None,
+        }
+    }
+
+    // Whether the line waits, and an earlier line of its thread too.
+    fn has_earlier(&self, number: u64) -> bool
+        ensures { result ≡ option_map_or (λ line. has_earlier self.now number line.thread) (held_line self.now number) false }
+    {
+        match self.waiting.get(&number) {
+            Some(waiting) => match waiting.previous {
+                Some(previous) => self.waiting.contains_key(&previous),
+                None => false,
+            },
+            None => false,
+        }
+    }
+
+    fn has_overdue(&self, moment: u64) -> bool
+        ensures { result ≡ has_overdue self.now moment }
+    {
+        self.overdue(moment).is_some()
+    }
+}
+
+// How many extra numbers follow the number of a line of this kind.
+fn extras_of(event: &Event) -> u8
+    ensures { result ≡ extras_of event.now }
+{
+    match event {
+        Event::CallBegin(_) => 0,
+        Event::CallEnd(_) => 0,
+    }
+}
+
+// Whether a moment is later than another by more than the skew.
+fn is_past(from: u64, skew: u64, moment: u64) -> bool
+    ensures { result ≡ nat_lt (from + skew) moment }
+{
+    from < moment && skew < moment - from
+}
+
+#[cfg(test)]
+mod tests {
+    use super::*;
+    use case_forms::{Call, Span};
+
+    const HEADER: Header = Header {
+        skew: 5,
+        msl: 1,
+        grain: 0,
+        minrto: 0,
+        extra: 0,
+    };
+
+    fn line(number: u64, moment: u64, thread: u32) -> Line
+        ensures number { result.number ≡ number }
+        ensures moment { result.moment ≡ moment }
+    {
+        Line {
+            number,
+            moment,
+            thread,
+            event: Event::CallBegin(Call::Close(2)),
+            span: Span {
+                line: number,
+                start: 0,
+                stop: 0,
+            },
+        }
+    }
+
+    // The window with these lines, each a moment and a thread, as long as the moments don't fall.
+    fn window_of(alloc: Global, lines: &[(u64, u32)]) -> Result<Window, OutOfMemory> {
+        let mut window = Window::new(alloc, &HEADER);
+        let mut number = HEADER.first_event_line();
+        let mut since = 0;
+        for (moment, thread) in lines {
+            if *moment < since || number > 1_000_000 {
+                return Ok(window);
+            }
+            since = *moment;
+            window.offer(line(number, since, *thread))?;
+            number += 1;
+        }
+        Ok(window)
+    }
+
+    // Lines 7 and 8 of thread 1, line 9 of thread 2.
+    const LINES: [(u64, u32); 3] = [(100, 1), (102, 1), (103, 2)];
+
+    #[test]
+    fn a_thread_keeps_its_order(rt: HostRuntime) {
+        let mut window = window_of(rt.alloc(), &LINES).expect(&rt, "memory");
+        assert_eq!(rt; window.place(8, 0, 103).err(), Some(Rule::ThreadOrder));
+        assert_eq!(rt;
+            window.place(7, 0, 103).map(|line| line.number).ok(),
+            Some(7)
+        );
+        assert_eq!(rt;
+            window.place(8, 0, 103).map(|line| line.number).ok(),
+            Some(8)
+        );
+        assert_eq!(rt; window.place(8, 1, 103).err(), Some(Rule::LineAgain));
+        assert_eq!(rt; window.first_left(), Some(9));
+    }
+
+    #[test]
+    fn a_later_line_may_come_first_within_the_skew(rt: HostRuntime) {
+        let mut window = window_of(rt.alloc(), &LINES).expect(&rt, "memory");
+        assert_eq!(rt; window.place(9, 0, 102).err(), Some(Rule::MomentOff));
+        assert!(rt; window.place(9, 0, 105).is_ok());
+        assert_eq!(rt; window.place(7, 0, 104).err(), Some(Rule::MomentFalls));
+        assert!(rt; window.place(7, 0, 105).is_ok());
+        assert_eq!(rt; window.place(8, 0, 108).err(), Some(Rule::MomentOff));
+    }
+
+    #[test]
+    fn a_line_waits_no_longer_than_the_skew(rt: HostRuntime) {
+        let mut window = window_of(rt.alloc(), &LINES).expect(&rt, "memory");
+        assert_eq!(rt; window.overdue(105), None);
+        assert_eq!(rt; window.overdue(106), Some(7));
+        assert!(rt; window.pass(105).is_ok());
+        assert_eq!(rt; window.pass(106).err(), Some(Rule::Overdue));
+        assert_eq!(rt; window.place(9, 0, 106).err(), Some(Rule::Overdue));
+        assert_eq!(rt; window.place(7, 1, 106).err(), Some(Rule::LineRange));
+    }
+
+    // A step takes no time that grows with the lines.
+    #[test]
+    fn many_lines_wait_at_once(rt: HostRuntime) {
+        let mut lines = Vec::new(rt.alloc());
+        for place in 0..200_000u32 {
+            lines.push((100, place % 20_000)).expect(&rt, "memory");
+        }
+        let mut window = window_of(rt.alloc(), &lines).expect(&rt, "memory");
+        for place in 0..180_000u64 {
+            assert!(rt; window.place(7 + place, 0, 100).is_ok());
+        }
+        assert_eq!(rt; window.held(), 20_000);
+        assert_eq!(rt; window.first_left(), Some(180_007));
+    }
+}
