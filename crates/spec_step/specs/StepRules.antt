@@ -1,0 +1,93 @@
+-- The machine's rules, one list for each label, and the world after a step.
+use Rattle.std.specs.Prelude.{ℕ, Bool, true, false, not, ◌==◌, List, [], ◌∷◌}
+use Rattle.case_forms.specs.declared.calls.Answer.{Answer}
+use Rattle.case_forms.specs.declared.calls.Answer.TheVariants as answers
+use Rattle.case_forms.specs.declared.calls.State.{State}
+use Rattle.case_forms.specs.declared.calls.State.TheVariants as states
+use Rattle.case_forms.specs.declared.trace.Event.{Event}
+use Rattle.case_forms.specs.declared.trace.Event.TheVariants.{CallBegin, CallEnd}
+use Rattle.verdict.specs.declared.rule.Rule.{Rule}
+use Rattle.verdict.specs.declared.rule.Rule.TheVariants.{ThreadBusy, NoCall, DoneTwice, AnswerDiffers}
+use Rattle.endpoint_state.specs.declared.world.Turn.{Turn}
+use Rattle.endpoint_state.specs.declared.world.Turn.TheVariants.{Idle, Called, Answered}
+use Rattle.endpoint_state.specs.Worlds.{World, turn, with_turn}
+use Rattle.endpoint_state.specs.Calls.{call_rules, answered}
+use Rattle.spec_step.specs.declared.label.Label.{Label}
+use Rattle.spec_step.specs.declared.label.Label.TheVariants.{L, D}
+
+abbrev pub is_idle : Turn → Bool
+is_idle Idle = true
+is_idle (Called call) = false
+is_idle (Answered answer) = false
+
+abbrev pub is_answered : Turn → Bool
+is_answered Idle = false
+is_answered (Called call) = false
+is_answered (Answered answer) = true
+
+-- a state's place among the states, by which two are told apart
+abbrev pub state_place : State → ℕ
+state_place states.Closed = 0
+state_place states.Listen = 1
+state_place states.SynSent = 2
+state_place states.SynReceived = 3
+state_place states.Established = 4
+state_place states.FinWait1 = 5
+state_place states.FinWait2 = 6
+state_place states.CloseWait = 7
+state_place states.Closing = 8
+state_place states.LastAck = 9
+state_place states.TimeWait = 10
+
+-- two answers are the same
+abbrev pub same_answer : Answer → Answer → Bool
+same_answer answers.Done answers.Done = true
+same_answer (answers.Given m) (answers.Given n) = m == n
+same_answer answers.InUse answers.InUse = true
+same_answer answers.BadSocket answers.BadSocket = true
+same_answer (answers.State s) (answers.State t) = state_place s == state_place t
+same_answer _ _ = false
+
+-- the open call had no effect yet, or another answer
+abbrev pub differs : Turn → Answer → Bool
+differs Idle answer = false
+differs (Called call) answer = true
+differs (Answered given) answer = not (same_answer given answer)
+
+-- the beginning of a call: the thread is in no other
+abbrev pub begin_rules : Turn → List (Rule × Bool)
+begin_rules u = (ThreadBusy, not (is_idle u)) ∷ []
+
+-- the end of a call: it is open, and had its effect with this answer
+abbrev pub end_rules : Turn → Answer → List (Rule × Bool)
+end_rules u answer = (NoCall, is_idle u) ∷ (AnswerDiffers, differs u answer) ∷ []
+
+-- the rules of the call that is open
+abbrev pub open_rules : World → Turn → Answer → List (Rule × Bool)
+open_rules w (Called call) answer = call_rules w call answer
+open_rules w Idle answer = []
+open_rules w (Answered given) answer = []
+
+-- the effect of a call: it is open, had none yet, and may have this answer
+abbrev pub effect_rules : World → Turn → Answer → List (Rule × Bool)
+effect_rules w u answer = (NoCall, is_idle u) ∷ (DoneTwice, is_answered u) ∷ open_rules w u answer
+
+-- the rules of a line's event
+abbrev pub event_rules : Turn → Event → List (Rule × Bool)
+event_rules u (CallBegin call) = begin_rules u
+event_rules u (CallEnd answer) = end_rules u answer
+
+-- the rules of a step at a moment, the least first, with whether it breaks them
+abbrev pub step_rules : World → ℕ → Label → List (Rule × Bool)
+step_rules w moment (L line extras) = event_rules (turn w line.thread) line.event
+step_rules w moment (D t answer) = effect_rules w (turn w t) answer
+
+-- where a thread is after an event of its own
+abbrev pub turn_after : Event → Turn
+turn_after (CallBegin call) = Called call
+turn_after (CallEnd answer) = Idle
+
+-- the world after a step at a moment
+abbrev pub after : World → ℕ → Label → World
+after w moment (L line extras) = with_turn w line.thread (turn_after line.event)
+after w moment (D t answer) = answered w t (turn w t) answer
