@@ -1,0 +1,112 @@
+-- What the verdict says of the whole lists.
+use Rattle.std.proofs.Common.{◌≡◌, ℕ, ◌+◌, ◌<◌, zero, suc, List, [], ◌∷◌, ◌++◌, length, take, refl, sym, ap, ◌∙◌, subst, arith, Option, Some, None, inl, inr, ◌⊎◌, append_assoc, append-nil, length-append, Result, Ok, Err}
+use Rattle.std.specs.Prelude.{not, count_by, slice_get, IfOk, ◌↔◌}
+use Rattle.std.specs.List.{cons_option}
+use Rattle.std.specs.Option.{option_map_or}
+use Rattle.case_forms.specs.declared.trace.Header.{Header}
+use Rattle.case_forms.specs.declared.trace.Line.{Line}
+use Rattle.case_forms.specs.declared.trace.Trace.{Trace}
+use Rattle.case_forms.specs.declared.steps.Step.{Step}
+use Rattle.case_forms.specs.declared.steps.Witness.{Witness}
+use Rattle.verdict.specs.declared.rule.Rule.{Rule}
+use Rattle.verdict.specs.declared.rule.Rule.TheVariants.{Unplaced}
+use Rattle.verdict.specs.declared.report.Verdict.{Verdict}
+use Rattle.verdict.specs.declared.report.Verdict.TheVariants.{Yes, No}
+use Rattle.interval_order.specs.Orders.{unplaced}
+use Rattle.endpoint_state.specs.Worlds.{World, start}
+use Rattle.spec_step.specs.Runs.{Act, world_after}
+use Rattle.checker.specs.Seen.{moves, act_of, acts}
+use Rattle.checker.specs.Verdicts.{act_after, broken, next_world, takes_line, line_named, verdict, verdict_from, verdict_left, refused_or}
+use Rattle.checker.specs.Explains.{Explains, IsYes}
+use Rattle.checker.specs.Judges.{Says}
+use Rattle.checker.proofs.YesLemmas.{yes_explains, explains_yes}
+
+after_more : (w : World) (act : Option Act) (rest : List Act) → world_after w (cons_option act rest) ≡ world_after (option_map_or (act_after w) act w) rest
+after_more w None rest = refl
+after_more w (Some act) rest = refl
+
+-- the world that steps leave, and one step more
+world_more : (header : Header) (lines : List Line) (w : World) (earlier : List Step) (s : Step) → world_after w (acts header lines (earlier ++ s ∷ [])) ≡ next_world header lines (world_after w (acts header lines earlier)) s
+world_more header lines w [] s = after_more w (act_of header lines s) []
+world_more header lines w (t ∷ earlier) s =
+    after_more w (act_of header lines t) (acts header lines (earlier ++ s ∷ []))
+    ∙ world_more header lines (next_world header lines w t) earlier s
+    ∙ ap (λ (u : World). next_world header lines u s) (sym (after_more w (act_of header lines t) (acts header lines earlier)))
+
+-- What the verdict on the steps that are left says, where the earlier ones broke no rule.
+module _ (t : Trace) where
+  abbrev world_of : List Step → World
+  world_of earlier = world_after (start t.header) (acts t.header t.lines earlier)
+
+  abbrev breaks : List Step → Step → Option Rule
+  breaks earlier s = broken t.header t.lines earlier (world_of earlier) s
+
+  -- among the steps that are left, none breaks a rule and a line is left, or one is the first that does
+  abbrev SaysLeft : List Step → List Step → Verdict → Type 0
+  SaysLeft earlier steps (Yes lines hidden) = (lines ≡ count_by (λ s. takes_line s.label) (earlier ++ steps)) × (hidden ≡ count_by (λ s. not (takes_line s.label)) (earlier ++ steps))
+  SaysLeft earlier steps (No witness_line trace_line rule) =
+      ((witness_line ≡ 0) × (rule ≡ Unplaced)
+      × ((line : Line) × (slice_get (unplaced t.header t.lines (moves (earlier ++ steps))) 0 ≡ Some (trace_line, line)))
+      × ((i : ℕ) (s : Step) → slice_get steps i ≡ Some s → breaks (earlier ++ take i steps) s ≡ None))
+      ⊎ ((place : ℕ) × (witness_line ≡ length earlier + place + 2)
+      × ((s : Step) × (slice_get steps place ≡ Some s) × (breaks (earlier ++ take place steps) s ≡ Some rule) × (trace_line ≡ line_named s.label))
+      × ((i : ℕ) (s : Step) → i < place → slice_get steps i ≡ Some s → breaks (earlier ++ take i steps) s ≡ None))
+
+  left_says : (left : List (ℕ × Line)) (earlier : List Step) → unplaced t.header t.lines (moves (earlier ++ [])) ≡ left → SaysLeft earlier [] (verdict_left left earlier)
+  left_says [] earlier is = (ap (count_by (λ s. takes_line s.label)) (sym (append-nil earlier)), ap (count_by (λ s. not (takes_line s.label))) (sym (append-nil earlier)))
+  left_says (e ∷ left) earlier is = inl (refl, refl, (e.1, ap (λ (es : List (ℕ × Line)). slice_get es 0) is), λ i s here. absurd cc)
+
+  -- one step in front, which breaks no rule
+  front : (earlier : List Step) (s : Step) (steps : List Step) (v : Verdict) → breaks earlier s ≡ None → SaysLeft (earlier ++ s ∷ []) steps v → SaysLeft earlier (s ∷ steps) v
+  front earlier s steps (Yes lines hidden) none said = rw (append_assoc) at said
+  front earlier s steps (No witness_line trace_line rule) none (inl said) =
+      inl (said.0, said.1, (said.2.0, rw append_assoc at said.2.1), each)
+    where
+      each : (i : ℕ) (u : Step) → slice_get (s ∷ steps) i ≡ Some u → breaks (earlier ++ take i (s ∷ steps)) u ≡ None
+      each zero u here = (let same : s ≡ u = cc in subst (λ (xs : List Step). breaks xs u ≡ None) (sym (append-nil earlier)) (subst (λ (x : Step). breaks earlier x ≡ None) same none))
+      each (suc i) u here = subst (λ (xs : List Step). breaks xs u ≡ None) (append_assoc earlier (s ∷ []) (take i steps)) (said.3 i u here)
+  front earlier s steps (No witness_line trace_line rule) none (inr said) =
+      inr (
+        suc said.0,
+        (let len : length (earlier ++ s ∷ []) ≡ length earlier + 1 = length-append earlier (s ∷ []) in omega (arith, said.1)),
+        (said.2.0, said.2.1, subst (λ (xs : List Step). breaks xs said.2.0 ≡ Some rule) (append_assoc earlier (s ∷ []) (take said.0 steps)) said.2.2, said.2.3),
+        each,
+      )
+    where
+      each : (i : ℕ) (u : Step) → i < suc said.0 → slice_get (s ∷ steps) i ≡ Some u → breaks (earlier ++ take i (s ∷ steps)) u ≡ None
+      each zero u lt here = (let same : s ≡ u = cc in subst (λ (xs : List Step). breaks xs u ≡ None) (sym (append-nil earlier)) (subst (λ (x : Step). breaks earlier x ≡ None) same none))
+      each (suc i) u lt here = subst (λ (xs : List Step). breaks xs u ≡ None) (append_assoc earlier (s ∷ []) (take i steps)) (said.3 i u (omega arith) here)
+
+  from_says : (earlier : List Step) (steps : List Step) → SaysLeft earlier steps (verdict_from t.header t.lines earlier (world_of earlier) steps)
+  from_says earlier [] = rw (append-nil earlier) at (left_says (unplaced t.header t.lines (moves (earlier ++ []))) earlier refl)
+  from_says earlier (s ∷ steps) = by_rule (breaks earlier s) refl (from_says (earlier ++ s ∷ []) steps)
+    where
+      by_rule : (r : Option Rule) → breaks earlier s ≡ r → SaysLeft (earlier ++ s ∷ []) steps (verdict_from t.header t.lines (earlier ++ s ∷ []) (world_of (earlier ++ s ∷ [])) steps)
+          → SaysLeft earlier (s ∷ steps) (refused_or (breaks earlier s) earlier s (verdict_from t.header t.lines (earlier ++ s ∷ []) (next_world t.header t.lines (world_of earlier) s) steps))
+      by_rule None is rest =
+          subst (λ (r : Option Rule). SaysLeft earlier (s ∷ steps) (refused_or r earlier s (verdict_from t.header t.lines (earlier ++ s ∷ []) (next_world t.header t.lines (world_of earlier) s) steps))) (sym is)
+          (front earlier s steps (verdict_from t.header t.lines (earlier ++ s ∷ []) (next_world t.header t.lines (world_of earlier) s) steps) is
+          (subst (λ (u : World). SaysLeft (earlier ++ s ∷ []) steps (verdict_from t.header t.lines (earlier ++ s ∷ []) u steps)) (world_more t.header t.lines (start t.header) earlier s) rest))
+      by_rule (Some rule) is rest =
+          subst (λ (r : Option Rule). SaysLeft earlier (s ∷ steps) (refused_or r earlier s (verdict_from t.header t.lines (earlier ++ s ∷ []) (next_world t.header t.lines (world_of earlier) s) steps))) (sym is)
+          (inr (0, omega arith, (s, refl, subst (λ (xs : List Step). breaks xs s ≡ Some rule) (sym (append-nil earlier)) is, refl), λ i u lt here. absurd (omega arith)))
+
+-- each verdict says what holds
+pub verdict_says : (t : Trace) (w : Witness) (v : Verdict) → verdict t w ≡ v → Says t w v
+verdict_says t w (Yes lines hidden) is =
+    let said = subst (λ (v : Verdict). SaysLeft t [] w.steps v) is (from_says t [] w.steps) in
+    (yes_explains t w (subst IsYes (sym is) tt), record { lines_are = said.0; hidden_are = said.1 })
+verdict_says t w (No witness_line trace_line rule) is =
+    elim (subst (λ (v : Verdict). SaysLeft t [] w.steps v) is (from_says t [] w.steps)) [
+      | inl said ↦ inl (said.0, said.1, record { line = said.2.0; left = said.2.1; before = said.3 })
+      | inr said ↦ inr (said.0, omega (arith, said.1), record { step = said.2.0; here = said.2.1; breaks = said.2.2; names = said.2.3; before = said.3 })
+    ]
+
+-- the same of what a function answers
+pub answer_says : {E : Type 0} (t : Trace) (w : Witness) (r : Result Verdict E) → IfOk r (λ v. v ≡ verdict t w) → IfOk r (Says t w)
+answer_says t w (Ok v) is = verdict_says t w v (sym is)
+answer_says t w (Err e) is = tt
+
+pub answer_explained : {E : Type 0} (t : Trace) (w : Witness) (r : Result Verdict E) → IfOk r (λ v. v ≡ verdict t w) → IfOk r (λ v. IsYes v ↔ Explains t w)
+answer_explained t w (Ok v) is = (λ said. yes_explains t w (subst IsYes is said), λ e. subst IsYes (sym is) (explains_yes t w e))
+answer_explained t w (Err e) is = tt

@@ -1,0 +1,6 @@
+pub mod YesLemmas
+pub mod KeptLemmas
+pub mod CheckLemmas
+pub mod JudgeLemmas
+pub mod OfferLemmas
+pub mod CaseLemmas

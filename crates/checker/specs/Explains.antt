@@ -1,0 +1,23 @@
+-- What a yes means: the witness's steps, in their order, explain the trace.
+use Rattle.std.specs.Prelude.{ℕ}
+use Rattle.case_forms.specs.declared.trace.Trace.{Trace}
+use Rattle.case_forms.specs.declared.steps.Witness.{Witness}
+use Rattle.verdict.specs.declared.report.Verdict.{Verdict}
+use Rattle.verdict.specs.declared.report.Verdict.TheVariants.{Yes, No}
+use Rattle.interval_order.specs.Placed.{Placed}
+use Rattle.spec_step.specs.Runs.{IsRun}
+use Rattle.spec_step.specs.Turns.{marks, TakesTurns}
+use Rattle.checker.specs.Seen.{moves, acts}
+
+pub record Explains (t : Trace) (w : Witness) : Type 0 where
+  -- each line is taken once and in time, and the lines of a thread in their order
+  pub placed : Placed t.header t.lines (moves w.steps)
+  -- in each thread the beginning of a call, one effect and the end with its answer take turns
+  pub turns : (thread : ℕ) → TakesTurns (marks thread (acts t.header t.lines w.steps))
+  -- the steps are a run of the machine
+  pub run : IsRun t.header (acts t.header t.lines w.steps)
+
+-- the verdict is yes
+abbrev pub IsYes : Verdict → Type 0
+IsYes (Yes lines hidden) = Unit {0}
+IsYes (No witness_line trace_line rule) = ⊥

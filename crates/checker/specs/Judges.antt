@@ -1,0 +1,46 @@
+-- What each verdict says of the whole lists: yes, that the steps explain the trace; no, which rule is broken first.
+use Rattle.std.specs.Prelude.{◌≡◌, ℕ, ◌+◌, ◌<◌, ◌⊎◌, Option, None, Some, slice_get, take, not, count_by}
+use Rattle.case_forms.specs.declared.trace.Line.{Line}
+use Rattle.case_forms.specs.declared.trace.Trace.{Trace}
+use Rattle.case_forms.specs.declared.steps.Step.{Step}
+use Rattle.case_forms.specs.declared.steps.Witness.{Witness}
+use Rattle.verdict.specs.declared.rule.Rule.{Rule}
+use Rattle.verdict.specs.declared.rule.Rule.TheVariants.{Unplaced}
+use Rattle.verdict.specs.declared.report.Verdict.{Verdict}
+use Rattle.verdict.specs.declared.report.Verdict.TheVariants.{Yes, No}
+use Rattle.interval_order.specs.Orders.{unplaced}
+use Rattle.endpoint_state.specs.Worlds.{start}
+use Rattle.spec_step.specs.Runs.{world_after}
+use Rattle.checker.specs.Seen.{moves, acts}
+use Rattle.checker.specs.Verdicts.{broken, takes_line, line_named}
+use Rattle.checker.specs.Explains.{Explains}
+
+-- the least rule that the step at a place breaks, after the steps before it and in the world that they leave
+abbrev pub broken_at : Trace → Witness → ℕ → Step → Option Rule
+broken_at t w place s = broken t.header t.lines (take place w.steps) (world_after (start t.header) (acts t.header t.lines (take place w.steps))) s
+
+-- the step at that place is the first that breaks a rule; it breaks this one and no lesser one, and names this line
+pub record BreaksFirst (t : Trace) (w : Witness) (place line : ℕ) (rule : Rule) : Type 0 where
+  pub step : Step
+  pub here : slice_get w.steps place ≡ Some step
+  pub breaks : broken_at t w place step ≡ Some rule
+  pub names : line ≡ line_named step.label
+  pub before : (i : ℕ) (s : Step) → i < place → slice_get w.steps i ≡ Some s → broken_at t w i s ≡ None
+
+-- no step breaks a rule, and this is the first line that none of them takes
+pub record LeavesLine (t : Trace) (w : Witness) (number : ℕ) : Type 0 where
+  pub line : Line
+  pub left : slice_get (unplaced t.header t.lines (moves w.steps)) 0 ≡ Some (number, line)
+  pub before : (i : ℕ) (s : Step) → slice_get w.steps i ≡ Some s → broken_at t w i s ≡ None
+
+-- a yes counts the steps that take lines and the hidden ones
+pub record Counts (w : Witness) (lines hidden : ℕ) : Type 0 where
+  pub lines_are : lines ≡ count_by (λ s. takes_line s.label) w.steps
+  pub hidden_are : hidden ≡ count_by (λ s. not (takes_line s.label)) w.steps
+
+-- what a verdict says; the step at place i stands in line i + 2 of the witness
+abbrev pub Says : Trace → Witness → Verdict → Type 0
+Says t w (Yes lines hidden) = Explains t w × Counts w lines hidden
+Says t w (No witness_line trace_line rule) =
+    ((witness_line ≡ 0) × (rule ≡ Unplaced) × LeavesLine t w trace_line)
+    ⊎ ((place : ℕ) × (witness_line ≡ place + 2) × BreaksFirst t w place trace_line rule)

@@ -1,0 +1,6 @@
+pub mod Seen
+pub mod Verdicts
+pub mod Explains
+pub mod Judges
+pub mod Kept
+pub mod Cases

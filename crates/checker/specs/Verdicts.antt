@@ -1,0 +1,69 @@
+-- The verdict: the first step that breaks a rule with the least rule that it breaks; where none does, the least line that is not placed; else yes.
+use Rattle.std.specs.Prelude.{ℕ, ◌+◌, Bool, true, false, not, List, [], ◌∷◌, ◌++◌, length, Option, None, Some, count_by}
+use Rattle.std.specs.Option.{option_map_or}
+use Rattle.case_forms.specs.declared.trace.Header.{Header}
+use Rattle.case_forms.specs.declared.trace.Line.{Line}
+use Rattle.case_forms.specs.declared.trace.Trace.{Trace}
+use Rattle.case_forms.specs.declared.steps.Label.{Label}
+use Rattle.case_forms.specs.declared.steps.Label.TheVariants as labels
+use Rattle.case_forms.specs.declared.steps.Step.{Step}
+use Rattle.case_forms.specs.declared.steps.Witness.{Witness}
+use Rattle.verdict.specs.declared.rule.Rule.{Rule}
+use Rattle.verdict.specs.declared.rule.Rule.TheVariants.{Unplaced}
+use Rattle.verdict.specs.declared.report.Verdict.{Verdict}
+use Rattle.verdict.specs.declared.report.Verdict.TheVariants.{Yes, No}
+use Rattle.verdict.specs.Rules.{first_broken}
+use Rattle.interval_order.specs.Orders.{unplaced, order_of}
+use Rattle.interval_order.specs.OrderRules.{order_rules}
+use Rattle.endpoint_state.specs.Worlds.{World, start}
+use Rattle.spec_step.specs.StepRules.{step_rules, after}
+use Rattle.spec_step.specs.Runs.{Act}
+use Rattle.checker.specs.Seen.{move_of, moves, act_of}
+
+-- the machine's rules of a step, and the world after it
+abbrev pub act_rules : World → Act → List (Rule × Bool)
+act_rules w act = step_rules w act.moment act.label
+
+abbrev pub act_after : World → Act → World
+act_after w act = after w act.moment act.label
+
+-- all rules of a step, after these earlier ones and in the world that they leave: those of order, then those of the machine
+abbrev pub all_rules : Header → List Line → List Step → World → Step → List (Rule × Bool)
+all_rules header lines earlier w s = order_rules (order_of header lines (moves earlier)) (move_of s) ++ option_map_or (act_rules w) (act_of header lines s) []
+
+-- the least rule that the step breaks
+abbrev pub broken : Header → List Line → List Step → World → Step → Option Rule
+broken header lines earlier w s = first_broken (all_rules header lines earlier w s)
+
+abbrev pub next_world : Header → List Line → World → Step → World
+next_world header lines w s = option_map_or (act_after w) (act_of header lines s) w
+
+-- whether a step takes a line; else it is hidden
+abbrev pub takes_line : Label → Bool
+takes_line (labels.L n extras) = true
+takes_line (labels.D t answer) = false
+
+-- the line that a label names, 0 for a hidden step
+abbrev pub line_named : Label → ℕ
+line_named (labels.L n extras) = n
+line_named (labels.D t answer) = 0
+
+-- no step broke a rule: the least line that is not placed, or yes with both counts
+abbrev pub verdict_left : List (ℕ × Line) → List Step → Verdict
+verdict_left [] steps = Yes (count_by (λ s. takes_line s.label) steps) (count_by (λ s. not (takes_line s.label)) steps)
+verdict_left (e ∷ left) steps = No 0 e.0 Unplaced
+
+-- a rule that a step broke, which stands behind the witness's first line; or else what follows
+abbrev pub refused_or : Option Rule → List Step → Step → Verdict → Verdict
+refused_or None earlier s rest = rest
+refused_or (Some rule) earlier s rest = No (length earlier + 2) (line_named s.label) rule
+
+-- the verdict on the steps that are left
+abbrev pub verdict_from : Header → List Line → List Step → World → List Step → Verdict
+verdict_from header lines earlier w [] = verdict_left (unplaced header lines (moves earlier)) earlier
+verdict_from header lines earlier w (s ∷ steps) =
+    refused_or (broken header lines earlier w s) earlier s (verdict_from header lines (earlier ++ s ∷ []) (next_world header lines w s) steps)
+
+-- the verdict on a witness for a trace
+abbrev pub verdict : Trace → Witness → Verdict
+verdict t w = verdict_from t.header t.lines [] (start t.header) w.steps

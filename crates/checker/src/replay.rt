@@ -1,0 +1,159 @@
+//! The replay of a witness against a trace.
+//!
+//! Memory grows with the trace, since all its lines are offered at the start; a step costs the logarithm of the number
+//! of lines that wait.
+
+ghost use Rattle.std.specs.Prelude.{◌≡◌, ◌↔◌, List, [], IfOk, IfNone};
+ghost use Rattle.case_forms.specs.declared.trace.Header.{Header};
+ghost use Rattle.case_forms.specs.declared.trace.Line.{Line};
+ghost use Rattle.std.specs.Option.{option_map_or};
+ghost use Rattle.case_forms.specs.Traces.{first_event_line, IsRecorded, IsTrace};
+ghost use Rattle.interval_order.specs.Orders.{order_of, order_after};
+ghost use Rattle.verdict.specs.Rules.{first_broken};
+ghost use Rattle.spec_step.specs.StepRules.{step_rules, after};
+ghost use Rattle.checker.specs.Seen.{move_of};
+ghost use Rattle.endpoint_state.specs.Worlds.{start};
+ghost use Rattle.checker.specs.Verdicts.{verdict, verdict_from, verdict_left, takes_line, line_named};
+ghost use Rattle.checker.specs.Kept.{kept_broken, kept_world};
+ghost use Rattle.checker.specs.Explains.{Explains, IsYes};
+ghost use Rattle.checker.specs.Judges.{Says};
+
+use case_forms::{Header, Label, Line, OutOfMemory, Step, Trace, Witness};
+use endpoint_state::World;
+use interval_order::Window;
+use spec_step::{Label as Deed, StepFault, apply};
+use std::alloc::{AllocError, Global};
+use verdict::{Rule, Verdict};
+
+/// The verdict on a witness for a trace that some text stands for.
+///
+/// Yes with the counts of lines and of hidden steps exactly where the steps explain the trace; else no at the first
+/// step that breaks a rule, with the least rule that it breaks, or, where none does, with the least line left over.
+pub fn check(alloc: Global, trace: &Trace, witness: &Witness) -> Result<Verdict, OutOfMemory>
+    requires { IsTrace trace.now }
+    ensures exact { IfOk result (λ v. v ≡ verdict trace.now witness.now) }
+
+    // What the verdict says of the two lists, in places.
+    ensures says { IfOk result (Says trace.now witness.now) }
+    ensures explained { IfOk result (λ v. IsYes v ↔ Explains trace.now witness.now) }
+{
+    judge(
+        alloc,
+        &trace.header,
+        trace.lines.as_slice(),
+        witness.steps.as_slice(),
+    )
+}
+
+// The verdict on these steps for these lines.
+fn judge(
+    alloc: Global,
+    header: &Header,
+    lines: &[Line],
+    steps: &[Step],
+) -> Result<Verdict, OutOfMemory>
+    requires { IsRecorded (first_event_line header.now) 0 lines.now }
+    ensures { IfOk result (λ v. v ≡ verdict_from header.now lines.now [] (start header.now) steps.now) }
+{
+    let mut window = offer_all(alloc, header, lines)?;
+    let mut world = World::start(alloc, header);
+    replay_all(&mut window, &mut world, steps)
+}
+
+// The verdict on these steps, where the window holds all lines and the world is that before the first step.
+fn replay_all(
+    window: &mut Window,
+    world: &mut World,
+    steps: &[Step],
+) -> Result<Verdict, OutOfMemory>
+    ensures { IfOk result (λ v. (header : Header) (lines : List Line) → window.old ≡ order_of header lines [] → v ≡ verdict_from header lines [] world.old steps.now) }
+{
+    for (place, step) in steps.iter().enumerate() {
+        if let Some(rule) = replay(window, world, step)? {
+            return Ok(Verdict::No {
+                witness_line: place as u64 + 2,
+                trace_line: line_named(&step.label),
+                rule,
+            });
+        }
+    }
+    Ok(match window.first_left() {
+        Some(number) => Verdict::No {
+            witness_line: 0,
+            trace_line: number,
+            rule: Rule::Unplaced,
+        },
+        None => counted(steps),
+    })
+}
+
+// A window to which all these lines were offered.
+fn offer_all(alloc: Global, header: &Header, lines: &[Line]) -> Result<Window, OutOfMemory>
+    requires { IsRecorded (first_event_line header.now) 0 lines.now }
+    ensures { IfOk result (λ window. window ≡ order_of header.now lines.now []) }
+{
+    let mut window = Window::new(alloc, header);
+    for line in lines {
+        let copied = line.copy()?;
+        window.offer(copied)?;
+    }
+    Ok(window)
+}
+
+// Does a step, or says which rule it breaks.
+fn replay(window: &mut Window, world: &mut World, step: &Step) -> Result<Option<Rule>, OutOfMemory>
+    ensures rule { IfOk result (λ r. r ≡ kept_broken window.old world.old step.now) }
+    ensures order { IfOk result (λ r. IfNone r (window.new ≡ order_after window.old (move_of step.now))) }
+    ensures world { IfOk result (λ r. IfNone r (world.new ≡ kept_world window.old world.old step.now)) }
+{
+    match &step.label {
+        Label::L(number, extras) => match window.place(*number, extras.count(), step.moment) {
+            Ok(line) => act(world, step.moment, &Deed::L(line, *extras)),
+            Err(rule) => Ok(Some(rule)),
+        },
+        Label::D(thread, answer) => match window.pass(step.moment) {
+            Ok(()) => act(world, step.moment, &Deed::D(*thread, answer.copy()?)),
+            Err(rule) => Ok(Some(rule)),
+        },
+    }
+}
+
+// Does what a step does in the machine, or says which of its rules the step breaks.
+fn act(world: &mut World, moment: u64, deed: &Deed) -> Result<Option<Rule>, OutOfMemory>
+    ensures rule { IfOk result (λ r. r ≡ first_broken (step_rules world.old moment deed.now)) }
+    ensures after { IfOk result (λ r. IfNone r (world.new ≡ after world.old moment deed.now)) }
+{
+    match apply(world, moment, deed) {
+        Ok(()) => Ok(None),
+        Err(StepFault::Broken(rule)) => Ok(Some(rule)),
+        Err(StepFault::OutOfMemory) => Err(AllocError),
+    }
+}
+
+// Yes, with the number of steps that take a line and of those that are hidden.
+fn counted(steps: &[Step]) -> Verdict
+    ensures { result ≡ verdict_left [] steps.now }
+{
+    let lines = steps.iter().filter(|step| takes_line(&step.label)).count();
+    let hidden = steps.iter().filter(|step| !takes_line(&step.label)).count();
+    Verdict::Yes {
+        lines: lines as u64,
+        hidden: hidden as u64,
+    }
+}
+
+fn takes_line(label: &Label) -> bool
+    ensures { result ≡ takes_line label.now }
+{
+    matches!(label, Label::L(..))
+}
+
+// The line that a label names, 0 for a hidden step.
+fn line_named(label: &Label) -> u64
+    ensures { result ≡ line_named label.now }
+{
+    match label {
+        Label::L(number, _) => *number,
+        Label::D(..) => 0,
+    }
+}
