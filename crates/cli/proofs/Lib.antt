@@ -1,0 +1,2 @@
+pub mod CheckAlone
+pub mod FirstWord

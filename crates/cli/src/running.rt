@@ -1,0 +1,96 @@
+//! The whole run of the program.
+
+ghost use Rattle.std.specs.Prelude.{◌≡◌, ◌≢◌, ◌⊎◌, ◌<◌, ◌^◌, IfSome, codes, map};
+ghost use Rattle.std.specs.Io.KnownBytes.{Appends};
+ghost use Rattle.checker.specs.Cases.{case_result};
+ghost use Rattle.counted.specs.Counting.{left_of, failures_of};
+ghost use Rattle.cli.specs.CommandLine.{AsksCheck};
+ghost use Rattle.cli.specs.Output.{Ends, line_of, status_of};
+
+use crate::lines::{DEVICE, MEMORY, USAGE, line_of, say, status_of};
+use crate::words::asks_for_check;
+use checker::{CaseFault, check_case};
+use counted::{Counted, ReadFault};
+use std::alloc::Global;
+use std::io::{BufRead, Write};
+
+/// Does what the words behind the program's name ask for, and answers the status: 0 where the case is explained, 1
+/// where it is not, 2 where its text is refused, 3 where the words are not `check` alone, 4 where memory ran out, and
+/// 5 where a read or a write failed. One line is written, which says the same; where the words are refused nothing is
+/// read. To write `bad memory` takes no memory.
+pub fn run<R: BufRead, W: Write>(
+    alloc: Global,
+    words: &[&str],
+    r: &mut Counted<R>,
+    w: &mut Counted<W>,
+) -> u8
+    requires { (failures_of r.old < 2 ^ 50) × (failures_of w.old < 2 ^ 50) }
+    ensures check { AsksCheck (map (λ word. word.now) words.now) → result ≢ 5 → IfSome (left_of R.remaining r.old) (λ text. Ends (status_of (case_result text)) (line_of (case_result text)) result (left_of W.contents w.old) (left_of W.contents w.new)) }
+    ensures usage { ¬ AsksCheck (map (λ word. word.now) words.now) → result ≢ 5 → Ends 3 (codes "bad usage\n") result (left_of W.contents w.old) (left_of W.contents w.new) }
+    ensures unread { ¬ AsksCheck (map (λ word. word.now) words.now) → r.new ≡ r.old }
+
+    // A device is at fault only where one failed, and then is said to be, where it can be.
+    ensures device { result ≡ 5 → (failures_of r.old < failures_of r.new) ⊎ (failures_of w.old < failures_of w.new) }
+    ensures told { result ≡ 5 → failures_of w.new ≡ failures_of w.old → Appends (left_of W.contents w.old) (left_of W.contents w.new) (codes "bad device\n") }
+    ensures quiet { result ≢ 5 → (failures_of r.new ≡ failures_of r.old) × (failures_of w.new ≡ failures_of w.old) }
+{
+    match asks_for_check(alloc, words) {
+        Ok(true) => check(alloc, r, w),
+        Ok(false) => answer_bad_usage(w),
+        Err(_) => answer_bad_memory(w),
+    }
+}
+
+/// Answers words that ask for nothing that the program does, or that can't be read: one line, and the status 3, or 5
+/// where the writer failed.
+pub fn answer_bad_usage<W: Write>(w: &mut Counted<W>) -> u8
+    requires { failures_of w.old < 2 ^ 50 }
+    ensures said { result ≢ 5 → (result ≡ 3) × Appends (left_of W.contents w.old) (left_of W.contents w.new) (codes "bad usage\n") × (failures_of w.new ≡ failures_of w.old) }
+    ensures device { result ≡ 5 → failures_of w.old < failures_of w.new }
+{
+    say(w, b"bad usage\n", USAGE)
+}
+
+/// Answers that memory ran out, and takes none: one line, and the status 4, or 5 where the writer failed.
+pub fn answer_bad_memory<W: Write>(w: &mut Counted<W>) -> u8
+    requires { failures_of w.old < 2 ^ 50 }
+    ensures said { result ≢ 5 → (result ≡ 4) × Appends (left_of W.contents w.old) (left_of W.contents w.new) (codes "bad memory\n") × (failures_of w.new ≡ failures_of w.old) }
+    ensures device { result ≡ 5 → failures_of w.old < failures_of w.new }
+{
+    say(w, b"bad memory\n", MEMORY)
+}
+
+// Reads a case to its end, and answers it.
+fn check<R: BufRead, W: Write>(alloc: Global, r: &mut Counted<R>, w: &mut Counted<W>) -> u8
+    requires { (failures_of r.old < 2 ^ 50) × (failures_of w.old < 2 ^ 50) }
+    ensures check { result ≢ 5 → IfSome (left_of R.remaining r.old) (λ text. Ends (status_of (case_result text)) (line_of (case_result text)) result (left_of W.contents w.old) (left_of W.contents w.new)) }
+    ensures device { result ≡ 5 → (failures_of r.old < failures_of r.new) ⊎ (failures_of w.old < failures_of w.new) }
+    ensures told { result ≡ 5 → failures_of w.new ≡ failures_of w.old → Appends (left_of W.contents w.old) (left_of W.contents w.new) (codes "bad device\n") }
+    ensures quiet { result ≢ 5 → (failures_of r.new ≡ failures_of r.old) × (failures_of w.new ≡ failures_of w.old) }
+{
+    let mut text = Vec::new(alloc);
+    match r.append_all(&mut text) {
+        Ok(()) => answer(alloc, text.as_slice(), w),
+        Err(ReadFault::Read) => {
+            let _ = say(w, b"bad device\n", DEVICE);
+            DEVICE
+        }
+        Err(ReadFault::OutOfMemory) => answer_bad_memory(w),
+    }
+}
+
+// Writes the answer to a case.
+fn answer<W: Write>(alloc: Global, text: &[u8], w: &mut Counted<W>) -> u8
+    requires { failures_of w.old < 2 ^ 50 }
+    ensures check { result ≢ 5 → Ends (status_of (case_result text.now)) (line_of (case_result text.now)) result (left_of W.contents w.old) (left_of W.contents w.new) }
+    ensures device { result ≡ 5 → failures_of w.old < failures_of w.new }
+    ensures quiet { result ≢ 5 → failures_of w.new ≡ failures_of w.old }
+{
+    match check_case(alloc, text) {
+        Err(CaseFault::OutOfMemory) => answer_bad_memory(w),
+        answer => match line_of(alloc, &answer) {
+            Ok(line) => say(w, line.as_slice(), status_of(&answer)),
+            Err(_) => answer_bad_memory(w),
+        },
+    }
+}
