@@ -1,0 +1,15 @@
+//! Worked cases: what the program and the checker answer to whole texts.
+//!
+//! All is tests, and each case runs through `cli::run`, whose whole output and status are compared, and through
+//! `checker::check_case`. The lines that are expected were reasoned from `docs/FORMATS.md` and `docs/RULES.md`, never taken
+//! from the program.
+//!
+//! - `two_threads`: the case of the README and its changes, moments with skew, ports
+//! - `beginnings`: every beginning of that case
+//! - `headers`, `event_lines`, `witness_lines`, `long_lines`: texts that are refused, and texts at their limits
+//! - `order_of_lines`, `moments`: rules 1 to 6, and 39
+//! - `threads`, `answers`: rules 7 to 12
+#![tactic(auto)]
+
+#[cfg(test)]
+mod tests;
