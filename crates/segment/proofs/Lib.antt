@@ -1,0 +1,4 @@
+pub mod Cuts
+pub mod Unique
+pub mod Readings
+pub mod Again

@@ -1,0 +1,84 @@
+//! The segment that bytes stand for.
+
+ghost use Rattle.std.specs.Prelude.{◌≡◌, ◌+◌, ◌≤◌, IfOk, IfErr, MatchResult, length};
+ghost use Rattle.byteorder.specs.Endian.{big_from};
+ghost use Rattle.segment.specs.declared.fault.SegFault.TheVariants.{OutOfMemory};
+ghost use Rattle.segment.specs.declared.fields.Segment.{Segment};
+ghost use Rattle.segment.specs.Layout.{IsSegment, IsFault};
+ghost use Rattle.segment.specs.Reading.{Gives, ReadsByLayout, segment_of};
+
+use crate::bytes::Bytes;
+use crate::fault::SegFault;
+use crate::fields::Segment;
+use crate::options::mss_among;
+use crate::{HEADER_LEN, MAX_LEN};
+use byteorder::{BigEndian, ByteOrder};
+use seqno::Word;
+use std::alloc::Global;
+
+// The number in two bytes from a place on.
+fn u16_at(bytes: &[u8], place: usize) -> u16
+    requires { place + 2 ≤ length bytes.now }
+    ensures { result ≡ big_from place 2 bytes.now }
+{
+    BigEndian::read_u16(&bytes[place..])
+}
+
+// The number in four bytes from a place on.
+fn u32_at(bytes: &[u8], place: usize) -> u32
+    requires { place + 4 ≤ length bytes.now }
+    ensures { result ≡ big_from place 4 bytes.now }
+{
+    BigEndian::read_u32(&bytes[place..])
+}
+
+// Reads a segment. Each byte is read once, those of the options twice.
+fn read(alloc: Global, bytes: &[u8]) -> Result<Segment, SegFault>
+    ensures found { IfOk result (λ s. IsSegment bytes.now s) }
+    ensures fault { IfErr result (λ e. IsFault bytes.now e) }
+{
+    if bytes.len() < HEADER_LEN {
+        return Err(SegFault::Short);
+    }
+    let header_len = 4 * usize::from(bytes[12] / 16);
+    if header_len < HEADER_LEN || bytes.len() < header_len {
+        return Err(SegFault::Offset);
+    }
+    let (header, payload) = bytes.split_at(header_len);
+    let (_fixed, options) = header.split_at(HEADER_LEN);
+    let mss = mss_among(options)?;
+    if bytes.len() > MAX_LEN {
+        return Err(SegFault::TooLong);
+    }
+    Ok(Segment {
+        src: u16_at(bytes, 0),
+        dst: u16_at(bytes, 2),
+        seq: Word(u32_at(bytes, 4)),
+        ack: Word(u32_at(bytes, 8)),
+        flags: bytes[13],
+        window: u16_at(bytes, 14),
+        mss,
+        options: Bytes::from_slice(alloc, options)?,
+        payload: Bytes::from_slice(alloc, payload)?,
+    })
+}
+
+/// The segment that the bytes stand for, or the first fault.
+pub fn decode(alloc: Global, bytes: &[u8]) -> Result<Segment, SegFault>
+    ensures found { IfOk result (λ s. IsSegment bytes.now s) }
+    ensures fault { IfErr result (λ e. IsFault bytes.now e) }
+
+    // Bytes have one segment at most, and where they have it, it is read, unless memory runs out.
+    ensures only { (s : Segment) → IsSegment bytes.now s
+        → MatchResult result (λ t. t ≡ s) (λ e. e ≡ OutOfMemory) }
+
+    // The same said by a definition that finds the segment or the fault, for readers whose texts hold segments.
+    ensures exact { Gives result (segment_of bytes.now) }
+{
+    read(alloc, bytes)
+}
+
+/// That definition gives the segment that bytes stand for, and where they stand for none their first fault.
+pub fn reading_law()
+    ensures { ReadsByLayout }
+{}

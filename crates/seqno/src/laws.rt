@@ -1,0 +1,13 @@
+//! What positions and their numbers have to do with each other.
+
+ghost use Rattle.seqno.specs.Numbers.{ReadsBack, NearbyDiffer};
+
+/// What is numbered reads back near itself, and near nothing else.
+pub fn numbers_read_back()
+    ensures { ReadsBack }
+{}
+
+/// Two positions less than 2^31 apart with one number are one.
+pub fn nearby_positions_differ()
+    ensures { NearbyDiffer }
+{}

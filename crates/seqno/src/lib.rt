@@ -1,0 +1,22 @@
+//! Sequence numbers and the positions that they number (RFC 9293, 3.4).
+//!
+//! A position counts what a host sends on one connection: its SYN has position 0, data byte k has position 1 + k, its
+//! FIN the position after the last byte. Positions don't wrap. Their numbers do: they go up from a base, the initial
+//! sequence number, modulo 2^32. Nothing here takes memory.
+//!
+//! - `word`: a number on the wire, from a position and back
+//! - `window`: ranges of positions
+//! - `laws`: what is numbered reads back, and what is near and has one number is one position
+//!
+//! What a number is, and when it reads as a position, stands in `specs/Numbers`.
+#![tactic(auto)]
+
+mod laws;
+#[cfg(test)]
+mod tests;
+mod window;
+mod word;
+
+pub use laws::{nearby_positions_differ, numbers_read_back};
+pub use window::in_window;
+pub use word::{Word, number, read_near};

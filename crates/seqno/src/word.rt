@@ -1,0 +1,40 @@
+//! A number on the wire, from a position and back (RFC 9293, 3.4).
+
+ghost use Rattle.std.specs.Prelude.{◌≡◌, ◌≤◌, ◌^◌, ℕ, Option};
+ghost use Rattle.seqno.specs.Numbers.{number_of, Reads};
+
+/// A sequence or acknowledgment number, as a segment carries it: modulo 2^32.
+#[derive(Clone, Copy, Debug, PartialEq, Eq)]
+pub struct Word(pub u32);
+
+/// How many numbers there are.
+const TURN: u64 = 1 << 32;
+
+/// A number that is fewer places ahead than this reads ahead, any other behind.
+const HALF_TURN: u64 = 1 << 31;
+
+/// The number of a position, where position 0 has the number `base`.
+pub fn number(base: Word, pos: u64) -> Word
+    ensures { result ≡ number_of base pos }
+{
+    let turned = (pos % TURN) as u32;
+    Word(base.0.wrapping_add(turned))
+}
+
+/// The position that a number reads as: less than 2^31 above `near`, or at most 2^31 below it. `base` is the number of
+/// position 0. There is none where it would be below 0. `near` is at most 10^18.
+pub fn read_near(near: u64, base: Word, w: Word) -> Option<u64>
+    requires { near ≤ 10 ^ 18 }
+
+    ensures reads { Reads near base w result }
+
+    // There is one answer.
+    ensures only { (read : Option ℕ) → Reads near base w read → result ≡ read }
+{
+    let ahead = u64::from(w.0.wrapping_sub(number(base, near).0));
+    if ahead < HALF_TURN {
+        Some(near + ahead)
+    } else {
+        near.checked_sub(TURN - ahead)
+    }
+}
