@@ -1,0 +1,2 @@
+pub mod TimeoutLemmas
+mod RfcFacts

@@ -1,0 +1,3 @@
+pub mod Timeouts
+pub mod Timers
+pub mod Laws

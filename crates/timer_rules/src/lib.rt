@@ -1,0 +1,23 @@
+//! When the timers of an endpoint may expire, and the timeout that they go by (RFC 6298; RFC 9293, 3.8.6.1 and
+//! 3.6.1). All times and moments are microseconds.
+//!
+//! - `timers`: the timers of an endpoint; samples, arming, back-off, expiries
+//! - `fault`: why an expiry is refused
+//! - `laws`: what all of this means in the words of RFC 6298
+//!
+//! The formulas stand in specs/Timeouts and specs/Timers. Which event arms or stops which timer, and which round
+//! trips may be sampled, is told by `spec_step`.
+#![tactic(auto)]
+
+mod fault;
+mod laws;
+#[cfg(test)]
+mod tests;
+mod timers;
+
+pub use fault::TimerFault;
+pub use laws::{
+    back_off_is_exponential, expiries_are_apart, expiry_is_exact, never_passes_a_minute,
+    samples_are_exact, samples_are_smooth, timeout_is_bounded,
+};
+pub use timers::{LONGEST_RTO, Timers};

@@ -1,0 +1,2 @@
+mod RfcFacts
+pub mod GrowthLemmas

@@ -1,0 +1,39 @@
+//! What the greatest values have to do with what the RFCs allow, and what follows from them, for callers that prove
+//! more: each law is the contract of a call that does nothing.
+
+ghost use Rattle.window_rules.specs.Laws.{EdgesAreExact, GrowthIsGreatest, LossesAreGreatest, RecoveryIsGreatest, GrowthIsGentle, CountsOnce, LossHalves};
+
+/// Both edges bound exactly what may be sent (RFC 9293, 3.8.6; RFC 5681, 3.1 and 3.2).
+pub fn edges_are_exact()
+    ensures { EdgesAreExact }
+{}
+
+/// Each window that a call answers for an acknowledgment is the greatest that is allowed (RFC 5681, 3.1 and 3.2).
+pub fn growth_is_greatest()
+    ensures { GrowthIsGreatest }
+{}
+
+/// So is each window and threshold that a call answers for a loss (RFC 5681, 3.1 and 3.2).
+pub fn losses_are_greatest()
+    ensures { LossesAreGreatest }
+{}
+
+/// So is the pair with which fast recovery begins (RFC 5681, 3.2).
+pub fn recovery_is_greatest()
+    ensures { RecoveryIsGreatest }
+{}
+
+/// A window grows by at most a segment for an acknowledgment, and never shrinks by one (RFC 5681, 3.1).
+pub fn growth_is_gentle()
+    ensures { GrowthIsGentle }
+{}
+
+/// Each byte that is acknowledged in congestion avoidance is counted, and spent once (RFC 5681, 3.1).
+pub fn counts_once()
+    ensures { CountsOnce }
+{}
+
+/// A loss halves the window (RFC 5681, 3.1 and 3.2).
+pub fn loss_halves()
+    ensures { LossHalves }
+{}

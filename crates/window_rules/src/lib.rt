@@ -1,0 +1,31 @@
+//! How much an endpoint may send: the window that its peer offers (RFC 9293, 3.8.6) and the congestion window
+//! (RFC 5681).
+//!
+//! Each call answers the greatest value that a sender may choose; it may always choose less. All values are bytes,
+//! windows and thresholds are at most 4294967295.
+//!
+//! - `congestion`: what congestion control remembers of an endpoint
+//! - `windows`: how far new data may reach, and the first congestion window
+//! - `growth`: what acknowledgments do to the congestion window
+//! - `losses`: what timeouts and fast recovery do to it
+//! - `laws`: that the answers are the greatest values that the RFCs allow, and what follows
+//!
+//! The formulas stand in specs/ under the same names.
+#![tactic(auto)]
+
+mod congestion;
+mod growth;
+mod laws;
+mod losses;
+#[cfg(test)]
+mod tests;
+mod windows;
+
+pub use congestion::Congestion;
+pub use growth::{counted_after, may_grow, on_duplicate};
+pub use laws::{
+    counts_once, edges_are_exact, growth_is_gentle, growth_is_greatest, loss_halves,
+    losses_are_greatest, recovery_is_greatest,
+};
+pub use losses::{on_fast, on_timeout, recovery_window};
+pub use windows::{GREATEST_WINDOW, congestion_edge, initial_window, offered_edge};

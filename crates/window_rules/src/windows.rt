@@ -1,0 +1,66 @@
+//! How far new data may reach, and the first congestion window. Positions and windows count bytes.
+
+ghost use Rattle.std.specs.Prelude.{◌≡◌, ◌≤◌, ◌<◌, ◌^◌};
+ghost use Rattle.window_rules.specs.Windows.{greatest_window, capped, offered_edge, limited_transmit, congestion_edge, initial_window};
+
+use crate::congestion::Congestion;
+
+/// The greatest congestion window and slow start threshold, in bytes.
+pub const GREATEST_WINDOW: u64 = 4_294_967_295;
+
+/// The position at which new data ends at most by the window of `wnd` bytes that the peer offers from position `una`
+/// on; a byte later where that window is 0 and a probe is due (RFC 9293, 3.8.6 and 3.8.6.1).
+pub fn offered_edge(una: u64, wnd: u32, probe: bool) -> u64
+    requires { una ≤ 10 ^ 18 }
+    ensures { result ≡ offered_edge una wnd probe }
+{
+    let probed = if wnd == 0 && probe { 1 } else { 0 };
+    una + wnd as u64 + probed
+}
+
+/// The position at which new data ends at most by the congestion window from position `una` on; two segments later at
+/// the first and the second duplicate acknowledgment, outside fast recovery (RFC 5681, 3.1 and 3.2).
+pub fn congestion_edge(una: u64, congestion: &Congestion) -> u64
+    requires { una ≤ 10 ^ 18 }
+    ensures { result ≡ congestion_edge una congestion.now }
+{
+    una + congestion.cwnd as u64 + limited_transmit(congestion)
+}
+
+/// The greatest cwnd in bytes once the SYN is acknowledged: two to four segments of `smss` bytes, one where a SYN was
+/// lost (RFC 5681, 3.1).
+pub fn initial_window(smss: u32, syn_lost: bool) -> u64
+    ensures greatest { result ≡ initial_window smss syn_lost }
+    ensures limit { result ≤ greatest_window }
+{
+    let smss = smss as u64;
+    let window = if syn_lost {
+        smss
+    } else if 2190 < smss {
+        2 * smss
+    } else if 1095 < smss {
+        3 * smss
+    } else {
+        4 * smss
+    };
+    capped(window)
+}
+
+/// A window in bytes, or the greatest if it is above.
+pub(crate) fn capped(window: u64) -> u64
+    ensures value { result ≡ capped window }
+    ensures limit { result ≤ greatest_window }
+{
+    window.min(GREATEST_WINDOW)
+}
+
+fn limited_transmit(congestion: &Congestion) -> u64
+    ensures value { result ≡ limited_transmit congestion.now }
+    ensures small { result < 2 ^ 34 }
+{
+    if !congestion.fast && (congestion.dup == 1 || congestion.dup == 2) {
+        2 * congestion.smss as u64
+    } else {
+        0
+    }
+}
