@@ -1,0 +1,10 @@
+pub mod Places
+pub mod Fronts
+pub mod Pieces
+pub mod Covers
+pub mod Fades
+pub mod Writes
+pub mod Gone
+pub mod Waiting
+pub mod RunLemmas
+pub mod ReadLemmas

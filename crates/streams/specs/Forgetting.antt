@@ -1,0 +1,58 @@
+-- What may be let go: bytes that were delivered, and bytes and makings below the oldest position that is not acknowledged (RFC 9293, 3.3.1: SND.UNA). Something fixed stands in their places.
+use Rattle.std.specs.Prelude.{◌≡◌, ℕ, zero, suc, ◌-◌, ◌≤◌, Bool, List, [], ◌∷◌, ◌++◌, length, Option, None, Some}
+use Rattle.streams.specs.declared.cell.Cell.{Cell}
+use Rattle.streams.specs.declared.cell.Cell.TheVariants.{Syn, Byte, Fin}
+use Rattle.streams.specs.declared.making.Made.{Made}
+use Rattle.streams.specs.Lists.{covered}
+use Rattle.streams.specs.Received.{Receiving, is_ended, kept, next, told, waiting}
+use Rattle.streams.specs.Sent.{end_of, piece}
+use Rattle.streams.specs.Makings.{made, made_again, made_moment, once}
+
+-- a byte becomes 0; the rest stays
+abbrev pub faded : Option Cell → Option Cell
+faded None = None
+faded (Some Syn) = Some Syn
+faded (Some (Byte value)) = Some (Byte 0)
+faded (Some Fin) = Some Fin
+
+-- the first so many are let go
+abbrev pub fade : ℕ → List (Option Cell) → List (Option Cell)
+fade zero taken = taken
+fade (suc count) [] = []
+fade (suc count) (x ∷ taken) = faded x ∷ fade count taken
+
+-- the bytes that were delivered are let go
+abbrev pub forgotten : Receiving → Receiving
+forgotten r = record r { taken = fade (suc r.delivered) r.taken }
+
+-- the first so many bytes become 0
+abbrev pub blank : ℕ → List ℕ → List ℕ
+blank count bytes = covered 0 count bytes
+
+-- of the bytes that were accepted those below this position are let go
+abbrev pub below : ℕ → List ℕ → List ℕ
+below una accepted = blank (una - 1) accepted
+
+-- the makings below this position are let go: as if they had been made once, at the moment 0
+abbrev pub made_below : ℕ → List Made → List Made
+made_below una all = covered (once 0) una all
+
+-- nothing that an endpoint does with its streams reads what was let go, and letting go sooner or later is the same
+pub record ForgettingStreams : Type 0 where
+  pub counts : (r : Receiving) → next (forgotten r) ≡ next r
+  pub ends : (r : Receiving) → is_ended (forgotten r) ≡ is_ended r
+  pub reads : (r : Receiving) → waiting (forgotten r) ≡ waiting r
+  pub takes : (r : Receiving) (position : ℕ) (bytes : List ℕ) (fin : Bool) → forgotten (kept (forgotten r) position bytes fin) ≡ forgotten (kept r position bytes fin)
+  pub tells : (r : Receiving) (count : ℕ) → forgotten (told (forgotten r) count) ≡ forgotten (told r count)
+  pub measures : (una : ℕ) (accepted : List ℕ) → end_of (below una accepted) ≡ end_of accepted
+  pub sends : (una : ℕ) (accepted bytes : List ℕ) → below una (below una accepted ++ bytes) ≡ below una (accepted ++ bytes)
+  pub makes : (una : ℕ) (accepted : List ℕ) (position count : ℕ) → una ≤ position → piece (below una accepted) position count ≡ piece accepted position count
+  pub acks : (una higher : ℕ) (accepted : List ℕ) → una ≤ higher → below higher (below una accepted) ≡ below higher accepted
+
+-- the same of makings
+pub record ForgettingMakings : Type 0 where
+  pub measures : (una : ℕ) (all : List Made) → length (made_below una all) ≡ length all
+  pub makes : (una : ℕ) (all : List Made) (position count moment : ℕ) → made_below una (made (made_below una all) position count moment) ≡ made_below una (made all position count moment)
+  pub asks : (una : ℕ) (all : List Made) (from upto : ℕ) → una ≤ from → made_again (made_below una all) from upto ≡ made_again all from upto
+  pub times : (una : ℕ) (all : List Made) (position : ℕ) → una ≤ position → made_moment (made_below una all) position ≡ made_moment all position
+  pub acks : (una higher : ℕ) (all : List Made) → una ≤ higher → made_below higher (made_below una all) ≡ made_below higher all

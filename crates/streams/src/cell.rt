@@ -1,0 +1,12 @@
+//! What stands at one position (RFC 9293, 3.4).
+
+/// What stands at one position of a stream.
+#[derive(Clone, Copy, Debug, PartialEq, Eq)]
+pub enum Cell {
+    /// The SYN, at position 0.
+    Syn,
+    /// A byte of data; data byte k has position 1 + k.
+    Byte(u8),
+    /// The FIN, behind the last byte.
+    Fin,
+}

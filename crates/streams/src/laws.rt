@@ -1,0 +1,24 @@
+//! What follows from the definitions, for callers that prove more: each law is the contract of a call that does nothing.
+
+ghost use Rattle.streams.specs.Forgetting.{ForgettingMakings, ForgettingStreams};
+ghost use Rattle.streams.specs.InOrder.{StartsArePrefixes, StreamsInOrder};
+
+/// Nothing that an endpoint does with its streams reads what was let go.
+pub fn forgetting_streams()
+    ensures { ForgettingStreams }
+{}
+
+/// Nothing that is asked of makings reads those that were let go.
+pub fn forgetting_makings()
+    ensures { ForgettingMakings }
+{}
+
+/// Where segments carry what their maker sends, reads are given it in order, and the end when all of it came.
+pub fn streams_in_order()
+    ensures { StreamsInOrder }
+{}
+
+/// Bytes that others start with are a prefix of them.
+pub fn starts_are_prefixes()
+    ensures { StartsArePrefixes }
+{}

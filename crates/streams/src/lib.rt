@@ -1,0 +1,35 @@
+//! The two streams of an endpoint, by position (RFC 9293, 3.4): what it sends, and what it took of its peer.
+//!
+//! Position 0 is the SYN's, data byte k has position 1 + k, and the FIN stands behind the last byte. Positions don't
+//! wrap. Each list here is by position, so that "the byte at a position" is an element of a list, and "the next
+//! position expected" is the length of the part in front without a gap.
+//!
+//! - `cell`: what stands at one position
+//! - `receive`: what was taken of the peer, until it is delivered; `leading` reads the bytes in front
+//! - `send`: what sends accepted, until it is acknowledged
+//! - `making`, `makings`: when a position was made, and whether it was made again; `runs` keeps that by segments
+//! - `laws`: that nothing reads what is forgotten, and that reads are given what the peer sent, in order
+//!
+//! Each buffer shows the whole list from position 0 on, with something fixed in the places of what it let go. What must
+//! hold stands in specs/: `Cells` first, then `Received` and `Sent`, then `Makings`, in `InOrder` what follows, and in
+//! `Forgetting` what may be let go. Which bytes may be kept, read or made is for the rules above to say.
+#![tactic(auto)]
+
+mod cell;
+mod front;
+mod laws;
+mod leading;
+mod making;
+mod makings;
+mod receive;
+mod runs;
+mod send;
+#[cfg(test)]
+mod tests;
+
+pub use cell::Cell;
+pub use laws::{forgetting_makings, forgetting_streams, starts_are_prefixes, streams_in_order};
+pub use making::Made;
+pub use makings::Makings;
+pub use receive::ReceiveBuffer;
+pub use send::SendBuffer;

@@ -1,0 +1,100 @@
+//! When each position of a stream was made, and whether it was made again (RFC 6298, 3).
+//!
+//! Positions that one segment made are kept as one run, and those that were acknowledged are let go: they show as made
+//! once at the moment 0. `specs/Makings` says what each call does.
+
+ghost use Rattle.std.specs.Prelude.{◌≡◌, ◌+◌, ◌<◌, ◌^◌, [], OnOk, OnErr, length};
+ghost use Rattle.streams.specs.Makings.{made, made_again, made_moment};
+ghost use Rattle.streams.specs.Forgetting.{made_below};
+
+use super::runs::{Run, any_again, forget, grow, moment_at, remake, reopen};
+use std::alloc::{AllocError, Global};
+use std::collections::VecDeque;
+use std::marker::Model;
+
+/// The makings of an endpoint's positions.
+#[derive(Drop)]
+pub struct Makings {
+    /// The positions from `gone` on that were made, in runs.
+    runs: VecDeque<Run>,
+    /// How many positions were let go.
+    gone: u64,
+    /// The position behind the last that was made.
+    end: u64,
+}
+
+impl Model for Makings {
+    ghost use Rattle.std.specs.Prelude.{◌≡◌, ◌++◌, ◌+◌, ◌<◌, ◌^◌, List, length, replicate};
+    ghost use Rattle.streams.specs.declared.making.Made.{Made};
+    ghost use Rattle.streams.specs.Makings.{once};
+    ghost use Rattle.streams.specs.Views.{expand};
+
+    ghost Value = { List Made };
+
+    ghost view = { λ a. replicate a.gone (once 0) ++ expand a.runs.items };
+
+    ghost invariant = { λ a. (a.end ≡ a.gone + length (expand a.runs.items)) × (a.end < 2 ^ 63) };
+}
+
+impl Makings {
+    /// Before anything was made.
+    pub fn new(alloc: Global) -> Self
+        ensures { result ≡ [] }
+    {
+        Makings {
+            runs: VecDeque::new(alloc),
+            gone: 0,
+            end: 0,
+        }
+    }
+
+    /// The position behind the last that was made, 0 if none was.
+    pub fn end(&self) -> u64
+        ensures { result ≡ length self.now }
+    {
+        self.end
+    }
+
+    /// A segment is made at this moment (in microseconds), with so many positions from this one on. Those that were made
+    /// before are made again.
+    pub fn make(&mut self, position: u64, count: u64, moment: u64) -> Result<(), AllocError>
+        requires { position + count < 2 ^ 63 }
+        ensures ok { OnOk result (self.new ≡ made self.old position count moment) }
+        ensures err { OnErr result (self.new ≡ self.old) }
+    {
+        self.runs.reserve(4)?;
+        self.gone = reopen(&mut self.runs, self.gone, position);
+        remake(&mut self.runs, position - self.gone, count);
+        let fresh = (position + count).saturating_sub(self.end);
+        grow(&mut self.runs, fresh, moment);
+        self.end += fresh;
+        Ok(())
+    }
+
+    /// Whether a position from `from` to before `upto` was made again. Nothing is measured of such a range.
+    pub fn is_made_again(&self, from: u64, upto: u64) -> bool
+        ensures { result ≡ made_again self.now from upto }
+    {
+        let first = from.max(self.gone);
+        any_again(&self.runs, first - self.gone, upto.saturating_sub(first))
+    }
+
+    /// The moment at which this position was made first (in microseconds); `None` if it was not made.
+    pub fn moment(&self, position: u64) -> Option<u64>
+        ensures { result ≡ made_moment self.now position }
+    {
+        if position < self.gone {
+            return Some(0);
+        }
+        moment_at(&self.runs, position - self.gone)
+    }
+
+    /// Lets go of the positions below this one, all of which were acknowledged.
+    pub fn forget_below(&mut self, una: u64)
+        ensures { self.new ≡ made_below una self.old }
+    {
+        let count = una.saturating_sub(self.gone).min(self.end - self.gone);
+        forget(&mut self.runs, count);
+        self.gone += count;
+    }
+}
