@@ -6,9 +6,10 @@
 //!
 //! - `word`: a number on the wire, from a position and back
 //! - `window`: ranges of positions
-//! - `laws`: what is numbered reads back, and what is near and has one number is one position
+//! - `laws`: what is numbered reads back, what is near and has one number is one position, and which position is found
 //!
-//! What a number is, and when it reads as a position, stands in `specs/Numbers`.
+//! What a number is, and when it reads as a position, stands in `specs/Numbers`; the position that it reads as, computed,
+//! in `specs/Near`.
 #![tactic(auto)]
 
 mod laws;
@@ -17,6 +18,6 @@ mod tests;
 mod window;
 mod word;
 
-pub use laws::{nearby_positions_differ, numbers_read_back};
+pub use laws::{nearby_positions_differ, numbers_are_found_near, numbers_read_back};
 pub use window::in_window;
 pub use word::{Word, number, read_near};

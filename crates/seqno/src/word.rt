@@ -1,6 +1,7 @@
 //! A number on the wire, from a position and back (RFC 9293, 3.4).
 
 ghost use Rattle.std.specs.Prelude.{◌≡◌, ◌≤◌, ◌^◌, ℕ, Option};
+ghost use Rattle.seqno.specs.Near.{near_position};
 ghost use Rattle.seqno.specs.Numbers.{number_of, Reads};
 
 /// A sequence or acknowledgment number, as a segment carries it: modulo 2^32.
@@ -30,6 +31,8 @@ pub fn read_near(near: u64, base: Word, w: Word) -> Option<u64>
 
     // There is one answer.
     ensures only { (read : Option ℕ) → Reads near base w read → result ≡ read }
+
+    ensures found { result ≡ near_position near base w }
 {
     let ahead = u64::from(w.0.wrapping_sub(number(base, near).0));
     if ahead < HALF_TURN {
