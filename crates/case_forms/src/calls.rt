@@ -3,6 +3,7 @@
 ghost use Rattle.std.specs.Prelude.{◌≡◌, IfOk};
 
 use crate::OutOfMemory;
+use segment::Bytes;
 
 /// One of the two hosts of a case.
 #[derive(Clone, Copy, Debug, PartialEq, Eq)]
@@ -29,15 +30,30 @@ pub enum State {
     TimeWait,
 }
 
-/// What a thread asks for. Ports are 1 to 65535; a socket number is any that a call was or was not given.
+/// What a thread asks for (RFC 9293, 3.9.1). Ports are 1 to 65535; a socket number is any that a call was or was not
+/// given.
 #[derive(Debug, PartialEq, Eq, Drop)]
 pub enum Call {
     /// `listen h port backlog`: open a listener on a port of host h, whose queue holds `backlog` children.
     Listen(Host, u16, u16),
-    /// `status H`: the state of what socket number H names.
-    Status(u32),
+    /// `open h lport rport`: connect a local port of host h to a port of the other host.
+    Connect(Host, u16, u16),
+    /// `await H`: whether the endpoint was connected.
+    Await(u32),
+    /// `accept H`: the front child of a listener's queue.
+    Accept(u32),
+    /// `send H hex`: give bytes to send, at most 65535.
+    Send(u32, Bytes),
+    /// `recv H max`: ask for the bytes that came, 1 to `max` of them.
+    Recv(u32, u16),
+    /// `shut H`: end the sending.
+    Shut(u32),
     /// `close H`: close what socket number H names.
     Close(u32),
+    /// `abort H`: end what socket number H names at once.
+    Abort(u32),
+    /// `status H`: the state of what socket number H names.
+    Status(u32),
 }
 
 /// What a call answers.
@@ -45,8 +61,24 @@ pub enum Call {
 pub enum Answer {
     /// `ok`
     Done,
-    /// `ok N`: a socket number that is given, or a count.
+    /// `ok N`: a socket number that is given, or a count of bytes.
     Given(u32),
+    /// `data hex`: the bytes that came.
+    Bytes(Bytes),
+    /// `again`: not yet.
+    Again,
+    /// `eof`: all bytes up to the peer's FIN were given.
+    Eof,
+    /// `closed`: the sending was ended, or there is no connection any more.
+    Closed,
+    /// `notconn`: there is no connection, or not yet.
+    NotConn,
+    /// `refused`: the peer refused the connection by a reset.
+    Refused,
+    /// `reset`: the peer reset the connection (RFC 9293, 3.10.7.4).
+    Reset,
+    /// `timeout`: the endpoint gave up (RFC 9293, 3.8.3).
+    Timeout,
     /// `inuse`: the port is taken.
     InUse,
     /// `badsocket`: the socket number is not live.
@@ -62,8 +94,15 @@ impl Call {
     {
         match self {
             Call::Listen(host, port, backlog) => Ok(Call::Listen(*host, *port, *backlog)),
-            Call::Status(socket) => Ok(Call::Status(*socket)),
+            Call::Connect(host, local, remote) => Ok(Call::Connect(*host, *local, *remote)),
+            Call::Await(socket) => Ok(Call::Await(*socket)),
+            Call::Accept(socket) => Ok(Call::Accept(*socket)),
+            Call::Send(socket, bytes) => Ok(Call::Send(*socket, bytes.copy()?)),
+            Call::Recv(socket, max) => Ok(Call::Recv(*socket, *max)),
+            Call::Shut(socket) => Ok(Call::Shut(*socket)),
             Call::Close(socket) => Ok(Call::Close(*socket)),
+            Call::Abort(socket) => Ok(Call::Abort(*socket)),
+            Call::Status(socket) => Ok(Call::Status(*socket)),
         }
     }
 }
@@ -76,6 +115,14 @@ impl Answer {
         match self {
             Answer::Done => Ok(Answer::Done),
             Answer::Given(number) => Ok(Answer::Given(*number)),
+            Answer::Bytes(bytes) => Ok(Answer::Bytes(bytes.copy()?)),
+            Answer::Again => Ok(Answer::Again),
+            Answer::Eof => Ok(Answer::Eof),
+            Answer::Closed => Ok(Answer::Closed),
+            Answer::NotConn => Ok(Answer::NotConn),
+            Answer::Refused => Ok(Answer::Refused),
+            Answer::Reset => Ok(Answer::Reset),
+            Answer::Timeout => Ok(Answer::Timeout),
             Answer::InUse => Ok(Answer::InUse),
             Answer::BadSocket => Ok(Answer::BadSocket),
             Answer::State(state) => Ok(Answer::State(*state)),

@@ -4,9 +4,9 @@
 //! told by `interval_order` (the order of lines), `endpoint_state` and `spec_step` (the machine), and `checker`.
 //!
 //! - `calls`: hosts, socket calls, their answers, and the states of an endpoint (RFC 9293, 3.3.2)
-//! - `trace`: spans, the header, event lines, and a whole trace
+//! - `trace`: spans, the header, segments as they were seen, event lines, and a whole trace
 //! - `timer`: the timers of an endpoint
-//! - `steps`: the labels and steps of a witness, and a whole witness
+//! - `steps`: the labels and steps of a witness, the flags of a made segment, and a whole witness
 #![tactic(auto)]
 
 mod calls;
@@ -15,9 +15,9 @@ mod timer;
 mod trace;
 
 pub use calls::{Answer, Call, Host, State};
-pub use steps::{Extras, Label, Step, Steps, Witness};
+pub use steps::{Extras, Flags, Label, Step, Steps, Witness};
 pub use timer::Timer;
-pub use trace::{Event, Header, Line, Lines, Span, Trace};
+pub use trace::{Event, Header, Line, Lines, Span, Trace, Wire};
 
 /// Memory ran out. Nothing was changed.
 pub type OutOfMemory = std::alloc::AllocError;

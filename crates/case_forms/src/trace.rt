@@ -4,7 +4,9 @@ ghost use Rattle.std.specs.Prelude.{◌≡◌, [], ◌∷◌, ◌++◌, IfOk, On
 ghost use Rattle.case_forms.specs.Traces.{first_event_line};
 
 use crate::OutOfMemory;
-use crate::calls::{Answer, Call};
+use crate::calls::{Answer, Call, Host};
+use crate::timer::Timer;
+use segment::{Bytes, Segment};
 use std::alloc::Global;
 use std::marker::Model;
 
@@ -40,6 +42,26 @@ impl Header {
     }
 }
 
+/// A segment as it was seen: its bytes, at most 65515, and what `segment::decode` gives of them.
+#[derive(Debug, PartialEq, Eq, Drop)]
+pub struct Wire {
+    pub bytes: Bytes,
+    /// The segment that the bytes stand for (RFC 9293, 3.1).
+    pub seg: Segment,
+}
+
+impl Wire {
+    /// An equal wire.
+    pub fn copy(&self) -> Result<Wire, OutOfMemory>
+        ensures { IfOk result (λ wire. wire ≡ self.now) }
+    {
+        Ok(Wire {
+            bytes: self.bytes.copy()?,
+            seg: self.seg.copy()?,
+        })
+    }
+}
+
 /// What a line of a trace tells.
 #[derive(Debug, PartialEq, Eq, Drop)]
 pub enum Event {
@@ -47,6 +69,12 @@ pub enum Event {
     CallBegin(Call),
     /// `E`: its open call ends with this answer.
     CallEnd(Answer),
+    /// `O host hex`: a segment of the host was seen on the wire.
+    Sent(Host, Wire),
+    /// `I host hex`: a segment arrived at the host.
+    Came(Host, Wire),
+    /// `T host lport rport timer`: a timer expired at the host's endpoint of these ports, local and remote.
+    Expired(Host, u16, u16, Timer),
 }
 
 impl Event {
@@ -57,6 +85,11 @@ impl Event {
         match self {
             Event::CallBegin(call) => Ok(Event::CallBegin(call.copy()?)),
             Event::CallEnd(answer) => Ok(Event::CallEnd(answer.copy()?)),
+            Event::Sent(host, wire) => Ok(Event::Sent(*host, wire.copy()?)),
+            Event::Came(host, wire) => Ok(Event::Came(*host, wire.copy()?)),
+            Event::Expired(host, local, remote, timer) => {
+                Ok(Event::Expired(*host, *local, *remote, *timer))
+            }
         }
     }
 }
