@@ -1,0 +1,17 @@
+pub mod Records
+pub mod Endpoints
+pub mod Lookups
+pub mod Same
+pub mod CallRules
+pub mod CallEffects
+pub mod Making
+pub mod MakingEffects
+pub mod Wires
+pub mod TakingRules
+pub mod TakingEffects
+pub mod Meeting
+pub mod Resets
+pub mod Timing
+pub mod Machine
+pub mod Steps
+pub mod Forgetting

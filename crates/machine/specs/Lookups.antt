@@ -1,0 +1,82 @@
+-- How endpoints, listeners and sockets are found, and tests of states.
+use Rattle.std.specs.Prelude.{ℕ, suc, ◌==◌, nat_eq, Bool, true, false, not, ◌&&◌, if◌then◌else◌, List, [], ◌∷◌, Option, None, Some, is_some, slice_get}
+use Rattle.std.specs.Map.{lookup}
+use Rattle.std.specs.Option.{option_map_or}
+use Rattle.streams.specs.Lists.{modify}
+use Rattle.case_forms.specs.declared.calls.State.{State}
+use Rattle.case_forms.specs.declared.calls.State.TheVariants as states
+use Rattle.seqno.specs.declared.word.Word.{Word}
+use Rattle.machine.specs.Endpoints.{Endpoint, Listener, Thing, Socket, Body}
+
+abbrev pub is_closed : State → Bool
+is_closed states.Closed = true
+is_closed _ = false
+
+abbrev pub is_syn_sent : State → Bool
+is_syn_sent states.SynSent = true
+is_syn_sent _ = false
+
+abbrev pub is_syn_received : State → Bool
+is_syn_received states.SynReceived = true
+is_syn_received _ = false
+
+abbrev pub same_word : Word → Word → Bool
+same_word a b = a.0 == b.0
+
+-- the endpoint is that of these ports
+abbrev pub has_ports : ℕ → ℕ → Endpoint → Bool
+has_ports lport rport e = e.lport == lport && e.rport == rport
+
+-- the place of the last one that has it, of elements whose first has this place
+abbrev pub last_from : {X : Type 0} → (X → Bool) → ℕ → Option ℕ → List X → Option ℕ
+last_from test place found [] = found
+last_from test place found (x ∷ xs) = last_from test (suc place) (if test x then Some place else found) xs
+
+-- the endpoint of ports is the last one created there
+abbrev pub place_of : Body → ℕ → ℕ → Option ℕ
+place_of b lport rport = last_from (has_ports lport rport) 0 None b.endpoints
+
+abbrev pub endpoint_at : Body → Option ℕ → Option Endpoint
+endpoint_at b place = option_map_or (λ i. slice_get b.endpoints i) place None
+
+-- the endpoint of ports, closed or not
+abbrev pub endpoint_of : Body → ℕ → ℕ → Option Endpoint
+endpoint_of b lport rport = endpoint_at b (place_of b lport rport)
+
+-- there is an endpoint of these ports that is not CLOSED
+abbrev pub is_connected : Body → ℕ → ℕ → Bool
+is_connected b lport rport = option_map_or (λ e. not (is_closed e.state)) (endpoint_of b lport rport) false
+
+-- one endpoint changes
+abbrev pub with_endpoint : Body → ℕ → (Endpoint → Endpoint) → Body
+with_endpoint b place f = record b { endpoints = modify b.endpoints place f }
+
+-- the endpoint of ports changes
+abbrev pub at_ports : Body → ℕ → ℕ → (Endpoint → Endpoint) → Body
+at_ports b lport rport f = option_map_or (λ i. with_endpoint b i f) (place_of b lport rport) b
+
+-- the listener is open on this port
+abbrev pub listens_on : ℕ → Listener → Bool
+listens_on port l = l.is_open && l.port == port
+
+-- the place of the open listener on a port
+abbrev pub listener_on : Body → ℕ → Option ℕ
+listener_on b port = last_from (listens_on port) 0 None b.listeners
+
+abbrev pub is_listening : Body → ℕ → Bool
+is_listening b port = is_some (listener_on b port)
+
+-- the children that stand in a listener's queue
+abbrev pub queue_of : Body → ℕ → List ℕ
+queue_of b l = option_map_or (λ x. x.queue) (slice_get b.listeners l) []
+
+-- the socket number was given at this host
+abbrev pub given : Body → ℕ → Bool
+given b n = is_some (lookup (nat_eq n) b.sockets)
+
+abbrev pub if_live : Socket → Option Thing
+if_live s = if s.live then Some s.thing else None
+
+-- what a live socket number names
+abbrev pub thing_of : Body → ℕ → Option Thing
+thing_of b n = option_map_or if_live (lookup (nat_eq n) b.sockets) None

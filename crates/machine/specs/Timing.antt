@@ -1,0 +1,102 @@
+-- Timers that expire, and fast recovery (RFC 6298, 5; RFC 9293, 3.8.6.1 and 3.6.1; RFC 5681, 3.2).
+use Rattle.std.specs.Prelude.{ℕ, ◌+◌, ◌==◌, nat_le, nat_lt, Bool, true, false, not, ◌&&◌, ◌||◌, List, [], ◌∷◌, Some, is_some}
+use Rattle.case_forms.specs.declared.trace.Header.{Header}
+use Rattle.case_forms.specs.declared.calls.State.{State}
+use Rattle.case_forms.specs.declared.calls.State.TheVariants as states
+use Rattle.case_forms.specs.declared.timer.Timer.{Timer}
+use Rattle.case_forms.specs.declared.timer.Timer.TheVariants.{Rto, Persist, Msl2, Giveup}
+use Rattle.verdict.specs.declared.rule.Rule.{Rule}
+use Rattle.verdict.specs.declared.rule.Rule.TheVariants as rules
+use Rattle.streams.specs.Sent.{end_of}
+use Rattle.window_rules.specs.Losses.{on_timeout, halved, recovery_window}
+use Rattle.timer_rules.specs.Timers.{is_armed, is_early, expired}
+use Rattle.machine.specs.Endpoints.{Timeout, Endpoint, max_made, flight, flag_count, is_up}
+use Rattle.machine.specs.Lookups.{is_closed}
+use Rattle.machine.specs.CallEffects.{shut_down}
+
+-- whose timer, and which
+pub record Expiry : Type 0 where
+  pub lport : ℕ
+  pub rport : ℕ
+  pub timer : Timer
+
+-- the choice at an expiry of the retransmission timer
+pub record Growth : Type 0 where
+  pub cwnd : ℕ
+  pub ssthresh : ℕ
+
+-- whose fast recovery begins, and the choice
+pub record Recovery : Type 0 where
+  pub lport : ℕ
+  pub rport : ℕ
+  pub cwnd : ℕ
+  pub ssthresh : ℕ
+
+-- the SYN is pending; the timer expired before
+abbrev pub greatest_values : Endpoint → ℕ × ℕ
+greatest_values e = on_timeout e.congestion (flight e) (e.stream.una == 0) (nat_lt 0 e.backs)
+
+abbrev pub is_rto : Timer → Bool
+is_rto Rto = true
+is_rto _ = false
+
+-- a value is above the greatest at an expiry (RFC 5681, 3.1)
+abbrev pub is_above : Endpoint → Growth → Bool
+is_above e growth = nat_lt ((greatest_values e).0) growth.cwnd || nat_lt ((greatest_values e).1) growth.ssthresh
+
+-- data or the FIN is unsent or not acknowledged
+abbrev pub has_more : Endpoint → Bool
+has_more e = nat_lt e.stream.una (end_of e.stream.accepted + flag_count e.stream.ended)
+
+abbrev pub is_fin_wait_2 : State → Bool
+is_fin_wait_2 states.FinWait2 = true
+is_fin_wait_2 _ = false
+
+-- three expiries without an answer while something is open, or a closed socket that waits for the peer's FIN (this profile's own)
+abbrev pub may_give_up : Endpoint → Bool
+may_give_up e = (nat_lt e.stream.una (max_made e) || is_some e.timers.persist_armed) && nat_le 3 e.tries || e.closed && is_fin_wait_2 e.state
+
+-- the timer is off, or its needs are not met
+abbrev pub is_off : Endpoint → Timer → Bool
+is_off e Rto = not (is_armed e.timers Rto)
+is_off e Persist = not (is_armed e.timers Persist && is_up e && has_more e)
+is_off e Msl2 = not (is_armed e.timers Msl2)
+is_off e Giveup = not (may_give_up e)
+
+abbrev pub expiry_rules : Header → ℕ → Endpoint → Timer → Growth → List (Rule × Bool)
+expiry_rules h moment e timer growth =
+    (rules.NoEndpoint, is_closed e.state) ∷ (rules.Growth, is_rto timer && is_above e growth)
+    ∷ (rules.TimerOff, is_off e timer) ∷ (rules.TimerEarly, is_early e.timers timer moment h) ∷ []
+
+-- a retransmission is due: the values chosen, all that was made may be made again, the timer runs anew (RFC 6298, 5.4 to 5.6; RFC 5681, 3.1)
+abbrev pub after_rto : Endpoint → Growth → ℕ → Endpoint
+after_rto e growth moment = record e {
+  congestion = record e.congestion { cwnd = growth.cwnd; ssthresh = growth.ssthresh; dup = 0; counted = 0; fast = false };
+  recover = max_made e;
+  timers = expired e.timers Rto moment;
+  tries = e.tries + 1;
+  backs = e.backs + 1;
+  syn_lost = e.syn_lost || e.stream.una == 0;
+}
+
+-- a probe is due (RFC 9293, 3.8.6.1)
+abbrev pub after_persist : Endpoint → ℕ → Endpoint
+after_persist e moment = record e { recover = max_made e; probe_due = true; timers = expired e.timers Persist moment; tries = e.tries + 1 }
+
+abbrev pub after_expiry : Endpoint → Timer → Growth → ℕ → Endpoint
+after_expiry e Rto growth moment = after_rto e growth moment
+after_expiry e Persist growth moment = after_persist e moment
+after_expiry e Msl2 growth moment = shut_down e
+after_expiry e Giveup growth moment = record (shut_down e) { fault = Some Timeout; reset_due = true }
+
+-- fast recovery begins with the third duplicate acknowledgment (RFC 5681, 3.2, steps 2 and 3)
+abbrev pub is_bad_recovery : Endpoint → (cwnd ssthresh : ℕ) → Bool
+is_bad_recovery e cwnd ssthresh =
+    nat_lt e.congestion.dup 3 || e.congestion.fast || e.stream.una == max_made e
+    || nat_lt (halved e.congestion (flight e)) ssthresh || nat_lt (recovery_window e.congestion ssthresh) cwnd
+
+abbrev pub recovery_rules : Endpoint → (cwnd ssthresh : ℕ) → List (Rule × Bool)
+recovery_rules e cwnd ssthresh = (rules.NoEndpoint, is_closed e.state) ∷ (rules.State, not (is_up e)) ∷ (rules.Recovery, is_bad_recovery e cwnd ssthresh) ∷ []
+
+abbrev pub after_recovery : Endpoint → (cwnd ssthresh : ℕ) → Endpoint
+after_recovery e cwnd ssthresh = record e { congestion = record e.congestion { cwnd = cwnd; ssthresh = ssthresh; fast = true }; recover = max_made e }
