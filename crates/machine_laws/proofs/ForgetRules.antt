@@ -1,0 +1,55 @@
+-- The rules at an endpoint read nothing that was let go.
+use Rattle.std.proofs.Common.{◌≡◌, ℕ, false, Option, None, Some, refl}
+use Rattle.std.specs.Option.{option_map_or}
+use Rattle.case_forms.specs.declared.trace.Header.{Header}
+use Rattle.case_forms.specs.declared.timer.Timer.{Timer}
+use Rattle.case_forms.specs.declared.timer.Timer.TheVariants.{Rto, Persist, Msl2, Giveup}
+use Rattle.case_forms.specs.declared.calls.Answer.{Answer}
+use Rattle.case_forms.specs.declared.calls.Answer.TheVariants as answers
+use Rattle.machine.specs.Endpoints.{Endpoint, Emission, Name, Body}
+use Rattle.machine.specs.CallRules.{await_allows, recv_allows}
+use Rattle.machine.specs.Making.{Making, making_rules}
+use Rattle.machine.specs.TakingRules.{How, is_acceptable_at, place_taken, syn_sent_rules, connected_rules}
+use Rattle.machine.specs.Timing.{Growth, expiry_rules, recovery_rules}
+use Rattle.machine.specs.Forgetting.{forget_endpoint}
+use Rattle.machine_laws.proofs.ForgetReads.{next-forget, max_made-forget, end_of-forget, ended-forget, waiting-forget, again-forget}
+
+pub making_rules-forget : (e : Endpoint) (m : Making) → making_rules (forget_endpoint e) m ≡ making_rules e m
+making_rules-forget e m = rw (next-forget e, max_made-forget e, end_of-forget e) refl
+
+pub await-forget : (e : Endpoint) (answer : Answer) → await_allows (forget_endpoint e) answer ≡ await_allows e answer
+await-forget e answers.Done = rw (next-forget e) refl
+await-forget e answers.Again = rw (next-forget e) refl
+await-forget e _ = refl
+
+pub recv-forget : (e : Endpoint) (most : ℕ) (answer : Answer) → recv_allows (forget_endpoint e) most answer ≡ recv_allows e most answer
+recv-forget e most (answers.Bytes bytes) = rw (waiting-forget e) refl
+recv-forget e most answers.Eof = rw (ended-forget e, waiting-forget e) refl
+recv-forget e most answers.Again = rw (ended-forget e, waiting-forget e) refl
+recv-forget e most answers.NotConn = rw (next-forget e) refl
+recv-forget e most _ = refl
+
+pub syn_sent_rules-forget : (e : Endpoint) (how : How) (m : Emission) → syn_sent_rules (forget_endpoint e) how m ≡ syn_sent_rules e how m
+syn_sent_rules-forget e how m = rw (max_made-forget e, again-forget e 1) refl
+
+place_taken-forget : (e : Endpoint) (m : Emission) → place_taken (forget_endpoint e) m ≡ place_taken e m
+place_taken-forget e m = rw (next-forget e) refl
+
+acceptable-forget : (e : Endpoint) (m : Emission) → option_map_or (is_acceptable_at (forget_endpoint e) m) (place_taken (forget_endpoint e) m) false ≡ option_map_or (is_acceptable_at e m) (place_taken e m) false
+acceptable-forget e m = rw (place_taken-forget e m) (by (place_taken e m))
+  where
+    by : (place : Option ℕ) → option_map_or (is_acceptable_at (forget_endpoint e) m) place false ≡ option_map_or (is_acceptable_at e m) place false
+    by None = refl
+    by (Some pos) = rw (next-forget e) refl
+
+pub connected_rules-forget : (h : Header) (b : Body) (me : Name) (e : Endpoint) (how : How) (m : Emission) → connected_rules h b me (forget_endpoint e) how m ≡ connected_rules h b me e how m
+connected_rules-forget h b me e how m = rw (acceptable-forget e m, next-forget e, max_made-forget e, again-forget e m.ack) refl
+
+pub expiry_rules-forget : (h : Header) (moment : ℕ) (e : Endpoint) (timer : Timer) (growth : Growth) → expiry_rules h moment (forget_endpoint e) timer growth ≡ expiry_rules h moment e timer growth
+expiry_rules-forget h moment e Rto growth = rw (max_made-forget e) refl
+expiry_rules-forget h moment e Persist growth = rw (next-forget e, end_of-forget e) refl
+expiry_rules-forget h moment e Msl2 growth = refl
+expiry_rules-forget h moment e Giveup growth = rw (max_made-forget e) refl
+
+pub recovery_rules-forget : (e : Endpoint) (cwnd ssthresh : ℕ) → recovery_rules (forget_endpoint e) cwnd ssthresh ≡ recovery_rules e cwnd ssthresh
+recovery_rules-forget e cwnd ssthresh = rw (next-forget e, max_made-forget e) refl

@@ -1,0 +1,137 @@
+-- What holds of every world of a run, and that it stays as streams grow.
+use Rattle.std.proofs.Common.{◌≡◌, ℕ, ◌+◌, ◌<◌, ◌≤◌, true, false, List, [], ◌∷◌, ◌++◌, length, Some, None, refl, ap, sym, ◌∙◌, arith}
+use Rattle.std.specs.Prelude.{if◌then◌else◌, slice_get}
+use Rattle.std.proofs.Math.Nat.{le_refl}
+use Rattle.std.proofs.lemmas.List.{append-nil, append_assoc}
+use Rattle.case_forms.specs.declared.calls.Host.{Host}
+use Rattle.streams.specs.declared.cell.Cell.{Cell}
+use Rattle.streams.specs.declared.cell.Cell.TheVariants.{Syn}
+use Rattle.streams.specs.Cells.{body, Taken}
+use Rattle.streams.specs.Lists.{IsPrefixOf, Within}
+use Rattle.streams.specs.Received.{next, arrived, received}
+use Rattle.streams.specs.Sent.{cells}
+use Rattle.hosts.specs.Tables.{Both, pick}
+use Rattle.hosts.specs.Hosts.{HostState}
+use Rattle.machine.specs.Endpoints.{Name, Stream, Endpoint, Emission}
+use Rattle.machine.specs.Lookups.{is_syn_sent}
+use Rattle.machine.specs.Machine.{tcp_shape}
+use Rattle.machine_laws.specs.Consequences.{find, HasStream}
+use Rattle.machine_laws.proofs.Tables.{InTables}
+
+abbrev pub Hosts : Type 0
+Hosts = Both (HostState tcp_shape)
+
+abbrev pub name : Host → ℕ → Name
+name host number = record { host = host; number = number }
+
+-- all that an endpoint sends, by position
+abbrev pub all_cells : Stream → List Cell
+all_cells s = cells s.accepted s.ended
+
+-- what a segment carries, from its position on
+abbrev pub carried : Emission → List Cell
+carried m = if m.flags.syn then Syn ∷ body m.payload m.flags.fin else body m.payload m.flags.fin
+
+-- what a stream may become
+pub record Later (s t : Stream) : Type 0 where
+  pub peer : (q : Name) → s.peer ≡ Some q → t.peer ≡ Some q
+  pub cells : Within (all_cells s) (all_cells t)
+  pub next : next s.receive ≤ next t.receive
+  pub told : IsPrefixOf (received s.receive) (received t.receive)
+  pub ended : s.ended ≡ true → (t.ended ≡ true) × (t.accepted ≡ s.accepted)
+
+pub same : (s : Stream) → Later s s
+same s = record { peer = λ q e. e; cells = λ p c e. e; next = le_refl _; told = ([], append-nil (received s.receive)); ended = λ h. (h, refl) }
+
+prefix_trans : (xs ys zs : List ℕ) → IsPrefixOf xs ys → IsPrefixOf ys zs → IsPrefixOf xs zs
+prefix_trans xs ys zs p q = (p.0 ++ q.0, sym (append_assoc xs p.0 q.0) ∙ (ap (λ (l : List ℕ). l ++ q.0) p.1 ∙ q.1))
+
+pub trans : (s t u : Stream) → Later s t → Later t u → Later s u
+trans s t u a b = record {
+  peer = λ q e. b.peer q (a.peer q e);
+  cells = λ p c e. b.cells p c (a.cells p c e);
+  next = let x = a.next in let y = b.next in omega arith;
+  told = prefix_trans (received s.receive) (received t.receive) (received u.receive) a.told b.told;
+  ended = λ h. let x = a.ended h in let y = b.ended x.0 in (y.0, y.1 ∙ x.1);
+}
+
+-- each endpoint became what it may become
+abbrev pub AllLater : Hosts → Hosts → Type 0
+AllLater a b = (me : Name) (e : Endpoint) → find a me ≡ Some e → HasStream b me (λ t. Later e.stream t)
+
+pub all_trans : (a b c : Hosts) → AllLater a b → AllLater b c → AllLater a c
+all_trans a b c l m me e x =
+    let y = l me e x in
+    let z = m me y.0 y.1 in
+    (z.0, z.1, trans e.stream y.0.stream z.0.stream y.2 z.2)
+
+-- an emission carries what its maker sends, and acknowledges what its maker took
+pub record GoodEmission (hosts : Hosts) (m : Emission) : Type 0 where
+  pub there : HasStream hosts m.maker (λ s. Unit {0})
+  pub sent : (p : ℕ) (c : Cell) → slice_get (carried m) p ≡ Some c → HasStream hosts m.maker (λ s. slice_get (all_cells s) (m.pos + p) ≡ Some c)
+  pub knew : (q : Name) → m.knew ≡ Some q → HasStream hosts m.maker (λ s. s.peer ≡ Some q)
+  pub resets : m.answers ≡ true → m.flags.rst ≡ true
+  pub ack : m.flags.ack ≡ true → m.answers ≡ false → ((q : Name) × (m.knew ≡ Some q)) × HasStream hosts m.maker (λ s. m.ack ≤ next s.receive)
+
+-- an endpoint took what its peer sends, the SYN first, and is acknowledged what its peer took of it
+pub record GoodStream (hosts : Hosts) (me : Name) (s : Stream) : Type 0 where
+  pub taken : Taken (λ p c. (q : Name) × (s.peer ≡ Some q) × HasStream hosts q (λ t. slice_get (all_cells t) p ≡ Some c)) s.receive.taken
+  pub una : 1 < s.una → (q : Name) × (s.peer ≡ Some q) × HasStream hosts q (λ t. (t.peer ≡ Some me) × (s.una ≤ next t.receive))
+  pub peer : (q : Name) → s.peer ≡ Some q → HasStream hosts q (λ t. Unit {0})
+  pub begun : (q : Name) → s.peer ≡ Some q → slice_get s.receive.taken 0 ≡ Some (Some Syn)
+  pub delivered : s.receive.delivered ≤ length (arrived s.receive)
+
+-- in SYN-SENT an endpoint has nothing of a peer
+abbrev pub Waits : Endpoint → Type 0
+Waits e = is_syn_sent e.state ≡ true → (e.stream.peer ≡ None) × (e.stream.receive.taken ≡ [])
+
+pub record GoodEnd (hosts : Hosts) (me : Name) (e : Endpoint) : Type 0 where
+  pub stream : GoodStream hosts me e.stream
+  pub waits : Waits e
+
+pub record GoodHost (hosts : Hosts) (host : Host) (h : HostState tcp_shape) : Type 0 where
+  pub endpoints : (i : ℕ) (e : Endpoint) → slice_get h.body.endpoints i ≡ Some e → GoodEnd hosts (name host i) e
+  pub tables : InTables (GoodEmission hosts) h
+
+abbrev pub Good : Hosts → Type 0
+Good hosts = (host : Host) → GoodHost hosts host (pick hosts host)
+
+-- a fact of one endpoint that it keeps whatever it may become
+pub has_later : (a b : Hosts) (P : Stream → Type 0) → ((s t : Stream) → Later s t → P s → P t) → AllLater a b → (n : Name) → HasStream a n P → HasStream b n P
+has_later a b P keeps later n x =
+    let y = later n x.0 x.1 in
+    (y.0, y.1, keeps x.0.stream y.0.stream y.2 x.2)
+
+pub emission_later : (a b : Hosts) → AllLater a b → (m : Emission) → GoodEmission a m → GoodEmission b m
+emission_later a b later m g = record {
+  there = has_later a b (λ s. Unit {0}) (λ s t l u. u) later m.maker g.there;
+  sent = λ p c e. has_later a b (λ s. slice_get (all_cells s) (m.pos + p) ≡ Some c) (λ s t l. l.cells (m.pos + p) c) later m.maker (g.sent p c e);
+  knew = λ q e. has_later a b (λ s. s.peer ≡ Some q) (λ s t l. l.peer q) later m.maker (g.knew q e);
+  resets = g.resets;
+  ack = λ e f. let h = g.ack e f in (h.0, has_later a b (λ s. m.ack ≤ next s.receive) (λ s t l x. let up = l.next in omega arith) later m.maker h.1);
+}
+
+pub stream_later : (a b : Hosts) → AllLater a b → (n : Name) (s : Stream) → GoodStream a n s → GoodStream b n s
+stream_later a b later n s g = record {
+  taken = λ p c e. let h = g.taken p c e in (h.0, h.1, has_later a b (λ t. slice_get (all_cells t) p ≡ Some c) (λ x y l. l.cells p c) later h.0 h.2);
+  una = λ more. let h = g.una more in (h.0, h.1, has_later a b (λ t. (t.peer ≡ Some n) × (s.una ≤ next t.receive)) (λ x y l p. (l.peer n p.0, let up = l.next in let was = p.1 in omega arith)) later h.0 h.2);
+  peer = λ q e. has_later a b (λ t. Unit {0}) (λ x y l u. u) later q (g.peer q e);
+  begun = g.begun;
+  delivered = g.delivered;
+}
+
+pub end_later : (a b : Hosts) → AllLater a b → (n : Name) (e : Endpoint) → GoodEnd a n e → GoodEnd b n e
+end_later a b later n e g = record { stream = stream_later a b later n e.stream g.stream; waits = g.waits }
+
+pub tables_later : (a b : Hosts) → AllLater a b → (h : HostState tcp_shape) → InTables (GoodEmission a) h → InTables (GoodEmission b) h
+tables_later a b later h g = record {
+  made = λ n x e. emission_later a b later x.emission (g.made n x e);
+  wire = λ n m e. emission_later a b later m (g.wire n m e);
+  inbox = λ n m e. emission_later a b later m (g.inbox n m e);
+}
+
+pub host_later : (a b : Hosts) → AllLater a b → (host : Host) (h : HostState tcp_shape) → GoodHost a host h → GoodHost b host h
+host_later a b later host h g = record {
+  endpoints = λ i e x. end_later a b later (name host i) e (g.endpoints i e x);
+  tables = tables_later a b later h g.tables;
+}

@@ -1,0 +1,221 @@
+-- Each step keeps what holds, and adds to streams what it says.
+use Rattle.std.proofs.Common.{◌≡◌, ℕ, suc, Bool, true, false, List, [], ◌∷◌, take, Option, Some, None, refl, ap, sym, subst, ◌∙◌, nat_eq}
+use Rattle.std.specs.Prelude.{if◌then◌else◌, not}
+use Rattle.std.specs.Option.{option_map_or}
+use Rattle.std.specs.Map.{lookup}
+use Rattle.std.proofs.lemmas.Option.{none-some, same_Some}
+use Rattle.indexmap.specs.IndexMap.{insert_entry}
+use Rattle.case_forms.specs.declared.trace.Header.{Header}
+use Rattle.case_forms.specs.declared.trace.Wire.{Wire}
+use Rattle.case_forms.specs.declared.calls.Host.{Host}
+use Rattle.case_forms.specs.declared.calls.Call.{Call}
+use Rattle.case_forms.specs.declared.calls.Call.TheVariants as calls
+use Rattle.case_forms.specs.declared.calls.Answer.{Answer}
+use Rattle.case_forms.specs.declared.calls.Answer.TheVariants as answers
+use Rattle.verdict.specs.declared.rule.Rule.TheVariants as rules
+use Rattle.verdict.specs.Rules.{first_broken}
+use Rattle.verdict.proofs.RuleLemmas.{none_all, none_both}
+use Rattle.hosts.specs.Tables.{pick, other, with_host, on, Made, unsent, gone_out, waiting, settled}
+use Rattle.hosts.specs.Hosts.{HostState, Turn, Idle, Called, Answered, World, Deed, Does, Expires, Makes, Sends, Gets, Takes, Drops, Answers, Step, Begin, Finish, Effect, At, turn_of}
+use Rattle.hosts.specs.HostRules.{aim_of, fresh_rules, call_rules, effect_rules, Permitted}
+use Rattle.hosts.specs.HostSteps.{deed_after, call_after, effect_after, after}
+use Rattle.machine.specs.Endpoints.{Name, Emission, Thing, Body}
+use Rattle.machine.specs.Lookups.{given, thing_of}
+use Rattle.machine.specs.CallRules.{is_bad_socket, thing_allows, socket_allows, call_allows}
+use Rattle.machine.specs.CallEffects.{after_call}
+use Rattle.machine.specs.Making.{Making}
+use Rattle.machine.specs.Wires.{sent}
+use Rattle.machine.specs.TakingRules.{How}
+use Rattle.machine.specs.Meeting.{taker, taker_rules}
+use Rattle.machine.specs.Resets.{reset_of}
+use Rattle.machine.specs.Machine.{Calls, tcp, tcp_shape, aim, gives}
+use Rattle.machine_laws.specs.Runs.{of_effect, of_turn, call_accepted, call_ended}
+use Rattle.machine_laws.proofs.Rules.{on_passes, on_cases, not_false}
+use Rattle.machine_laws.proofs.Tables.{AllIn, all_insert, inbox_join, inbox_settled}
+use Rattle.machine_laws.proofs.Later.{Hosts, name, GoodEmission, Good, emission_later}
+use Rattle.machine_laws.proofs.Moves.{Added, nothing, Adds, moves_not, silent, all_silent, Kept, kept_not, kept_host, kept_same, GoodEnds}
+use Rattle.machine_laws.proofs.Makes.{makes_good, moves_making, moves_expiry, moves_recovery}
+use Rattle.machine_laws.proofs.Takes.{moves_taking}
+use Rattle.machine_laws.proofs.Calls.{name_told, call_adds, Apart, owner_elsewhere, owner_of, socket_none, moves_call}
+
+-- 1. what hosts do
+
+ends : (a : Hosts) (host : Host) → Good a → GoodEnds a host (pick a host).body.endpoints
+ends a host g = (g host).endpoints
+
+emission_sent : (b : Hosts) (moment : ℕ) (wire : Wire) (m : Emission) → GoodEmission b m → GoodEmission b (sent moment wire m)
+emission_sent b moment wire m g = record { there = g.there; sent = g.sent; knew = g.knew; resets = g.resets; ack = g.ack }
+
+reset_good : (b : Hosts) (m : Emission) → GoodEmission b m → GoodEmission b (reset_of m)
+reset_good b m g = record {
+  there = g.there;
+  sent = λ p c e. absurd (none-some c e);
+  knew = λ q e. absurd (none-some q e);
+  resets = λ e. refl;
+  ack = λ x e. absurd cc;
+}
+
+-- the table of what was made, with what an act makes
+made_after : (c : Hosts) (made : List (ℕ × Made Emission)) (fresh : ℕ) (o : Option Emission) → ((x : Emission) → o ≡ Some x → GoodEmission c x) → AllIn (λ (x : Made Emission). GoodEmission c x.emission) made
+    → AllIn (λ (x : Made Emission). GoodEmission c x.emission) (on o made (λ x. insert_entry nat_eq made fresh (unsent x)))
+made_after c made fresh None new old = old
+made_after c made fresh (Some x) new old = all_insert (λ (y : Made Emission). GoodEmission c y.emission) made fresh (unsent x) (new x refl) old
+
+kept_sends : (h : Header) (s : ℕ) (w : World tcp_shape) (host : Host) (line number : ℕ) (wire : Wire) → Good w.hosts → Kept all_silent w.hosts (after (tcp h) s w (At host (Sends line number wire))).hosts
+kept_sends h s w host line number wire g = let a = w.hosts in let k = pick a host in
+    on_cases (λ (x : HostState tcp_shape). Kept all_silent a (with_host a host x)) (lookup (nat_eq number) k.made) k
+    (λ m. record k { made = insert_entry nat_eq k.made number (gone_out m); wire = insert_entry nat_eq k.wire line (sent s wire m.emission) }) (kept_same a host g)
+    (λ m e. kept_host a host (record k { made = insert_entry nat_eq k.made number (gone_out m); wire = insert_entry nat_eq k.wire line (sent s wire m.emission) }) all_silent g
+    (moves_not a host silent k.body.endpoints (λ i. refl) (ends a host g)) (λ i. refl)
+    (λ c later t. record {
+      made = all_insert (λ (x : Made Emission). GoodEmission c x.emission) k.made number (gone_out m) (t.made number m e) t.made;
+      wire = all_insert (GoodEmission c) k.wire line (sent s wire m.emission) (emission_sent c s wire m.emission (t.made number m e)) t.wire;
+      inbox = t.inbox;
+    }))
+
+kept_gets : (h : Header) (s : ℕ) (w : World tcp_shape) (host : Host) (line copied : ℕ) (wire : Wire) → Good w.hosts → Kept all_silent w.hosts (after (tcp h) s w (At host (Gets line copied wire))).hosts
+kept_gets h s w host line copied wire g = let a = w.hosts in let k = pick a host in
+    on_cases (λ (x : HostState tcp_shape). Kept all_silent a (with_host a host x)) (lookup (nat_eq copied) (pick a (other host)).wire) k
+    (λ m. record k { inbox = insert_entry nat_eq k.inbox line (Some m) }) (kept_same a host g)
+    (λ m e. kept_host a host (record k { inbox = insert_entry nat_eq k.inbox line (Some m) }) all_silent g
+    (moves_not a host silent k.body.endpoints (λ i. refl) (ends a host g)) (λ i. refl)
+    (λ c later t. record {
+      made = t.made;
+      wire = t.wire;
+      inbox = inbox_join (GoodEmission c) k.inbox line m (emission_later a c later m ((g (other host)).tables.wire copied m e)) t.inbox;
+    }))
+
+kept_drops : (h : Header) (s : ℕ) (w : World tcp_shape) (host : Host) (line : ℕ) → Good w.hosts → Kept all_silent w.hosts (after (tcp h) s w (At host (Drops line))).hosts
+kept_drops h s w host line g = let a = w.hosts in let k = pick a host in
+    on_cases (λ (x : HostState tcp_shape). Kept all_silent a (with_host a host x)) (waiting line k.inbox) k (λ m. record k { inbox = settled line k.inbox }) (kept_same a host g)
+    (λ m e. kept_host a host (record k { inbox = settled line k.inbox }) all_silent g
+    (moves_not a host silent k.body.endpoints (λ i. refl) (ends a host g)) (λ i. refl)
+    (λ c later t. record { made = t.made; wire = t.wire; inbox = inbox_settled (GoodEmission c) k.inbox line t.inbox }))
+
+kept_answers : (h : Header) (s : ℕ) (w : World tcp_shape) (host : Host) (line : ℕ) → Good w.hosts → Kept all_silent w.hosts (after (tcp h) s w (At host (Answers line))).hosts
+kept_answers h s w host line g = let a = w.hosts in let k = pick a host in
+    on_cases (λ (x : HostState tcp_shape). Kept all_silent a (with_host a host x)) (waiting line k.inbox) k
+    (λ m. record k { made = insert_entry nat_eq k.made (suc w.count) (unsent (reset_of m)); inbox = settled line k.inbox }) (kept_same a host g)
+    (λ m e. kept_host a host (record k { made = insert_entry nat_eq k.made (suc w.count) (unsent (reset_of m)); inbox = settled line k.inbox }) all_silent g
+    (moves_not a host silent k.body.endpoints (λ i. refl) (ends a host g)) (λ i. refl)
+    (λ c later t. record {
+      made = all_insert (λ (x : Made Emission). GoodEmission c x.emission) k.made (suc w.count) (unsent (reset_of m)) (reset_good c m (t.inbox line m e)) t.made;
+      wire = t.wire;
+      inbox = inbox_settled (GoodEmission c) k.inbox line t.inbox;
+    }))
+
+kept_takes : (h : Header) (s : ℕ) (w : World tcp_shape) (host : Host) (line : ℕ) (how : How) → Good w.hosts → Permitted (tcp h) s w (At host (Takes line how)) → Kept all_silent w.hosts (after (tcp h) s w (At host (Takes line how))).hosts
+kept_takes h s w host line how g may = let a = w.hosts in let k = pick a host in
+    on_cases (λ (x : HostState tcp_shape). Kept all_silent a (with_host a host x)) (waiting line k.inbox) k
+    (λ m. deed_taken m) (kept_same a host g)
+    (λ m e.
+    let t = on_passes (waiting line k.inbox) rules.Inbox (λ x. taker_rules h host k.body how x (taker k.body x)) may in
+    let one : t.0 ≡ m = same_Some t.0 m (sym t.1 ∙ e) in
+    kept_host a host (deed_taken m) all_silent g
+    (moves_taking a h host k.body how m s (ends a host g) ((g host).tables.inbox line m e) (subst (λ (x : Emission). first_broken (taker_rules h host k.body how x (taker k.body x)) ≡ None) one t.2)) (λ i. refl)
+    (λ c later t. record { made = t.made; wire = t.wire; inbox = inbox_settled (GoodEmission c) k.inbox line t.inbox }))
+  where
+    deed_taken : Emission → HostState tcp_shape
+    deed_taken m = record (pick w.hosts host) { body = (tcp h).act_after host s (pick w.hosts host).body ((tcp h).takes how m); inbox = settled line (pick w.hosts host).inbox }
+
+kept_makes : (h : Header) (s : ℕ) (w : World tcp_shape) (host : Host) (m : Making) → Good w.hosts → Permitted (tcp h) s w (At host (Makes m)) → Kept all_silent w.hosts (after (tcp h) s w (At host (Makes m))).hosts
+kept_makes h s w host m g may = let a = w.hosts in let k = pick a host in
+    kept_host a host (deed_after (tcp h) host s (suc w.count) (pick a (other host)).wire k (Makes m)) all_silent g (moves_making a host k.body m s (ends a host g)) (λ i. refl)
+    (λ c later t. record {
+      made = made_after c k.made (suc w.count) ((tcp h).act_makes host s k.body ((tcp h).making m)) (λ x e. emission_later a c later x (makes_good a host m x g may e)) t.made;
+      wire = t.wire;
+      inbox = t.inbox;
+    })
+
+kept_deed : (h : Header) (s : ℕ) (w : World tcp_shape) (host : Host) (d : Deed tcp_shape) → Good w.hosts → Permitted (tcp h) s w (At host d) → Kept all_silent w.hosts (after (tcp h) s w (At host d)).hosts
+kept_deed h s w host (Does x) g may = let k = pick w.hosts host in
+    kept_host w.hosts host (deed_after (tcp h) host s (suc w.count) (pick w.hosts (other host)).wire k (Does x)) all_silent g (moves_recovery w.hosts host k.body x (ends w.hosts host g)) (λ i. refl) (λ c later t. record { made = t.made; wire = t.wire; inbox = t.inbox })
+kept_deed h s w host (Expires line x growth) g may = let k = pick w.hosts host in
+    kept_host w.hosts host (deed_after (tcp h) host s (suc w.count) (pick w.hosts (other host)).wire k (Expires line x growth)) all_silent g (moves_expiry w.hosts host k.body x growth s (ends w.hosts host g)) (λ i. refl) (λ c later t. record { made = t.made; wire = t.wire; inbox = t.inbox })
+kept_deed h s w host (Makes m) g may = kept_makes h s w host m g may
+kept_deed h s w host (Sends line number wire) g may = kept_sends h s w host line number wire g
+kept_deed h s w host (Gets line copied wire) g may = kept_gets h s w host line copied wire g
+kept_deed h s w host (Takes line how) g may = kept_takes h s w host line how g may
+kept_deed h s w host (Drops line) g may = kept_drops h s w host line g
+kept_deed h s w host (Answers line) g may = kept_answers h s w host line g
+
+-- 2. calls
+
+-- an answer other than that of a dead number is to a live one
+live : (b : Body) (n : ℕ) (call : Call) (answer : Answer) → socket_allows b n call answer ≡ true → is_bad_socket answer ≡ false → given b n ≡ true
+live b n call answer may good = go (thing_of b n) refl may
+  where
+    go : (o : Option Thing) → thing_of b n ≡ o → option_map_or (thing_allows b call answer) o (is_bad_socket answer) ≡ true → given b n ≡ true
+    go None is may = absurd cc
+    go (Some thing) is may = (owner_of b n thing is).1
+
+-- nothing is added at the other host
+adds_elsewhere : (a : Hosts) (host : Host) (call : Call) (answer : Answer) → Apart a → call_allows (pick a host).body call answer ≡ true → (i : ℕ) → call_adds a call answer (name (other host) i) ≡ nothing
+adds_elsewhere a host (calls.Send n bytes) (answers.Given count) apart may i = ap (λ (c : Bool). record { told = []; accepted = if c then take count bytes else []; ended = false })
+    (socket_none a (other host) n i (owner_elsewhere a host n apart (live (pick a host).body n (calls.Send n bytes) (answers.Given count) may refl)))
+adds_elsewhere a host (calls.Recv n most) (answers.Bytes bytes) apart may i = ap (λ (c : Bool). record { told = if c then bytes else []; accepted = []; ended = false })
+    (socket_none a (other host) n i (owner_elsewhere a host n apart (live (pick a host).body n (calls.Recv n most) (answers.Bytes bytes) may refl)))
+adds_elsewhere a host (calls.Shut n) answers.Done apart may i = ap (λ (c : Bool). record { told = []; accepted = []; ended = c })
+    (socket_none a (other host) n i (owner_elsewhere a host n apart (live (pick a host).body n (calls.Shut n) answers.Done may refl)))
+adds_elsewhere a host (calls.Close n) answers.Done apart may i = ap (λ (c : Bool). record { told = []; accepted = []; ended = c })
+    (socket_none a (other host) n i (owner_elsewhere a host n apart (live (pick a host).body n (calls.Close n) answers.Done may refl)))
+adds_elsewhere a host call answer apart may i = refl
+
+kept_call : (a : Hosts) (host : Host) (call : Call) (answer : Answer) → Good a → Apart a → call_allows (pick a host).body call answer ≡ true
+    → Kept (call_adds a call answer) a (with_host a host (record (pick a host) { body = after_call (pick a host).body call answer }))
+kept_call a host call answer g apart may = kept_host a host (record (pick a host) { body = after_call (pick a host).body call answer }) (call_adds a call answer) g
+    (moves_call a host call answer (ends a host g) may) (adds_elsewhere a host call answer apart may) (λ c later t. record { made = t.made; wire = t.wire; inbox = t.inbox })
+
+-- nothing is added by the answer of a dead number
+stray_adds : (a : Hosts) (call : Call) (answer : Answer) (me : Name) → is_bad_socket answer ≡ true → call_adds a call answer me ≡ nothing
+stray_adds a (calls.Send n bytes) (answers.Given count) me e = absurd cc
+stray_adds a (calls.Recv n most) (answers.Bytes bytes) me e = absurd cc
+stray_adds a (calls.Shut n) answers.Done me e = absurd cc
+stray_adds a (calls.Close n) answers.Done me e = absurd cc
+stray_adds a call answer me e = refl
+
+kept_quiet : (a b : Hosts) (adds : Name → Added) → ((me : Name) → adds me ≡ nothing) → Kept all_silent a b → Kept adds a b
+kept_quiet a b adds quiet k = record {
+  good = k.good;
+  later = k.later;
+  exact = λ me e at. let x = k.exact me e at in (x.0, x.1, subst (λ (y : Added). Adds y e.stream x.0.stream) (sym (quiet me)) x.2);
+  back = k.back;
+  before = k.before;
+}
+
+-- 3. steps
+
+-- what a step adds to an endpoint
+abbrev pub step_adds : Header → World tcp_shape → Step tcp_shape → Name → Added
+step_adds h w step me = record {
+  told = of_effect h w step [] (λ call answer. name_told w.hosts call answer me);
+  accepted = of_effect h w step [] (λ call answer. call_accepted w.hosts call answer me);
+  ended = of_effect h w step false (λ call answer. call_ended w.hosts call answer me);
+}
+
+-- the call of an effect may have the answer: at the host that it means, or by no host's number
+pub effect_allowed : (h : Header) (s : ℕ) (hosts : Hosts) (call : Call) (answer : Answer) (o : Option Host) → first_broken (call_rules (tcp h) s hosts call answer o) ≡ None → first_broken (fresh_rules (tcp h) hosts (gives call answer)) ≡ None × option_map_or (λ host. call_allows (pick hosts host).body call answer) o (is_bad_socket answer) ≡ true
+effect_allowed h s hosts call answer None may = let x = none_both (fresh_rules (tcp h) hosts (gives call answer)) _ may in
+    (x.0, not_false (is_bad_socket answer) (none_all ((rules.CallAnswer, not (is_bad_socket answer)) ∷ []) x.1).0)
+effect_allowed h s hosts call answer (Some host) may = let x = none_both (fresh_rules (tcp h) hosts (gives call answer)) _ may in
+    (x.0, not_false (call_allows (pick hosts host).body call answer) (none_all ((rules.CallAnswer, not (call_allows (pick hosts host).body call answer)) ∷ []) x.1).0)
+
+kept_effect : (h : Header) (s : ℕ) (w : World tcp_shape) (t : ℕ) (answer : Answer) → Good w.hosts → Apart w.hosts → Permitted (tcp h) s w (Effect t answer) → Kept (step_adds h w (Effect t answer)) w.hosts (after (tcp h) s w (Effect t answer)).hosts
+kept_effect h s w t answer g apart may = go (turn_of (tcp h) t w.threads) may
+  where
+    by : (call : Call) (o : Option Host) → option_map_or (λ host. call_allows (pick w.hosts host).body call answer) o (is_bad_socket answer) ≡ true → Kept (call_adds w.hosts call answer) w.hosts (call_after (tcp h) s w.hosts (Calls call answer) o)
+    by call None may = kept_quiet w.hosts w.hosts (call_adds w.hosts call answer) (λ me. stray_adds w.hosts call answer me may) (kept_not w.hosts g)
+    by call (Some host) may = kept_call w.hosts host call answer g apart may
+
+    go : (u : Turn tcp_shape) → first_broken (effect_rules (tcp h) s w.hosts u answer) ≡ None
+        → Kept (λ me. record { told = of_turn u [] (λ call. name_told w.hosts call answer me); accepted = of_turn u [] (λ call. call_accepted w.hosts call answer me); ended = of_turn u false (λ call. call_ended w.hosts call answer me) })
+        w.hosts (effect_after (tcp h) s w t answer u).hosts
+    go Idle may = kept_not w.hosts g
+    go (Called call) may = by call (aim_of (tcp h) w.hosts (aim call)) (effect_allowed h s w.hosts call answer (aim_of (tcp h) w.hosts (aim call)) may).1
+    go (Answered x) may = kept_not w.hosts g
+
+pub kept_step : (h : Header) (s : ℕ) (w : World tcp_shape) (step : Step tcp_shape) → Good w.hosts → Apart w.hosts → Permitted (tcp h) s w step → Kept (step_adds h w step) w.hosts (after (tcp h) s w step).hosts
+kept_step h s w (Begin line t call) g apart may = kept_not w.hosts g
+kept_step h s w (Finish line t answer) g apart may = kept_not w.hosts g
+kept_step h s w (Effect t answer) g apart may = kept_effect h s w t answer g apart may
+kept_step h s w (At host d) g apart may = kept_deed h s w host d g may

@@ -1,0 +1,13 @@
+use Rattle.machine.specs.Machine.{tcp}
+use Rattle.hosts.specs.HostSteps.{after}
+use Rattle.machine.specs.Forgetting.{forget}
+use Rattle.machine_laws.proofs.ForgetWorlds.{after-forgets, besides-same, step_rules-forget, world-forget}
+use Rattle.machine_laws.proofs.forgetting.forgetting_is_free.Goals as goal
+
+pub returns : goal.returns
+returns c = record {
+  twice = world-forget;
+  rules = step_rules-forget;
+  next = after-forgets;
+  besides = λ h moment w step ok. besides-same (after (tcp h) moment (forget w) step) (after (tcp h) moment w step) (after-forgets h moment w step ok);
+}

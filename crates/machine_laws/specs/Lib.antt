@@ -1,0 +1,4 @@
+pub mod Runs
+pub mod Consequences
+pub mod Bounds
+pub mod ForgettingLaws

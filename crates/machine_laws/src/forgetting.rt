@@ -1,0 +1,14 @@
+//! Forgetting is free: a world that lets go what may be let go is as good as the whole one.
+
+ghost use Rattle.machine_laws.specs.ForgettingLaws.{ForgettingIsFree, RunsForget};
+
+/// What may be let go matters to no rule of a step, and to nothing that is kept.
+pub fn forgetting_is_free()
+    ensures { ForgettingIsFree }
+{}
+
+/// A run that forgets after each step is permitted exactly where the whole one is, breaks the same rule first, and ends in
+/// what is kept of its end.
+pub fn runs_forget()
+    ensures { RunsForget }
+{}

@@ -1,0 +1,40 @@
+//! The consequences of every run, for callers that prove more.
+
+ghost use Rattle.std.specs.Prelude.{List, ℕ, ◌≡◌};
+ghost use Rattle.case_forms.specs.declared.trace.Header.{Header};
+ghost use Rattle.case_forms.specs.declared.calls.Host.{Host};
+ghost use Rattle.hosts.specs.Hosts.{At, Makes, Stamped, Step, World};
+ghost use Rattle.hosts.specs.HostRules.{Permitted};
+ghost use Rattle.hosts.specs.HostSteps.{Lawful, start};
+ghost use Rattle.machine.specs.Making.{Making};
+ghost use Rattle.machine.specs.Machine.{tcp, tcp_shape};
+ghost use Rattle.machine_laws.specs.Runs.{world_at_end};
+ghost use Rattle.machine_laws.specs.Bounds.{NewDataFits, WindowsFollow};
+ghost use Rattle.machine_laws.specs.Consequences.{ReceivedIsAPrefix, EndIsWhole, AcknowledgedWasTaken};
+
+/// What the reads on a socket number were told is how the bytes that its peer's sends accepted begin.
+pub fn received_is_a_prefix()
+    ensures { (h : Header) (steps : List (Stamped tcp_shape)) → Lawful (tcp h) (start (tcp h)) steps → ReceivedIsAPrefix h steps }
+{}
+
+/// Once a read was told the end, it was told all that the peer's sends ever accept, and the peer's sending was ended.
+pub fn end_is_whole()
+    ensures { (h : Header) (steps : List (Stamped tcp_shape)) → Lawful (tcp h) (start (tcp h)) steps → EndIsWhole h steps }
+{}
+
+/// What is acknowledged, but for the SYN, was taken by the peer before the step that acknowledged it.
+pub fn acknowledged_was_taken()
+    ensures { (h : Header) (steps : List (Stamped tcp_shape)) (x : Stamped tcp_shape) → Lawful (tcp h) (start (tcp h)) steps → Permitted (tcp h) x.moment (world_at_end h steps) x.step → AcknowledgedWasTaken h steps x }
+{}
+
+/// Bytes that are made for the first time end in the window that the peer offers and in the congestion window. Other
+/// segments that are made, resets that answer, carry no bytes.
+pub fn new_data_fits()
+    ensures { (h : Header) (moment : ℕ) (w : World tcp_shape) (host : Host) (m : Making) → Permitted (tcp h) moment w (At host (Makes m)) → NewDataFits w host m }
+{}
+
+/// The congestion window and the slow start threshold change by taking a segment, by an expiry of the retransmission
+/// timer and by the beginning of fast recovery alone, and stay at or below what these allow.
+pub fn windows_follow()
+    ensures { (h : Header) (moment : ℕ) (w : World tcp_shape) (step : Step tcp_shape) → Permitted (tcp h) moment w step → WindowsFollow h moment w step }
+{}
