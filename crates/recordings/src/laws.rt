@@ -1,0 +1,54 @@
+//! What two recordings say together, for callers that prove more: each law is the contract of a call that does nothing.
+
+ghost use Rattle.std.specs.Prelude.{◌≡◌, ◌++◌, ◌∷◌, [], List, ℕ};
+ghost use Rattle.case_forms.specs.declared.trace.Header.{Header};
+ghost use Rattle.case_forms.specs.declared.calls.Host.{Host};
+ghost use Rattle.case_forms.specs.declared.calls.Host.TheVariants.{Zero, One};
+ghost use Rattle.hosts.specs.Hosts.{At, Makes, Stamped};
+ghost use Rattle.hosts.specs.Books.{end};
+ghost use Rattle.hosts.specs.Keys.{Books};
+ghost use Rattle.hosts.specs.Placing.{Explains};
+ghost use Rattle.machine.specs.Machine.{tcp, tcp_shape};
+ghost use Rattle.machine.specs.Making.{Making};
+ghost use Rattle.machine_laws.specs.Bounds.{NewDataFits, WindowsFollow};
+ghost use Rattle.machine_laws.specs.Runs.{world_at_end};
+ghost use Rattle.machine_laws.specs.Consequences.{AcknowledgedWasTaken, EndIsWhole, ReceivedIsAPrefix};
+ghost use Rattle.recordings.specs.Recordings.{AreFirstSteps, IsKept, MayJoin, NamesSent, TcpEntry, merged, merged_lines, next_line, world_of};
+
+use machine_laws::{
+    acknowledged_was_taken, end_is_whole, new_data_fits, received_is_a_prefix, windows_follow,
+};
+
+/// Two books beside each other, merged in the order of their keys with lines and made segments counted anew, explain the
+/// lines that they take: the merged steps are a placement of these lines, and a run.
+pub fn merged_books_explain()
+    ensures { (h : Header) (first : ℕ) (zeros ones : List TcpEntry) → Books (tcp h) first zeros ones → Explains (tcp h) h.skew first (merged_lines h first zeros ones) (merged h first zeros ones) }
+{}
+
+/// A host's recording grows at its end. What may join leaves it kept; its world and the number of its next line go on from
+/// where they were; what each host kept, with segments brought that the other host sent, are two books beside each other.
+pub fn books_grow()
+    ensures grows { (h : Header) (me : Host) (first : ℕ) (old new : List TcpEntry) → IsKept h me first old → MayJoin h me first old new → IsKept h me first (old ++ new) }
+    ensures world { (h : Header) (me : Host) (old new : List TcpEntry) → world_of h me (old ++ new) ≡ end (tcp h) me (world_of h me old) new }
+    ensures line { (h : Header) (first : ℕ) (old new : List TcpEntry) → next_line h first (old ++ new) ≡ next_line h (next_line h first old) new }
+    ensures finished { (h : Header) (first : ℕ) (zeros ones : List TcpEntry) → IsKept h Zero first zeros → IsKept h One first ones → NamesSent h One zeros ones → NamesSent h Zero ones zeros → Books (tcp h) first zeros ones }
+{}
+
+/// What two books say, merged, has the consequences of every run, at its end and after any of its first steps: what reads
+/// were told is how the bytes begin that the peer's sends accepted, and all of these once a read was told the end; what a
+/// step leaves acknowledged, but for the SYN, the peer had taken before it; new data fits both windows; and windows change
+/// by their causes alone.
+pub fn merged_books_have_the_consequences()
+    ensures received { (h : Header) (first : ℕ) (zeros ones : List TcpEntry) (steps : List (Stamped tcp_shape)) → AreFirstSteps h first zeros ones steps → ReceivedIsAPrefix h steps }
+    ensures ended { (h : Header) (first : ℕ) (zeros ones : List TcpEntry) (steps : List (Stamped tcp_shape)) → AreFirstSteps h first zeros ones steps → EndIsWhole h steps }
+    ensures acknowledged { (h : Header) (first : ℕ) (zeros ones : List TcpEntry) (steps : List (Stamped tcp_shape)) (x : Stamped tcp_shape) → AreFirstSteps h first zeros ones (steps ++ x ∷ []) → AcknowledgedWasTaken h steps x }
+    ensures edges { (h : Header) (first : ℕ) (zeros ones : List TcpEntry) (steps : List (Stamped tcp_shape)) (moment : ℕ) (host : Host) (m : Making) → AreFirstSteps h first zeros ones (steps ++ record { moment = moment; step = At host (Makes m) } ∷ []) → NewDataFits (world_at_end h steps) host m }
+    ensures windows { (h : Header) (first : ℕ) (zeros ones : List TcpEntry) (steps : List (Stamped tcp_shape)) (x : Stamped tcp_shape) → AreFirstSteps h first zeros ones (steps ++ x ∷ []) → WindowsFollow h x.moment (world_at_end h steps) x.step }
+{
+    merged_books_explain();
+    received_is_a_prefix();
+    end_is_whole();
+    acknowledged_was_taken();
+    new_data_fits();
+    windows_follow();
+}
