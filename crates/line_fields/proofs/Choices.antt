@@ -8,7 +8,9 @@ use Rattle.line_fields.specs.Word.{Rest}
 use Rattle.line_fields.specs.Reading.{◌>>=◌, fault_at, or_fault}
 use Rattle.line_fields.specs.Choice.{kind_named, kind_value, kind_field}
 use Rattle.line_fields.specs.Reader.{texts, IsReaderBefore, IsReader}
+use Rattle.line_fields.specs.Spelling.{Piece, plain, AreWritten}
 use Rattle.line_fields.proofs.Readers.{IsValue, bind_ok, ok_is, reads_field, reads_as}
+use Rattle.line_fields.proofs.Written.{first_plain}
 
 -- each kind is found by its name: for a list of all kinds, whose names differ, by refl in each case
 abbrev pub AreNamed : {K : Type 0} → (K → List ℕ) → List K → Type 0
@@ -46,27 +48,32 @@ reads_kind name kinds named =
     (λ k ws s. s.2 ∙ ap (λ (t : List ℕ). t ∷ []) s.1)
     (λ k ws s. (name k, refl, s))
 
+-- what was read behind a word: a value that begins with the word and fits, and whose other fields these are
+abbrev pub IsBehind : {K A : Type 0} → (A → K) → (A → List Piece) → (A → Type 0) → K → Rest → A → Rest → Type 0
+IsBehind head tail Fits k r a rest = (us : List (List ℕ)) × Fits a × (head a ≡ k) × AreWritten (tail a) us × (texts r ≡ us ++ texts rest)
+
 -- a value by the word that its fields begin with: read by cases on the word, spelled by cases on the value
 pub reads_choice : {K A : Type 0} (F : List (List ℕ) → Type 0) (name : K → List ℕ) (kinds : List K) → AreNamed name kinds
-    → (behind : K → Rest → Result (A × Rest) TextFault) (head : A → K) (tail : A → List (List ℕ)) (Fits : A → Type 0)
-    → ((k : K) (r : Rest) (x : A × Rest) → behind k r ≡ Ok x → Fits x.0 × (head x.0 ≡ k) × (texts r ≡ tail x.0 ++ texts x.1))
-    → ((a : A) (r : Rest) (more : List (List ℕ)) → F more → Fits a → texts r ≡ tail a ++ more → (rest : Rest) × (behind (head a) r ≡ Ok (a, rest)) × (texts rest ≡ more))
-    → IsReaderBefore F (λ r. kind_field name kinds r >>= λ k. behind k.0 k.1) (λ a ws. Fits a × (ws ≡ name (head a) ∷ tail a))
+    → (behind : K → Rest → Result (A × Rest) TextFault) (head : A → K) (tail : A → List Piece) (Fits : A → Type 0)
+    → ((k : K) (r : Rest) (x : A × Rest) → behind k r ≡ Ok x → IsBehind head tail Fits k r x.0 x.1)
+    → ((a : A) (r : Rest) (us more : List (List ℕ)) → F more → Fits a → AreWritten (tail a) us → texts r ≡ us ++ more → (rest : Rest) × (behind (head a) r ≡ Ok (a, rest)) × (texts rest ≡ more))
+    → IsReaderBefore F (λ r. kind_field name kinds r >>= λ k. behind k.0 k.1) (λ a ws. Fits a × AreWritten (plain (name (head a)) ∷ tail a) ws)
 reads_choice F name kinds named behind head tail Fits behind_takes behind_again = record {
   takes = λ r x e.
       let b = bind_ok (kind_field name kinds r) (λ k. behind k.0 k.1) x e in
       let p = (reads_kind name kinds named).takes r b.0 b.1 in
       let q = behind_takes b.0.0 b.0.1 x b.2 in
       let front : texts r ≡ name b.0.0 ∷ texts b.0.1 = p.2 ∙ ap (λ (us : List (List ℕ)). us ++ texts b.0.1) p.1 in
-      (name (head x.0) ∷ tail x.0, (q.0, refl), front ∙ ap (λ (us : List (List ℕ)). name b.0.0 ∷ us) q.2 ∙ ap (λ k. name k ∷ (tail x.0 ++ texts x.1)) (sym q.1));
+      (name (head x.0) ∷ q.0, (q.1, (refl, q.3)), front ∙ ap (λ (us : List (List ℕ)). name b.0.0 ∷ us) q.4 ∙ ap (λ k. name k ∷ (q.0 ++ texts x.1)) (sym q.2));
   again = λ r a ws more follows s e.
-      let p = (reads_kind name kinds named).again r (head a) (name (head a) ∷ []) (tail a ++ more) tt refl (e ∙ ap (λ (us : List (List ℕ)). us ++ more) s.1) in
-      let q = behind_again a p.0 more follows s.0 p.2 in
+      let w = first_plain (name (head a)) (tail a) ws s.1 in
+      let p = (reads_kind name kinds named).again r (head a) (name (head a) ∷ []) (w.0 ++ more) tt refl (e ∙ ap (λ (us : List (List ℕ)). us ++ more) w.1) in
+      let q = behind_again a p.0 w.0 more follows s.0 w.2 p.2 in
       (q.0, rw (p.1, q.1) refl, q.2);
 }
 
 -- a value that was read and is known is spelled as that value
-pub is_known : {K A : Type 0} (head : A → K) (tail : A → List (List ℕ)) (Fits : A → Type 0) (k : K) (r rest : Rest) (a b : A) (us : List (List ℕ))
-    → a ≡ b → Fits b → head b ≡ k → us ≡ tail b → texts r ≡ us ++ texts rest → Fits a × (head a ≡ k) × (texts r ≡ tail a ++ texts rest)
+pub is_known : {K A : Type 0} (head : A → K) (tail : A → List Piece) (Fits : A → Type 0) (k : K) (r rest : Rest) (a b : A) (us : List (List ℕ))
+    → a ≡ b → Fits b → head b ≡ k → AreWritten (tail b) us → texts r ≡ us ++ texts rest → IsBehind head tail Fits k r a rest
 is_known head tail Fits k r rest a b us same fits first others e =
-    (subst Fits (sym same) fits, ap head same ∙ first, e ∙ ap (λ (vs : List (List ℕ)). vs ++ texts rest) (others ∙ ap tail (sym same)))
+    (us, subst Fits (sym same) fits, ap head same ∙ first, subst (λ c. AreWritten (tail c) us) (sym same) others, e)

@@ -63,7 +63,7 @@ unparsed text (Err e) h = λ n lt is.
 pub value_is : (text : List ℕ) (n : ℕ) → n < 2 ^ 64 → text ≡ decimal n → digits_value 10 text ≡ n
 value_is text n lt e = ap (digits_value 10) e ∙ digits_value-decimal own n lt
 
-some_test : (k : ℕ) → 0 < k → eqb k 0 ≡ false
+pub some_test : (k : ℕ) → 0 < k → eqb k 0 ≡ false
 some_test zero lt = absurd (omega arith)
 some_test (suc k) lt = eqb-suc-zero k
 

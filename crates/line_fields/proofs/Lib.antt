@@ -9,5 +9,8 @@ pub mod Texts
 pub mod Loop
 pub mod Readers
 pub mod Choices
+pub mod Written
+pub mod HexLaw
+pub mod Names
 pub mod AnswerLaw
 pub mod HostLaw

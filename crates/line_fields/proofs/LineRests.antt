@@ -1,5 +1,5 @@
 -- A line's text and fields are read exactly where the bytes are a line within the limits.
-use Rattle.std.proofs.Common.{◌≡◌, ℕ, List, ◌∷◌, Bool, true, false, cond, length, Result, Ok, Err, refl, sym, ap, subst, ◌∙◌}
+use Rattle.std.proofs.Common.{◌≡◌, ℕ, List, [], ◌∷◌, Bool, true, false, cond, length, Result, Ok, Err, refl, sym, ap, subst, ◌∙◌}
 use Rattle.std.specs.Prelude.{nat_lt, not}
 use Rattle.std.specs.List.{AllByRecursion}
 use Rattle.std.specs.Str.{bytes_eq}
@@ -86,6 +86,12 @@ unfolding line_rest
 fields_again number raw w ws clean line =
     let read = text_again number raw (joined (w ∷ ws)) (joined_no_return (w ∷ ws) clean) line in
     (ap (λ (x : Result (List ℕ) TextFault). x >>= rests number) read, texts-words_of number (joined (w ∷ ws)) ∙ split-join w ws clean)
+
+-- the same of fields of which there is one at least
+pub fields_read : (number : ℕ) (raw : List ℕ) (ts : List (List ℕ)) (w : List ℕ) (ws : List (List ℕ)) → ts ≡ w ∷ ws → AllByRecursion IsClean ts → IsLine number (joined ts) raw
+    → (line_rest number raw ≡ Ok (rest_of number (joined ts))) × (texts (rest_of number (joined ts)) ≡ ts)
+fields_read number raw [] w ws some clean line = absurd cc
+fields_read number raw (t ∷ ts) w ws some clean line = fields_again number raw t ts clean line
 
 -- clean fields that are joined to a line hold no LF before its end
 pub is_raw : (number : ℕ) (ws : List (List ℕ)) (raw : List ℕ) → AllByRecursion IsClean ws → IsLine number (joined ws) raw → IsRaw raw

@@ -39,6 +39,8 @@ pub Fails-map : {A B : Type 0} (kind : FaultKind) (e : TextFault) (x : Result A 
 Fails-map kinds.Header e x y f h = f h
 Fails-map kinds.Field e x y f h = f h
 Fails-map kinds.Number e x y f h = f h
+Fails-map kinds.Hex e x y f h = f h
+Fails-map (kinds.Segment fault) e x y f h = f h
 Fails-map kinds.MomentFalls e x y f h = f h
 Fails-map kinds.LineTooLong e x y f h = f h
 Fails-map kinds.Cut e x y f h = f h

@@ -1,14 +1,17 @@
 -- The names of faults, and the fault of a line that is missing.
-use Rattle.std.specs.Prelude.{ℕ, List, codes}
+use Rattle.std.specs.Prelude.{ℕ, List, ◌++◌, codes}
+use Rattle.segment.specs.Faults.{fault_name}
 use Rattle.line_fields.specs.declared.fault.FaultKind.{FaultKind}
 use Rattle.line_fields.specs.declared.fault.FaultKind.TheVariants as kinds
 use Rattle.line_fields.specs.declared.fault.TextFault.{TextFault}
 
--- the name under which a fault is printed
+-- the name under which a fault is printed; that of a segment's fault stands behind a word and a space
 abbrev pub kind_name : FaultKind → List ℕ
 kind_name kinds.Header = codes "header"
 kind_name kinds.Field = codes "field"
 kind_name kinds.Number = codes "number"
+kind_name kinds.Hex = codes "hex"
+kind_name (kinds.Segment fault) = codes "segment " ++ fault_name fault
 kind_name kinds.MomentFalls = codes "moment-falls"
 kind_name kinds.LineTooLong = codes "line-too-long"
 kind_name kinds.Cut = codes "cut"

@@ -8,4 +8,8 @@ pub mod Hosts
 pub mod Lines
 pub mod Folding
 pub mod Spelling
+pub mod HexFields
+pub mod States
+pub mod Timers
 pub mod Answers
+pub mod AnswerFields

@@ -4,72 +4,33 @@ ghost use Rattle.std.specs.Prelude.{◌≡◌};
 ghost use Rattle.line_fields.specs.Reading.{Gives};
 ghost use Rattle.line_fields.specs.Choice.{kind_named, kind_field};
 ghost use Rattle.line_fields.specs.Reader.{IsLastReader};
-ghost use Rattle.line_fields.specs.Answers.{state_name, all_states, answer_name, all_answer_words, answer_field, IsSpelledAnswer};
+ghost use Rattle.line_fields.specs.Answers.{answer_name, all_answer_words, IsSpelledAnswer};
+ghost use Rattle.line_fields.specs.AnswerFields.{answer_field};
 
 use crate::fault::{FaultKind, TextFault};
 use crate::fields::{Fields, is_text};
-use case_forms::{Answer, State};
+use crate::states::state;
+use case_forms::Answer;
+use std::alloc::Global;
 
-// The greatest socket number or count.
-const MAX_GIVEN: u64 = 4_294_967_295;
+// The greatest count of bytes of one answer.
+const MAX_DATA: usize = 65_535;
 
 // The first word of an answer.
 #[derive(Clone, Copy)]
 enum AnswerWord {
     Done,
+    Data,
+    Again,
+    Eof,
+    Closed,
+    NotConn,
+    Refused,
+    Reset,
+    Timeout,
     InUse,
     BadSocket,
     State,
-}
-
-/// The name of a state (RFC 9293, 3.3.2).
-pub fn state_name(state: State) -> &'static str
-    ensures { result.now ≡ state_name state }
-{
-    match state {
-        State::Closed => "CLOSED",
-        State::Listen => "LISTEN",
-        State::SynSent => "SYN-SENT",
-        State::SynReceived => "SYN-RECEIVED",
-        State::Established => "ESTABLISHED",
-        State::FinWait1 => "FIN-WAIT-1",
-        State::FinWait2 => "FIN-WAIT-2",
-        State::CloseWait => "CLOSE-WAIT",
-        State::Closing => "CLOSING",
-        State::LastAck => "LAST-ACK",
-        State::TimeWait => "TIME-WAIT",
-    }
-}
-
-// The state of that name.
-fn state_named(text: &[u8]) -> Option<State>
-    ensures { result ≡ kind_named state_name all_states text.now }
-{
-    if is_text(text, "CLOSED") {
-        Some(State::Closed)
-    } else if is_text(text, "LISTEN") {
-        Some(State::Listen)
-    } else if is_text(text, "SYN-SENT") {
-        Some(State::SynSent)
-    } else if is_text(text, "SYN-RECEIVED") {
-        Some(State::SynReceived)
-    } else if is_text(text, "ESTABLISHED") {
-        Some(State::Established)
-    } else if is_text(text, "FIN-WAIT-1") {
-        Some(State::FinWait1)
-    } else if is_text(text, "FIN-WAIT-2") {
-        Some(State::FinWait2)
-    } else if is_text(text, "CLOSE-WAIT") {
-        Some(State::CloseWait)
-    } else if is_text(text, "CLOSING") {
-        Some(State::Closing)
-    } else if is_text(text, "LAST-ACK") {
-        Some(State::LastAck)
-    } else if is_text(text, "TIME-WAIT") {
-        Some(State::TimeWait)
-    } else {
-        None
-    }
 }
 
 // The answer's first word that is written so.
@@ -78,6 +39,22 @@ fn answer_word_named(text: &[u8]) -> Option<AnswerWord>
 {
     if is_text(text, "ok") {
         Some(AnswerWord::Done)
+    } else if is_text(text, "data") {
+        Some(AnswerWord::Data)
+    } else if is_text(text, "again") {
+        Some(AnswerWord::Again)
+    } else if is_text(text, "eof") {
+        Some(AnswerWord::Eof)
+    } else if is_text(text, "closed") {
+        Some(AnswerWord::Closed)
+    } else if is_text(text, "notconn") {
+        Some(AnswerWord::NotConn)
+    } else if is_text(text, "refused") {
+        Some(AnswerWord::Refused)
+    } else if is_text(text, "reset") {
+        Some(AnswerWord::Reset)
+    } else if is_text(text, "timeout") {
+        Some(AnswerWord::Timeout)
     } else if is_text(text, "inuse") {
         Some(AnswerWord::InUse)
     } else if is_text(text, "badsocket") {
@@ -86,17 +63,6 @@ fn answer_word_named(text: &[u8]) -> Option<AnswerWord>
         Some(AnswerWord::State)
     } else {
         None
-    }
-}
-
-// The next field, which is the name of a state.
-fn state(fields: &mut Fields) -> Result<State, TextFault>
-    ensures { Gives (λ state. (state, fields.new)) result (kind_field state_name all_states fields.old) }
-{
-    let name = fields.next()?;
-    match state_named(name.text) {
-        Some(state) => Ok(state),
-        None => Err(name.fault(FaultKind::Field)),
     }
 }
 
@@ -112,8 +78,8 @@ fn answer_word(fields: &mut Fields) -> Result<AnswerWord, TextFault>
 }
 
 /// An answer, which is the last of its line, since a number may follow `ok`.
-#[tactic(auto, unfolding(crate::specs::Answers::answer_field))]
-pub fn answer(fields: &mut Fields) -> Result<Answer, TextFault>
+#[tactic(auto, unfolding(crate::specs::AnswerFields::answer_field))]
+pub fn answer(alloc: Global, fields: &mut Fields) -> Result<Answer, TextFault>
     ensures { Gives (λ answer. (answer, fields.new)) result (answer_field fields.old) }
 {
     match answer_word(fields)? {
@@ -121,12 +87,19 @@ pub fn answer(fields: &mut Fields) -> Result<Answer, TextFault>
             if fields.is_empty() {
                 return Ok(Answer::Done);
             }
-            let count = fields.number(0, MAX_GIVEN)? as u32;
-            Ok(Answer::Given(count))
+            Ok(Answer::Given(fields.number32()?))
         }
+        AnswerWord::Data => Ok(Answer::Bytes(fields.hex(alloc, MAX_DATA)?)),
+        AnswerWord::State => Ok(Answer::State(state(fields)?)),
+        AnswerWord::Again => Ok(Answer::Again),
+        AnswerWord::Eof => Ok(Answer::Eof),
+        AnswerWord::Closed => Ok(Answer::Closed),
+        AnswerWord::NotConn => Ok(Answer::NotConn),
+        AnswerWord::Refused => Ok(Answer::Refused),
+        AnswerWord::Reset => Ok(Answer::Reset),
+        AnswerWord::Timeout => Ok(Answer::Timeout),
         AnswerWord::InUse => Ok(Answer::InUse),
         AnswerWord::BadSocket => Ok(Answer::BadSocket),
-        AnswerWord::State => Ok(Answer::State(state(fields)?)),
     }
 }
 

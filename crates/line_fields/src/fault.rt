@@ -5,6 +5,7 @@ ghost use Rattle.line_fields.specs.Faults.{kind_name, missing_line};
 ghost use Rattle.line_fields.specs.declared.fault.FaultKind.TheVariants.{OutOfMemory};
 
 use case_forms::Span;
+use segment::SegFault;
 use std::alloc::{AllocError, AllocFailed};
 use thiserror::Error;
 
@@ -17,6 +18,10 @@ pub enum FaultKind {
     Field,
     /// A number is badly written or out of its limits.
     Number,
+    /// Hex digits are badly written, or their bytes are too many.
+    Hex,
+    /// Bytes in hex are no segment, for this reason.
+    Segment(SegFault),
     /// A moment is below that of the line before.
     MomentFalls,
     /// A line has more than 140,000 bytes, its end not counted.
@@ -38,12 +43,27 @@ impl FaultKind {
             FaultKind::Header => "header",
             FaultKind::Field => "field",
             FaultKind::Number => "number",
+            FaultKind::Hex => "hex",
+            FaultKind::Segment(fault) => segment_fault_name(fault),
             FaultKind::MomentFalls => "moment-falls",
             FaultKind::LineTooLong => "line-too-long",
             FaultKind::Cut => "cut",
             FaultKind::TooManyLines => "too-many-lines",
             FaultKind::OutOfMemory => "memory",
         }
+    }
+}
+
+// The name of a segment's fault, behind a word.
+fn segment_fault_name(fault: SegFault) -> &'static str
+    ensures { result.now ≡ kind_name (FaultKind.Segment fault) }
+{
+    match fault {
+        SegFault::Short => "segment short",
+        SegFault::Offset => "segment offset",
+        SegFault::OptionLength => "segment option-length",
+        SegFault::TooLong => "segment too-long",
+        SegFault::OutOfMemory => "segment memory",
     }
 }
 
@@ -70,8 +90,8 @@ impl TextFault {
         }
     }
 
-    // No line is at fault where memory runs out.
-    fn out_of_memory() -> TextFault
+    /// No line is at fault where memory runs out.
+    pub fn out_of_memory() -> TextFault
         ensures { result.kind ≡ FaultKind.OutOfMemory }
     {
         TextFault {

@@ -6,12 +6,22 @@ ghost use Rattle.std.specs.Str.{bytes_eq};
 ghost use Rattle.line_fields.specs.Word.{AreSlices, rest_of};
 ghost use Rattle.line_fields.specs.Reading.{Gives, fault_at, next_field, number_field, number_value, no_more};
 ghost use Rattle.line_fields.specs.Hosts.{host_field};
+ghost use Rattle.line_fields.specs.HexFields.{hex_value, hex_field};
 ghost use Rattle.line_fields.specs.WordView.{word_of};
 
 use crate::fault::{FaultKind, TextFault};
 use case_forms::{Host, Span};
+use hex::FromHexError;
 use memchr::memchr;
+use segment::Bytes;
+use std::alloc::Global;
 use std::marker::Model;
+
+// The greatest port. The least is 1.
+const MAX_PORT: u64 = 65_535;
+
+// The greatest of the numbers with 32 bits.
+const MAX_NUMBER: u64 = 4_294_967_295;
 
 /// A field: its bytes, which are the slice of its line at its span.
 #[derive(Clone, Copy, Debug)]
@@ -58,6 +68,22 @@ impl Token<'_> {
         match decimal_value(self.text) {
             Some(n) if least <= n && n <= most => Ok(n),
             _ => Err(self.fault(FaultKind::Number)),
+        }
+    }
+
+    /// The bytes that the field spells in hex, with digits of either case: Field where the field is empty, Hex where it
+    /// spells none. The digits are read once, straight from the line.
+    #[tactic(auto, unfolding(crate::specs::HexFields::hex_value))]
+    pub fn hex(&self, alloc: Global) -> Result<Bytes, TextFault>
+        ensures { Gives (λ bytes. bytes) result (hex_value (word_of self.now)) }
+    {
+        if self.text.is_empty() {
+            return Err(self.fault(FaultKind::Field));
+        }
+        match hex::decode(alloc, self.text) {
+            Ok(bytes) => Ok(Bytes::from(bytes)),
+            Err(FromHexError::OutOfMemory) => Err(TextFault::out_of_memory()),
+            Err(_) => Err(self.fault(FaultKind::Hex)),
         }
     }
 }
@@ -174,6 +200,33 @@ impl<'a> Fields<'a> {
         } else {
             Ok(Host::One)
         }
+    }
+
+    /// The next field, which is a port.
+    pub fn port(&mut self) -> Result<u16, TextFault>
+        ensures { Gives (λ port. (port, self.new)) result (number_field 1 65535 self.old) }
+    {
+        Ok(self.number(1, MAX_PORT)? as u16)
+    }
+
+    /// The next field, which is a number with 32 bits: a thread, a socket number, a count, or a window.
+    pub fn number32(&mut self) -> Result<u32, TextFault>
+        ensures { Gives (λ n. (n, self.new)) result (number_field 0 4294967295 self.old) }
+    {
+        Ok(self.number(0, MAX_NUMBER)? as u32)
+    }
+
+    /// The next field, which is bytes in hex, at most that many; more of them are Hex.
+    #[tactic(auto, unfolding(crate::specs::HexFields::hex_field))]
+    pub fn hex(&mut self, alloc: Global, most: usize) -> Result<Bytes, TextFault>
+        ensures { Gives (λ bytes. (bytes, self.new)) result (hex_field most self.old) }
+    {
+        let token = self.next()?;
+        let bytes = token.hex(alloc)?;
+        if bytes.len() > most {
+            return Err(token.fault(FaultKind::Hex));
+        }
+        Ok(bytes)
     }
 
     /// The end of the line, or Field at the first field that is left.

@@ -3,10 +3,11 @@
 ghost use Rattle.std.specs.Prelude.{◌≡◌, [], ◌∷◌, ◌++◌, OnOk};
 ghost use Rattle.std.specs.Fmt.{decimal};
 ghost use Rattle.line_fields.specs.Hosts.{host_number};
-ghost use Rattle.line_fields.specs.Spelling.{spaced};
-ghost use Rattle.line_fields.specs.Answers.{answer_words};
+ghost use Rattle.hex.specs.Hex.{encode_lower};
+ghost use Rattle.line_fields.specs.Spelling.{printed_behind};
+ghost use Rattle.line_fields.specs.Answers.{answer_pieces};
 
-use crate::answers::state_name;
+use crate::states::state_name;
 use case_forms::{Answer, Host, OutOfMemory};
 use itoa::Buffer;
 
@@ -40,6 +41,14 @@ pub fn push_host(out: &mut Vec<u8>, host: Host) -> Result<(), OutOfMemory>
     push_number(out, host_number(host))
 }
 
+/// Writes bytes as hex digits, in lower case.
+pub fn push_hex(out: &mut Vec<u8>, bytes: &[u8]) -> Result<(), OutOfMemory>
+    ensures { OnOk result (out.new.items ≡ out.old.items ++ encode_lower bytes.now) }
+{
+    let digits = hex::encode(*out.allocator(), bytes)?;
+    out.extend_from_slice(digits.as_bytes())
+}
+
 // The number of a host.
 fn host_number(host: Host) -> u64
     ensures { result ≡ host_number host }
@@ -60,7 +69,7 @@ pub fn push_end(out: &mut Vec<u8>) -> Result<(), OutOfMemory>
 
 /// Writes the fields of an answer, each behind a space.
 pub fn push_answer(out: &mut Vec<u8>, answer: &Answer) -> Result<(), OutOfMemory>
-    ensures { OnOk result (out.new.items ≡ out.old.items ++ spaced (answer_words answer.now)) }
+    ensures { OnOk result (out.new.items ≡ out.old.items ++ printed_behind (answer_pieces answer.now)) }
 {
     match answer {
         Answer::Done => push_word(out, " ok"),
@@ -68,11 +77,22 @@ pub fn push_answer(out: &mut Vec<u8>, answer: &Answer) -> Result<(), OutOfMemory
             push_word(out, " ok ")?;
             push_number(out, u64::from(*count))
         }
-        Answer::InUse => push_word(out, " inuse"),
-        Answer::BadSocket => push_word(out, " badsocket"),
+        Answer::Bytes(bytes) => {
+            push_word(out, " data ")?;
+            push_hex(out, bytes.as_slice())
+        }
         Answer::State(state) => {
             push_word(out, " state ")?;
             push_word(out, state_name(*state))
         }
+        Answer::Again => push_word(out, " again"),
+        Answer::Eof => push_word(out, " eof"),
+        Answer::Closed => push_word(out, " closed"),
+        Answer::NotConn => push_word(out, " notconn"),
+        Answer::Refused => push_word(out, " refused"),
+        Answer::Reset => push_word(out, " reset"),
+        Answer::Timeout => push_word(out, " timeout"),
+        Answer::InUse => push_word(out, " inuse"),
+        Answer::BadSocket => push_word(out, " badsocket"),
     }
 }

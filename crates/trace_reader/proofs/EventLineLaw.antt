@@ -1,5 +1,5 @@
 -- An event line is read exactly where its bytes spell it.
-use Rattle.std.proofs.Common.{◌≡◌, ◌≤◌, ℕ, List, [], ◌∷◌, ◌++◌, Bool, true, false, cond, ltb, length, Result, Ok, Err, refl, sym, ap, subst, ◌∙◌, arith}
+use Rattle.std.proofs.Common.{◌≡◌, ◌≤◌, ℕ, List, [], ◌∷◌, ◌++◌, Bool, true, false, cond, ltb, Result, Ok, Err, refl, sym, ap, subst, ◌∙◌, arith}
 use Rattle.std.specs.Fmt.{decimal}
 use Rattle.std.specs.List.{AllByRecursion}
 use Rattle.std.proofs.lemmas.Bool.{ltb-false, le-ltb}
@@ -10,15 +10,17 @@ use Rattle.line_fields.specs.declared.fault.TextFault.{TextFault}
 use Rattle.line_fields.specs.declared.fault.FaultKind.TheVariants.{MomentFalls}
 use Rattle.line_fields.specs.Word.{Rest, rest_of}
 use Rattle.line_fields.specs.Reading.{◌>>=◌, fault_at, number_value, number_field, no_more}
-use Rattle.line_fields.specs.Lines.{IsRaw, IsLine, line_rest}
+use Rattle.line_fields.specs.Lines.{IsRaw, line_rest}
 use Rattle.line_fields.specs.Reader.{texts, IsReader}
-use Rattle.line_fields.specs.Spelling.{IsClean, joined}
+use Rattle.line_fields.specs.Spelling.{IsClean, AreWritten, number, joined}
 use Rattle.line_fields.proofs.Readers.{IsNumber, IsValue, is_number_value, reads_field, reads_number, bind_ok, ok_is, no_more_takes, no_more_again}
 use Rattle.line_fields.proofs.Joined.{IsClean-decimal}
-use Rattle.line_fields.proofs.LineRests.{fields_taken, fields_again, is_raw}
+use Rattle.line_fields.proofs.LineRests.{fields_taken, fields_read, is_raw}
 use Rattle.line_fields.proofs.Loop.{IsLineReader}
-use Rattle.trace_reader.specs.Events.{event_words, IsEvent, event_field}
-use Rattle.trace_reader.specs.EventLines.{Place, line_words, IsEventLine, moment_value, moment_field, event_fields, line_of}
+use Rattle.line_fields.proofs.Written.{IsCleanPiece, first_plain, written_clean}
+use Rattle.trace_reader.specs.Events.{event_pieces, IsEvent}
+use Rattle.trace_reader.specs.EventFields.{event_field}
+use Rattle.trace_reader.specs.EventLines.{Place, line_pieces, IsEventLine, moment_value, moment_field, event_fields, line_of}
 use Rattle.trace_reader.proofs.EventLaw.{reads_event, event_clean}
 
 guard_ok : {A : Type 0} (b : Bool) (d : TextFault) (x y : A) → cond b (Err d) (Ok x) ≡ Ok y → (b ≡ false) × (x ≡ y)
@@ -58,7 +60,9 @@ abbrev behind_moment : ℕ × Rest → Result Values TextFault
 behind_moment m = number_field 0 4294967295 m.1 >>= behind_thread m
 
 record AreValues (before : ℕ) (f : Values) (ws : List (List ℕ)) : Type 0 where
-  words : ws ≡ decimal f.0 ∷ decimal f.1 ∷ event_words f.2
+  behind : List (List ℕ)
+  words : ws ≡ decimal f.0 ∷ decimal f.1 ∷ behind
+  written : AreWritten (event_pieces f.2) behind
   rises : before ≤ f.0
   moment : f.0 ≤ 1000000000000000000
   thread : f.1 ≤ 4294967295
@@ -75,17 +79,17 @@ values_take before r f e =
     let v = reads_event.takes b.0.1 c.0 c.1 in
     let none = no_more_takes c.0.1 d.0 d.1 in
     let made : Values = (a.0.0, b.0.0, c.0.0) in
-    let spelled : texts r ≡ decimal a.0.0 ∷ decimal b.0.0 ∷ event_words c.0.0 =
+    let spelled : texts r ≡ decimal a.0.0 ∷ decimal b.0.0 ∷ v.0 =
     m.2 ∙ ap (λ (us : List (List ℕ)). us ++ texts a.0.1) (m.1.2 ∙ ap (λ (x : List ℕ). x ∷ []) m.1.1.0.0)
     ∙ ap (λ (us : List (List ℕ)). decimal a.0.0 ∷ us) (t.2 ∙ ap (λ (us : List (List ℕ)). us ++ texts b.0.1) t.1.2)
-    ∙ ap (λ (us : List (List ℕ)). decimal a.0.0 ∷ decimal b.0.0 ∷ us) (v.2 ∙ ap (λ (us : List (List ℕ)). us ++ texts c.0.1) v.1.1 ∙ ap (λ (us : List (List ℕ)). event_words c.0.0 ++ us) none ∙ append-nil (event_words c.0.0)) in
-    subst (λ (g : Values). AreValues before g (texts r)) (ok_is made f d.2) (record { words = spelled; rises = m.1.1.1; moment = m.1.1.0.2; thread = t.1.1; event = v.1.0 })
+    ∙ ap (λ (us : List (List ℕ)). decimal a.0.0 ∷ decimal b.0.0 ∷ us) (v.2 ∙ ap (λ (us : List (List ℕ)). v.0 ++ us) none ∙ append-nil v.0) in
+    subst (λ (g : Values). AreValues before g (texts r)) (ok_is made f d.2) (record { behind = v.0; words = spelled; written = v.1.1; rises = m.1.1.1; moment = m.1.1.0.2; thread = t.1.1; event = v.1.0 })
 
 values_again : (before : ℕ) (r : Rest) (f : Values) → AreValues before f (texts r) → event_fields before r ≡ Ok f
 values_again before r f s =
-    let m = (reads_moment before).again r f.0 (decimal f.0 ∷ []) (decimal f.1 ∷ event_words f.2) tt (decimal f.0, ((refl, omega arith, s.moment), s.rises), refl) s.words in
-    let t = (reads_number 0 4294967295 (omega arith)).again m.0 f.1 (decimal f.1 ∷ []) (event_words f.2) tt (omega arith, s.thread, refl) m.2 in
-    let v = reads_event.again t.0 f.2 (event_words f.2) [] refl (s.event, refl) (t.2 ∙ sym (append-nil (event_words f.2))) in
+    let m = (reads_moment before).again r f.0 (decimal f.0 ∷ []) (decimal f.1 ∷ s.behind) tt (decimal f.0, ((refl, omega arith, s.moment), s.rises), refl) s.words in
+    let t = (reads_number 0 4294967295 (omega arith)).again m.0 f.1 (decimal f.1 ∷ []) s.behind tt (omega arith, s.thread, refl) m.2 in
+    let v = reads_event.again t.0 f.2 s.behind [] refl (s.event, s.written) (t.2 ∙ sym (append-nil s.behind)) in
     let none = no_more_again v.0 v.2 in
     rw (m.1, t.1, v.1, none) refl
 
@@ -107,26 +111,43 @@ line_takes place raw l e =
     let b = bind_ok (event_fields place.0 a.0) (done_with place a.0) l a.2 in
     let r = fields_taken place.1 raw a.0 a.1 in
     let f = values_take place.0 a.0 b.0 b.1 in
-    let stop : a.0.stop ≡ length (joined (line_words (made place a.0 b.0))) = r.stop ∙ ap (λ (ws : List (List ℕ)). length (joined ws)) f.words in
     subst (λ (m : Line). IsEventLine place m raw) (ok_is (made place a.0 b.0) l b.2) (record {
-      text = subst (λ (ws : List (List ℕ)). IsLine place.1 (joined ws) raw) f.words r.line;
+      texts = texts a.0;
+      written = subst (λ (ws : List (List ℕ)). AreWritten (line_pieces (made place a.0 b.0)) ws) (sym f.words) (refl, (refl, f.written));
+      text = r.line;
       rises = f.rises;
       moment = f.moment;
       thread = f.thread;
       event = f.event;
       number = refl;
-      span = ap (λ (s : ℕ). record { line = place.1; start = 0; stop = s }) stop;
+      span = ap (λ (s : ℕ). record { line = place.1; start = 0; stop = s }) r.stop;
     })
 
-line_clean : (place : Place) (l : Line) (raw : List ℕ) → IsEventLine place l raw → AllByRecursion IsClean (line_words l)
-line_clean place l raw t = (IsClean-decimal l.moment (let h = t.moment in omega arith), (IsClean-decimal l.thread (let h = t.thread in omega arith), event_clean l.event t.event))
+-- the first two fields, and those of the event
+record AreCut (l : Line) (ws : List (List ℕ)) : Type 0 where
+  behind : List (List ℕ)
+  words : ws ≡ decimal l.moment ∷ decimal l.thread ∷ behind
+  written : AreWritten (event_pieces l.event) behind
+
+are_cut : (l : Line) (ws : List (List ℕ)) → AreWritten (line_pieces l) ws → AreCut l ws
+are_cut l ws h =
+    let m = first_plain (decimal l.moment) (number l.thread ∷ event_pieces l.event) ws h in
+    let t = first_plain (decimal l.thread) (event_pieces l.event) m.0 m.2 in
+    record { behind = t.0; words = m.1 ∙ ap (λ (us : List (List ℕ)). decimal l.moment ∷ us) t.1; written = t.2 }
+
+pub line_clean : (l : Line) → l.moment ≤ 1000000000000000000 → l.thread ≤ 4294967295 → IsEvent l.event → AllByRecursion IsCleanPiece (line_pieces l)
+line_clean l moment thread event = (IsClean-decimal l.moment (omega arith), (IsClean-decimal l.thread (omega arith), event_clean l.event event))
+
+texts_clean : (place : Place) (l : Line) (raw : List ℕ) (t : IsEventLine place l raw) → AllByRecursion IsClean t.texts
+texts_clean place l raw t = written_clean (line_pieces l) t.texts (line_clean l t.moment t.thread t.event) t.written
 
 line_again : (place : Place) (raw : List ℕ) (l : Line) → IsEventLine place l raw → line_of place raw ≡ Ok l
 unfolding line_of
 line_again place raw l t =
-    let rest = fields_again place.1 raw (decimal l.moment) (decimal l.thread ∷ event_words l.event) (line_clean place l raw t) t.text in
-    let fields = values_again place.0 (rest_of place.1 (joined (line_words l))) (l.moment, l.thread, l.event) (record { words = rest.1; rises = t.rises; moment = t.moment; thread = t.thread; event = t.event }) in
-    let same : made place (rest_of place.1 (joined (line_words l))) (l.moment, l.thread, l.event) ≡ l = rw (← t.span, ← t.number) refl in
+    let cut = are_cut l t.texts t.written in
+    let rest = fields_read place.1 raw t.texts (decimal l.moment) (decimal l.thread ∷ cut.behind) cut.words (texts_clean place l raw t) t.text in
+    let fields = values_again place.0 (rest_of place.1 (joined t.texts)) (l.moment, l.thread, l.event) (record { behind = cut.behind; words = rest.1 ∙ cut.words; written = cut.written; rises = t.rises; moment = t.moment; thread = t.thread; event = t.event }) in
+    let same : made place (rest_of place.1 (joined t.texts)) (l.moment, l.thread, l.event) ≡ l = rw (← t.span, ← t.number) refl in
     let read = rest.0 in
     rw (read, fields) (ap done same)
 
@@ -134,7 +155,7 @@ pub reads_line : IsLineReader line_of IsEventLine
 reads_line = record { takes = line_takes; again = line_again }
 
 pub line_is_raw : (place : Place) (l : Line) (raw : List ℕ) → IsEventLine place l raw → IsRaw raw
-line_is_raw place l raw t = is_raw place.1 (line_words l) raw (line_clean place l raw t) t.text
+line_is_raw place l raw t = is_raw place.1 t.texts raw (texts_clean place l raw t) t.text
 
 -- a line that is read is numbered within the limits
 pub counted : (before number : ℕ) (raw : List ℕ) (l : Line) → line_of (before, number) raw ≡ Ok l → number ≤ 10000000

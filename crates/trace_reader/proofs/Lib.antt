@@ -1,4 +1,5 @@
 pub mod CallLaw
+pub mod WireLaw
 pub mod EventLaw
 pub mod EventLineLaw
 pub mod HeaderLaw

@@ -1,5 +1,5 @@
 -- A text is read as a trace exactly where it stands for it.
-use Rattle.std.proofs.Common.{◌≡◌, ℕ, ◌+◌, List, [], ◌∷◌, ◌++◌, Result, Ok, Err, refl, sym, ap, subst, ◌∙◌, inl}
+use Rattle.std.proofs.Common.{◌≡◌, ℕ, ◌+◌, List, [], ◌∷◌, ◌++◌, Result, Ok, Err, refl, sym, ap, subst, ◌∙◌, inl, arith}
 use Rattle.std.specs.Prelude.{map, IfOk}
 use Rattle.std.specs.List.{concat, AllByRecursion}
 use Rattle.std.proofs.lemmas.List.Folds.{concat-append}
@@ -13,12 +13,13 @@ use Rattle.line_fields.specs.declared.fault.TextFault.{TextFault}
 use Rattle.line_fields.specs.Reading.{◌>>=◌, Gives}
 use Rattle.line_fields.specs.Lines.{IsRaw, IsLine}
 use Rattle.line_fields.specs.Folding.{AreSpelled}
-use Rattle.line_fields.specs.Spelling.{joined, printed}
+use Rattle.line_fields.specs.Spelling.{joined, printed, printed_line, piece_texts}
 use Rattle.line_fields.proofs.Readers.{bind_ok, ok_is}
+use Rattle.line_fields.proofs.Written.{written_len, printed_written}
 use Rattle.line_fields.proofs.Texts.{lines_of-concat}
 use Rattle.line_fields.proofs.Loop.{spelled_takes, spelled_again, spelled_raws}
 use Rattle.trace_reader.specs.Headers.{AreLines, header_words, header_of}
-use Rattle.trace_reader.specs.EventLines.{Place, behind, line_words, IsEventLine, line_of}
+use Rattle.trace_reader.specs.EventLines.{Place, behind, line_pieces, IsEventLine, line_of}
 use Rattle.trace_reader.specs.TraceText.{first_place, IsTraceText, events_of, trace_of}
 use Rattle.trace_reader.specs.Printed.{trace_text}
 use Rattle.trace_reader.proofs.EventLineLaw.{reads_line, line_is_raw}
@@ -73,27 +74,41 @@ is_trace text (Err e) given = tt
 
 -- ---- printing
 
-printed_line : (number : ℕ) (ws : List (List ℕ)) (raw : List ℕ) → IsLine number (joined ws) raw → IsLine number (joined ws) (printed ws)
-printed_line number ws raw line = record { ends = (10 ∷ [], inl refl, refl); short = line.short; count = line.count }
+printed_words : (number : ℕ) (ws : List (List ℕ)) (raw : List ℕ) → IsLine number (joined ws) raw → IsLine number (joined ws) (printed ws)
+printed_words number ws raw line = record { ends = (10 ∷ [], inl refl, refl); short = line.short; count = line.count }
 
 printed_headers : (number : ℕ) (lines : List (List (List ℕ))) (raws : List (List ℕ)) → AreLines number lines raws → AreLines number lines (map printed lines)
 printed_headers number [] raws h = tt
 printed_headers number (ws ∷ lines) [] h = absurd h
-printed_headers number (ws ∷ lines) (raw ∷ raws) h = (printed_line number ws raw h.0, printed_headers (number + 1) lines raws h.1)
+printed_headers number (ws ∷ lines) (raw ∷ raws) h = (printed_words number ws raw h.0, printed_headers (number + 1) lines raws h.1)
 
-printed_events : (place : Place) (lines : List Line) (raws : List (List ℕ)) → AreSpelled IsEventLine behind place lines raws → AreSpelled IsEventLine behind place lines (map (λ l. printed (line_words l)) lines)
+printed_one : (place : Place) (l : Line) (raw : List ℕ) → IsEventLine place l raw → IsEventLine place l (printed_line (line_pieces l))
+printed_one place l raw t =
+    let len = written_len (line_pieces l) t.texts t.written in
+    let short = t.text.short in
+    record {
+      texts = piece_texts (line_pieces l);
+      written = printed_written (line_pieces l) t.texts t.written;
+      text = record { ends = (10 ∷ [], inl refl, refl); short = omega (arith, len, short); count = t.text.count };
+      rises = t.rises;
+      moment = t.moment;
+      thread = t.thread;
+      event = t.event;
+      number = t.number;
+      span = t.span ∙ ap (λ (s : ℕ). record { line = place.1; start = 0; stop = s }) len;
+    }
+
+printed_events : (place : Place) (lines : List Line) (raws : List (List ℕ)) → AreSpelled IsEventLine behind place lines raws → AreSpelled IsEventLine behind place lines (map (λ l. printed_line (line_pieces l)) lines)
 printed_events place [] raws h = tt
 printed_events place (l ∷ ls) [] h = absurd h
-printed_events place (l ∷ ls) (raw ∷ raws) h =
-    let one = h.0 in
-    (record { text = printed_line place.1 (line_words l) raw one.text; rises = one.rises; moment = one.moment; thread = one.thread; event = one.event; number = one.number; span = one.span }, printed_events (behind place l) ls raws h.1)
+printed_events place (l ∷ ls) (raw ∷ raws) h = (printed_one place l raw h.0, printed_events (behind place l) ls raws h.1)
 
 pub printed_again : (t : Trace) (text : List ℕ) → IsTraceText t text → IsTraceText t (trace_text t)
 printed_again t text s = record {
   headers = map printed (header_words t.header);
-  events = map (λ l. printed (line_words l)) t.lines;
+  events = map (λ l. printed_line (line_pieces l)) t.lines;
   limits = s.limits;
   are_headers = printed_headers 1 (header_words t.header) s.headers s.are_headers;
   are_events = printed_events (first_place t.header) t.lines s.events s.are_events;
-  joined = sym (concat-append (map printed (header_words t.header)) (map (λ l. printed (line_words l)) t.lines));
+  joined = sym (concat-append (map printed (header_words t.header)) (map (λ l. printed_line (line_pieces l)) t.lines));
 }

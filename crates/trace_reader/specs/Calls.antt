@@ -1,62 +1,74 @@
 -- Calls, as an event line spells them.
-use Rattle.std.specs.Prelude.{◌≡◌, ◌≤◌, ℕ, List, [], ◌∷◌, Result, Ok, codes}
-use Rattle.std.specs.Fmt.{decimal}
+use Rattle.std.specs.Prelude.{◌≤◌, ℕ, List, [], ◌∷◌, length, codes}
 use Rattle.case_forms.specs.declared.calls.Call.{Call}
 use Rattle.case_forms.specs.declared.calls.Call.TheVariants as calls
-use Rattle.line_fields.specs.declared.fault.TextFault.{TextFault}
-use Rattle.line_fields.specs.Word.{Rest}
-use Rattle.line_fields.specs.Reading.{◌>>=◌, number_field}
-use Rattle.line_fields.specs.Hosts.{host_number, host_field}
-use Rattle.line_fields.specs.Choice.{kind_field}
+use Rattle.line_fields.specs.Hosts.{host_number}
+use Rattle.line_fields.specs.Spelling.{Piece, plain, hex, number, AreWritten}
 use Rattle.trace_reader.specs.declared.calls.CallWord.{CallWord}
 use Rattle.trace_reader.specs.declared.calls.CallWord.TheVariants as words
 
 -- the first word of a call
 abbrev pub call_name : CallWord → List ℕ
 call_name words.Listen = codes "listen"
-call_name words.Status = codes "status"
+call_name words.Open = codes "open"
+call_name words.Await = codes "await"
+call_name words.Accept = codes "accept"
+call_name words.Send = codes "send"
+call_name words.Recv = codes "recv"
+call_name words.Shut = codes "shut"
 call_name words.Close = codes "close"
+call_name words.Abort = codes "abort"
+call_name words.Status = codes "status"
 
 -- all first words of calls
 abbrev pub all_call_words : List CallWord
-all_call_words = words.Listen ∷ words.Status ∷ words.Close ∷ []
+all_call_words =
+    words.Listen ∷ words.Open ∷ words.Await ∷ words.Accept ∷ words.Send ∷ words.Recv
+    ∷ words.Shut ∷ words.Close ∷ words.Abort ∷ words.Status ∷ []
+
+-- the first word of a call
+abbrev pub call_word : Call → CallWord
+call_word (calls.Listen host port backlog) = words.Listen
+call_word (calls.Connect host local remote) = words.Open
+call_word (calls.Await socket) = words.Await
+call_word (calls.Accept socket) = words.Accept
+call_word (calls.Send socket bytes) = words.Send
+call_word (calls.Recv socket max) = words.Recv
+call_word (calls.Shut socket) = words.Shut
+call_word (calls.Close socket) = words.Close
+call_word (calls.Abort socket) = words.Abort
+call_word (calls.Status socket) = words.Status
+
+-- the fields behind the first word
+abbrev pub call_tail : Call → List Piece
+call_tail (calls.Listen host port backlog) = number (host_number host) ∷ number port ∷ number backlog ∷ []
+call_tail (calls.Connect host local remote) = number (host_number host) ∷ number local ∷ number remote ∷ []
+call_tail (calls.Await socket) = number socket ∷ []
+call_tail (calls.Accept socket) = number socket ∷ []
+call_tail (calls.Send socket bytes) = number socket ∷ hex bytes ∷ []
+call_tail (calls.Recv socket max) = number socket ∷ number max ∷ []
+call_tail (calls.Shut socket) = number socket ∷ []
+call_tail (calls.Close socket) = number socket ∷ []
+call_tail (calls.Abort socket) = number socket ∷ []
+call_tail (calls.Status socket) = number socket ∷ []
 
 -- the fields of a call
-abbrev pub call_words : Call → List (List ℕ)
-call_words (calls.Listen host port backlog) = codes "listen" ∷ decimal (host_number host) ∷ decimal port ∷ decimal backlog ∷ []
-call_words (calls.Status socket) = codes "status" ∷ decimal socket ∷ []
-call_words (calls.Close socket) = codes "close" ∷ decimal socket ∷ []
+abbrev pub call_pieces : Call → List Piece
+call_pieces call = plain (call_name (call_word call)) ∷ call_tail call
 
 -- the limits of a call
 abbrev pub IsCall : Call → Type 0
 IsCall (calls.Listen host port backlog) = (1 ≤ port) × (port ≤ 65535) × (backlog ≤ 65535)
-IsCall (calls.Status socket) = socket ≤ 4294967295
+IsCall (calls.Connect host local remote) = (1 ≤ local) × (local ≤ 65535) × (1 ≤ remote) × (remote ≤ 65535)
+IsCall (calls.Await socket) = socket ≤ 4294967295
+IsCall (calls.Accept socket) = socket ≤ 4294967295
+IsCall (calls.Send socket bytes) = (socket ≤ 4294967295) × (1 ≤ length bytes) × (length bytes ≤ 65535)
+IsCall (calls.Recv socket max) = (socket ≤ 4294967295) × (1 ≤ max) × (max ≤ 65535)
+IsCall (calls.Shut socket) = socket ≤ 4294967295
 IsCall (calls.Close socket) = socket ≤ 4294967295
+IsCall (calls.Abort socket) = socket ≤ 4294967295
+IsCall (calls.Status socket) = socket ≤ 4294967295
 
 -- these fields spell the call
 abbrev pub IsSpelledCall : Call → List (List ℕ) → Type 0
-IsSpelledCall call ws = IsCall call × (ws ≡ call_words call)
-
--- host, port and backlog
-abbrev pub listen_fields : Rest → Result (Call × Rest) TextFault
-listen_fields r = do
-  host ← host_field r
-  port ← number_field 1 65535 host.1
-  backlog ← number_field 0 65535 port.1
-  Ok (calls.Listen host.0 port.0 backlog.0, backlog.1)
-
--- a call on a socket number
-abbrev pub socket_field : (ℕ → Call) → Rest → Result (Call × Rest) TextFault
-socket_field call r = do
-  socket ← number_field 0 4294967295 r
-  Ok (call socket.0, socket.1)
-
--- what follows the first word
-abbrev pub call_behind : CallWord → Rest → Result (Call × Rest) TextFault
-call_behind words.Listen r = listen_fields r
-call_behind words.Status r = socket_field calls.Status r
-call_behind words.Close r = socket_field calls.Close r
-
--- a call
-unfoldable pub call_field : Rest → Result (Call × Rest) TextFault
-call_field r = kind_field call_name all_call_words r >>= λ word. call_behind word.0 word.1
+IsSpelledCall call ws = IsCall call × AreWritten (call_pieces call) ws

@@ -1,6 +1,5 @@
 -- Event lines: a moment, a thread and an event.
 use Rattle.std.specs.Prelude.{◌≡◌, ◌≤◌, ℕ, ◌+◌, nat_lt, if◌then◌else◌, List, ◌∷◌, Result, Ok, Err}
-use Rattle.std.specs.Fmt.{decimal}
 use Rattle.case_forms.specs.declared.trace.Event.{Event}
 use Rattle.case_forms.specs.declared.trace.Line.{Line}
 use Rattle.line_fields.specs.declared.fault.FaultKind.TheVariants.{MomentFalls}
@@ -8,8 +7,9 @@ use Rattle.line_fields.specs.declared.fault.TextFault.{TextFault}
 use Rattle.line_fields.specs.Word.{Word, Rest}
 use Rattle.line_fields.specs.Reading.{◌>>=◌, fault_at, next_field, number_value, number_field, no_more}
 use Rattle.line_fields.specs.Lines.{IsLine, whole_line, line_rest}
-use Rattle.line_fields.specs.Spelling.{joined}
-use Rattle.trace_reader.specs.Events.{event_words, IsEvent, event_field}
+use Rattle.line_fields.specs.Spelling.{Piece, number, AreWritten, joined}
+use Rattle.trace_reader.specs.Events.{event_pieces, IsEvent}
+use Rattle.trace_reader.specs.EventFields.{event_field}
 
 -- what a line is read by: the moment of the line before, and the line's own number
 abbrev pub Place : Type 0
@@ -20,18 +20,20 @@ abbrev pub behind : Place → Line → Place
 behind place line = (line.moment, place.1 + 1)
 
 -- the fields of an event line
-abbrev pub line_words : Line → List (List ℕ)
-line_words line = decimal line.moment ∷ decimal line.thread ∷ event_words line.event
+abbrev pub line_pieces : Line → List Piece
+line_pieces line = number line.moment ∷ number line.thread ∷ event_pieces line.event
 
 -- the bytes spell the line at its place
 pub record IsEventLine (place : Place) (line : Line) (raw : List ℕ) : Type 0 where
-  pub text : IsLine place.1 (joined (line_words line)) raw
+  pub texts : List (List ℕ)
+  pub written : AreWritten (line_pieces line) texts
+  pub text : IsLine place.1 (joined texts) raw
   pub rises : place.0 ≤ line.moment
   pub moment : line.moment ≤ 1000000000000000000
   pub thread : line.thread ≤ 4294967295
   pub event : IsEvent line.event
   pub number : line.number ≡ place.1
-  pub span : line.span ≡ whole_line place.1 (joined (line_words line))
+  pub span : line.span ≡ whole_line place.1 (joined texts)
 
 -- a moment that is not below the one before
 abbrev pub moment_value : ℕ → Word → Result ℕ TextFault

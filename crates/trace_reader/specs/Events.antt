@@ -1,44 +1,56 @@
--- Events: what a thread began, or how its call ended.
-use Rattle.std.specs.Prelude.{◌≡◌, ℕ, List, [], ◌∷◌, Result, Ok, codes}
+-- Events, as an event line spells them.
+use Rattle.std.specs.Prelude.{◌≤◌, ℕ, List, [], ◌∷◌, codes}
+use Rattle.segment.specs.Layout.{IsSegment}
 use Rattle.case_forms.specs.declared.trace.Event.{Event}
 use Rattle.case_forms.specs.declared.trace.Event.TheVariants as events
-use Rattle.line_fields.specs.declared.fault.TextFault.{TextFault}
-use Rattle.line_fields.specs.Word.{Rest}
-use Rattle.line_fields.specs.Reading.{◌>>=◌}
-use Rattle.line_fields.specs.Choice.{kind_field}
-use Rattle.line_fields.specs.Answers.{answer_words, IsAnswer, answer_field}
+use Rattle.line_fields.specs.Hosts.{host_number}
+use Rattle.line_fields.specs.Spelling.{Piece, plain, hex, number, AreWritten}
+use Rattle.line_fields.specs.Timers.{timer_name}
+use Rattle.line_fields.specs.Answers.{answer_pieces, IsAnswer}
 use Rattle.trace_reader.specs.declared.events.Letter.{Letter}
 use Rattle.trace_reader.specs.declared.events.Letter.TheVariants as letters
-use Rattle.trace_reader.specs.Calls.{call_words, IsCall, call_field}
+use Rattle.trace_reader.specs.Calls.{call_pieces, IsCall}
 
 -- the letter of an event
 abbrev pub letter_name : Letter → List ℕ
 letter_name letters.B = codes "B"
 letter_name letters.E = codes "E"
+letter_name letters.O = codes "O"
+letter_name letters.I = codes "I"
+letter_name letters.T = codes "T"
 
 -- all letters
 abbrev pub all_letters : List Letter
-all_letters = letters.B ∷ letters.E ∷ []
+all_letters = letters.B ∷ letters.E ∷ letters.O ∷ letters.I ∷ letters.T ∷ []
+
+-- the letter of an event
+abbrev pub event_letter : Event → Letter
+event_letter (events.CallBegin call) = letters.B
+event_letter (events.CallEnd answer) = letters.E
+event_letter (events.Sent host wire) = letters.O
+event_letter (events.Came host wire) = letters.I
+event_letter (events.Expired host local remote timer) = letters.T
+
+-- the fields behind the letter
+abbrev pub event_tail : Event → List Piece
+event_tail (events.CallBegin call) = call_pieces call
+event_tail (events.CallEnd answer) = answer_pieces answer
+event_tail (events.Sent host wire) = number (host_number host) ∷ hex wire.bytes ∷ []
+event_tail (events.Came host wire) = number (host_number host) ∷ hex wire.bytes ∷ []
+event_tail (events.Expired host local remote timer) = number (host_number host) ∷ number local ∷ number remote ∷ plain (timer_name timer) ∷ []
 
 -- the fields of an event
-abbrev pub event_words : Event → List (List ℕ)
-event_words (events.CallBegin call) = codes "B" ∷ call_words call
-event_words (events.CallEnd answer) = codes "E" ∷ answer_words answer
+abbrev pub event_pieces : Event → List Piece
+event_pieces event = plain (letter_name (event_letter event)) ∷ event_tail event
 
--- the limits of an event
+-- the limits of an event; the bytes of a segment stand for it
 abbrev pub IsEvent : Event → Type 0
 IsEvent (events.CallBegin call) = IsCall call
 IsEvent (events.CallEnd answer) = IsAnswer answer
+IsEvent (events.Sent host wire) = IsSegment wire.bytes wire.seg
+IsEvent (events.Came host wire) = IsSegment wire.bytes wire.seg
+IsEvent (events.Expired host local remote timer) = (1 ≤ local) × (local ≤ 65535) × (1 ≤ remote) × (remote ≤ 65535)
 
 -- these fields spell the event
 abbrev pub IsSpelledEvent : Event → List (List ℕ) → Type 0
-IsSpelledEvent event ws = IsEvent event × (ws ≡ event_words event)
-
--- what follows the letter
-abbrev pub event_behind : Letter → Rest → Result (Event × Rest) TextFault
-event_behind letters.B r = call_field r >>= λ call. Ok (events.CallBegin call.0, call.1)
-event_behind letters.E r = answer_field r >>= λ answer. Ok (events.CallEnd answer.0, answer.1)
-
--- an event
-unfoldable pub event_field : Rest → Result (Event × Rest) TextFault
-event_field r = kind_field letter_name all_letters r >>= λ letter. event_behind letter.0 letter.1
+IsSpelledEvent event ws = IsEvent event × AreWritten (event_pieces event) ws

@@ -7,7 +7,10 @@ pub use Rattle.line_fields.specs.Reading
 pub use Rattle.line_fields.specs.Spelling
 pub mod Headers
 pub mod Calls
+pub mod CallFields
+pub mod Wires
 pub mod Events
+pub mod EventFields
 pub mod EventLines
 pub mod TraceText
 pub mod Printed

@@ -4,9 +4,9 @@ use Rattle.std.specs.List.{concat}
 use Rattle.case_forms.specs.declared.trace.Line.{Line}
 use Rattle.case_forms.specs.declared.trace.Header.{Header}
 use Rattle.case_forms.specs.declared.trace.Trace.{Trace}
-use Rattle.line_fields.specs.Spelling.{printed}
+use Rattle.line_fields.specs.Spelling.{printed, printed_line}
 use Rattle.trace_reader.specs.Headers.{header_words}
-use Rattle.trace_reader.specs.EventLines.{line_words}
+use Rattle.trace_reader.specs.EventLines.{line_pieces}
 
 -- the header's lines, each ended by LF
 abbrev pub header_text : Header → List ℕ
@@ -14,7 +14,7 @@ header_text h = concat (map printed (header_words h))
 
 -- the event lines, each ended by LF
 abbrev pub lines_text : List Line → List ℕ
-lines_text lines = concat (map (λ line. printed (line_words line)) lines)
+lines_text lines = concat (map (λ line. printed_line (line_pieces line)) lines)
 
 -- the whole text
 abbrev pub trace_text : Trace → List ℕ

@@ -3,22 +3,26 @@
 ghost use Rattle.std.specs.Prelude.{◌≡◌};
 ghost use Rattle.line_fields.specs.Reading.{Gives};
 ghost use Rattle.line_fields.specs.Choice.{kind_field};
-ghost use Rattle.trace_reader.specs.Events.{letter_name, all_letters, event_field};
+ghost use Rattle.trace_reader.specs.Events.{letter_name, all_letters};
+ghost use Rattle.trace_reader.specs.EventFields.{host_wire, expired_fields, event_field};
 ghost use Rattle.trace_reader.specs.EventLines.{line_of};
 
 use crate::calls::call;
-use case_forms::{Event, Line};
-use line_fields::{FaultKind, Fields, Span, TextFault, answer, fields_of};
+use crate::wires::wire;
+use case_forms::{Event, Host, Line, Wire};
+use line_fields::{FaultKind, Fields, Span, TextFault, answer, fields_of, timer};
+use std::alloc::Global;
 
 const MAX_MOMENT: u64 = 1_000_000_000_000_000_000;
-
-const MAX_THREAD: u64 = 4_294_967_295;
 
 // The letter of an event.
 #[derive(Clone, Copy)]
 enum Letter {
     B,
     E,
+    O,
+    I,
+    T,
 }
 
 // The next field, which is the letter of an event.
@@ -30,19 +34,56 @@ fn event_letter(fields: &mut Fields) -> Result<Letter, TextFault>
         Ok(Letter::B)
     } else if name.is("E") {
         Ok(Letter::E)
+    } else if name.is("O") {
+        Ok(Letter::O)
+    } else if name.is("I") {
+        Ok(Letter::I)
+    } else if name.is("T") {
+        Ok(Letter::T)
     } else {
         Err(name.fault(FaultKind::Field))
     }
 }
 
+// A host, and a segment that was seen there.
+#[tactic(auto, unfolding(crate::specs::EventFields::host_wire))]
+fn host_wire(alloc: Global, fields: &mut Fields) -> Result<(Host, Wire), TextFault>
+    ensures { Gives (λ seen. (seen, fields.new)) result (host_wire fields.old) }
+{
+    let host = fields.host()?;
+    let wire = wire(alloc, fields)?;
+    Ok((host, wire))
+}
+
+// What follows `T`: the host, the local and the remote port, and the timer.
+#[tactic(auto, unfolding(crate::specs::EventFields::expired_fields))]
+fn expired(fields: &mut Fields) -> Result<Event, TextFault>
+    ensures { Gives (λ event. (event, fields.new)) result (expired_fields fields.old) }
+{
+    let host = fields.host()?;
+    let local = fields.port()?;
+    let remote = fields.port()?;
+    let timer = timer(fields)?;
+    Ok(Event::Expired(host, local, remote, timer))
+}
+
 // An event, the last of its line.
-#[tactic(auto, unfolding(crate::specs::Events::event_field))]
-fn event(fields: &mut Fields) -> Result<Event, TextFault>
+#[tactic(auto, unfolding(crate::specs::EventFields::event_field))]
+fn event(alloc: Global, fields: &mut Fields) -> Result<Event, TextFault>
     ensures { Gives (λ event. (event, fields.new)) result (event_field fields.old) }
 {
     match event_letter(fields)? {
-        Letter::B => Ok(Event::CallBegin(call(fields)?)),
-        Letter::E => Ok(Event::CallEnd(answer(fields)?)),
+        Letter::B => Ok(Event::CallBegin(call(alloc, fields)?)),
+        Letter::E => Ok(Event::CallEnd(answer(alloc, fields)?)),
+        Letter::O => {
+            let (host, wire) = host_wire(alloc, fields)?;
+            Ok(Event::Sent(host, wire))
+        }
+        Letter::I => {
+            let (host, wire) = host_wire(alloc, fields)?;
+            Ok(Event::Came(host, wire))
+        }
+        Letter::T => expired(fields),
     }
 }
 
@@ -50,7 +91,7 @@ fn event(fields: &mut Fields) -> Result<Event, TextFault>
 /// before it, in microseconds, or 0 where there is none; a moment below it is MomentFalls at its field. Fields are
 /// looked at from left to right, and a field too many last.
 #[tactic(auto, unfolding(crate::specs::EventLines::line_of))]
-pub fn event_line(before: u64, number: u64, raw: &[u8]) -> Result<Line, TextFault>
+pub fn event_line(alloc: Global, before: u64, number: u64, raw: &[u8]) -> Result<Line, TextFault>
     ensures { Gives (λ line. line) result (line_of (before, number) raw.now) }
 {
     let mut fields = fields_of(number, raw)?;
@@ -60,8 +101,8 @@ pub fn event_line(before: u64, number: u64, raw: &[u8]) -> Result<Line, TextFaul
     if moment < before {
         return Err(word.fault(FaultKind::MomentFalls));
     }
-    let thread = fields.number(0, MAX_THREAD)? as u32;
-    let event = event(&mut fields)?;
+    let thread = fields.number32()?;
+    let event = event(alloc, &mut fields)?;
     fields.end()?;
     let span = Span {
         line: number,

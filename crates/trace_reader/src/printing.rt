@@ -3,15 +3,19 @@
 ghost use Rattle.std.specs.Prelude.{◌≡◌, ◌∷◌, [], ◌++◌, ℕ, List, IfOk, OnOk};
 ghost use Rattle.std.specs.Fmt.{decimal};
 ghost use Rattle.case_forms.specs.declared.trace.Trace.{Trace};
-ghost use Rattle.line_fields.specs.Spelling.{spaced, printed};
-ghost use Rattle.trace_reader.specs.Calls.{call_words};
-ghost use Rattle.trace_reader.specs.EventLines.{line_words};
+ghost use Rattle.line_fields.specs.Hosts.{host_number};
+ghost use Rattle.line_fields.specs.Spelling.{plain, hex, number, printed, printed_line, printed_behind};
+ghost use Rattle.trace_reader.specs.Calls.{call_pieces};
+ghost use Rattle.trace_reader.specs.Events.{event_pieces};
+ghost use Rattle.trace_reader.specs.EventLines.{line_pieces};
 ghost use Rattle.trace_reader.specs.TraceText.{IsTraceText};
 ghost use Rattle.trace_reader.specs.Printed.{header_text, trace_text};
 
 use crate::header::FIRST_LINE;
-use case_forms::{Call, Event, Header, Line, OutOfMemory, Trace};
-use line_fields::{push_answer, push_end, push_host, push_number, push_space, push_word};
+use case_forms::{Call, Event, Header, Host, Line, OutOfMemory, Trace, Wire};
+use line_fields::{
+    push_answer, push_end, push_hex, push_host, push_number, push_space, push_word, timer_name,
+};
 use std::alloc::Global;
 
 // Writes a name and a number as a line.
@@ -37,48 +41,118 @@ fn push_header(out: &mut Vec<u8>, header: &Header) -> Result<(), OutOfMemory>
     push_number_line(out, "extra", u64::from(header.extra))
 }
 
+// Writes a number behind a space.
+fn push_next(out: &mut Vec<u8>, number: u64) -> Result<(), OutOfMemory>
+    ensures { OnOk result (out.new.items ≡ out.old.items ++ 32 ∷ decimal number) }
+{
+    push_space(out)?;
+    push_number(out, number)
+}
+
+// Writes a word and a socket number, each behind a space.
+fn push_socket(out: &mut Vec<u8>, word: &str, socket: u32) -> Result<(), OutOfMemory>
+    ensures { OnOk result (out.new.items ≡ out.old.items ++ printed_behind (plain word.now ∷ number socket ∷ [])) }
+{
+    push_space(out)?;
+    push_word(out, word)?;
+    push_next(out, u64::from(socket))
+}
+
+// Writes a word and a host, each behind a space.
+fn push_host_word(out: &mut Vec<u8>, word: &str, host: Host) -> Result<(), OutOfMemory>
+    ensures { OnOk result (out.new.items
+        ≡ out.old.items ++ printed_behind (plain word.now ∷ number (host_number host) ∷ [])) }
+{
+    push_space(out)?;
+    push_word(out, word)?;
+    push_space(out)?;
+    push_host(out, host)
+}
+
+// Writes a word, a host and two numbers, each behind a space.
+fn push_ports(
+    out: &mut Vec<u8>,
+    word: &str,
+    host: Host,
+    first: u16,
+    second: u16,
+) -> Result<(), OutOfMemory>
+    ensures { OnOk result (out.new.items ≡ out.old.items
+        ++ printed_behind (plain word.now ∷ number (host_number host) ∷ number first ∷ number second ∷ [])) }
+{
+    push_host_word(out, word, host)?;
+    push_next(out, u64::from(first))?;
+    push_next(out, u64::from(second))
+}
+
 // Writes the fields of a call, each behind a space.
 fn push_call(out: &mut Vec<u8>, call: &Call) -> Result<(), OutOfMemory>
-    ensures { OnOk result (out.new.items ≡ out.old.items ++ spaced (call_words call.now)) }
+    ensures { OnOk result (out.new.items ≡ out.old.items ++ printed_behind (call_pieces call.now)) }
 {
     match call {
-        Call::Listen(host, port, backlog) => {
-            push_word(out, " listen ")?;
-            push_host(out, *host)?;
+        Call::Listen(host, port, backlog) => push_ports(out, "listen", *host, *port, *backlog),
+        Call::Connect(host, local, remote) => push_ports(out, "open", *host, *local, *remote),
+        Call::Await(socket) => push_socket(out, "await", *socket),
+        Call::Accept(socket) => push_socket(out, "accept", *socket),
+        Call::Send(socket, bytes) => {
+            push_socket(out, "send", *socket)?;
             push_space(out)?;
-            push_number(out, u64::from(*port))?;
+            push_hex(out, bytes.as_slice())
+        }
+        Call::Recv(socket, max) => {
+            push_socket(out, "recv", *socket)?;
+            push_next(out, u64::from(*max))
+        }
+        Call::Shut(socket) => push_socket(out, "shut", *socket),
+        Call::Close(socket) => push_socket(out, "close", *socket),
+        Call::Abort(socket) => push_socket(out, "abort", *socket),
+        Call::Status(socket) => push_socket(out, "status", *socket),
+    }
+}
+
+// Writes a letter, a host and a segment, each behind a space.
+fn push_wire(out: &mut Vec<u8>, letter: &str, host: Host, wire: &Wire) -> Result<(), OutOfMemory>
+    ensures { OnOk result (out.new.items ≡ out.old.items
+        ++ printed_behind (plain letter.now ∷ number (host_number host) ∷ hex wire.now.bytes ∷ [])) }
+{
+    push_host_word(out, letter, host)?;
+    push_space(out)?;
+    push_hex(out, wire.bytes.as_slice())
+}
+
+// Writes the fields of an event, each behind a space.
+fn push_event(out: &mut Vec<u8>, event: &Event) -> Result<(), OutOfMemory>
+    ensures { OnOk result (out.new.items ≡ out.old.items ++ printed_behind (event_pieces event.now)) }
+{
+    match event {
+        Event::CallBegin(call) => {
+            push_word(out, " B")?;
+            push_call(out, call)
+        }
+        Event::CallEnd(answer) => {
+            push_word(out, " E")?;
+            push_answer(out, answer)
+        }
+        Event::Sent(host, wire) => push_wire(out, "O", *host, wire),
+        Event::Came(host, wire) => push_wire(out, "I", *host, wire),
+        Event::Expired(host, local, remote, timer) => {
+            push_ports(out, "T", *host, *local, *remote)?;
             push_space(out)?;
-            push_number(out, u64::from(*backlog))
-        }
-        Call::Status(socket) => {
-            push_word(out, " status ")?;
-            push_number(out, u64::from(*socket))
-        }
-        Call::Close(socket) => {
-            push_word(out, " close ")?;
-            push_number(out, u64::from(*socket))
+            push_word(out, timer_name(*timer))
         }
     }
 }
 
 // Writes an event line.
 fn push_line(out: &mut Vec<u8>, line: &Line) -> Result<(), OutOfMemory>
-    ensures { OnOk result (out.new.items ≡ out.old.items ++ printed (line_words line.now)) }
+    ensures { OnOk result (out.new.items ≡ out.old.items ++ printed_line (line_pieces line.now)) }
 {
     push_number(out, line.moment)?;
     push_space(out)?;
     push_number(out, u64::from(line.thread))?;
-    match &line.event {
-        Event::CallBegin(call) => {
-            push_word(out, " B")?;
-            push_call(out, call)?;
-        }
-        Event::CallEnd(answer) => {
-            push_word(out, " E")?;
-            push_answer(out, answer)?;
-        }
-    }
-    push_end(out)
+    push_event(out, &line.event)?;
+    push_end(out)?;
+    Ok(())
 }
 
 /// The text of a trace, each line ended by LF.

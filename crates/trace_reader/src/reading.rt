@@ -22,7 +22,7 @@ fn events(alloc: Global, header: &Header, raws: LinesWithTerminator) -> Result<L
     let mut before = 0;
     let mut number = header.first_event_line();
     for raw in raws {
-        let line = event_line(before, number, raw)?;
+        let line = event_line(alloc, before, number, raw)?;
         before = line.moment;
         number += 1;
         lines.push(line)?;

@@ -1,164 +1,249 @@
--- The spelling of a label, both ways. A number may follow each form, so a label is the last of its line.
-use Rattle.std.proofs.Common.{◌≡◌, ℕ, List, [], ◌∷◌, ◌++◌, Result, Ok, refl, sym, ap, subst, ◌∙◌, arith, inl, inr, ◌⊎◌}
+-- The spelling of a label, both ways. A number may follow some forms, so a label is the last of its line.
+use Rattle.std.proofs.Common.{◌≡◌, ◌≤◌, ℕ, List, ◌++◌, Bool, true, false, Option, Some, None, Ok, refl, subst, arith}
 use Rattle.std.specs.Prelude.{codes}
 use Rattle.std.specs.Fmt.{decimal}
 use Rattle.std.specs.List.{AllByRecursion}
+use Rattle.case_forms.specs.declared.calls.Host.{Host}
 use Rattle.case_forms.specs.declared.calls.Answer.{Answer}
 use Rattle.case_forms.specs.declared.steps.Extras.{Extras}
 use Rattle.case_forms.specs.declared.steps.Extras.TheVariants.{Bare, One, Two}
+use Rattle.case_forms.specs.declared.steps.Flags.{Flags}
 use Rattle.case_forms.specs.declared.steps.Label.{Label}
-use Rattle.case_forms.specs.declared.steps.Label.TheVariants.{L, D}
-use Rattle.line_fields.specs.declared.fault.TextFault.{TextFault}
+use Rattle.case_forms.specs.declared.steps.Label.TheVariants.{L, D, M, T, K, R, F}
 use Rattle.line_fields.specs.Word.{Rest}
-use Rattle.line_fields.specs.Reading.{◌>>=◌, number_field, or_end}
-use Rattle.line_fields.specs.Reader.{texts, Nothing, IsReaderBefore, IsLastReader}
-use Rattle.line_fields.specs.Spelling.{IsClean}
-use Rattle.line_fields.specs.Answers.{answer_words, IsSpelledAnswer, answer_field}
-use Rattle.line_fields.proofs.Readers.{IsNumberField, bind_ok, ok_is, reads_then, reads_as, reads_last, reads_or_end, reads_number}
-use Rattle.line_fields.proofs.Choices.{AreNamed, reads_choice, is_known}
+use Rattle.line_fields.specs.Reading.{number_field}
+use Rattle.line_fields.specs.Reader.{texts, Any, Nothing, IsLastReader, IsReader}
+use Rattle.line_fields.specs.Spelling.{Piece, AreWritten, IsClean}
+use Rattle.line_fields.specs.Answers.{answer_pieces, IsAnswer}
+use Rattle.line_fields.specs.AnswerFields.{answer_field}
+use Rattle.line_fields.proofs.Choices.{AreNamed, IsBehind, reads_choice, is_known}
 use Rattle.line_fields.proofs.AnswerLaw.{reads_answer, answer_clean}
+use Rattle.line_fields.proofs.HostLaw.{host_clean}
+use Rattle.line_fields.proofs.Written.{IsCleanPiece}
 use Rattle.line_fields.proofs.Joined.{IsClean-decimal}
 use Rattle.line_fields.proofs.Clean.{clean_by}
 use Rattle.witness.specs.declared.labels.LabelWord.{LabelWord}
 use Rattle.witness.specs.declared.labels.LabelWord.TheVariants as words
-use Rattle.witness.specs.Labels.{label_name, all_label_words, extras_words, AreExtras, AreSpelledExtras, label_words, IsLabel, IsSpelledLabel}
-use Rattle.witness.specs.LabelReading.{second_field, first_field, extras_field, line_field, effect_field, label_behind, label_field}
+use Rattle.witness.specs.Flags.{flags_field}
+use Rattle.witness.specs.Parts.{endpoint_field, entry_field, bit_field, extras_field, first_number_field}
+use Rattle.witness.specs.Labels.{label_name, all_label_words, bit_number, extras_pieces, AreExtras, iss_pieces, IsIss, label_tail, label_word, label_pieces, IsLabel, IsSpelledLabel}
+use Rattle.witness.specs.LabelFields.{line_label, effect_label, segment_label, taking_label, dropping_label, refusing_label, recovery_label, label_behind, label_field}
+use Rattle.witness.proofs.Made.{IsMade, reads_made, reads_part}
+use Rattle.witness.proofs.FlagsLaw.{flags_piece, reads_flags, flags_clean}
+use Rattle.witness.proofs.PartLaw.{IsWithin, one_piece, reads_within, bit_piece, reads_bit, IsEndpoint, pieces_at, reads_endpoint, IsEntry, pieces_in, reads_entry, reads_extras, reads_iss}
 
--- a value that is made of what is read
-reads_made : {A B : Type 0} (F : List (List ℕ) → Type 0) (read : Rest → Result (A × Rest) TextFault) (R : A → List (List ℕ) → Type 0) (make : A → B) → IsReaderBefore F read R
-    → IsReaderBefore F (λ r. read r >>= λ x. Ok (make x.0, x.1)) (λ b ws. (a : A) × (b ≡ make a) × R a ws)
-reads_made {A = A} {B = B} F read R make law = record {
-  takes = λ r y e.
-      let b = bind_ok (read r) (λ x. Ok (make x.0, x.1)) y e in
-      let p = law.takes r b.0 b.1 in
-      subst (λ (z : B × Rest). (ws : List (List ℕ)) × ((a : A) × (z.0 ≡ make a) × R a ws) × (texts r ≡ ws ++ texts z.1)) (ok_is (make b.0.0, b.0.1) y b.2) (p.0, (b.0.0, refl, p.1), p.2);
-  again = λ r b ws more follows s e.
-      let q = law.again r s.0 ws more follows s.2 e in
-      (q.0, ap (λ (z : Result (A × Rest) TextFault). z >>= λ x. Ok (make x.0, x.1)) q.1 ∙ ap (λ (x : B). Ok (x, q.0)) (sym s.1), q.2);
-}
+-- ---- a line
 
--- ---- the extra numbers
+abbrev make_line : ℕ × Extras → Label
+make_line y = L y.0 y.1
 
-abbrev IsSecond : ℕ → Extras → List (List ℕ) → Type 0
-IsSecond x extras ws = (y : ℕ) × (extras ≡ Two x y) × IsNumberField 0 4294967295 y ws
+abbrev FitsLine : ℕ × Extras → Type 0
+FitsLine y = IsWithin 0 4294967295 y.0 × AreExtras y.1
 
-reads_second : (x : ℕ) → IsLastReader (second_field x) (IsSecond x)
-reads_second x = reads_made Nothing (number_field 0 4294967295) (IsNumberField 0 4294967295) (λ y. Two x y) (reads_last (number_field 0 4294967295) (IsNumberField 0 4294967295) (reads_number 0 4294967295 (omega arith)))
+reads_line : IsLastReader line_label (IsMade make_line FitsLine (λ y. one_piece y.0 ++ extras_pieces y.1))
+unfolding line_label
+reads_line =
+    reads_part Nothing (number_field 0 4294967295) (IsWithin 0 4294967295) one_piece _ make_line AreExtras extras_pieces (reads_within 0 4294967295 (omega arith))
+    (λ line. reads_made Nothing extras_field (λ extras. make_line (line, extras)) AreExtras extras_pieces reads_extras)
 
-abbrev IsBehindFirst : ℕ → Extras → List (List ℕ) → Type 0
-IsBehindFirst x extras ws = ((extras ≡ One x) × (ws ≡ [])) ⊎ IsSecond x extras ws
+-- ---- an effect
 
-reads_behind_first : (x : ℕ) → IsLastReader (λ r. or_end (One x) (second_field x) r.words r) (IsBehindFirst x)
-reads_behind_first x = reads_or_end (One x) (second_field x) (IsSecond x) (reads_second x) (λ extras ws s none. let e : decimal s.0 ∷ [] ≡ [] = sym s.2.2 ∙ none in cc)
+abbrev make_effect : ℕ × Answer → Label
+make_effect y = D y.0 y.1
 
-abbrev IsFirst : Extras → List (List ℕ) → Type 0
-IsFirst extras ws = (x : ℕ) × (us : List (List ℕ)) × (vs : List (List ℕ)) × IsNumberField 0 4294967295 x us × IsBehindFirst x extras vs × (ws ≡ us ++ vs)
+reads_effect : IsLastReader effect_label (IsMade make_effect (λ y. IsWithin 0 4294967295 y.0 × IsAnswer y.1) (λ y. one_piece y.0 ++ answer_pieces y.1))
+unfolding effect_label
+reads_effect =
+    reads_part Nothing (number_field 0 4294967295) (IsWithin 0 4294967295) one_piece _ make_effect IsAnswer answer_pieces (reads_within 0 4294967295 (omega arith))
+    (λ thread. reads_made Nothing answer_field (λ answer. make_effect (thread, answer)) IsAnswer answer_pieces reads_answer)
 
-reads_first : IsLastReader first_field IsFirst
-reads_first = reads_then Nothing (number_field 0 4294967295) (IsNumberField 0 4294967295) (λ x r. or_end (One x) (second_field x) r.words r) IsBehindFirst (reads_number 0 4294967295 (omega arith)) reads_behind_first
+-- ---- a segment that is made
 
-some_first : (extras : Extras) (ws : List (List ℕ)) → IsFirst extras ws → ws ≡ [] → ⊥
-some_first extras ws s none = let e : decimal s.0 ∷ s.2 ≡ [] = ap (λ (us : List (List ℕ)). us ++ s.2) (sym s.3.2) ∙ sym s.5 ∙ none in cc
+abbrev At : Type 0
+At = Host × ℕ × ℕ
 
-known_extras : (extras own : Extras) (ws : List (List ℕ)) → extras ≡ own → AreExtras own → ws ≡ extras_words own → AreSpelledExtras extras ws
-known_extras extras own ws same fits e = (subst AreExtras (sym same) fits, e ∙ ap extras_words (sym same))
+abbrev make_segment : At × (ℕ × (ℕ × (Flags × (ℕ × Option ℕ)))) → Label
+make_segment y = M y.0.0 y.0.1 y.0.2 y.1.0 y.1.1.0 y.1.1.1.0 y.1.1.1.1.0 y.1.1.1.1.1
 
-extras_there : (extras : Extras) (ws : List (List ℕ)) → ((extras ≡ Bare) × (ws ≡ [])) ⊎ IsFirst extras ws → AreSpelledExtras extras ws
-extras_there extras ws s = elim s [
-  | inl none ↦ known_extras extras Bare ws none.0 tt none.1
-  | inr some ↦
-      let front : ws ≡ decimal some.0 ∷ some.2 = some.5 ∙ ap (λ (us : List (List ℕ)). us ++ some.2) some.3.2 in
-      elim some.4 [
-        | inl one ↦ known_extras extras (One some.0) ws one.0 some.3.1 (front ∙ ap (λ (vs : List (List ℕ)). decimal some.0 ∷ vs) one.1)
-        | inr two ↦ known_extras extras (Two some.0 two.0) ws two.1 (some.3.1, two.2.1) (front ∙ ap (λ (vs : List (List ℕ)). decimal some.0 ∷ vs) two.2.2)
-      ]
-]
+abbrev FitsSegment : At × (ℕ × (ℕ × (Flags × (ℕ × Option ℕ)))) → Type 0
+FitsSegment y = IsEndpoint y.0 × (IsWithin 0 1000000000000000000 y.1.0 × (IsWithin 0 65515 y.1.1.0 × (Unit {0} × (IsWithin 0 65535 y.1.1.1.1.0 × IsIss y.1.1.1.1.1))))
 
-extras_back : (extras : Extras) (ws : List (List ℕ)) → AreSpelledExtras extras ws → ((extras ≡ Bare) × (ws ≡ [])) ⊎ IsFirst extras ws
-extras_back Bare ws s = inl (refl, s.1)
-extras_back (One x) ws s = inr (x, decimal x ∷ [], [], (omega arith, s.0, refl), inl (refl, refl), s.1)
-extras_back (Two x y) ws s = inr (x, decimal x ∷ [], decimal y ∷ [], (omega arith, s.0.0, refl), inr (y, refl, (omega arith, s.0.1, refl)), s.1)
+abbrev window_pieces : ℕ × Option ℕ → List Piece
+window_pieces y = one_piece y.0 ++ iss_pieces y.1
 
-reads_extras : IsLastReader extras_field AreSpelledExtras
-unfolding extras_field
-reads_extras = reads_as Nothing extras_field _ AreSpelledExtras (reads_or_end Bare first_field IsFirst reads_first some_first) extras_there extras_back
+abbrev flags_pieces : Flags × (ℕ × Option ℕ) → List Piece
+flags_pieces y = flags_piece y.0 ++ window_pieces y.1
+
+abbrev len_pieces : ℕ × (Flags × (ℕ × Option ℕ)) → List Piece
+len_pieces y = one_piece y.0 ++ flags_pieces y.1
+
+abbrev position_pieces : ℕ × (ℕ × (Flags × (ℕ × Option ℕ))) → List Piece
+position_pieces y = one_piece y.0 ++ len_pieces y.1
+
+abbrev all_pieces : At × (ℕ × (ℕ × (Flags × (ℕ × Option ℕ)))) → List Piece
+all_pieces y = pieces_at y.0 ++ position_pieces y.1
+
+reads_segment : IsLastReader segment_label (IsMade make_segment FitsSegment all_pieces)
+unfolding segment_label
+reads_segment =
+    reads_part Nothing endpoint_field IsEndpoint pieces_at _ make_segment _ position_pieces reads_endpoint
+    (λ at. reads_part Nothing (number_field 0 1000000000000000000) (IsWithin 0 1000000000000000000) one_piece _ (λ x. make_segment (at, x)) _ len_pieces (reads_within 0 1000000000000000000 (omega arith))
+    (λ position. reads_part Nothing (number_field 0 65515) (IsWithin 0 65515) one_piece _ (λ x. make_segment (at, (position, x))) _ flags_pieces (reads_within 0 65515 (omega arith))
+    (λ len. reads_part Nothing flags_field (λ f. Unit {0}) flags_piece _ (λ x. make_segment (at, (position, (len, x)))) _ window_pieces reads_flags
+    (λ flags. reads_part Nothing (number_field 0 65535) (IsWithin 0 65535) one_piece _ (λ x. make_segment (at, (position, (len, (flags, x))))) _ iss_pieces (reads_within 0 65535 (omega arith))
+    (λ window. reads_made Nothing first_number_field (λ iss. make_segment (at, (position, (len, (flags, (window, iss)))))) IsIss iss_pieces reads_iss)))))
+
+-- ---- an inbox entry that is taken, dropped or refused
+
+abbrev make_taking : (Host × ℕ) × (ℕ × (Bool × Bool)) → Label
+make_taking y = T y.0.0 y.0.1 y.1.0 y.1.1.0 y.1.1.1
+
+abbrev FitsTaking : (Host × ℕ) × (ℕ × (Bool × Bool)) → Type 0
+FitsTaking y = IsEntry y.0 × (IsWithin 0 4294967295 y.1.0 × (Unit {0} × Unit {0}))
+
+abbrev bits_pieces : Bool × Bool → List Piece
+bits_pieces y = bit_piece y.0 ++ bit_piece y.1
+
+abbrev cwnd_pieces : ℕ × (Bool × Bool) → List Piece
+cwnd_pieces y = one_piece y.0 ++ bits_pieces y.1
+
+reads_taking : IsReader taking_label (IsMade make_taking FitsTaking (λ y. pieces_in y.0 ++ cwnd_pieces y.1))
+unfolding taking_label
+reads_taking =
+    reads_part Any entry_field IsEntry pieces_in _ make_taking _ cwnd_pieces reads_entry
+    (λ entry. reads_part Any (number_field 0 4294967295) (IsWithin 0 4294967295) one_piece _ (λ x. make_taking (entry, x)) _ bits_pieces (reads_within 0 4294967295 (omega arith))
+    (λ cwnd. reads_part Any bit_field (λ b. Unit {0}) bit_piece _ (λ x. make_taking (entry, (cwnd, x))) _ bit_piece reads_bit
+    (λ keep. reads_made Any bit_field (λ sample. make_taking (entry, (cwnd, (keep, sample)))) (λ b. Unit {0}) bit_piece reads_bit)))
+
+abbrev make_dropping : Host × ℕ → Label
+make_dropping y = K y.0 y.1
+
+reads_dropping : IsReader dropping_label (IsMade make_dropping IsEntry pieces_in)
+reads_dropping = reads_made Any entry_field make_dropping IsEntry pieces_in reads_entry
+
+abbrev make_refusing : Host × ℕ → Label
+make_refusing y = R y.0 y.1
+
+reads_refusing : IsReader refusing_label (IsMade make_refusing IsEntry pieces_in)
+reads_refusing = reads_made Any entry_field make_refusing IsEntry pieces_in reads_entry
+
+-- ---- fast recovery
+
+abbrev make_recovery : At × (ℕ × ℕ) → Label
+make_recovery y = F y.0.0 y.0.1 y.0.2 y.1.0 y.1.1
+
+abbrev FitsRecovery : At × (ℕ × ℕ) → Type 0
+FitsRecovery y = IsEndpoint y.0 × (IsWithin 0 4294967295 y.1.0 × IsWithin 0 4294967295 y.1.1)
+
+abbrev windows_pieces : ℕ × ℕ → List Piece
+windows_pieces y = one_piece y.0 ++ one_piece y.1
+
+reads_recovery : IsReader recovery_label (IsMade make_recovery FitsRecovery (λ y. pieces_at y.0 ++ windows_pieces y.1))
+unfolding recovery_label
+reads_recovery =
+    reads_part Any endpoint_field IsEndpoint pieces_at _ make_recovery _ windows_pieces reads_endpoint
+    (λ at. reads_part Any (number_field 0 4294967295) (IsWithin 0 4294967295) one_piece _ (λ x. make_recovery (at, x)) _ one_piece (reads_within 0 4294967295 (omega arith))
+    (λ cwnd. reads_made Any (number_field 0 4294967295) (λ ssthresh. make_recovery (at, (cwnd, ssthresh))) (IsWithin 0 4294967295) one_piece (reads_within 0 4294967295 (omega arith))))
 
 -- ---- a label
-
-abbrev IsLineLabel : Label → List (List ℕ) → Type 0
-IsLineLabel label ws =
-    (line : ℕ) × (us : List (List ℕ)) × (vs : List (List ℕ)) × IsNumberField 0 4294967295 line us × ((extras : Extras) × (label ≡ L line extras) × AreSpelledExtras extras vs) × (ws ≡ us ++ vs)
-
-reads_line : IsLastReader line_field IsLineLabel
-reads_line =
-    reads_then Nothing (number_field 0 4294967295) (IsNumberField 0 4294967295) (λ line r. extras_field r >>= λ x. Ok (L line x.0, x.1)) (λ line label ws. (extras : Extras) × (label ≡ L line extras) × AreSpelledExtras extras ws)
-    (reads_number 0 4294967295 (omega arith)) (λ line. reads_made Nothing extras_field AreSpelledExtras (λ extras. L line extras) reads_extras)
-
-abbrev IsEffectLabel : Label → List (List ℕ) → Type 0
-IsEffectLabel label ws =
-    (thread : ℕ) × (us : List (List ℕ)) × (vs : List (List ℕ)) × IsNumberField 0 4294967295 thread us × ((answer : Answer) × (label ≡ D thread answer) × IsSpelledAnswer answer vs) × (ws ≡ us ++ vs)
-
-reads_effect : IsLastReader effect_field IsEffectLabel
-reads_effect =
-    reads_then Nothing (number_field 0 4294967295) (IsNumberField 0 4294967295) (λ thread r. answer_field r >>= λ x. Ok (D thread x.0, x.1)) (λ thread label ws. (answer : Answer) × (label ≡ D thread answer) × IsSpelledAnswer answer ws)
-    (reads_number 0 4294967295 (omega arith)) (λ thread. reads_made Nothing answer_field IsSpelledAnswer (λ answer. D thread answer) reads_answer)
 
 labels_named : AreNamed label_name all_label_words
 labels_named words.Line = refl
 labels_named words.Effect = refl
-
--- the first word of a label, and the others
-abbrev head_of : Label → LabelWord
-head_of (L line extras) = words.Line
-head_of (D thread answer) = words.Effect
-
-abbrev tail_of : Label → List (List ℕ)
-tail_of (L line extras) = decimal line ∷ extras_words extras
-tail_of (D thread answer) = decimal thread ∷ answer_words answer
-
-words_are : (label : Label) → label_words label ≡ label_name (head_of label) ∷ tail_of label
-words_are (L line extras) = refl
-words_are (D thread answer) = refl
+labels_named words.Making = refl
+labels_named words.Taking = refl
+labels_named words.Dropping = refl
+labels_named words.Refusing = refl
+labels_named words.Recovery = refl
 
 -- what was read behind the first word
 abbrev Behind : LabelWord → Rest → Label × Rest → Type 0
-Behind k r x = IsLabel x.0 × (head_of x.0 ≡ k) × (texts r ≡ tail_of x.0 ++ texts x.1)
+Behind k r x = IsBehind label_word label_tail IsLabel k r x.0 x.1
+
+-- what was made of parts is known by the parts
+takes_made : {Y : Type 0} (k : LabelWord) (make : Y → Label) (Fits : Y → Type 0) (pieces : Y → List Piece) (r : Rest) (x : Label × Rest) → ((ws : List (List ℕ)) × IsMade make Fits pieces x.0 ws × (texts r ≡ ws ++ texts x.1))
+    → ((y : Y) → Fits y → IsLabel (make y) × (label_word (make y) ≡ k) × (pieces y ≡ label_tail (make y))) → Behind k r x
+takes_made k make Fits pieces r x p is =
+    let s = p.1 in
+    let own = is s.0 s.2 in
+    is_known label_word label_tail IsLabel k r x.1 x.0 (make s.0) p.0 s.1 own.0 own.1 (subst (λ (ps : List Piece). AreWritten ps p.0) own.2 s.3) p.2
 
 behind_takes : (k : LabelWord) (r : Rest) (x : Label × Rest) → label_behind k r ≡ Ok x → Behind k r x
-behind_takes words.Line r x e =
-    let p = reads_line.takes r x e in
-    let s = p.1 in
-    is_known head_of tail_of IsLabel words.Line r x.1 x.0 (L s.0 s.4.0) p.0 s.4.1 (s.3.1, s.4.2.0) refl (s.5 ∙ ap (λ (us : List (List ℕ)). us ++ s.2) s.3.2 ∙ ap (λ (vs : List (List ℕ)). decimal s.0 ∷ vs) s.4.2.1) p.2
-behind_takes words.Effect r x e =
-    let p = reads_effect.takes r x e in
-    let s = p.1 in
-    is_known head_of tail_of IsLabel words.Effect r x.1 x.0 (D s.0 s.4.0) p.0 s.4.1 (s.3.1, s.4.2.0) refl (s.5 ∙ ap (λ (us : List (List ℕ)). us ++ s.2) s.3.2 ∙ ap (λ (vs : List (List ℕ)). decimal s.0 ∷ vs) s.4.2.1) p.2
+behind_takes words.Line r x e = takes_made words.Line make_line _ _ r x (reads_line.takes r x e) (λ y fits. ((fits.0.1, fits.1), refl, refl))
+behind_takes words.Effect r x e = takes_made words.Effect make_effect _ _ r x (reads_effect.takes r x e) (λ y fits. ((fits.0.1, fits.1), refl, refl))
+behind_takes words.Making r x e =
+    takes_made words.Making make_segment FitsSegment all_pieces r x (reads_segment.takes r x e) (λ y fits. ((fits.0, fits.1.0.1, fits.1.1.0.1, fits.1.1.1.1.0.1, fits.1.1.1.1.1), refl, refl))
+behind_takes words.Taking r x e = takes_made words.Taking make_taking FitsTaking _ r x (reads_taking.takes r x e) (λ y fits. ((fits.0, fits.1.0.1), refl, refl))
+behind_takes words.Dropping r x e = takes_made words.Dropping make_dropping IsEntry pieces_in r x (reads_dropping.takes r x e) (λ y fits. (fits, refl, refl))
+behind_takes words.Refusing r x e = takes_made words.Refusing make_refusing IsEntry pieces_in r x (reads_refusing.takes r x e) (λ y fits. (fits, refl, refl))
+behind_takes words.Recovery r x e = takes_made words.Recovery make_recovery FitsRecovery _ r x (reads_recovery.takes r x e) (λ y fits. ((fits.0, fits.1.0.1, fits.1.1.1), refl, refl))
 
 abbrev Gets : Label → Rest → List (List ℕ) → Type 0
-Gets label r more = (rest : Rest) × (label_behind (head_of label) r ≡ Ok (label, rest)) × (texts rest ≡ more)
+Gets label r more = (rest : Rest) × (label_behind (label_word label) r ≡ Ok (label, rest)) × (texts rest ≡ more)
 
-behind_again : (label : Label) (r : Rest) (more : List (List ℕ)) → Nothing more → IsLabel label → texts r ≡ tail_of label ++ more → Gets label r more
-behind_again (L line extras) r more last fits e =
-    reads_line.again r (L line extras) (decimal line ∷ extras_words extras) more last (line, decimal line ∷ [], extras_words extras, (omega arith, fits.0, refl), (extras, refl, (fits.1, refl)), refl) e
-behind_again (D thread answer) r more last fits e =
-    reads_effect.again r (D thread answer) (decimal thread ∷ answer_words answer) more last (thread, decimal thread ∷ [], answer_words answer, (omega arith, fits.0, refl), (answer, refl, (fits.1, refl)), refl) e
+behind_again : (label : Label) (r : Rest) (us more : List (List ℕ)) → Nothing more → IsLabel label → AreWritten (label_tail label) us → texts r ≡ us ++ more → Gets label r more
+behind_again (L line extras) r us more last fits w e = reads_line.again r (L line extras) us more last ((line, extras), refl, ((omega arith, fits.0), fits.1), w) e
+behind_again (D thread answer) r us more last fits w e = reads_effect.again r (D thread answer) us more last ((thread, answer), refl, ((omega arith, fits.0), fits.1), w) e
+behind_again (M host local remote position len flags window iss) r us more last fits w e =
+    reads_segment.again r (M host local remote position len flags window iss) us more last
+    (((host, local, remote), (position, (len, (flags, (window, iss))))), refl, (fits.0, ((omega arith, fits.1), ((omega arith, fits.2), (tt, ((omega arith, fits.3), fits.4))))), w) e
+behind_again (T host line cwnd keep sample) r us more last fits w e =
+    reads_taking.again r (T host line cwnd keep sample) us more tt (((host, line), (cwnd, (keep, sample))), refl, (fits.0, ((omega arith, fits.1), (tt, tt))), w) e
+behind_again (K host line) r us more last fits w e = reads_dropping.again r (K host line) us more tt ((host, line), refl, fits, w) e
+behind_again (R host line) r us more last fits w e = reads_refusing.again r (R host line) us more tt ((host, line), refl, fits, w) e
+behind_again (F host local remote cwnd ssthresh) r us more last fits w e =
+    reads_recovery.again r (F host local remote cwnd ssthresh) us more tt (((host, local, remote), (cwnd, ssthresh)), refl, (fits.0, ((omega arith, fits.1), (omega arith, fits.2))), w) e
 
 -- what is read is spelled so, and what is spelled so is read
 pub reads_label : IsLastReader label_field IsSpelledLabel
 unfolding label_field
-reads_label =
-    reads_as Nothing label_field _ IsSpelledLabel
-    (reads_choice Nothing label_name all_label_words labels_named label_behind head_of tail_of IsLabel behind_takes behind_again)
-    (λ label ws s. (s.0, s.1 ∙ sym (words_are label)))
-    (λ label ws s. (s.0, s.1 ∙ words_are label))
+reads_label = reads_choice Nothing label_name all_label_words labels_named label_behind label_word label_tail IsLabel behind_takes behind_again
 
 -- ---- the fields of a label are clean
 
-extras_clean : (extras : Extras) → AreExtras extras → AllByRecursion IsClean (extras_words extras)
+extras_clean : (extras : Extras) → AreExtras extras → AllByRecursion IsCleanPiece (extras_pieces extras)
 extras_clean Bare fits = tt
 extras_clean (One x) fits = (IsClean-decimal x (omega arith), tt)
 extras_clean (Two x y) fits = (IsClean-decimal x (let h = fits.0 in omega arith), (IsClean-decimal y (let h = fits.1 in omega arith), tt))
 
-pub label_clean : (label : Label) → IsLabel label → AllByRecursion IsClean (label_words label)
-label_clean (L line extras) fits = (clean_by (codes "L") refl, (IsClean-decimal line (let h = fits.0 in omega arith), extras_clean extras fits.1))
-label_clean (D thread answer) fits = (clean_by (codes "D") refl, (IsClean-decimal thread (let h = fits.0 in omega arith), answer_clean answer fits.1))
+iss_clean : (iss : Option ℕ) → IsIss iss → AllByRecursion IsCleanPiece (iss_pieces iss)
+iss_clean None fits = tt
+iss_clean (Some n) fits = (IsClean-decimal n (omega arith), tt)
+
+bit_clean : (b : Bool) → IsClean (decimal (bit_number b))
+bit_clean true = IsClean-decimal 1 (omega arith)
+bit_clean false = IsClean-decimal 0 (omega arith)
+
+-- a number far below the greatest that is printed
+number_clean : (n : ℕ) → n ≤ 1000000000000000000 → IsClean (decimal n)
+number_clean n le = IsClean-decimal n (omega arith)
+
+pub label_clean : (label : Label) → IsLabel label → AllByRecursion IsCleanPiece (label_pieces label)
+label_clean (L line extras) fits = (clean_by (codes "L") refl, (number_clean line (let h = fits.0 in omega arith), extras_clean extras fits.1))
+label_clean (D thread answer) fits = (clean_by (codes "D") refl, (number_clean thread (let h = fits.0 in omega arith), answer_clean answer fits.1))
+label_clean (M host local remote position len flags window iss) fits =
+    let ports = fits.0 in
+    let from = ports.1 in
+    let to = ports.3 in
+    let short = fits.2 in
+    let small = fits.3 in (
+      clean_by (codes "M") refl,
+      (
+        host_clean host,
+        (
+          number_clean local (omega arith),
+          (number_clean remote (omega arith), (number_clean position fits.1, (number_clean len (omega arith), (flags_clean flags, (number_clean window (omega arith), iss_clean iss fits.4))))),
+        ),
+      ),
+    )
+label_clean (T host line cwnd keep sample) fits =
+    (clean_by (codes "T") refl, (host_clean host, (number_clean line (let h = fits.0 in omega arith), (number_clean cwnd (let h = fits.1 in omega arith), (bit_clean keep, (bit_clean sample, tt))))))
+label_clean (K host line) fits = (clean_by (codes "K") refl, (host_clean host, (number_clean line (omega arith), tt)))
+label_clean (R host line) fits = (clean_by (codes "R") refl, (host_clean host, (number_clean line (omega arith), tt)))
+label_clean (F host local remote cwnd ssthresh) fits =
+    let ports = fits.0 in
+    let from = ports.1 in
+    let to = ports.3 in
+    let low = fits.1 in
+    let high = fits.2 in
+    (clean_by (codes "F") refl, (host_clean host, (number_clean local (omega arith), (number_clean remote (omega arith), (number_clean cwnd (omega arith), (number_clean ssthresh (omega arith), tt))))))

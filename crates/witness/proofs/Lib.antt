@@ -1,3 +1,6 @@
+pub mod Made
+pub mod FlagsLaw
+pub mod PartLaw
 pub mod LabelLaw
 pub mod StepLaw
 pub mod TextLaw

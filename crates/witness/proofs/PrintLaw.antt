@@ -9,15 +9,25 @@ use Rattle.case_forms.specs.declared.steps.Label.{Label}
 use Rattle.case_forms.specs.declared.steps.Step.{Step}
 use Rattle.case_forms.specs.declared.steps.Witness.{Witness}
 use Rattle.line_fields.specs.Folding.{AreSpelled}
-use Rattle.line_fields.specs.Spelling.{printed}
+use Rattle.line_fields.specs.Spelling.{number, piece_texts, joined, printed_line, printed_behind}
+use Rattle.line_fields.proofs.Clean.{joined_spaced}
+use Rattle.line_fields.proofs.Written.{printed_written, written_len}
 use Rattle.witness.specs.FirstLine.{first_text}
-use Rattle.witness.specs.Labels.{label_words}
-use Rattle.witness.specs.Steps.{step_words, IsStepText}
+use Rattle.witness.specs.Labels.{label_pieces}
+use Rattle.witness.specs.Steps.{step_pieces, IsStepText}
 use Rattle.witness.specs.WitnessText.{number_after, IsWitnessText}
 use Rattle.witness.specs.Printed.{steps_text, witness_text, without_span, without_spans}
 
 abbrev step_line : Step → List ℕ
-step_line s = printed (step_words s)
+step_line s = printed_line (step_pieces s)
+
+-- ---- one step
+
+-- what is written of a step is its line
+pub writes_line : (out : List ℕ) (s : Step) → ((out ++ decimal s.moment) ++ printed_behind (label_pieces s.label)) ++ 10 ∷ [] ≡ out ++ step_line s
+writes_line out s =
+    let line : decimal s.moment ++ printed_behind (label_pieces s.label) ≡ joined (piece_texts (step_pieces s)) = sym (joined_spaced (decimal s.moment) (piece_texts (label_pieces s.label))) in
+    ap (λ (x : List ℕ). x ++ 10 ∷ []) (append_assoc out (decimal s.moment) (printed_behind (label_pieces s.label)) ∙ ap (λ (x : List ℕ). out ++ x) line) ∙ append_assoc out (joined (piece_texts (step_pieces s))) (10 ∷ [])
 
 -- ---- one step after the other
 
@@ -26,7 +36,7 @@ steps_text-push [] s = append-nil (step_line s)
 steps_text-push (t ∷ steps) s = ap (λ (x : List ℕ). step_line t ++ x) (steps_text-push steps s) ∙ sym (append_assoc (step_line t) (steps_text steps) (step_line s))
 
 -- one more step behind what was written
-pub writes_more : (old new front : List ℕ) (steps : List Step) (i : ℕ) (none : Step) → i < length steps → old ≡ front ++ steps_text (take i steps) → new ≡ old ++ printed (step_words (get_or steps i none))
+pub writes_more : (old new front : List ℕ) (steps : List Step) (i : ℕ) (none : Step) → i < length steps → old ≡ front ++ steps_text (take i steps) → new ≡ old ++ printed_line (step_pieces (get_or steps i none))
     → new ≡ front ++ steps_text (take (i + 1) steps)
 writes_more old new front steps i none lt before wrote =
     let one : suc i ≡ i + 1 = omega arith in
@@ -36,18 +46,29 @@ writes_more old new front steps i none lt before wrote =
 
 -- ---- the whole text
 
--- steps that some lines spell are spelled by what is printed of them
+-- a step that some line spells is spelled by what is printed of it
+step_again : (number : ℕ) (s : Step) (raw : List ℕ) → IsStepText number s raw → IsStepText number s (step_line s)
+step_again number s raw t =
+    let line = t.line in
+    let short = line.short in
+    let len = written_len (step_pieces s) t.texts t.written in
+    record {
+      texts = piece_texts (step_pieces s);
+      written = printed_written (step_pieces s) t.texts t.written;
+      line = record { ends = (10 ∷ [], inl refl, refl); short = omega arith; count = line.count };
+      moment = t.moment;
+      label = t.label;
+      span = t.span ∙ ap (λ (stop : ℕ). record { line = number; start = 0; stop = stop }) len;
+    }
+
 printed_again : (number : ℕ) (steps : List Step) (raws : List (List ℕ)) → AreSpelled IsStepText number_after number steps raws → AreSpelled IsStepText number_after number steps (map step_line steps)
 printed_again number [] raws h = tt
 printed_again number (s ∷ steps) [] h = absurd h
-printed_again number (s ∷ steps) (raw ∷ raws) h =
-    let t = h.0 in
-    let line = t.line in
-    (record { line = record { ends = (10 ∷ [], inl refl, refl); short = line.short; count = line.count }; moment = t.moment; label = t.label; span = t.span }, printed_again (number_after number s) steps raws h.1)
+printed_again number (s ∷ steps) (raw ∷ raws) h = (step_again number s raw h.0, printed_again (number_after number s) steps raws h.1)
 
 -- what is printed says what the steps say
 abbrev said_line : ℕ × Label → List ℕ
-said_line said = printed (decimal said.0 ∷ label_words said.1)
+said_line said = printed_line (number said.0 ∷ label_pieces said.1)
 
 lines_said : (steps : List Step) → map step_line steps ≡ map said_line (map without_span steps)
 lines_said [] = refl

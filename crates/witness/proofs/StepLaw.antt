@@ -1,5 +1,5 @@
 -- A step is read exactly from a line that spells it.
-use Rattle.std.proofs.Common.{◌≡◌, ◌≤◌, ℕ, List, [], ◌∷◌, ◌++◌, length, Result, Ok, refl, sym, ap, subst, ◌∙◌, arith}
+use Rattle.std.proofs.Common.{◌≡◌, ◌≤◌, ℕ, List, [], ◌∷◌, ◌++◌, Result, Ok, refl, sym, ap, subst, ◌∙◌, arith}
 use Rattle.std.specs.Fmt.{decimal}
 use Rattle.std.specs.List.{AllByRecursion}
 use Rattle.std.proofs.lemmas.List.{append-nil}
@@ -9,15 +9,16 @@ use Rattle.line_fields.specs.declared.fault.TextFault.{TextFault}
 use Rattle.line_fields.specs.Word.{Rest, rest_of}
 use Rattle.line_fields.specs.Reading.{◌>>=◌, number_field, no_more}
 use Rattle.line_fields.specs.Reader.{texts}
-use Rattle.line_fields.specs.Lines.{IsRaw, IsLine, line_rest}
-use Rattle.line_fields.specs.Spelling.{IsClean, joined}
+use Rattle.line_fields.specs.Lines.{IsRaw, line_rest}
+use Rattle.line_fields.specs.Spelling.{number, AreWritten, IsClean, joined}
 use Rattle.line_fields.proofs.Readers.{bind_ok, ok_is, reads_number, no_more_takes, no_more_again}
+use Rattle.line_fields.proofs.Written.{first_plain, written_clean}
 use Rattle.line_fields.proofs.Joined.{IsClean-decimal}
-use Rattle.line_fields.proofs.LineRests.{fields_taken, fields_again, is_raw}
+use Rattle.line_fields.proofs.LineRests.{fields_taken, fields_read, is_raw}
 use Rattle.line_fields.proofs.Loop.{IsLineReader}
-use Rattle.witness.specs.Labels.{label_words, IsLabel}
-use Rattle.witness.specs.LabelReading.{label_field}
-use Rattle.witness.specs.Steps.{step_words, step_text, IsStepText, step_fields, step_of}
+use Rattle.witness.specs.Labels.{label_pieces, IsLabel}
+use Rattle.witness.specs.LabelFields.{label_field}
+use Rattle.witness.specs.Steps.{step_pieces, IsStepText, step_fields, step_of}
 use Rattle.witness.proofs.LabelLaw.{reads_label, label_clean}
 
 -- ---- the fields of a step
@@ -29,7 +30,7 @@ abbrev behind_moment : ℕ × Rest → Result (ℕ × Label) TextFault
 behind_moment m = label_field m.1 >>= last_of m
 
 record AreFields (f : ℕ × Label) (ws : List (List ℕ)) : Type 0 where
-  words : ws ≡ decimal f.0 ∷ label_words f.1
+  written : AreWritten (number f.0 ∷ label_pieces f.1) ws
   moment : f.0 ≤ 1000000000000000000
   label : IsLabel f.1
 
@@ -41,15 +42,16 @@ step_fields_take r f e =
     let m = (reads_number 0 1000000000000000000 (omega arith)).takes r a.0 a.1 in
     let l = reads_label.takes a.0.1 b.0 b.1 in
     let none = no_more_takes b.0.1 c.0 c.1 in
-    let behind : texts a.0.1 ≡ label_words b.0.0 =
-    l.2 ∙ ap (λ (us : List (List ℕ)). us ++ texts b.0.1) l.1.1 ∙ ap (λ (us : List (List ℕ)). label_words b.0.0 ++ us) none ∙ append-nil (label_words b.0.0) in
-    let spelled : texts r ≡ decimal a.0.0 ∷ label_words b.0.0 = m.2 ∙ ap (λ (us : List (List ℕ)). us ++ texts a.0.1) m.1.2 ∙ ap (λ (us : List (List ℕ)). decimal a.0.0 ∷ us) behind in
-    subst (λ (g : ℕ × Label). AreFields g (texts r)) (ok_is (a.0.0, b.0.0) f c.2) (record { words = spelled; moment = m.1.1; label = l.1.0 })
+    let behind : texts a.0.1 ≡ l.0 = l.2 ∙ ap (λ (us : List (List ℕ)). l.0 ++ us) none ∙ append-nil l.0 in
+    let spelled : texts r ≡ decimal a.0.0 ∷ l.0 = m.2 ∙ ap (λ (us : List (List ℕ)). us ++ texts a.0.1) m.1.2 ∙ ap (λ (us : List (List ℕ)). decimal a.0.0 ∷ us) behind in
+    let written = subst (λ (us : List (List ℕ)). AreWritten (number a.0.0 ∷ label_pieces b.0.0) us) (sym spelled) (refl, l.1.1) in
+    subst (λ (g : ℕ × Label). AreFields g (texts r)) (ok_is (a.0.0, b.0.0) f c.2) (record { written = written; moment = m.1.1; label = l.1.0 })
 
 step_fields_again : (r : Rest) (f : ℕ × Label) → AreFields f (texts r) → step_fields r ≡ Ok f
 step_fields_again r f s =
-    let m = (reads_number 0 1000000000000000000 (omega arith)).again r f.0 (decimal f.0 ∷ []) (label_words f.1) tt (omega arith, s.moment, refl) s.words in
-    let l = reads_label.again m.0 f.1 (label_words f.1) [] refl (s.label, refl) (m.2 ∙ sym (append-nil (label_words f.1))) in
+    let w = first_plain (decimal f.0) (label_pieces f.1) (texts r) s.written in
+    let m = (reads_number 0 1000000000000000000 (omega arith)).again r f.0 (decimal f.0 ∷ []) w.0 tt (omega arith, s.moment, refl) w.1 in
+    let l = reads_label.again m.0 f.1 w.0 [] refl (s.label, w.2) (m.2 ∙ sym (append-nil w.0)) in
     let none = no_more_again l.0 l.2 in
     rw (m.1, l.1, none) refl
 
@@ -71,24 +73,28 @@ step_takes number raw s e =
     let b = bind_ok (step_fields a.0) (done_with number a.0) s a.2 in
     let r = fields_taken number raw a.0 a.1 in
     let f = step_fields_take a.0 b.0 b.1 in
-    let same : joined (texts a.0) ≡ step_text (made number a.0 b.0) = ap joined f.words in
     subst (λ (t : Step). IsStepText number t raw) (ok_is (made number a.0 b.0) s b.2) (record {
-      line = subst (λ (t : List ℕ). IsLine number t raw) same r.line;
+      texts = texts a.0;
+      written = f.written;
+      line = r.line;
       moment = f.moment;
       label = f.label;
-      span = ap (λ (stop : ℕ). record { line = number; start = 0; stop = stop }) (r.stop ∙ ap length same);
+      span = ap (λ (stop : ℕ). record { line = number; start = 0; stop = stop }) r.stop;
     })
 
-step_clean : (number : ℕ) (raw : List ℕ) (s : Step) → IsStepText number s raw → AllByRecursion IsClean (step_words s)
-step_clean number raw s t = (IsClean-decimal s.moment (let h = t.moment in omega arith), label_clean s.label t.label)
+step_clean : (number : ℕ) (raw : List ℕ) (s : Step) (t : IsStepText number s raw) → AllByRecursion IsClean t.texts
+step_clean number raw s t = written_clean (step_pieces s) t.texts (IsClean-decimal s.moment (let h = t.moment in omega arith), label_clean s.label t.label) t.written
 
 step_again : (number : ℕ) (raw : List ℕ) (s : Step) → IsStepText number s raw → step_of number raw ≡ Ok s
 unfolding step_of
 step_again number raw s t =
-    let rest = fields_again number raw (decimal s.moment) (label_words s.label) (step_clean number raw s t) t.line in
+    let w = first_plain (decimal s.moment) (label_pieces s.label) t.texts t.written in
+    let rest = fields_read number raw t.texts (decimal s.moment) w.0 w.1 (step_clean number raw s t) t.line in
     let line = rest.0 in
-    let fields = step_fields_again (rest_of number (step_text s)) (s.moment, s.label) (record { words = rest.1; moment = t.moment; label = t.label }) in
-    let same : made number (rest_of number (step_text s)) (s.moment, s.label) ≡ s = rw (← t.span) refl in
+    let own : Rest = rest_of number (joined t.texts) in
+    let written = subst (λ (ts : List (List ℕ)). AreWritten (step_pieces s) ts) (sym rest.1) t.written in
+    let fields = step_fields_again own (s.moment, s.label) (record { written = written; moment = t.moment; label = t.label }) in
+    let same : made number own (s.moment, s.label) ≡ s = rw (← t.span) refl in
     rw (line, fields) (ap done same)
 
 -- a line is read as a step exactly where it spells the step
@@ -97,4 +103,4 @@ reads_step = record { takes = step_takes; again = step_again }
 
 -- what spells a step is one line
 pub is_step_raw : (number : ℕ) (s : Step) (raw : List ℕ) → IsStepText number s raw → IsRaw raw
-is_step_raw number s raw t = is_raw number (step_words s) raw (step_clean number raw s t) t.line
+is_step_raw number s raw t = is_raw number t.texts raw (step_clean number raw s t) t.line

@@ -1,28 +1,42 @@
 -- Labels, as a witness spells them.
-use Rattle.std.specs.Prelude.{◌≡◌, ◌≤◌, ℕ, List, [], ◌∷◌, codes}
-use Rattle.std.specs.Fmt.{decimal}
+use Rattle.std.specs.Prelude.{◌≤◌, ℕ, Bool, true, false, List, [], ◌∷◌, ◌++◌, Option, Some, None, codes}
+use Rattle.case_forms.specs.declared.calls.Host.{Host}
 use Rattle.case_forms.specs.declared.steps.Extras.{Extras}
 use Rattle.case_forms.specs.declared.steps.Extras.TheVariants.{Bare, One, Two}
+use Rattle.case_forms.specs.declared.steps.Flags.{Flags}
 use Rattle.case_forms.specs.declared.steps.Label.{Label}
-use Rattle.case_forms.specs.declared.steps.Label.TheVariants.{L, D}
-use Rattle.line_fields.specs.Answers.{answer_words, IsAnswer}
+use Rattle.case_forms.specs.declared.steps.Label.TheVariants.{L, D, M, T, K, R, F}
+use Rattle.line_fields.specs.Hosts.{host_number}
+use Rattle.line_fields.specs.Spelling.{Piece, plain, number, AreWritten}
+use Rattle.line_fields.specs.Answers.{answer_pieces, IsAnswer}
 use Rattle.witness.specs.declared.labels.LabelWord.{LabelWord}
 use Rattle.witness.specs.declared.labels.LabelWord.TheVariants as words
+use Rattle.witness.specs.Flags.{flags_text}
 
 -- the first word of a label
 abbrev pub label_name : LabelWord → List ℕ
 label_name words.Line = codes "L"
 label_name words.Effect = codes "D"
+label_name words.Making = codes "M"
+label_name words.Taking = codes "T"
+label_name words.Dropping = codes "K"
+label_name words.Refusing = codes "R"
+label_name words.Recovery = codes "F"
 
 -- all first words of labels
 abbrev pub all_label_words : List LabelWord
-all_label_words = words.Line ∷ words.Effect ∷ []
+all_label_words = words.Line ∷ words.Effect ∷ words.Making ∷ words.Taking ∷ words.Dropping ∷ words.Refusing ∷ words.Recovery ∷ []
+
+-- the number of yes or no
+abbrev pub bit_number : Bool → ℕ
+bit_number false = 0
+bit_number true = 1
 
 -- the fields of the extra numbers
-abbrev pub extras_words : Extras → List (List ℕ)
-extras_words Bare = []
-extras_words (One x) = decimal x ∷ []
-extras_words (Two x y) = decimal x ∷ decimal y ∷ []
+abbrev pub extras_pieces : Extras → List Piece
+extras_pieces Bare = []
+extras_pieces (One x) = number x ∷ []
+extras_pieces (Two x y) = number x ∷ number y ∷ []
 
 -- the limits of the extra numbers
 abbrev pub AreExtras : Extras → Type 0
@@ -30,20 +44,66 @@ AreExtras Bare = Unit {0}
 AreExtras (One x) = x ≤ 4294967295
 AreExtras (Two x y) = (x ≤ 4294967295) × (y ≤ 4294967295)
 
--- these fields spell the extra numbers
-abbrev pub AreSpelledExtras : Extras → List (List ℕ) → Type 0
-AreSpelledExtras extras ws = AreExtras extras × (ws ≡ extras_words extras)
+-- the field of an initial send sequence number, which may be missing
+abbrev pub iss_pieces : Option ℕ → List Piece
+iss_pieces None = []
+iss_pieces (Some iss) = number iss ∷ []
+
+-- the limit of an initial send sequence number
+abbrev pub IsIss : Option ℕ → Type 0
+IsIss None = Unit {0}
+IsIss (Some iss) = iss ≤ 4294967295
+
+-- the ports of an endpoint
+abbrev pub ArePorts : ℕ → ℕ → Type 0
+ArePorts local remote = (1 ≤ local) × (local ≤ 65535) × (1 ≤ remote) × (remote ≤ 65535)
+
+-- the fields of a host and its ports
+abbrev pub endpoint_pieces : Host → ℕ → ℕ → List Piece
+endpoint_pieces host local remote = number (host_number host) ∷ number local ∷ number remote ∷ []
+
+-- the fields of a host and a line
+abbrev pub entry_pieces : Host → ℕ → List Piece
+entry_pieces host line = number (host_number host) ∷ number line ∷ []
+
+-- the fields of what a segment is that is made
+abbrev pub segment_pieces : ℕ → ℕ → Flags → ℕ → Option ℕ → List Piece
+segment_pieces position len flags window iss = number position ∷ number len ∷ plain (flags_text flags) ∷ number window ∷ iss_pieces iss
+
+-- the fields of a label behind its first word
+abbrev pub label_tail : Label → List Piece
+label_tail (L line extras) = number line ∷ extras_pieces extras
+label_tail (D thread answer) = number thread ∷ answer_pieces answer
+label_tail (M host local remote position len flags window iss) = endpoint_pieces host local remote ++ segment_pieces position len flags window iss
+label_tail (T host line cwnd keep sample) = entry_pieces host line ++ number cwnd ∷ number (bit_number keep) ∷ number (bit_number sample) ∷ []
+label_tail (K host line) = entry_pieces host line
+label_tail (R host line) = entry_pieces host line
+label_tail (F host local remote cwnd ssthresh) = endpoint_pieces host local remote ++ number cwnd ∷ number ssthresh ∷ []
+
+-- the first word of each label
+abbrev pub label_word : Label → LabelWord
+label_word (L line extras) = words.Line
+label_word (D thread answer) = words.Effect
+label_word (M host local remote position len flags window iss) = words.Making
+label_word (T host line cwnd keep sample) = words.Taking
+label_word (K host line) = words.Dropping
+label_word (R host line) = words.Refusing
+label_word (F host local remote cwnd ssthresh) = words.Recovery
 
 -- the fields of a label
-abbrev pub label_words : Label → List (List ℕ)
-label_words (L line extras) = codes "L" ∷ decimal line ∷ extras_words extras
-label_words (D thread answer) = codes "D" ∷ decimal thread ∷ answer_words answer
+abbrev pub label_pieces : Label → List Piece
+label_pieces label = plain (label_name (label_word label)) ∷ label_tail label
 
 -- the limits of a label
 abbrev pub IsLabel : Label → Type 0
 IsLabel (L line extras) = (line ≤ 4294967295) × AreExtras extras
 IsLabel (D thread answer) = (thread ≤ 4294967295) × IsAnswer answer
+IsLabel (M host local remote position len flags window iss) = ArePorts local remote × (position ≤ 1000000000000000000) × (len ≤ 65515) × (window ≤ 65535) × IsIss iss
+IsLabel (T host line cwnd keep sample) = (line ≤ 4294967295) × (cwnd ≤ 4294967295)
+IsLabel (K host line) = line ≤ 4294967295
+IsLabel (R host line) = line ≤ 4294967295
+IsLabel (F host local remote cwnd ssthresh) = ArePorts local remote × (cwnd ≤ 4294967295) × (ssthresh ≤ 4294967295)
 
 -- these fields spell the label
 abbrev pub IsSpelledLabel : Label → List (List ℕ) → Type 0
-IsSpelledLabel label ws = IsLabel label × (ws ≡ label_words label)
+IsSpelledLabel label ws = IsLabel label × AreWritten (label_pieces label) ws

@@ -4,13 +4,13 @@ use Rattle.std.specs.List.{concat}
 use Rattle.case_forms.specs.declared.steps.Label.{Label}
 use Rattle.case_forms.specs.declared.steps.Step.{Step}
 use Rattle.case_forms.specs.declared.steps.Witness.{Witness}
-use Rattle.line_fields.specs.Spelling.{printed}
+use Rattle.line_fields.specs.Spelling.{printed_line}
 use Rattle.witness.specs.FirstLine.{first_text}
-use Rattle.witness.specs.Steps.{step_words}
+use Rattle.witness.specs.Steps.{step_pieces}
 
 -- the lines of steps, each ended by LF
 abbrev pub steps_text : List Step → List ℕ
-steps_text steps = concat (map (λ s. printed (step_words s)) steps)
+steps_text steps = concat (map (λ s. printed_line (step_pieces s)) steps)
 
 -- the whole text
 abbrev pub witness_text : Witness → List ℕ

@@ -1,30 +1,27 @@
 -- A step as a line of a witness.
 use Rattle.std.specs.Prelude.{◌≡◌, ◌≤◌, ℕ, List, ◌∷◌, Result, Ok}
-use Rattle.std.specs.Fmt.{decimal}
 use Rattle.case_forms.specs.declared.steps.Label.{Label}
 use Rattle.case_forms.specs.declared.steps.Step.{Step}
 use Rattle.line_fields.specs.declared.fault.TextFault.{TextFault}
 use Rattle.line_fields.specs.Word.{Rest}
 use Rattle.line_fields.specs.Reading.{◌>>=◌, number_field, no_more}
 use Rattle.line_fields.specs.Lines.{IsLine, whole_line, line_rest}
-use Rattle.line_fields.specs.Spelling.{joined}
-use Rattle.witness.specs.Labels.{label_words, IsLabel}
-use Rattle.witness.specs.LabelReading.{label_field}
+use Rattle.line_fields.specs.Spelling.{Piece, number, AreWritten, joined}
+use Rattle.witness.specs.Labels.{label_pieces, IsLabel}
+use Rattle.witness.specs.LabelFields.{label_field}
 
 -- the fields of a step: its moment, then its label
-abbrev pub step_words : Step → List (List ℕ)
-step_words s = decimal s.moment ∷ label_words s.label
-
--- the text of a step, without the line's end
-abbrev pub step_text : Step → List ℕ
-step_text s = joined (step_words s)
+abbrev pub step_pieces : Step → List Piece
+step_pieces s = number s.moment ∷ label_pieces s.label
 
 -- the bytes, with their end, are the line of that number that spells the step; its span is the whole line
 pub record IsStepText (number : ℕ) (s : Step) (raw : List ℕ) : Type 0 where
-  pub line : IsLine number (step_text s) raw
+  pub texts : List (List ℕ)
+  pub written : AreWritten (step_pieces s) texts
+  pub line : IsLine number (joined texts) raw
   pub moment : s.moment ≤ 1000000000000000000
   pub label : IsLabel s.label
-  pub span : s.span ≡ whole_line number (step_text s)
+  pub span : s.span ≡ whole_line number (joined texts)
 
 -- moment and label, and no field more
 abbrev pub step_fields : Rest → Result (ℕ × Label) TextFault

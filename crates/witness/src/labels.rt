@@ -2,21 +2,58 @@
 
 ghost use Rattle.std.specs.Prelude.{◌≡◌};
 ghost use Rattle.line_fields.specs.Reading.{Gives};
-ghost use Rattle.line_fields.specs.Choice.{kind_field};
+ghost use Rattle.line_fields.specs.Choice.{kind_named, kind_field};
 ghost use Rattle.witness.specs.Labels.{label_name, all_label_words};
-ghost use Rattle.witness.specs.LabelReading.{extras_field, label_field};
+ghost use Rattle.witness.specs.LabelFields.{line_label, effect_label, segment_label, taking_label, recovery_label, label_field};
 
-use case_forms::{Extras, Label};
-use line_fields::{FaultKind, Fields, TextFault, answer};
+use crate::flags::flags;
+use crate::parts::{bit, endpoint, entry, extras, first_number};
+use case_forms::Label;
+use line_fields::{FaultKind, Fields, TextFault, Token, answer};
+use std::alloc::Global;
 
-// The greatest line number, thread and extra number.
-const MAX_NUMBER: u64 = 4_294_967_295;
+// The greatest position in a stream.
+const MAX_POSITION: u64 = 1_000_000_000_000_000_000;
+
+// The greatest length of a payload, in bytes.
+const MAX_LEN: u64 = 65_515;
+
+// The greatest window of a segment, in bytes.
+const MAX_WINDOW: u64 = 65_535;
 
 // The first word of a label.
 #[derive(Clone, Copy)]
 enum LabelWord {
     Line,
     Effect,
+    Making,
+    Taking,
+    Dropping,
+    Refusing,
+    Recovery,
+}
+
+// The label's first word that a field is.
+fn label_word_named(name: &Token) -> Option<LabelWord>
+    ensures { result ≡ kind_named label_name all_label_words name.now.text.now }
+{
+    if name.is("L") {
+        Some(LabelWord::Line)
+    } else if name.is("D") {
+        Some(LabelWord::Effect)
+    } else if name.is("M") {
+        Some(LabelWord::Making)
+    } else if name.is("T") {
+        Some(LabelWord::Taking)
+    } else if name.is("K") {
+        Some(LabelWord::Dropping)
+    } else if name.is("R") {
+        Some(LabelWord::Refusing)
+    } else if name.is("F") {
+        Some(LabelWord::Recovery)
+    } else {
+        None
+    }
 }
 
 // The next field, which is the first word of a label.
@@ -24,44 +61,85 @@ fn label_word(fields: &mut Fields) -> Result<LabelWord, TextFault>
     ensures { Gives (λ word. (word, fields.new)) result (kind_field label_name all_label_words fields.old) }
 {
     let name = fields.next()?;
-    if name.is("L") {
-        Ok(LabelWord::Line)
-    } else if name.is("D") {
-        Ok(LabelWord::Effect)
-    } else {
-        Err(name.fault(FaultKind::Field))
+    match label_word_named(&name) {
+        Some(word) => Ok(word),
+        None => Err(name.fault(FaultKind::Field)),
     }
 }
 
-// The numbers behind a line's number, at most two. A further field is always a number, and a third is left.
-#[tactic(auto, unfolding(crate::specs::LabelReading::extras_field))]
-fn extras(fields: &mut Fields) -> Result<Extras, TextFault>
-    ensures { Gives (λ extras. (extras, fields.new)) result (extras_field fields.old) }
+// The number of a line, and the extra numbers.
+#[tactic(auto, unfolding(crate::specs::LabelFields::line_label))]
+fn line_label(fields: &mut Fields) -> Result<Label, TextFault>
+    ensures { Gives (λ label. (label, fields.new)) result (line_label fields.old) }
 {
-    if fields.is_empty() {
-        return Ok(Extras::Bare);
-    }
-    let first = fields.number(0, MAX_NUMBER)? as u32;
-    if fields.is_empty() {
-        return Ok(Extras::One(first));
-    }
-    let second = fields.number(0, MAX_NUMBER)? as u32;
-    Ok(Extras::Two(first, second))
+    let line = u64::from(fields.number32()?);
+    Ok(Label::L(line, extras(fields)?))
 }
 
-// A label, which is the last of its line. Another word than `L` and `D` is Field.
-#[tactic(auto, unfolding(crate::specs::LabelReading::label_field))]
-pub(crate) fn label(fields: &mut Fields) -> Result<Label, TextFault>
+// A thread, and the answer of its open call.
+#[tactic(auto, unfolding(crate::specs::LabelFields::effect_label))]
+fn effect_label(alloc: Global, fields: &mut Fields) -> Result<Label, TextFault>
+    ensures { Gives (λ label. (label, fields.new)) result (effect_label fields.old) }
+{
+    let thread = fields.number32()?;
+    Ok(Label::D(thread, answer(alloc, fields)?))
+}
+
+// An endpoint, and what the segment is that it makes.
+#[tactic(auto, unfolding(crate::specs::LabelFields::segment_label))]
+fn segment_label(fields: &mut Fields) -> Result<Label, TextFault>
+    ensures { Gives (λ label. (label, fields.new)) result (segment_label fields.old) }
+{
+    let (host, local, remote) = endpoint(fields)?;
+    let position = fields.number(0, MAX_POSITION)?;
+    let len = fields.number(0, MAX_LEN)? as u16;
+    let flags = flags(fields)?;
+    let window = fields.number(0, MAX_WINDOW)? as u16;
+    let iss = first_number(fields)?;
+    Ok(Label::M(host, local, remote, position, len, flags, window, iss))
+}
+
+// An inbox entry, and what its taking leaves: the congestion window, and whether data are kept and the time is sampled.
+#[tactic(auto, unfolding(crate::specs::LabelFields::taking_label))]
+fn taking_label(fields: &mut Fields) -> Result<Label, TextFault>
+    ensures { Gives (λ label. (label, fields.new)) result (taking_label fields.old) }
+{
+    let (host, line) = entry(fields)?;
+    let cwnd = fields.number32()?;
+    let keep = bit(fields)?;
+    let sample = bit(fields)?;
+    Ok(Label::T(host, line, cwnd, keep, sample))
+}
+
+// An endpoint, its congestion window and its slow start threshold.
+#[tactic(auto, unfolding(crate::specs::LabelFields::recovery_label))]
+fn recovery_label(fields: &mut Fields) -> Result<Label, TextFault>
+    ensures { Gives (λ label. (label, fields.new)) result (recovery_label fields.old) }
+{
+    let (host, local, remote) = endpoint(fields)?;
+    let cwnd = fields.number32()?;
+    let ssthresh = fields.number32()?;
+    Ok(Label::F(host, local, remote, cwnd, ssthresh))
+}
+
+// A label, which is the last of its line. An unknown word is Field.
+#[tactic(auto, unfolding(crate::specs::LabelFields::label_field))]
+pub(crate) fn label(alloc: Global, fields: &mut Fields) -> Result<Label, TextFault>
     ensures { Gives (λ label. (label, fields.new)) result (label_field fields.old) }
 {
     match label_word(fields)? {
-        LabelWord::Line => {
-            let line = fields.number(0, MAX_NUMBER)?;
-            Ok(Label::L(line, extras(fields)?))
+        LabelWord::Line => line_label(fields),
+        LabelWord::Effect => effect_label(alloc, fields),
+        LabelWord::Making => segment_label(fields),
+        LabelWord::Taking => taking_label(fields),
+        LabelWord::Dropping => {
+            let (host, line) = entry(fields)?;
+            Ok(Label::K(host, line))
         }
-        LabelWord::Effect => {
-            let thread = fields.number(0, MAX_NUMBER)? as u32;
-            Ok(Label::D(thread, answer(fields)?))
+        LabelWord::Refusing => {
+            let (host, line) = entry(fields)?;
+            Ok(Label::R(host, line))
         }
+        LabelWord::Recovery => recovery_label(fields),
     }
 }

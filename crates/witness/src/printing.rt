@@ -1,58 +1,135 @@
 //! The text of a witness.
 
-ghost use Rattle.std.specs.Prelude.{◌≡◌, ℕ, List, ◌++◌, IfOk, OnOk};
+ghost use Rattle.std.specs.Prelude.{◌≡◌, ℕ, List, [], ◌∷◌, ◌++◌, IfOk, OnOk};
 ghost use Rattle.case_forms.specs.declared.steps.Witness.{Witness};
-ghost use Rattle.line_fields.specs.Spelling.{spaced, printed};
-ghost use Rattle.witness.specs.Labels.{extras_words, label_words};
-ghost use Rattle.witness.specs.Steps.{step_words};
+ghost use Rattle.line_fields.specs.Spelling.{number, printed_behind, printed_line};
+ghost use Rattle.witness.specs.Labels.{bit_number, extras_pieces, segment_pieces, endpoint_pieces, entry_pieces, label_pieces};
+ghost use Rattle.witness.specs.Steps.{step_pieces};
 ghost use Rattle.witness.specs.WitnessText.{IsWitnessText};
 ghost use Rattle.witness.specs.Printed.{witness_text, without_spans};
 
 use crate::first_line::FIRST_LINE;
-use case_forms::{Extras, Label, OutOfMemory, Step, Witness};
-use line_fields::{push_answer, push_end, push_number, push_space, push_word};
+use crate::flags::push_flags;
+use case_forms::{Extras, Flags, Host, Label, OutOfMemory, Step, Witness};
+use line_fields::{push_answer, push_end, push_host, push_number, push_space, push_word};
 use std::alloc::Global;
+
+// Writes a number behind a space.
+fn push_field(out: &mut Vec<u8>, value: u64) -> Result<(), OutOfMemory>
+    ensures { OnOk result (out.new.items ≡ out.old.items ++ printed_behind (number value ∷ [])) }
+{
+    push_space(out)?;
+    push_number(out, value)
+}
+
+// Writes yes or no behind a space, as 1 or 0.
+fn push_bit(out: &mut Vec<u8>, bit: bool) -> Result<(), OutOfMemory>
+    ensures { OnOk result (out.new.items ≡ out.old.items ++ printed_behind (number (bit_number bit) ∷ [])) }
+{
+    push_field(out, u64::from(bit))
+}
+
+// Writes a host, its port and the other host's, each behind a space.
+fn push_endpoint(out: &mut Vec<u8>, host: Host, local: u16, remote: u16) -> Result<(), OutOfMemory>
+    ensures { OnOk result (out.new.items ≡ out.old.items ++ printed_behind (endpoint_pieces host local remote)) }
+{
+    push_space(out)?;
+    push_host(out, host)?;
+    push_field(out, u64::from(local))?;
+    push_field(out, u64::from(remote))
+}
+
+// Writes a host and the number of a line, each behind a space.
+fn push_entry(out: &mut Vec<u8>, host: Host, line: u64) -> Result<(), OutOfMemory>
+    ensures { OnOk result (out.new.items ≡ out.old.items ++ printed_behind (entry_pieces host line)) }
+{
+    push_space(out)?;
+    push_host(out, host)?;
+    push_field(out, line)
+}
 
 // Writes the extra numbers, each behind a space.
 fn push_extras(out: &mut Vec<u8>, extras: Extras) -> Result<(), OutOfMemory>
-    ensures { OnOk result (out.new.items ≡ out.old.items ++ spaced (extras_words extras)) }
+    ensures { OnOk result (out.new.items ≡ out.old.items ++ printed_behind (extras_pieces extras)) }
 {
     match extras {
         Extras::Bare => Ok(()),
-        Extras::One(first) => {
-            push_space(out)?;
-            push_number(out, u64::from(first))
-        }
+        Extras::One(first) => push_field(out, u64::from(first)),
         Extras::Two(first, second) => {
-            push_space(out)?;
-            push_number(out, u64::from(first))?;
-            push_space(out)?;
-            push_number(out, u64::from(second))
+            push_field(out, u64::from(first))?;
+            push_field(out, u64::from(second))
         }
+    }
+}
+
+// Writes what the segment is that an endpoint makes, each field behind a space.
+fn push_segment(
+    out: &mut Vec<u8>,
+    position: u64,
+    len: u16,
+    flags: Flags,
+    window: u16,
+    iss: Option<u32>,
+) -> Result<(), OutOfMemory>
+    ensures { OnOk result (out.new.items ≡ out.old.items ++ printed_behind (segment_pieces position len flags window iss)) }
+{
+    push_field(out, position)?;
+    push_field(out, u64::from(len))?;
+    push_flags(out, flags)?;
+    push_field(out, u64::from(window))?;
+    match iss {
+        None => Ok(()),
+        Some(iss) => push_field(out, u64::from(iss)),
     }
 }
 
 // Writes a label, each field behind a space.
 fn push_label(out: &mut Vec<u8>, label: &Label) -> Result<(), OutOfMemory>
-    ensures { OnOk result (out.new.items ≡ out.old.items ++ spaced (label_words label.now)) }
+    ensures { OnOk result (out.new.items ≡ out.old.items ++ printed_behind (label_pieces label.now)) }
 {
     match label {
         Label::L(line, extras) => {
-            push_word(out, " L ")?;
-            push_number(out, *line)?;
+            push_word(out, " L")?;
+            push_field(out, *line)?;
             push_extras(out, *extras)
         }
         Label::D(thread, answer) => {
-            push_word(out, " D ")?;
-            push_number(out, u64::from(*thread))?;
+            push_word(out, " D")?;
+            push_field(out, u64::from(*thread))?;
             push_answer(out, answer)
+        }
+        Label::M(host, local, remote, position, len, flags, window, iss) => {
+            push_word(out, " M")?;
+            push_endpoint(out, *host, *local, *remote)?;
+            push_segment(out, *position, *len, *flags, *window, *iss)
+        }
+        Label::T(host, line, cwnd, keep, sample) => {
+            push_word(out, " T")?;
+            push_entry(out, *host, *line)?;
+            push_field(out, u64::from(*cwnd))?;
+            push_bit(out, *keep)?;
+            push_bit(out, *sample)
+        }
+        Label::K(host, line) => {
+            push_word(out, " K")?;
+            push_entry(out, *host, *line)
+        }
+        Label::R(host, line) => {
+            push_word(out, " R")?;
+            push_entry(out, *host, *line)
+        }
+        Label::F(host, local, remote, cwnd, ssthresh) => {
+            push_word(out, " F")?;
+            push_endpoint(out, *host, *local, *remote)?;
+            push_field(out, u64::from(*cwnd))?;
+            push_field(out, u64::from(*ssthresh))
         }
     }
 }
 
 // Writes a step as a line.
 fn push_step(out: &mut Vec<u8>, step: &Step) -> Result<(), OutOfMemory>
-    ensures { OnOk result (out.new.items ≡ out.old.items ++ printed (step_words step.now)) }
+    ensures { OnOk result (out.new.items ≡ out.old.items ++ printed_line (step_pieces step.now)) }
 {
     push_number(out, step.moment)?;
     push_label(out, &step.label)?;

@@ -19,13 +19,13 @@ const MAX_MOMENT: u64 = 1_000_000_000_000_000_000;
 
 /// The step of the line of that number, whose bytes are given with the line's end. Its span is the whole line.
 #[tactic(auto, unfolding(crate::specs::Steps::step_of))]
-pub fn read_step(number: u64, raw: &[u8]) -> Result<Step, TextFault>
+pub fn read_step(alloc: Global, number: u64, raw: &[u8]) -> Result<Step, TextFault>
     ensures { Gives (λ step. step) result (step_of number raw.now) }
 {
     let mut fields = fields_of(number, raw)?;
     let stop = fields.stop();
     let moment = fields.number(0, MAX_MOMENT)?;
-    let label = label(&mut fields)?;
+    let label = label(alloc, &mut fields)?;
     fields.end()?;
     let span = Span {
         line: number,
@@ -47,7 +47,7 @@ fn read_steps(alloc: Global, lines: LinesWithTerminator) -> Result<Steps, TextFa
     let mut steps = Steps::new(alloc);
     let mut number = 2;
     for raw in lines {
-        let step = read_step(number, raw)?;
+        let step = read_step(alloc, number, raw)?;
         steps.push(step)?;
         number += 1;
     }

@@ -1,92 +1,127 @@
-//! Texts read and printed, and each kind of fault at its place.
+//! Steps read one by one, and the line that a witness begins with.
+//!
+//! - `vectors`: whole witnesses, read and printed again
+//! - `faults`: the first fault of a text, and its place
 
-use crate::{
-    Extras, FaultKind, Label, Step, begins_witness, print_witness, read_step, read_witness,
-};
-use case_forms::{Answer, Span, State};
+mod faults;
+mod vectors;
+
+use crate::{Extras, Flags, Label, Step, begins_witness, read_step};
+use case_forms::{Answer, Host, Span, State};
+use segment::Bytes;
+use std::alloc::Global;
+use std::process::Abort;
 use std::test::Fail;
 
-const SIX_STEPS: &str =
-    "witness 1\n10 L 7\n11 D 1 ok 5\n12 L 8\n12 D 2 state LISTEN\n13 L 9\n14 L 10\n";
-
-#[test]
-fn reads_and_prints_six_steps(rt: HostRuntime) -> Result<(), Fail> {
-    let witness = read_witness(rt.alloc(), SIX_STEPS.as_bytes())?;
-    let table = [
-        (2, 10, Label::L(7, Extras::Bare), 6),
-        (3, 11, Label::D(1, Answer::Given(5)), 11),
-        (4, 12, Label::L(8, Extras::Bare), 6),
-        (5, 12, Label::D(2, Answer::State(State::Listen)), 19),
-        (6, 13, Label::L(9, Extras::Bare), 6),
-        (7, 14, Label::L(10, Extras::Bare), 7),
-    ];
-    let steps = witness.steps.as_slice();
-    assert_eq!(rt; steps.len(), table.len());
-    for (step, (line, moment, label, stop)) in steps.iter().zip(table) {
-        let span = Span {
-            line,
-            start: 0,
-            stop,
-        };
-        let wanted = Step {
-            moment,
-            label,
-            span,
-        };
-        assert_eq!(rt; step, &wanted);
-    }
-    let printed = print_witness(rt.alloc(), &witness)?;
-    assert_eq!(rt; printed.as_slice(), SIX_STEPS.as_bytes());
-    Ok(())
-}
-
-#[test]
-fn reads_one_step(rt: HostRuntime) -> Result<(), Fail> {
-    let step = read_step(9, b"30 L 11 1 536\r\n")?;
-    let wanted = Step {
-        moment: 30,
-        label: Label::L(11, Extras::Two(1, 536)),
-        span: Span {
-            line: 9,
-            start: 0,
-            stop: 13,
-        },
+// A step is read so, from its first column to its last, and not the end.
+fn reads(
+    rt: &impl Abort,
+    alloc: Global,
+    text: &str,
+    moment: u64,
+    label: Label,
+) -> Result<(), Fail> {
+    let stop = text.len();
+    let span = Span {
+        line: 9,
+        start: 0,
+        stop,
     };
-    assert_eq!(rt; step, wanted);
+    let raw = format!(in alloc; "{text}\r\n")?;
+    let step = read_step(alloc, 9, raw.as_bytes())?;
+    let wanted = Step {
+        moment,
+        label,
+        span,
+    };
+    assert_eq!(rt; step, wanted, "at {text}");
+    Ok(())
+}
+
+// The flags of a segment.
+fn flags(ack: bool, rst: bool, syn: bool, fin: bool) -> Flags {
+    Flags { ack, rst, syn, fin }
+}
+
+#[test]
+fn reads_lines_and_effects(rt: HostRuntime) -> Result<(), Fail> {
+    let alloc = rt.alloc();
+    let data = Answer::Bytes(Bytes::from(vec![in alloc; 0xab, 0xcd]?));
+    let table = [
+        ("30 L 11", Label::L(11, Extras::Bare)),
+        ("30 L 11 1", Label::L(11, Extras::One(1))),
+        ("30 L 11 1 536", Label::L(11, Extras::Two(1, 536))),
+        ("30 D 1 ok 5", Label::D(1, Answer::Given(5))),
+        (
+            "30 D 2 state LISTEN",
+            Label::D(2, Answer::State(State::Listen)),
+        ),
+        (
+            "30 D 4294967295 notconn",
+            Label::D(4_294_967_295, Answer::NotConn),
+        ),
+        ("30 D 1 data aBCd", Label::D(1, data)),
+    ];
+    for (text, label) in table {
+        reads(&rt, alloc, text, 30, label)?;
+    }
     Ok(())
 }
 
 #[test]
-fn names_the_first_fault(rt: HostRuntime) -> Result<(), Fail> {
+fn reads_segments(rt: HostRuntime) -> Result<(), Fail> {
+    let syn = flags(false, false, true, false);
+    let all = flags(true, true, true, true);
+    let none = flags(false, false, false, false);
     let table = [
-        ("", FaultKind::Header, 1, 0, 0),
-        ("witness 2\n", FaultKind::Header, 1, 0, 9),
-        ("witness 1", FaultKind::Cut, 1, 0, 9),
-        ("witness 1\r\nwitness 1\r\n", FaultKind::Number, 2, 0, 7),
-        ("witness 1\n\n", FaultKind::Field, 2, 0, 0),
-        ("witness 1\n10 L\n", FaultKind::Field, 2, 4, 4),
-        ("witness 1\n10 M 7\n", FaultKind::Field, 2, 3, 4),
-        ("witness 1\n10 L 7 \n", FaultKind::Field, 2, 7, 7),
-        ("witness 1\n10 L 7 x\n", FaultKind::Number, 2, 7, 8),
-        ("witness 1\n10 L 7 1 2 3\n", FaultKind::Field, 2, 11, 12),
         (
-            "witness 1\n10 D 4294967296 ok\n",
-            FaultKind::Number,
-            2,
-            5,
-            15,
+            "0 M 0 4000 80 0 0 S 65535 4294967294",
+            0,
+            Label::M(Host::Zero, 4000, 80, 0, 0, syn, 65535, Some(4_294_967_294)),
         ),
-        ("witness 1\n10 L 7\n9 L 8", FaultKind::Cut, 3, 0, 5),
+        (
+            "1 M 1 1 65535 1000000000000000000 65515 ARSF 0",
+            1,
+            Label::M(
+                Host::One,
+                1,
+                65535,
+                1_000_000_000_000_000_000,
+                65515,
+                all,
+                0,
+                None,
+            ),
+        ),
+        (
+            "2 M 1 80 4000 1 5 - 9 0",
+            2,
+            Label::M(Host::One, 80, 4000, 1, 5, none, 9, Some(0)),
+        ),
     ];
-    for (text, kind, line, start, stop) in table {
-        let span = Span { line, start, stop };
-        match read_witness(rt.alloc(), text.as_bytes()) {
-            Ok(_) => panic!(rt; "{text:?} is read"),
-            Err(fault) => {
-                assert_eq!(rt; fault.kind, kind, "in {text:?}");
-                assert_eq!(rt; fault.span, span, "in {text:?}");
-            }
-        }
+    for (text, moment, label) in table {
+        reads(&rt, rt.alloc(), text, moment, label)?;
+    }
+    Ok(())
+}
+
+#[test]
+fn reads_what_an_endpoint_does(rt: HostRuntime) -> Result<(), Fail> {
+    let table = [
+        (
+            "41 T 1 12 2144 1 0",
+            Label::T(Host::One, 12, 2144, true, false),
+        ),
+        ("41 T 0 12 0 0 1", Label::T(Host::Zero, 12, 0, false, true)),
+        ("41 K 0 23", Label::K(Host::Zero, 23)),
+        ("41 R 1 4294967295", Label::R(Host::One, 4_294_967_295)),
+        (
+            "41 F 0 4000 80 2144 1072",
+            Label::F(Host::Zero, 4000, 80, 2144, 1072),
+        ),
+    ];
+    for (text, label) in table {
+        reads(&rt, rt.alloc(), text, 41, label)?;
     }
     Ok(())
 }

@@ -1,0 +1,24 @@
+//! Segments in hex.
+
+ghost use Rattle.std.specs.Prelude.{◌≡◌};
+ghost use Rattle.line_fields.specs.Reading.{Gives};
+ghost use Rattle.trace_reader.specs.Wires.{wire_field};
+
+use case_forms::Wire;
+use line_fields::{FaultKind, Fields, TextFault};
+use segment::{SegFault, decode};
+use std::alloc::Global;
+
+/// The next field, which is a segment in hex. Bad digits are Hex; bytes that are no segment are Segment, with the reason.
+#[tactic(auto, unfolding(crate::specs::Wires::wire_field, crate::specs::Wires::wire_value))]
+pub(crate) fn wire(alloc: Global, fields: &mut Fields) -> Result<Wire, TextFault>
+    ensures { Gives (λ wire. (wire, fields.new)) result (wire_field fields.old) }
+{
+    let token = fields.next()?;
+    let bytes = token.hex(alloc)?;
+    match decode(alloc, bytes.as_slice()) {
+        Ok(seg) => Ok(Wire { bytes, seg }),
+        Err(SegFault::OutOfMemory) => Err(TextFault::out_of_memory()),
+        Err(fault) => Err(token.fault(FaultKind::Segment(fault))),
+    }
+}

@@ -1,0 +1,186 @@
+-- The spelling of the parts of labels, both ways.
+use Rattle.std.proofs.Common.{◌≡◌, ◌≤◌, ◌<◌, ◌^◌, zero, suc, ℕ, List, [], ◌∷◌, ◌++◌, Bool, true, false, eqb, Option, Some, None, Result, Ok, refl, sym, ap, subst, ◌∙◌, arith, inl, inr, ◌⊎◌}
+use Rattle.std.specs.Fmt.{decimal}
+use Rattle.case_forms.specs.declared.calls.Host.{Host}
+use Rattle.case_forms.specs.declared.steps.Extras.{Extras}
+use Rattle.case_forms.specs.declared.steps.Extras.TheVariants.{Bare, One, Two}
+use Rattle.line_fields.specs.declared.fault.TextFault.{TextFault}
+use Rattle.line_fields.specs.Word.{Rest}
+use Rattle.line_fields.specs.Reading.{◌>>=◌, number_field, or_end}
+use Rattle.line_fields.specs.Reader.{Any, Nothing, IsReader, IsLastReader}
+use Rattle.line_fields.specs.Hosts.{host_number, host_field}
+use Rattle.line_fields.specs.Spelling.{Piece, number, AreWritten}
+use Rattle.line_fields.proofs.Readers.{IsNumberField, reads_as, reads_last, reads_or_end, reads_number}
+use Rattle.line_fields.proofs.HostLaw.{reads_host}
+use Rattle.line_fields.proofs.Written.{plains_are, none_written}
+use Rattle.witness.specs.Parts.{endpoint_field, entry_field, bit_field, first_field, extras_field, first_number_field}
+use Rattle.witness.specs.Labels.{bit_number, extras_pieces, AreExtras, iss_pieces, IsIss, ArePorts, endpoint_pieces, entry_pieces}
+use Rattle.witness.proofs.Made.{IsBy, IsMade, reads_made, reads_part}
+
+-- ---- a number, a host, and yes or no
+
+abbrev pub IsWithin : ℕ → ℕ → ℕ → Type 0
+IsWithin least most n = (least ≤ n) × (n ≤ most)
+
+abbrev pub one_piece : ℕ → List Piece
+one_piece n = number n ∷ []
+
+is_written : (n : ℕ) (ws : List (List ℕ)) → ws ≡ decimal n ∷ [] → AreWritten (one_piece n) ws
+is_written n ws e = subst (λ (us : List (List ℕ)). AreWritten (one_piece n) us) (sym e) (refl, tt)
+
+pub reads_within : (least most : ℕ) → most < 2 ^ 64 → IsReader (number_field least most) (IsBy (IsWithin least most) one_piece)
+reads_within least most fits =
+    reads_as Any (number_field least most) (IsNumberField least most) (IsBy (IsWithin least most) one_piece) (reads_number least most fits)
+    (λ n ws s. ((s.0, s.1), is_written n ws s.2))
+    (λ n ws s. (s.0.0, s.0.1, plains_are (decimal n ∷ []) ws s.1))
+
+abbrev pub host_piece : Host → List Piece
+host_piece h = number (host_number h) ∷ []
+
+pub reads_host_piece : IsReader host_field (IsBy (λ h. Unit {0}) host_piece)
+reads_host_piece =
+    reads_as Any host_field (λ h ws. ws ≡ decimal (host_number h) ∷ []) (IsBy (λ h. Unit {0}) host_piece) reads_host
+    (λ h ws s. (tt, is_written (host_number h) ws s))
+    (λ h ws s. plains_are (decimal (host_number h) ∷ []) ws s.1)
+
+number_back : (n : ℕ) → n ≤ 1 → bit_number (eqb n 1) ≡ n
+number_back zero le = refl
+number_back (suc zero) le = refl
+number_back (suc (suc n)) le = absurd (omega arith)
+
+bit_back : (b : Bool) → eqb (bit_number b) 1 ≡ b
+bit_back false = refl
+bit_back true = refl
+
+at_most_one : (b : Bool) → bit_number b ≤ 1
+at_most_one false = omega arith
+at_most_one true = omega arith
+
+abbrev pub bit_piece : Bool → List Piece
+bit_piece b = number (bit_number b) ∷ []
+
+pub reads_bit : IsReader bit_field (IsBy (λ b. Unit {0}) bit_piece)
+unfolding bit_field
+reads_bit =
+    reads_as Any bit_field _ (IsBy (λ b. Unit {0}) bit_piece) (reads_made Any (number_field 0 1) (λ n. eqb n 1) (IsWithin 0 1) one_piece (reads_within 0 1 (omega arith)))
+    (λ b ws s. (tt, subst (λ (n : ℕ). AreWritten (one_piece n) ws) (sym (ap bit_number s.1 ∙ number_back s.0 s.2.1)) s.3))
+    (λ b ws s. (bit_number b, sym (bit_back b), (omega arith, at_most_one b), s.1))
+
+-- ---- an endpoint, and an inbox entry
+
+abbrev made_endpoint : Host × (ℕ × ℕ) → Host × ℕ × ℕ
+made_endpoint y = (y.0, y.1.0, y.1.1)
+
+abbrev ArePortsIn : ℕ × ℕ → Type 0
+ArePortsIn ports = IsWithin 1 65535 ports.0 × IsWithin 1 65535 ports.1
+
+abbrev port_pieces : ℕ × ℕ → List Piece
+port_pieces ports = one_piece ports.0 ++ one_piece ports.1
+
+abbrev pub IsEndpoint : Host × ℕ × ℕ → Type 0
+IsEndpoint at = ArePorts at.1 at.2
+
+abbrev pub pieces_at : Host × ℕ × ℕ → List Piece
+pieces_at at = endpoint_pieces at.0 at.1 at.2
+
+pub reads_endpoint : IsReader endpoint_field (IsBy IsEndpoint pieces_at)
+unfolding endpoint_field
+reads_endpoint =
+    reads_as Any endpoint_field _ (IsBy IsEndpoint pieces_at)
+    (reads_part Any host_field (λ h. Unit {0}) host_piece _ made_endpoint ArePortsIn port_pieces reads_host_piece
+    (λ h. reads_part Any (number_field 1 65535) (IsWithin 1 65535) one_piece _ (λ x. made_endpoint (h, x)) (IsWithin 1 65535) one_piece (reads_within 1 65535 (omega arith))
+    (λ l. reads_made Any (number_field 1 65535) (λ p. made_endpoint (h, (l, p))) (IsWithin 1 65535) one_piece (reads_within 1 65535 (omega arith)))))
+    (λ at ws s. let fits = s.2.1 in (subst IsEndpoint (sym s.1) (fits.0.0, fits.0.1, fits.1.0, fits.1.1), subst (λ (a : Host × ℕ × ℕ). AreWritten (pieces_at a) ws) (sym s.1) s.3))
+    (λ at ws s. let fits = s.0 in ((at.0, (at.1, at.2)), refl, (tt, ((fits.0, fits.1), (fits.2, fits.3))), s.1))
+
+abbrev pub IsEntry : Host × ℕ → Type 0
+IsEntry entry = entry.1 ≤ 4294967295
+
+abbrev pub pieces_in : Host × ℕ → List Piece
+pieces_in entry = entry_pieces entry.0 entry.1
+
+pub reads_entry : IsReader entry_field (IsBy IsEntry pieces_in)
+unfolding entry_field
+reads_entry =
+    reads_as Any entry_field _ (IsBy IsEntry pieces_in)
+    (reads_part Any host_field (λ h. Unit {0}) host_piece _ (λ y. y) (IsWithin 0 4294967295) one_piece reads_host_piece
+    (λ h. reads_made Any (number_field 0 4294967295) (λ n. (h, n)) (IsWithin 0 4294967295) one_piece (reads_within 0 4294967295 (omega arith))))
+    (λ entry ws s. (subst IsEntry (sym s.1) s.2.1.1, subst (λ (y : Host × ℕ). AreWritten (pieces_in y) ws) (sym s.1) s.3))
+    (λ entry ws s. (entry, refl, (tt, (omega arith, s.0)), s.1))
+
+-- ---- a number that may be missing
+
+abbrev maybe : {B : Type 0} → B → (ℕ → B) → Option ℕ → B
+maybe none some None = none
+maybe none some (Some n) = some n
+
+abbrev given : {B : Type 0} → (ℕ → B) → Rest → Result (B × Rest) TextFault
+given some r = number_field 0 4294967295 r >>= λ n. Ok (some n.0, n.1)
+
+reads_given : {B : Type 0} (some : ℕ → B) → IsLastReader (given some) (IsMade some (IsWithin 0 4294967295) one_piece)
+reads_given some =
+    reads_made Nothing (number_field 0 4294967295) some (IsWithin 0 4294967295) one_piece (reads_last (number_field 0 4294967295) (IsBy (IsWithin 0 4294967295) one_piece) (reads_within 0 4294967295 (omega arith)))
+
+back_by : {B : Type 0} (none : B) (some : ℕ → B) (o : Option ℕ) (b : B) (ws : List (List ℕ)) → b ≡ maybe none some o → IsIss o → AreWritten (iss_pieces o) ws → ((b ≡ none) × (ws ≡ [])) ⊎ IsMade some (IsWithin 0 4294967295) one_piece b ws
+back_by none some None b ws same fits h = inl (same, none_written ws h)
+back_by none some (Some n) b ws same fits h = inr (n, same, (omega arith, fits), h)
+
+reads_maybe : {B : Type 0} (none : B) (some : ℕ → B) → IsLastReader (λ r. or_end none (given some) r.words r) (IsMade (maybe none some) IsIss iss_pieces)
+reads_maybe none some =
+    reads_as Nothing (λ r. or_end none (given some) r.words r) _ (IsMade (maybe none some) IsIss iss_pieces)
+    (reads_or_end none (given some) (IsMade some (IsWithin 0 4294967295) one_piece) (reads_given some) (λ b ws s empty. subst (λ (us : List (List ℕ)). AreWritten (one_piece s.0) us) empty s.3))
+    (λ b ws s. elim s [
+      | inl bare ↦ (None, bare.0, tt, subst (λ (us : List (List ℕ)). AreWritten [] us) (sym bare.1) tt)
+      | inr own ↦ (Some own.0, own.1, own.2.1, own.3)
+    ])
+    (λ b ws s. back_by none some s.0 b ws s.1 s.2 s.3)
+
+same_number : (o : Option ℕ) → maybe None (λ n. Some n) o ≡ o
+same_number None = refl
+same_number (Some n) = refl
+
+pub reads_iss : IsLastReader first_number_field (IsBy IsIss iss_pieces)
+unfolding first_number_field
+reads_iss =
+    reads_as Nothing first_number_field _ (IsBy IsIss iss_pieces) (reads_maybe None (λ n. Some n))
+    (λ iss ws s. let same = sym (s.1 ∙ same_number s.0) in (subst IsIss same s.2, subst (λ (o : Option ℕ). AreWritten (iss_pieces o) ws) same s.3))
+    (λ iss ws s. (iss, sym (same_number iss), s.0, s.1))
+
+-- ---- the extra numbers
+
+abbrev with_second : ℕ → Option ℕ → Extras
+with_second x o = maybe (One x) (λ y. Two x y) o
+
+abbrev make_first : ℕ × Option ℕ → Extras
+make_first y = with_second y.0 y.1
+
+abbrev FitsFirst : ℕ × Option ℕ → Type 0
+FitsFirst y = IsWithin 0 4294967295 y.0 × IsIss y.1
+
+abbrev first_pieces : ℕ × Option ℕ → List Piece
+first_pieces y = one_piece y.0 ++ iss_pieces y.1
+
+reads_first : IsLastReader first_field (IsMade make_first FitsFirst first_pieces)
+reads_first = reads_part Nothing (number_field 0 4294967295) (IsWithin 0 4294967295) one_piece _ make_first IsIss iss_pieces (reads_within 0 4294967295 (omega arith)) (λ x. reads_maybe (One x) (λ y. Two x y))
+
+some_first : (extras : Extras) (ws : List (List ℕ)) → IsMade make_first FitsFirst first_pieces extras ws → ws ≡ [] → ⊥
+some_first extras ws s empty = subst (λ (us : List (List ℕ)). AreWritten (first_pieces s.0) us) empty s.3
+
+first_there : (x : ℕ) (o : Option ℕ) (ws : List (List ℕ)) → FitsFirst (x, o) → AreWritten (first_pieces (x, o)) ws → IsBy AreExtras extras_pieces (with_second x o) ws
+first_there x None ws fits h = (fits.0.1, h)
+first_there x (Some y) ws fits h = ((fits.0.1, fits.1), h)
+
+extras_back : (extras : Extras) (ws : List (List ℕ)) → IsBy AreExtras extras_pieces extras ws → ((extras ≡ Bare) × (ws ≡ [])) ⊎ IsMade make_first FitsFirst first_pieces extras ws
+extras_back Bare ws s = inl (refl, none_written ws s.1)
+extras_back (One x) ws s = inr ((x, None), refl, ((omega arith, s.0), tt), s.1)
+extras_back (Two x y) ws s = inr ((x, Some y), refl, ((omega arith, s.0.0), s.0.1), s.1)
+
+pub reads_extras : IsLastReader extras_field (IsBy AreExtras extras_pieces)
+unfolding extras_field
+reads_extras =
+    reads_as Nothing extras_field _ (IsBy AreExtras extras_pieces) (reads_or_end Bare first_field (IsMade make_first FitsFirst first_pieces) reads_first some_first)
+    (λ extras ws s. elim s [
+      | inl bare ↦ subst (λ (x : Extras). IsBy AreExtras extras_pieces x ws) (sym bare.0) (tt, subst (λ (us : List (List ℕ)). AreWritten [] us) (sym bare.1) tt)
+      | inr own ↦ subst (λ (x : Extras). IsBy AreExtras extras_pieces x ws) (sym own.1) (first_there own.0.0 own.0.1 ws own.2 own.3)
+    ])
+    extras_back

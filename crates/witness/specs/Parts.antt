@@ -1,0 +1,56 @@
+-- The parts of labels, read from left to right.
+use Rattle.std.specs.Prelude.{ℕ, Bool, ◌==◌, Option, Some, None, Result, Ok}
+use Rattle.case_forms.specs.declared.calls.Host.{Host}
+use Rattle.case_forms.specs.declared.steps.Extras.{Extras}
+use Rattle.case_forms.specs.declared.steps.Extras.TheVariants.{Bare, One, Two}
+use Rattle.line_fields.specs.declared.fault.TextFault.{TextFault}
+use Rattle.line_fields.specs.Word.{Rest}
+use Rattle.line_fields.specs.Reading.{◌>>=◌, number_field, or_end}
+use Rattle.line_fields.specs.Hosts.{host_field}
+
+-- a host, its port, and the other host's
+unfoldable pub endpoint_field : Rest → Result ((Host × ℕ × ℕ) × Rest) TextFault
+endpoint_field r = do
+  host ← host_field r
+  local ← number_field 1 65535 host.1
+  remote ← number_field 1 65535 local.1
+  Ok ((host.0, local.0, remote.0), remote.1)
+
+-- a host, and the line by which a segment came to its inbox
+unfoldable pub entry_field : Rest → Result ((Host × ℕ) × Rest) TextFault
+entry_field r = do
+  host ← host_field r
+  line ← number_field 0 4294967295 host.1
+  Ok ((host.0, line.0), line.1)
+
+-- yes or no, written 1 or 0
+unfoldable pub bit_field : Rest → Result (Bool × Rest) TextFault
+bit_field r = do
+  n ← number_field 0 1 r
+  Ok (n.0 == 1, n.1)
+
+-- the second extra number, behind the first
+abbrev pub second_field : ℕ → Rest → Result (Extras × Rest) TextFault
+second_field x r = do
+  y ← number_field 0 4294967295 r
+  Ok (Two x y.0, y.1)
+
+-- the first extra number, and the second where more is left
+abbrev pub first_field : Rest → Result (Extras × Rest) TextFault
+first_field r = do
+  x ← number_field 0 4294967295 r
+  or_end (One x.0) (second_field x.0) x.1.words x.1
+
+-- the extra numbers: none where nothing is left
+unfoldable pub extras_field : Rest → Result (Extras × Rest) TextFault
+extras_field r = or_end Bare first_field r.words r
+
+-- an initial send sequence number that is given
+abbrev pub given_field : Rest → Result (Option ℕ × Rest) TextFault
+given_field r = do
+  iss ← number_field 0 4294967295 r
+  Ok (Some iss.0, iss.1)
+
+-- the initial send sequence number: none where nothing is left
+unfoldable pub first_number_field : Rest → Result (Option ℕ × Rest) TextFault
+first_number_field r = or_end None given_field r.words r

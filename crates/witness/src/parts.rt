@@ -1,0 +1,66 @@
+//! The parts of labels: what the fields behind a label's first word are made of.
+
+ghost use Rattle.std.specs.Prelude.{◌≡◌};
+ghost use Rattle.line_fields.specs.Reading.{Gives};
+ghost use Rattle.witness.specs.Parts.{endpoint_field, entry_field, bit_field, extras_field, first_number_field};
+
+use case_forms::{Extras, Host};
+use line_fields::{Fields, TextFault};
+
+// A host, and the ports of one of its endpoints: the local one and the remote one.
+#[tactic(auto, unfolding(crate::specs::Parts::endpoint_field))]
+pub(crate) fn endpoint(fields: &mut Fields) -> Result<(Host, u16, u16), TextFault>
+    ensures { Gives (λ endpoint. (endpoint, fields.new)) result (endpoint_field fields.old) }
+{
+    let host = fields.host()?;
+    let local = fields.port()?;
+    let remote = fields.port()?;
+    Ok((host, local, remote))
+}
+
+// A host, and the number of the line by which a segment came to its inbox.
+#[tactic(auto, unfolding(crate::specs::Parts::entry_field))]
+pub(crate) fn entry(fields: &mut Fields) -> Result<(Host, u64), TextFault>
+    ensures { Gives (λ entry. (entry, fields.new)) result (entry_field fields.old) }
+{
+    let host = fields.host()?;
+    let line = u64::from(fields.number32()?);
+    Ok((host, line))
+}
+
+// Yes or no, written 1 or 0.
+#[tactic(auto, unfolding(crate::specs::Parts::bit_field))]
+pub(crate) fn bit(fields: &mut Fields) -> Result<bool, TextFault>
+    ensures { Gives (λ bit. (bit, fields.new)) result (bit_field fields.old) }
+{
+    Ok(fields.number(0, 1)? == 1)
+}
+
+// The numbers behind a line's number, at most two. A further field is always a number, and a third is left.
+#[tactic(auto, unfolding(crate::specs::Parts::extras_field))]
+pub(crate) fn extras(fields: &mut Fields) -> Result<Extras, TextFault>
+    ensures { Gives (λ extras. (extras, fields.new)) result (extras_field fields.old) }
+{
+    if fields.is_empty() {
+        return Ok(Extras::Bare);
+    }
+    let first = fields.number32()?;
+    if fields.is_empty() {
+        return Ok(Extras::One(first));
+    }
+    let second = fields.number32()?;
+    Ok(Extras::Two(first, second))
+}
+
+// The initial send sequence number behind a segment's window, where there is a further field. That field is always a
+// number.
+#[tactic(auto, unfolding(crate::specs::Parts::first_number_field))]
+pub(crate) fn first_number(fields: &mut Fields) -> Result<Option<u32>, TextFault>
+    ensures { Gives (λ iss. (iss, fields.new)) result (first_number_field fields.old) }
+{
+    if fields.is_empty() {
+        return Ok(None);
+    }
+    let iss = fields.number32()?;
+    Ok(Some(iss))
+}
