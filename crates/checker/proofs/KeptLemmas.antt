@@ -4,7 +4,7 @@ use Rattle.std.specs.Option.{option_map, option_map_or}
 use Rattle.case_forms.specs.declared.trace.Header.{Header}
 use Rattle.case_forms.specs.declared.trace.Line.{Line}
 use Rattle.case_forms.specs.declared.steps.Label.{Label}
-use Rattle.case_forms.specs.declared.steps.Label.TheVariants.{L, D}
+use Rattle.case_forms.specs.declared.steps.Label.TheVariants.{L, D, M, T, K, R, F}
 use Rattle.case_forms.specs.declared.steps.Step.{Step}
 use Rattle.case_forms.specs.declared.steps.Extras.{Extras}
 use Rattle.case_forms.specs.declared.trace.Span.{Span}
@@ -57,6 +57,11 @@ module _ (header : Header) (lines : List Line) (earlier : List Step) where
           let none = gone (order_of header lines (moves earlier)) moment n (extras_count extras) (held_placed n is) in
           none.1 (line_rules w moment extras (line_at header lines n)) ∙ sym (none.1 (line_rules w moment extras (held_line (order_of header lines (moves earlier)) n)))
   broken_at w moment (D t answer) span = refl
+  broken_at w moment (M host local remote position len flags window iss) span = refl
+  broken_at w moment (T host line cwnd keep sample) span = refl
+  broken_at w moment (K host line) span = refl
+  broken_at w moment (R host line) span = refl
+  broken_at w moment (F host local remote cwnd ssthresh) span = refl
 
   -- the rules may be asked of the line that is held
   pub broken_is : (w : World) (s : Step) → broken header lines earlier w s ≡ kept_broken (order_of header lines (moves earlier)) w s
@@ -74,6 +79,11 @@ module _ (header : Header) (lines : List Line) (earlier : List Step) where
           let none = gone (order_of header lines (moves earlier)) moment n (extras_count extras) (held_placed n is) in
           let h : Some none.0 ≡ None = sym (none.1 (line_rules w moment extras (held_line (order_of header lines (moves earlier)) n))) ∙ ok in absurd cc
   act_at w moment (D t answer) span ok = refl
+  act_at w moment (M host local remote position len flags window iss) span ok = refl
+  act_at w moment (T host line cwnd keep sample) span ok = refl
+  act_at w moment (K host line) span ok = refl
+  act_at w moment (R host line) span ok = refl
+  act_at w moment (F host local remote cwnd ssthresh) span ok = refl
 
   -- and the act is that of the line that is held, where no rule is broken
   pub act_is : (w : World) (s : Step) → kept_broken (order_of header lines (moves earlier)) w s ≡ None → held_act (order_of header lines (moves earlier)) s ≡ act_of header lines s

@@ -17,7 +17,7 @@ use Rattle.spec_step.specs.Runs.{Act}
 -- what a label takes: nothing where it is hidden
 abbrev pub take_of : Label → Option Take
 take_of (labels.L n extras) = Some (record { number = n; extras = extras_count extras })
-take_of (labels.D t answer) = None
+take_of _ = None
 
 abbrev pub move_of : Step → Move
 move_of s = record { moment = s.moment; take = take_of s.label }
@@ -30,6 +30,11 @@ moves steps = map move_of steps
 abbrev pub deed_by : (ℕ → Option Line) → Label → Option Deed
 deed_by line_of (labels.L n extras) = option_map (λ line. deeds.L line extras) (line_of n)
 deed_by line_of (labels.D t answer) = Some (deeds.D t answer)
+deed_by line_of (labels.M host local remote position len flags window iss) = Some (deeds.M host local remote position len flags window iss)
+deed_by line_of (labels.T host line cwnd keep sample) = Some (deeds.T host line cwnd keep sample)
+deed_by line_of (labels.K host line) = Some (deeds.K host line)
+deed_by line_of (labels.R host line) = Some (deeds.R host line)
+deed_by line_of (labels.F host local remote cwnd ssthresh) = Some (deeds.F host local remote cwnd ssthresh)
 
 abbrev pub act_of : Header → List Line → Step → Option Act
 act_of header lines s = option_map (λ deed. record { moment = s.moment; label = deed }) (deed_by (line_at header lines) s.label)

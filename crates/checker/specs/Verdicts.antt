@@ -41,12 +41,12 @@ next_world header lines w s = option_map_or (act_after w) (act_of header lines s
 -- whether a step takes a line; else it is hidden
 abbrev pub takes_line : Label → Bool
 takes_line (labels.L n extras) = true
-takes_line (labels.D t answer) = false
+takes_line _ = false
 
 -- the line that a label names, 0 for a hidden step
 abbrev pub line_named : Label → ℕ
 line_named (labels.L n extras) = n
-line_named (labels.D t answer) = 0
+line_named _ = 0
 
 -- no step broke a rule: the least line that is not placed, or yes with both counts
 abbrev pub verdict_left : List (ℕ × Line) → List Step → Verdict

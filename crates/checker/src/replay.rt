@@ -3,12 +3,13 @@
 //! Memory grows with the trace, since all its lines are offered at the start; a step costs the logarithm of the number
 //! of lines that wait.
 
-ghost use Rattle.std.specs.Prelude.{◌≡◌, ◌↔◌, List, [], IfOk, IfNone};
+ghost use Rattle.std.specs.Prelude.{◌≡◌, ◌↔◌, ◌++◌, List, [], IfOk, IfNone};
 ghost use Rattle.case_forms.specs.declared.trace.Header.{Header};
 ghost use Rattle.case_forms.specs.declared.trace.Line.{Line};
 ghost use Rattle.std.specs.Option.{option_map_or};
 ghost use Rattle.case_forms.specs.Traces.{first_event_line, IsRecorded, IsTrace};
-ghost use Rattle.interval_order.specs.Orders.{order_of, order_after};
+ghost use Rattle.interval_order.specs.Orders.{passing, order_of, order_after};
+ghost use Rattle.interval_order.specs.OrderRules.{order_rules};
 ghost use Rattle.verdict.specs.Rules.{first_broken};
 ghost use Rattle.spec_step.specs.StepRules.{step_rules, after};
 ghost use Rattle.checker.specs.Seen.{move_of};
@@ -111,10 +112,41 @@ fn replay(window: &mut Window, world: &mut World, step: &Step) -> Result<Option<
             Ok(line) => act(world, step.moment, &Deed::L(line, *extras)),
             Err(rule) => Ok(Some(rule)),
         },
-        Label::D(thread, answer) => match window.pass(step.moment) {
-            Ok(()) => act(world, step.moment, &Deed::D(*thread, answer.copy()?)),
-            Err(rule) => Ok(Some(rule)),
-        },
+        Label::D(thread, answer) => {
+            let deed = Deed::D(*thread, answer.copy()?);
+            pass(window, world, step.moment, &deed)
+        }
+        Label::M(host, local, remote, position, len, flags, wnd, iss) => {
+            let deed = Deed::M(*host, *local, *remote, *position, *len, *flags, *wnd, *iss);
+            pass(window, world, step.moment, &deed)
+        }
+        Label::T(host, line, cwnd, keep, sample) => {
+            let deed = Deed::T(*host, *line, *cwnd, *keep, *sample);
+            pass(window, world, step.moment, &deed)
+        }
+        Label::K(host, line) => pass(window, world, step.moment, &Deed::K(*host, *line)),
+        Label::R(host, line) => pass(window, world, step.moment, &Deed::R(*host, *line)),
+        Label::F(host, local, remote, cwnd, ssthresh) => {
+            let deed = Deed::F(*host, *local, *remote, *cwnd, *ssthresh);
+            pass(window, world, step.moment, &deed)
+        }
+    }
+}
+
+// Does a hidden step, or says which rule it breaks.
+fn pass(
+    window: &mut Window,
+    world: &mut World,
+    moment: u64,
+    deed: &Deed,
+) -> Result<Option<Rule>, OutOfMemory>
+    ensures rule { IfOk result (λ r. r ≡ first_broken (order_rules window.old (passing moment) ++ step_rules world.old moment deed.now)) }
+    ensures order { IfOk result (λ r. IfNone r (window.new ≡ order_after window.old (passing moment))) }
+    ensures world { IfOk result (λ r. IfNone r (world.new ≡ after world.old moment deed.now)) }
+{
+    match window.pass(moment) {
+        Ok(()) => act(world, moment, deed),
+        Err(rule) => Ok(Some(rule)),
     }
 }
 
@@ -154,6 +186,7 @@ fn line_named(label: &Label) -> u64
 {
     match label {
         Label::L(number, _) => *number,
-        Label::D(..) => 0,
+        Label::D(..) | Label::M(..) | Label::T(..) | Label::K(..) | Label::R(..) | Label::F(..) =>
+            0,
     }
 }

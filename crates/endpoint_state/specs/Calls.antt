@@ -1,9 +1,9 @@
 -- The call rule: which answers a call may have in a world, and the world after one.
 use Rattle.std.specs.Prelude.{◌≡◌, ℕ, Bool, true, false, not, is_some, List, [], ◌∷◌, Option, None, Some}
-use Rattle.std.specs.Option.{option_map_or}
+use Rattle.std.specs.Option.{option_map_or, option_and_then}
 use Rattle.case_forms.specs.declared.calls.Host.{Host}
 use Rattle.case_forms.specs.declared.calls.Call.{Call}
-use Rattle.case_forms.specs.declared.calls.Call.TheVariants.{Listen, Status, Close}
+use Rattle.case_forms.specs.declared.calls.Call.TheVariants.{Listen, Connect, Accept}
 use Rattle.case_forms.specs.declared.calls.Answer.{Answer}
 use Rattle.case_forms.specs.declared.calls.Answer.TheVariants as answers
 use Rattle.verdict.specs.declared.rule.Rule.{Rule}
@@ -11,18 +11,20 @@ use Rattle.verdict.specs.declared.rule.Rule.TheVariants.{Socket, CallAnswer}
 use Rattle.verdict.specs.Rules.{first_broken}
 use Rattle.endpoint_state.specs.declared.world.Turn.{Turn}
 use Rattle.endpoint_state.specs.declared.world.Turn.TheVariants.{Idle, Called, Answered}
-use Rattle.endpoint_state.specs.Bodies.{body_allows, body_after}
+use Rattle.endpoint_state.specs.Bodies.{socket_of, body_allows, body_after}
 use Rattle.endpoint_state.specs.Worlds.{World, turn, with_turn, body_of, with_body, giver}
 
 -- the host that a call means: the one that it names, or the one that gave its socket number
 abbrev pub aim : World → Call → Option Host
 aim w (Listen host port backlog) = Some host
-aim w (Status n) = giver w n
-aim w (Close n) = giver w n
+aim w (Connect host local remote) = Some host
+aim w call = option_and_then (giver w) (socket_of call)
 
--- the socket number that an answer gives
+-- the socket number that an answer gives: an `ok N` to `listen`, `open` or `accept`, whether or not the call may have it
 abbrev pub number_given : Call → Answer → Option ℕ
 number_given (Listen host port backlog) (answers.Given n) = Some n
+number_given (Connect host local remote) (answers.Given n) = Some n
+number_given (Accept socket) (answers.Given n) = Some n
 number_given _ _ = None
 
 -- the answer to a call on a socket number that no host gave

@@ -6,7 +6,7 @@
 ghost use Rattle.std.specs.Prelude.{◌≡◌, true, false, nat_eq, OnOk, OnErr};
 ghost use Rattle.std.specs.Option.{option_map_or};
 ghost use Rattle.indexmap.specs.IndexMap.{insert_entry};
-ghost use Rattle.endpoint_state.specs.Bodies.{empty, given, is_live, is_listening, body_allows, closed, body_after};
+ghost use Rattle.endpoint_state.specs.Bodies.{empty, given, is_live, is_listening, socket_of, is_on_dead, body_allows, closed, body_after};
 ghost use Rattle.endpoint_state.specs.Calls.{number_given};
 
 use case_forms::{Answer, Call, OutOfMemory, State};
@@ -78,16 +78,24 @@ impl Body {
         }
     }
 
+    fn is_on_dead(&self, call: &Call) -> bool
+        ensures { result ≡ is_on_dead self.now call.now }
+    {
+        match socket_of(call) {
+            Some(number) => !self.is_live(number),
+            None => false,
+        }
+    }
+
     pub(crate) fn allows(&self, call: &Call, answer: &Answer) -> bool
         ensures { result ≡ body_allows self.now call.now answer.now }
     {
         match (call, answer) {
             (Call::Listen(_, port, _), Answer::InUse) => self.is_listening(*port),
             (Call::Listen(_, port, _), Answer::Given(_)) => !self.is_listening(*port),
-            (Call::Status(number), Answer::BadSocket) => !self.is_live(*number),
             (Call::Status(number), Answer::State(State::Listen)) => self.is_live(*number),
-            (Call::Close(number), Answer::BadSocket) => !self.is_live(*number),
             (Call::Close(number), Answer::Done) => self.is_live(*number),
+            (_, Answer::BadSocket) => self.is_on_dead(call),
             _ => false,
         }
     }
@@ -144,5 +152,22 @@ impl Body {
                 Err(_) => unreachable!(),
             }
         }
+    }
+}
+
+/// The socket number that a call is on. `None`: it names a host.
+pub(crate) fn socket_of(call: &Call) -> Option<u32>
+    ensures { result ≡ socket_of call.now }
+{
+    match call {
+        Call::Listen(_, _, _) | Call::Connect(_, _, _) => None,
+        Call::Await(number) => Some(*number),
+        Call::Accept(number) => Some(*number),
+        Call::Send(number, _) => Some(*number),
+        Call::Recv(number, _) => Some(*number),
+        Call::Shut(number) => Some(*number),
+        Call::Close(number) => Some(*number),
+        Call::Abort(number) => Some(*number),
+        Call::Status(number) => Some(*number),
     }
 }

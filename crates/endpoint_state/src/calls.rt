@@ -7,6 +7,7 @@ ghost use Rattle.endpoint_state.specs.Worlds.{turn, with_turn};
 ghost use Rattle.endpoint_state.specs.Calls.{aim, number_given, gives_again, allows, call_rules, called, MayAnswer, answered};
 ghost use Rattle.verdict.specs.Rules.{first_broken};
 
+use crate::body::socket_of;
 use crate::world::{Turn, World};
 use case_forms::{Answer, Call, Host, OutOfMemory};
 use verdict::Rule;
@@ -67,8 +68,8 @@ fn aim(world: &World, call: &Call) -> Option<Host>
 {
     match call {
         Call::Listen(host, _, _) => Some(*host),
-        Call::Status(number) => world.giver(*number),
-        Call::Close(number) => world.giver(*number),
+        Call::Connect(host, _, _) => Some(*host),
+        _ => world.giver(socket_of(call)?),
     }
 }
 
@@ -78,6 +79,8 @@ fn number_given(call: &Call, answer: &Answer) -> Option<u32>
 {
     match (call, answer) {
         (Call::Listen(_, _, _), Answer::Given(number)) => Some(*number),
+        (Call::Connect(_, _, _), Answer::Given(number)) => Some(*number),
+        (Call::Accept(_), Answer::Given(number)) => Some(*number),
         _ => None,
     }
 }

@@ -3,16 +3,21 @@ use Rattle.std.specs.Prelude.{ℕ, ◌+◌, Bool, false, not, ◌&&◌, ◌||◌
 use Rattle.std.specs.List.{list_any, find}
 use Rattle.std.specs.Option.{option_map, option_map_or}
 use Rattle.case_forms.specs.declared.trace.Event.{Event}
-use Rattle.case_forms.specs.declared.trace.Event.TheVariants.{CallBegin, CallEnd}
+use Rattle.case_forms.specs.declared.trace.Event.TheVariants.{CallBegin, CallEnd, Sent, Came, Expired}
 use Rattle.case_forms.specs.declared.trace.Line.{Line}
+use Rattle.case_forms.specs.declared.timer.Timer.TheVariants.{Rto}
 use Rattle.verdict.specs.declared.rule.Rule.{Rule}
 use Rattle.verdict.specs.declared.rule.Rule.TheVariants.{LineRange, LineAgain, ThreadOrder, MomentFalls, MomentOff, Overdue}
 use Rattle.interval_order.specs.Orders.{Take, Move, Order, held_line, is_offered}
 
--- how many extra numbers follow the number of a line of this kind
+-- how many extra numbers follow the number of a line of this kind: a segment's with one number, that of the segment made or of its O line, and a retransmission timeout with two
 abbrev pub extras_of : Event → ℕ
 extras_of (CallBegin call) = 0
 extras_of (CallEnd answer) = 0
+extras_of (Sent host wire) = 1
+extras_of (Came host wire) = 1
+extras_of (Expired host local remote Rto) = 2
+extras_of (Expired host local remote _) = 0
 
 -- it names no event line, or one that is not placed with another count of extra numbers than its kind has
 abbrev pub line_range : Order → Option Take → Bool

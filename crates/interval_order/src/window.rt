@@ -17,7 +17,7 @@ ghost use Rattle.verdict.specs.Rules.{first_broken};
 ghost use Rattle.interval_order.specs.Orders.{taking, passing, held_line, is_offered, with_line, order_after};
 ghost use Rattle.interval_order.specs.OrderRules.{extras_of, has_earlier, thread_order, order_rules, has_overdue, first_overdue};
 
-use case_forms::{Event, Header, Line, OutOfMemory};
+use case_forms::{Event, Header, Line, OutOfMemory, Timer};
 use indexmap::IndexMap;
 use std::alloc::Global;
 use std::collections::BTreeMap;
@@ -223,6 +223,10 @@ fn extras_of(event: &Event) -> u8
     match event {
         Event::CallBegin(_) => 0,
         Event::CallEnd(_) => 0,
+        Event::Sent(..) => 1,
+        Event::Came(..) => 1,
+        Event::Expired(_, _, _, Timer::Rto) => 2,
+        Event::Expired(_, _, _, Timer::Persist | Timer::Msl2 | Timer::Giveup) => 0,
     }
 }
 

@@ -1,5 +1,5 @@
 -- A run by places, and the same by recursion over its steps.
-use Rattle.std.proofs.Common.{◌≡◌, ℕ, suc, zero, List, [], ◌∷◌, take, refl, subst, Option, Some, None}
+use Rattle.std.proofs.Common.{◌≡◌, ℕ, suc, zero, List, [], ◌∷◌, take, refl, subst, Some}
 use Rattle.std.specs.Prelude.{slice_get}
 use Rattle.case_forms.specs.declared.trace.Header.{Header}
 use Rattle.endpoint_state.specs.Worlds.{World, start}

@@ -1,6 +1,7 @@
 -- In a run the calls of each thread take turns.
-use Rattle.std.proofs.Common.{◌≡◌, ℕ, Bool, true, false, cond, not, List, [], ◌∷◌, refl, sym, ap, ◌∙◌, subst, arith, Option, Some, None}
+use Rattle.std.proofs.Common.{◌≡◌, ℕ, Bool, true, false, cond, List, [], ◌∷◌, refl, ap, ◌∙◌, arith, Option, Some, None}
 use Rattle.std.proofs.lemmas.Bool.Decides.{nat_tests}
+use Rattle.std.proofs.lemmas.Slice.Eq.{bytes_eq-Decides}
 use Rattle.std.specs.Prelude.{nat_eq, unwrap_or, if◌then◌else◌}
 use Rattle.std.specs.List.{cons_option}
 use Rattle.std.specs.Map.{lookup}
@@ -15,7 +16,7 @@ use Rattle.case_forms.specs.declared.calls.State.TheVariants as states
 use Rattle.case_forms.specs.declared.trace.Header.{Header}
 use Rattle.case_forms.specs.declared.trace.Line.{Line}
 use Rattle.case_forms.specs.declared.trace.Event.{Event}
-use Rattle.case_forms.specs.declared.trace.Event.TheVariants.{CallBegin, CallEnd}
+use Rattle.case_forms.specs.declared.trace.Event.TheVariants.{CallBegin, CallEnd, Sent, Came, Expired}
 use Rattle.verdict.specs.Rules.{first_broken}
 use Rattle.endpoint_state.specs.declared.world.Turn.{Turn}
 use Rattle.endpoint_state.specs.declared.world.Turn.TheVariants.{Idle, Called, Answered}
@@ -24,9 +25,9 @@ use Rattle.endpoint_state.specs.Worlds.{World, start, turn, with_turn, body_of, 
 use Rattle.endpoint_state.specs.Calls.{aim, called, answered}
 use Rattle.endpoint_state.proofs.Lookups.{lookup_insert}
 use Rattle.spec_step.specs.declared.label.Label.{Label}
-use Rattle.spec_step.specs.declared.label.Label.TheVariants.{L, D}
-use Rattle.spec_step.specs.StepRules.{state_place, same_answer, event_rules, effect_rules, step_rules, turn_after, after}
-use Rattle.spec_step.specs.Runs.{Act, Permitted, IsRun}
+use Rattle.spec_step.specs.declared.label.Label.TheVariants.{L, D, M, T, K, R, F}
+use Rattle.spec_step.specs.StepRules.{state_place, same_answer, event_rules, effect_rules, step_rules, event_after, after}
+use Rattle.spec_step.specs.Runs.{Act, IsRun}
 use Rattle.spec_step.specs.Turns.{Mark, Began, Had, Ended, event_mark, mark_of, marks, TakesTurns}
 use Rattle.spec_step.proofs.RunLemmas.{RunFrom, run_steps}
 
@@ -47,6 +48,14 @@ same_state _ _ e = absurd cc
 same_answers : (a b : Answer) → same_answer a b ≡ true → a ≡ b
 same_answers answers.Done answers.Done e = refl
 same_answers (answers.Given m) (answers.Given n) e = ap answers.Given (let h : m ≡ n = grind (arith, nat_tests, e) in h)
+same_answers (answers.Bytes xs) (answers.Bytes ys) e = ap answers.Bytes ((bytes_eq-Decides xs ys).0 e)
+same_answers answers.Again answers.Again e = refl
+same_answers answers.Eof answers.Eof e = refl
+same_answers answers.Closed answers.Closed e = refl
+same_answers answers.NotConn answers.NotConn e = refl
+same_answers answers.Refused answers.Refused e = refl
+same_answers answers.Reset answers.Reset e = refl
+same_answers answers.Timeout answers.Timeout e = refl
 same_answers answers.InUse answers.InUse e = refl
 same_answers answers.BadSocket answers.BadSocket e = refl
 same_answers (answers.State s) (answers.State t) e = ap answers.State (same_state s t e)
@@ -80,9 +89,17 @@ nothing_more Idle = tt
 nothing_more (Called call) = tt
 nothing_more (Answered answer) = tt
 
+-- where a thread is after an event of its own that is permitted
+abbrev turn_after : Turn → Event → Turn
+turn_after u (CallBegin call) = Called call
+turn_after u (CallEnd answer) = Idle
+turn_after u (Sent host wire) = u
+turn_after u (Came host wire) = u
+turn_after u (Expired host local remote timer) = u
+
 -- an event of the thread itself
 event_turn : (u : Turn) (event : Event) (ms : List Mark) → first_broken (event_rules u event) ≡ None
-    → TakesTurns (opened (turn_after event) ms) → TakesTurns (opened u (event_mark event ∷ ms))
+    → TakesTurns (opened (turn_after u event) ms) → TakesTurns (opened u (cons_option (event_mark event) ms))
 event_turn Idle (CallBegin call) ms ok rest = rest
 event_turn (Called open_call) (CallBegin call) ms ok rest = absurd cc
 event_turn (Answered answer) (CallBegin call) ms ok rest = absurd cc
@@ -93,16 +110,31 @@ event_turn (Answered given) (CallEnd answer) ms ok rest = by_same (same_answer g
     by_same : (b : Bool) → same_answer given answer ≡ b → TakesTurns (Began ∷ Had given ∷ Ended answer ∷ ms)
     by_same true is = (same_answers given answer is, rest)
     by_same false is = absurd (let h = rw is at ok in cc)
+event_turn u (Sent host wire) ms ok rest = absurd cc
+event_turn u (Came host wire) ms ok rest = absurd cc
+event_turn u (Expired host local remote timer) ms ok rest = absurd cc
+
+stays : (b : Bool) (u : Turn) → u ≡ cond b u u
+stays true u = refl
+stays false u = refl
+
+-- where threads are after an event of one of them
+turn_event : (w : World) (t : ℕ) (event : Event) (q : ℕ) → turn (event_after w t event) q ≡ cond (nat_eq q t) (turn_after (turn w q) event) (turn w q)
+turn_event w t (CallBegin call) q = turn_put w t (Called call) q
+turn_event w t (CallEnd answer) q = turn_put w t Idle q
+turn_event w t (Sent host wire) q = stays (nat_eq q t) (turn w q)
+turn_event w t (Came host wire) q = stays (nat_eq q t) (turn w q)
+turn_event w t (Expired host local remote timer) q = stays (nat_eq q t) (turn w q)
 
 module _ (w : World) (t : ℕ) (ms : List Mark) where
   -- a line of any thread
   line_turn : (line : Line) → first_broken (event_rules (turn w line.thread) line.event) ≡ None
-      → TakesTurns (opened (turn (with_turn w line.thread (turn_after line.event)) t) ms)
-      → TakesTurns (opened (turn w t) (cons_option (if nat_eq t line.thread then Some (event_mark line.event) else None) ms))
-  line_turn line ok rest = by_test (nat_eq t line.thread) refl (rw (turn_put w line.thread (turn_after line.event) t) at rest)
+      → TakesTurns (opened (turn (event_after w line.thread line.event) t) ms)
+      → TakesTurns (opened (turn w t) (cons_option (if nat_eq t line.thread then event_mark line.event else None) ms))
+  line_turn line ok rest = by_test (nat_eq t line.thread) refl (rw (turn_event w line.thread line.event t) at rest)
     where
-      by_test : (b : Bool) → nat_eq t line.thread ≡ b → TakesTurns (opened (cond (nat_eq t line.thread) (turn_after line.event) (turn w t)) ms)
-          → TakesTurns (opened (turn w t) (cons_option (if nat_eq t line.thread then Some (event_mark line.event) else None) ms))
+      by_test : (b : Bool) → nat_eq t line.thread ≡ b → TakesTurns (opened (cond (nat_eq t line.thread) (turn_after (turn w t) line.event) (turn w t)) ms)
+          → TakesTurns (opened (turn w t) (cons_option (if nat_eq t line.thread then event_mark line.event else None) ms))
       by_test true own rest =
           let same : t ≡ line.thread = grind (arith, nat_tests, own) in
           let ok' : first_broken (event_rules (turn w t) line.event) ≡ None = rw same ok in
@@ -133,6 +165,11 @@ module _ (w : World) (t : ℕ) (ms : List Mark) where
       → TakesTurns (opened (turn (after w moment label) t) ms) → TakesTurns (opened (turn w t) (cons_option (mark_of t label) ms))
   step_turn moment (L line extras) ok rest = line_turn line ok rest
   step_turn moment (D v answer) ok rest = effect_turn v answer ok rest
+  step_turn moment (M host local remote position len flags window iss) ok rest = rest
+  step_turn moment (T host line cwnd keep sample) ok rest = rest
+  step_turn moment (K host line) ok rest = rest
+  step_turn moment (R host line) ok rest = rest
+  step_turn moment (F host local remote cwnd ssthresh) ok rest = rest
 
 -- the steps of a run from a world on, behind the marks of the call that is open there
 turns_from : (t : ℕ) (w : World) (acts : List Act) → RunFrom w acts → TakesTurns (opened (turn w t) (marks t acts))

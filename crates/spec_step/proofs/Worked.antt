@@ -1,13 +1,12 @@
 -- Steps worked by hand, said of the definitions, so that a slip in one does not check.
-use Rattle.std.proofs.Common.{◌≡◌, ℕ, Bool, true, false, List, [], ◌∷◌, refl, Option, Some, None}
+use Rattle.std.proofs.Common.{◌≡◌, ℕ, true, false, List, [], ◌∷◌, refl, Option, Some, None}
 use Rattle.case_forms.specs.declared.calls.Host.TheVariants.{Zero, One}
 use Rattle.case_forms.specs.declared.calls.Call.{Call}
-use Rattle.case_forms.specs.declared.calls.Call.TheVariants.{Listen, Status, Close}
+use Rattle.case_forms.specs.declared.calls.Call.TheVariants.{Listen, Connect, Accept, Recv, Status, Close}
 use Rattle.case_forms.specs.declared.calls.Answer.{Answer}
 use Rattle.case_forms.specs.declared.calls.Answer.TheVariants as answers
 use Rattle.case_forms.specs.declared.calls.State.TheVariants as states
 use Rattle.case_forms.specs.declared.steps.Extras.TheVariants.{Bare}
-use Rattle.case_forms.specs.declared.trace.Event.{Event}
 use Rattle.case_forms.specs.declared.trace.Event.TheVariants.{CallBegin, CallEnd}
 use Rattle.case_forms.specs.declared.trace.Header.{Header}
 use Rattle.verdict.specs.declared.rule.Rule.{Rule}
@@ -15,10 +14,10 @@ use Rattle.verdict.specs.declared.rule.Rule.TheVariants.{ThreadBusy, NoCall, Don
 use Rattle.verdict.specs.Rules.{first_broken}
 use Rattle.endpoint_state.specs.declared.world.Turn.TheVariants.{Idle}
 use Rattle.endpoint_state.specs.Bodies.{is_live}
-use Rattle.endpoint_state.specs.Worlds.{World, start, turn}
+use Rattle.endpoint_state.specs.Worlds.{start, turn}
 use Rattle.spec_step.specs.declared.label.Label.{Label}
 use Rattle.spec_step.specs.declared.label.Label.TheVariants.{L, D}
-use Rattle.spec_step.specs.StepRules.{step_rules}
+use Rattle.spec_step.specs.StepRules.{same_answer, step_rules}
 use Rattle.spec_step.specs.Runs.{Act, world_after}
 use Rattle.spec_step.proofs.RunLemmas.{RunFrom}
 
@@ -82,6 +81,27 @@ port_again = refl
 -- a live socket number is not called bad
 live_is_not_bad : broken_after (begins 2 (Status 5) ∷ listens) (gives 2 answers.BadSocket) ≡ Some CallAnswer
 live_is_not_bad = refl
+
+-- `open` and `accept` give no number again either
+open_again : broken_after (begins 2 (Connect One 4000 80) ∷ listens) (gives 2 (answers.Given 5)) ≡ Some Socket
+open_again = refl
+
+accept_again : broken_after (begins 2 (Accept 5) ∷ listens) (gives 2 (answers.Given 5)) ≡ Some Socket
+accept_again = refl
+
+-- every call on a number that is not live has the one answer
+recv_is_bad : broken_after (begins 2 (Recv 6 100) ∷ listens) (gives 2 answers.BadSocket) ≡ None
+recv_is_bad = refl
+
+recv_is_not_bad : broken_after (begins 2 (Recv 5 100) ∷ listens) (gives 2 answers.BadSocket) ≡ Some CallAnswer
+recv_is_not_bad = refl
+
+-- the bytes `hello` are those bytes and no others
+same_data : same_answer (answers.Bytes (104 ∷ 101 ∷ 108 ∷ 108 ∷ 111 ∷ [])) (answers.Bytes (104 ∷ 101 ∷ 108 ∷ 108 ∷ 111 ∷ [])) ≡ true
+same_data = refl
+
+other_data : same_answer (answers.Bytes (104 ∷ 101 ∷ 108 ∷ 108 ∷ 111 ∷ [])) (answers.Bytes (104 ∷ 101 ∷ 108 ∷ 108 ∷ [])) ≡ false
+other_data = refl
 
 -- host 1 listens on the same port, and once number 5 is closed so does host 0 again
 abbrev closes : List Act

@@ -1,19 +1,20 @@
 -- The machine's rules, one list for each label, and the world after a step.
+use Rattle.std.specs.Str.{bytes_eq}
 use Rattle.std.specs.Prelude.{ℕ, Bool, true, false, not, ◌==◌, List, [], ◌∷◌}
 use Rattle.case_forms.specs.declared.calls.Answer.{Answer}
 use Rattle.case_forms.specs.declared.calls.Answer.TheVariants as answers
 use Rattle.case_forms.specs.declared.calls.State.{State}
 use Rattle.case_forms.specs.declared.calls.State.TheVariants as states
 use Rattle.case_forms.specs.declared.trace.Event.{Event}
-use Rattle.case_forms.specs.declared.trace.Event.TheVariants.{CallBegin, CallEnd}
+use Rattle.case_forms.specs.declared.trace.Event.TheVariants.{CallBegin, CallEnd, Sent, Came, Expired}
 use Rattle.verdict.specs.declared.rule.Rule.{Rule}
-use Rattle.verdict.specs.declared.rule.Rule.TheVariants.{ThreadBusy, NoCall, DoneTwice, AnswerDiffers}
+use Rattle.verdict.specs.declared.rule.Rule.TheVariants.{ThreadBusy, NoCall, DoneTwice, AnswerDiffers, NoEndpoint, NotMade, NoEmission, Inbox}
 use Rattle.endpoint_state.specs.declared.world.Turn.{Turn}
 use Rattle.endpoint_state.specs.declared.world.Turn.TheVariants.{Idle, Called, Answered}
 use Rattle.endpoint_state.specs.Worlds.{World, turn, with_turn}
 use Rattle.endpoint_state.specs.Calls.{call_rules, answered}
 use Rattle.spec_step.specs.declared.label.Label.{Label}
-use Rattle.spec_step.specs.declared.label.Label.TheVariants.{L, D}
+use Rattle.spec_step.specs.declared.label.Label.TheVariants.{L, D, M, T, K, R, F}
 
 abbrev pub is_idle : Turn → Bool
 is_idle Idle = true
@@ -43,6 +44,14 @@ state_place states.TimeWait = 10
 abbrev pub same_answer : Answer → Answer → Bool
 same_answer answers.Done answers.Done = true
 same_answer (answers.Given m) (answers.Given n) = m == n
+same_answer (answers.Bytes xs) (answers.Bytes ys) = bytes_eq xs ys
+same_answer answers.Again answers.Again = true
+same_answer answers.Eof answers.Eof = true
+same_answer answers.Closed answers.Closed = true
+same_answer answers.NotConn answers.NotConn = true
+same_answer answers.Refused answers.Refused = true
+same_answer answers.Reset answers.Reset = true
+same_answer answers.Timeout answers.Timeout = true
 same_answer answers.InUse answers.InUse = true
 same_answer answers.BadSocket answers.BadSocket = true
 same_answer (answers.State s) (answers.State t) = state_place s == state_place t
@@ -72,22 +81,38 @@ open_rules w (Answered given) answer = []
 abbrev pub effect_rules : World → Turn → Answer → List (Rule × Bool)
 effect_rules w u answer = (NoCall, is_idle u) ∷ (DoneTwice, is_answered u) ∷ open_rules w u answer
 
--- the rules of a line's event
+-- the rules of a line's event. No segment is made here and no host has an endpoint, so nothing is sent, comes or expires
 abbrev pub event_rules : Turn → Event → List (Rule × Bool)
 event_rules u (CallBegin call) = begin_rules u
 event_rules u (CallEnd answer) = end_rules u answer
+event_rules u (Sent host wire) = (NotMade, true) ∷ []
+event_rules u (Came host wire) = (NoEmission, true) ∷ []
+event_rules u (Expired host local remote timer) = (NoEndpoint, true) ∷ []
 
--- the rules of a step at a moment, the least first, with whether it breaks them
+-- the rules of a step at a moment, the least first, with whether it breaks them. No host has an endpoint or an inbox here
 abbrev pub step_rules : World → ℕ → Label → List (Rule × Bool)
 step_rules w moment (L line extras) = event_rules (turn w line.thread) line.event
 step_rules w moment (D t answer) = effect_rules w (turn w t) answer
+step_rules w moment (M host local remote position len flags window iss) = (NoEndpoint, true) ∷ []
+step_rules w moment (T host line cwnd keep sample) = (Inbox, true) ∷ []
+step_rules w moment (K host line) = (Inbox, true) ∷ []
+step_rules w moment (R host line) = (Inbox, true) ∷ []
+step_rules w moment (F host local remote cwnd ssthresh) = (NoEndpoint, true) ∷ []
 
--- where a thread is after an event of its own
-abbrev pub turn_after : Event → Turn
-turn_after (CallBegin call) = Called call
-turn_after (CallEnd answer) = Idle
+-- the world after an event of a thread; where it breaks a rule in every world, that world
+abbrev pub event_after : World → ℕ → Event → World
+event_after w t (CallBegin call) = with_turn w t (Called call)
+event_after w t (CallEnd answer) = with_turn w t Idle
+event_after w t (Sent host wire) = w
+event_after w t (Came host wire) = w
+event_after w t (Expired host local remote timer) = w
 
--- the world after a step at a moment
+-- the world after a step at a moment; where it breaks a rule in every world, that world
 abbrev pub after : World → ℕ → Label → World
-after w moment (L line extras) = with_turn w line.thread (turn_after line.event)
+after w moment (L line extras) = event_after w line.thread line.event
 after w moment (D t answer) = answered w t (turn w t) answer
+after w moment (M host local remote position len flags window iss) = w
+after w moment (T host line cwnd keep sample) = w
+after w moment (K host line) = w
+after w moment (R host line) = w
+after w moment (F host local remote cwnd ssthresh) = w

@@ -3,9 +3,9 @@ use Rattle.std.specs.Prelude.{◌≡◌, ℕ, ◌==◌, List, [], ◌∷◌, Opt
 use Rattle.std.specs.List.{cons_option}
 use Rattle.case_forms.specs.declared.calls.Answer.{Answer}
 use Rattle.case_forms.specs.declared.trace.Event.{Event}
-use Rattle.case_forms.specs.declared.trace.Event.TheVariants.{CallBegin, CallEnd}
+use Rattle.case_forms.specs.declared.trace.Event.TheVariants.{CallBegin, CallEnd, Sent, Came, Expired}
 use Rattle.spec_step.specs.declared.label.Label.{Label}
-use Rattle.spec_step.specs.declared.label.Label.TheVariants.{L, D}
+use Rattle.spec_step.specs.declared.label.Label.TheVariants.{L, D, M, T, K, R, F}
 use Rattle.spec_step.specs.Runs.{Act}
 
 -- what a step is to its thread's calls
@@ -14,14 +14,23 @@ pub data Mark : Type 0 where
   Had : (answer : Answer) → Mark
   Ended : (answer : Answer) → Mark
 
-abbrev pub event_mark : Event → Mark
-event_mark (CallBegin call) = Began
-event_mark (CallEnd answer) = Ended answer
+-- what a line is to its thread's calls: nothing where it is none of a call
+abbrev pub event_mark : Event → Option Mark
+event_mark (CallBegin call) = Some Began
+event_mark (CallEnd answer) = Some (Ended answer)
+event_mark (Sent host wire) = None
+event_mark (Came host wire) = None
+event_mark (Expired host local remote timer) = None
 
 -- what a step is to the calls of thread t
 abbrev pub mark_of : ℕ → Label → Option Mark
-mark_of t (L line extras) = if t == line.thread then Some (event_mark line.event) else None
+mark_of t (L line extras) = if t == line.thread then event_mark line.event else None
 mark_of t (D u answer) = if t == u then Some (Had answer) else None
+mark_of t (M host local remote position len flags window iss) = None
+mark_of t (T host line cwnd keep sample) = None
+mark_of t (K host line) = None
+mark_of t (R host line) = None
+mark_of t (F host local remote cwnd ssthresh) = None
 
 -- what the steps are to the calls of thread t, in their order
 abbrev pub marks : ℕ → List Act → List Mark

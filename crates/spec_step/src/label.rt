@@ -2,7 +2,7 @@
 
 ghost use Rattle.std.specs.Prelude.{◌≡◌, IfOk};
 
-use case_forms::{Answer, Extras, Line, OutOfMemory};
+use case_forms::{Answer, Extras, Flags, Host, Line, OutOfMemory};
 
 /// What a step does: a label of a witness in which the line that it takes stands in place of its number.
 #[derive(Debug, PartialEq, Eq, Drop)]
@@ -11,6 +11,19 @@ pub enum Label {
     L(Line, Extras),
     /// The open call of a thread has its effect, with this answer.
     D(u32, Answer),
+    /// A host makes a segment between a local and a remote port: its position, the bytes of its payload, its flags, its
+    /// window in bytes, and the initial send sequence number with the endpoint's first SYN.
+    M(Host, u16, u16, u64, u16, Flags, u16, Option<u32>),
+    /// A host takes the segment of that line from its inbox: then its congestion window in bytes, whether data above the
+    /// next position are kept, and whether the round trip time is measured.
+    T(Host, u64, u32, bool, bool),
+    /// A host drops the segment of that line from its inbox.
+    K(Host, u64),
+    /// A host answers the segment of that line by a reset.
+    R(Host, u64),
+    /// The endpoint of a local and a remote port enters fast recovery, with this congestion window and slow start
+    /// threshold, both in bytes.
+    F(Host, u16, u16, u32, u32),
 }
 
 impl Label {
@@ -21,6 +34,17 @@ impl Label {
         match self {
             Label::L(line, extras) => Ok(Label::L(line.copy()?, *extras)),
             Label::D(thread, answer) => Ok(Label::D(*thread, answer.copy()?)),
+            Label::M(host, local, remote, position, len, flags, window, iss) => Ok(Label::M(
+                *host, *local, *remote, *position, *len, *flags, *window, *iss,
+            )),
+            Label::T(host, line, cwnd, keep, sample) => {
+                Ok(Label::T(*host, *line, *cwnd, *keep, *sample))
+            }
+            Label::K(host, line) => Ok(Label::K(*host, *line)),
+            Label::R(host, line) => Ok(Label::R(*host, *line)),
+            Label::F(host, local, remote, cwnd, ssthresh) => {
+                Ok(Label::F(*host, *local, *remote, *cwnd, *ssthresh))
+            }
         }
     }
 }

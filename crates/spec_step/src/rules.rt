@@ -18,6 +18,11 @@ pub fn admits(world: &World, moment: u64, label: &Label) -> Result<(), Rule>
     match label {
         Label::L(line, _) => admits_line(world, line),
         Label::D(thread, answer) => admits_effect(world, *thread, answer),
+        Label::M(..) => Err(Rule::NoEndpoint),
+        Label::T(..) => Err(Rule::Inbox),
+        Label::K(..) => Err(Rule::Inbox),
+        Label::R(..) => Err(Rule::Inbox),
+        Label::F(..) => Err(Rule::NoEndpoint),
     }
 }
 
@@ -27,6 +32,9 @@ fn admits_line(world: &World, line: &Line) -> Result<(), Rule>
     match &line.event {
         Event::CallBegin(_) => admits_begin(world, line.thread),
         Event::CallEnd(answer) => admits_end(world, line.thread, answer),
+        Event::Sent(..) => Err(Rule::NotMade),
+        Event::Came(..) => Err(Rule::NoEmission),
+        Event::Expired(..) => Err(Rule::NoEndpoint),
     }
 }
 

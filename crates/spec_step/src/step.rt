@@ -2,8 +2,7 @@
 
 ghost use Rattle.std.specs.Prelude.{◌≡◌, None, Some, Err, IfErr, OnOk, OnErr};
 ghost use Rattle.verdict.specs.Rules.{first_broken};
-ghost use Rattle.endpoint_state.specs.Worlds.{with_turn};
-ghost use Rattle.spec_step.specs.StepRules.{step_rules, turn_after, after};
+ghost use Rattle.spec_step.specs.StepRules.{step_rules, event_after, after};
 ghost use Rattle.spec_step.specs.Faults.{IfBroken};
 
 use crate::label::Label;
@@ -50,15 +49,19 @@ fn perform(world: &mut World, moment: u64, label: &Label) -> Result<(), OutOfMem
     match label {
         Label::L(line, _) => take_line(world, line),
         Label::D(thread, answer) => do_call(world, *thread, answer),
+        // None of these is admitted.
+        Label::M(..) | Label::T(..) | Label::K(..) | Label::R(..) | Label::F(..) => Ok(()),
     }
 }
 
 fn take_line(world: &mut World, line: &Line) -> Result<(), OutOfMemory>
-    ensures ok { OnOk result (world.new ≡ with_turn world.old line.now.thread (turn_after line.now.event)) }
+    ensures ok { OnOk result (world.new ≡ event_after world.old line.now.thread line.now.event) }
     ensures err { OnErr result (world.new ≡ world.old) }
 {
     match &line.event {
         Event::CallBegin(call) => begin_call(world, line.thread, call),
         Event::CallEnd(_) => end_call(world, line.thread),
+        // None of these is admitted.
+        Event::Sent(..) | Event::Came(..) | Event::Expired(..) => Ok(()),
     }
 }

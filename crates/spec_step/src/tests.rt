@@ -1,7 +1,7 @@
-//! A run on both hosts, and the text of a fault.
+//! A run on both hosts, calls on what is not live, steps of segments that were never made, and the text of a fault.
 
 use crate::{Label, StepFault, apply};
-use case_forms::{Answer, Call, Event, Extras, Header, Host, Line, Span, State};
+use case_forms::{Answer, Call, Event, Extras, Header, Host, Line, Span, State, Timer};
 use endpoint_state::World;
 use std::test::Fail;
 use verdict::Rule;
@@ -60,6 +60,40 @@ fn listens_asks_and_closes(rt: HostRuntime) -> Result<(), Fail> {
     let refused = apply(&mut world, 10, &Label::D(1, Answer::Done));
     assert_eq!(rt; refused, Err(StepFault::Broken(Rule::NoCall)));
     Ok(())
+}
+
+// A call on a socket number that is not live has one answer.
+#[test]
+fn a_dead_socket_number_is_called_bad(rt: HostRuntime) -> Result<(), Fail> {
+    let mut world = World::start(rt.alloc(), &HEADER);
+    calls(&mut world, 1, Call::Await(5), Answer::BadSocket)?;
+    calls(&mut world, 1, Call::Recv(5, 100), Answer::BadSocket)?;
+    calls(&mut world, 1, Call::Abort(5), Answer::BadSocket)
+}
+
+// A step that is refused, with the rule that it breaks.
+fn refused(world: &mut World, label: Label) -> Option<StepFault> {
+    apply(world, 30, &label).err()
+}
+
+// Nothing was made or sent, and no host has an endpoint.
+#[test]
+fn no_segment_was_made(rt: HostRuntime) {
+    let mut world = World::start(rt.alloc(), &HEADER);
+    let inbox = Some(StepFault::Broken(Rule::Inbox));
+    let nowhere = Some(StepFault::Broken(Rule::NoEndpoint));
+    assert_eq!(rt;
+        refused(&mut world, Label::T(Host::One, 12, 0, false, false)),
+        inbox
+    );
+    assert_eq!(rt; refused(&mut world, Label::K(Host::One, 12)), inbox);
+    assert_eq!(rt; refused(&mut world, Label::R(Host::One, 12)), inbox);
+    assert_eq!(rt;
+        refused(&mut world, Label::F(Host::Zero, 4000, 80, 2144, 2144)),
+        nowhere
+    );
+    let rto = Event::Expired(Host::Zero, 4000, 80, Timer::Rto);
+    assert_eq!(rt; refused(&mut world, takes(3, rto)), nowhere);
 }
 
 #[test]

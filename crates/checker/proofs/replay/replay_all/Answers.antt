@@ -1,20 +1,35 @@
-use Rattle.std.proofs.Common.{◌∙◌, sym}
+use Rattle.std.proofs.Common.{◌≡◌, ◌+◌, ◌∙◌, ap, subst, sym}
+use Rattle.std.specs.Option.{IfNone}
+use Rattle.case_forms.specs.declared.steps.Step.{Step}
+use Rattle.verdict.specs.declared.report.Verdict.TheVariants.{No}
+use Rattle.interval_order.specs.Orders.{order_after}
+use Rattle.checker.specs.Seen.{move_of}
+use Rattle.checker.specs.Verdicts.{line_named}
+use Rattle.checker.specs.Kept.{kept_broken, kept_world}
 use Rattle.checker.proofs.CheckLemmas.{turn_more, turn_order, turn_no, turn_end, left_some, left_none}
 use Rattle.checker.proofs.replay.replay_all.Goals as goal
 
 pub returns-in-Some : goal.returns-in-Some
 returns-in-Some c = λ header lines offered.
+    let at = c.index-steps-place.is in
+    let rule = subst (λ (s : Step). c.in_ok-rule.field-0 ≡ kept_broken c.loop-place.window c.loop-place.world s) at c.in_ok-rule.ensures.rule in
     rw c.line_named.ensures
-    (sym (turn_no header lines c.args.steps.now c.loop-place.place _ c.loop-place.window c.loop-place.world c.in_ok-rule.field-0 c.in-Some.rule c.loop-place-test.true (c.loop-place.invariant.order header lines offered) c.in_ok-rule.ensures.rule c.in-Some.is)
+    (ap (λ (s : Step). No (c.loop-place.place + 2) (line_named s.label) c.in-Some.rule) at
+    ∙ sym (turn_no header lines c.args.steps.now c.loop-place.place _ c.loop-place.window c.loop-place.world c.in_ok-rule.field-0 c.in-Some.rule c.loop-place-test.true (c.loop-place.invariant.order header lines offered) rule c.in-Some.is)
     ∙ c.loop-place.invariant.told header lines offered)
 
 pub loop-place-preserved : goal.loop-place-preserved
-loop-place-preserved c = record {
-  order = λ header lines offered. turn_order header lines c.args.steps.now c.loop-place.place _ c.loop-place.window c.replay.new.window c.in_ok-rule.field-0 c.loop-place-test.true (c.loop-place.invariant.order header lines offered) c.in_default.is c.in_ok-rule.ensures.order;
-  told = λ header lines offered.
-      turn_more header lines c.args.steps.now c.loop-place.place _ c.loop-place.window c.loop-place.world c.replay.new.world c.in_ok-rule.field-0 c.loop-place-test.true (c.loop-place.invariant.order header lines offered) c.in_ok-rule.ensures.rule c.in_default.is c.in_ok-rule.ensures.world
-      ∙ c.loop-place.invariant.told header lines offered;
-}
+loop-place-preserved c =
+    let at = c.index-steps-place.is in
+    let rule = subst (λ (s : Step). c.in_ok-rule.field-0 ≡ kept_broken c.loop-place.window c.loop-place.world s) at c.in_ok-rule.ensures.rule in
+    let order = subst (λ (s : Step). IfNone c.in_ok-rule.field-0 (c.replay.new.window ≡ order_after c.loop-place.window (move_of s))) at c.in_ok-rule.ensures.order in
+    let world = subst (λ (s : Step). IfNone c.in_ok-rule.field-0 (c.replay.new.world ≡ kept_world c.loop-place.window c.loop-place.world s)) at c.in_ok-rule.ensures.world in
+    record {
+      order = λ header lines offered. turn_order header lines c.args.steps.now c.loop-place.place _ c.loop-place.window c.replay.new.window c.in_ok-rule.field-0 c.loop-place-test.true (c.loop-place.invariant.order header lines offered) c.in_default.is order;
+      told = λ header lines offered.
+          turn_more header lines c.args.steps.now c.loop-place.place _ c.loop-place.window c.loop-place.world c.replay.new.world c.in_ok-rule.field-0 c.loop-place-test.true (c.loop-place.invariant.order header lines offered) rule c.in_default.is world
+          ∙ c.loop-place.invariant.told header lines offered;
+    }
 
 pub returns-in-Some-first_left : goal.returns-in-Some-first_left
 returns-in-Some-first_left c = λ header lines offered.
