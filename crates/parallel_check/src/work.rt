@@ -1,0 +1,135 @@
+//! The workers, and the call that starts them.
+
+ghost use Rattle.std.specs.Prelude.{◌≡◌, ◌<◌, List, ℕ, [], map, IfOk, IfSome, length};
+ghost use Rattle.std.proofs.Common.{get_or};
+ghost use Rattle.parallel_check.specs.Answers.{AnswersEach, IsAnswer};
+
+use crate::gather::gather;
+use crate::plain::{CaseResult, answer_to};
+use case_forms::OutOfMemory;
+use std::alloc::Global;
+use std::marker::{Brand, PhantomData};
+use std::sync::{Mutex, Wait};
+use std::thread;
+use std::thread::Threads;
+
+/// Is told of each case by the worker that checks it.
+pub trait Gate {
+    /// Called before the case with this number is checked. Cases are numbered from 0.
+    fn before(&self, case: usize);
+
+    /// Called once it is checked.
+    fn after(&self, case: usize);
+}
+
+/// Which cases are checked. Each call picks them.
+pub trait Cases {
+    /// The texts of the cases, in order.
+    ghost cases: { List (List ℕ) };
+}
+
+impl Cases for Brand {
+    ghost cases = { [] };
+}
+
+/// The answer to one of these cases, beside the number of the case.
+#[derive(Drop)]
+pub struct Done<C: Cases> {
+    pub index: usize,
+    pub answer: CaseResult,
+    pub of: PhantomData<C>,
+    pub ghost in_range: { index < length C.cases },
+    pub ghost answers: { IsAnswer (get_or C.cases index []) answer },
+}
+
+/// Checks one case, between the two calls of the gate.
+pub fn check_one<C: Cases, G: Gate>(
+    alloc: Global,
+    cases: &[Vec<u8>],
+    index: usize,
+    gate: &G,
+) -> Done<C>
+    requires in_range { index < length cases.now }
+    requires cases { map (λ case. case.items) cases.now ≡ C.cases }
+    ensures { result.index ≡ index }
+{
+    gate.before(index);
+    let answer = answer_to(alloc, cases[index].as_slice());
+    gate.after(index);
+    Done {
+        index,
+        answer,
+        of: PhantomData,
+    }
+}
+
+// The least case that none has taken, or None where all are.
+fn take<H: Wait>(rt: &H, next: &Mutex<usize>, count: usize) -> Option<usize>
+    ensures { IfSome result (λ index. index < count) }
+{
+    let mut next = next.lock(rt);
+    let index = *next;
+    if index >= count {
+        return None;
+    }
+    *next = index + 1;
+    Some(index)
+}
+
+// What one worker does. It finds room for an answer before it takes the case; where there is none it takes no further one.
+fn work<C: Cases, G: Gate, H: Wait>(
+    rt: &H,
+    alloc: Global,
+    cases: &[Vec<u8>],
+    next: &Mutex<usize>,
+    gate: &G,
+) -> Vec<Done<C>>
+    requires { map (λ case. case.items) cases.now ≡ C.cases }
+{
+    let mut done = Vec::new(alloc);
+    for _ in 0..cases.len() {
+        if done.reserve(1).is_err() {
+            break;
+        }
+        let Some(index) = take(rt, next, cases.len()) else {
+            break;
+        };
+        done.push_reserved(check_one(alloc, cases, index, gate));
+    }
+    done
+}
+
+// Checks all of the cases that `C` names.
+fn check_named<C: Cases + Send + Sync, G: Gate + Sync, H: Threads + Wait + Sync>(
+    rt: &H,
+    alloc: Global,
+    cases: &[Vec<u8>],
+    workers: usize,
+    gate: &G,
+) -> Result<Vec<CaseResult>, OutOfMemory>
+    requires { map (λ case. case.items) cases.now ≡ C.cases }
+    ensures { IfOk result (λ answers. AnswersEach C.cases answers.items) }
+{
+    let next = Mutex::new(0);
+    let parts: Vec<Vec<Done<C>>> = thread::map_indices(
+        rt,
+        alloc,
+        workers,
+        &|_| work(rt, alloc, cases, &next, gate),
+    )?;
+    gather(alloc, cases, parts, gate)
+}
+
+/// Checks all cases by this many threads, 1 to 64 of them. Where a thread can't be started this one does its work. A case
+/// for which memory runs out is answered so, and the others as ever; `Err` is want of memory for the list itself.
+pub fn check_many<G: Gate + Sync, H: Threads + Wait + Sync>(
+    rt: &H,
+    alloc: Global,
+    cases: &[Vec<u8>],
+    workers: usize,
+    gate: &G,
+) -> Result<Vec<CaseResult>, OutOfMemory>
+    ensures { IfOk result (λ answers. AnswersEach (map (λ case. case.items) cases.now) answers.items) }
+{
+    check_named::<Brand, G, H>(rt, alloc, cases, workers, gate)
+}
