@@ -15,13 +15,15 @@ use Rattle.clap.proofs.OnLiterals.{clap_on_literals}
 use Rattle.cli.specs.CommandLine.{tool, AsksCheck}
 use Rattle.cli.proofs.FirstWord.{stays}
 
--- a first word beside `check` and `help` names no subcommand
-no_name : (word : Text) → bytes_eq (codes "check") word ≡ false → bytes_eq (codes "help") word ≡ false → subcommand_met (names_of (built tool)) idle word ≡ None
-no_name word e f = simp (e, f)
+-- a first word beside `check`, `segment` and `help` names no subcommand
+pub no_name : (word : Text) → bytes_eq (codes "check") word ≡ false → bytes_eq (codes "segment") word ≡ false → bytes_eq (codes "help") word ≡ false
+    → subcommand_met (names_of (built tool)) idle word ≡ None
+no_name word e f g = simp (e, f, g)
 
 -- so the tool enters none
-no_subcommand : (word : Text) → bytes_eq (codes "check") word ≡ false → bytes_eq (codes "help") word ≡ false → subcommand_of tool (word ∷ []) ≡ None
-no_subcommand word e f = ap (entered (built tool)) (stays (built tool).top.rules (names_of (built tool)) word (no_name word e f))
+no_subcommand : (word : Text) → bytes_eq (codes "check") word ≡ false → bytes_eq (codes "segment") word ≡ false → bytes_eq (codes "help") word ≡ false
+    → subcommand_of tool (word ∷ []) ≡ None
+no_subcommand word e f g = ap (entered (built tool)) (stays (built tool).top.rules (names_of (built tool)) word (no_name word e f g))
 
 -- `check` passes, and names itself
 check_taken : fault_of tool (codes "check" ∷ []) ≡ []
@@ -37,8 +39,13 @@ help_refused : (fault_of tool (codes "help" ∷ []) ≡ []) → ⊥
 unfolding clap_on_literals
 help_refused e = cc
 
+-- `segment` alone lacks its argument
+segment_refused : (fault_of tool (codes "segment" ∷ []) ≡ []) → ⊥
+unfolding clap_on_literals
+segment_refused e = cc
+
 -- equal bytes are one text
-same_text : (xs ys : List ℕ) → bytes_eq xs ys ≡ true → ys ≡ xs
+pub same_text : (xs ys : List ℕ) → bytes_eq xs ys ≡ true → ys ≡ xs
 same_text xs ys e = search (rules, bytes_eq-Decides)
 
 -- where none is entered none is named
@@ -52,13 +59,17 @@ only_check [] name taken named one = cc
 only_check (a ∷ b ∷ rest) name taken named one = absurd (omega (one, arith))
 only_check (word ∷ []) name taken named one = by_check (bytes_eq (codes "check") word) refl
   where
-    by_help : (b : Bool) → bytes_eq (codes "check") word ≡ false → bytes_eq (codes "help") word ≡ b → AsksCheck (word ∷ [])
-    by_help true e f = absurd (help_refused (subst (λ w. fault_of tool (w ∷ []) ≡ []) (same_text _ _ f) taken))
-    by_help false e f = absurd (no_name_of _ name (no_subcommand word e f) named)
+    by_help : (b : Bool) → bytes_eq (codes "check") word ≡ false → bytes_eq (codes "segment") word ≡ false → bytes_eq (codes "help") word ≡ b → AsksCheck (word ∷ [])
+    by_help true e f g = absurd (help_refused (subst (λ w. fault_of tool (w ∷ []) ≡ []) (same_text _ _ g) taken))
+    by_help false e f g = absurd (no_name_of _ name (no_subcommand word e f g) named)
+
+    by_segment : (b : Bool) → bytes_eq (codes "check") word ≡ false → bytes_eq (codes "segment") word ≡ b → AsksCheck (word ∷ [])
+    by_segment true e f = absurd (segment_refused (subst (λ w. fault_of tool (w ∷ []) ≡ []) (same_text _ _ f) taken))
+    by_segment false e f = by_help (bytes_eq (codes "help") word) e f refl
 
     by_check : (b : Bool) → bytes_eq (codes "check") word ≡ b → AsksCheck (word ∷ [])
     by_check true e = ap (λ w. w ∷ []) (same_text _ _ e)
-    by_check false e = by_help (bytes_eq (codes "help") word) e refl
+    by_check false e = by_segment (bytes_eq (codes "segment") word) e refl
 
 -- `check` alone names a subcommand
 check_names : (words : List Text) → AsksCheck words → option_map (λ p. p.0) (subcommand_of tool words) ≡ None → ⊥
@@ -73,7 +84,7 @@ maps : {A B C : Type 0} (f : A → B) (g : B → C) (o : Option A) → option_ma
 maps f g None = refl
 maps f g (Some a) = refl
 
-name_first : (m : ArgMatches) → option_map (λ p. p.0) (subcommand_rows_of m) ≡ subcommand_name_of m
+pub name_first : (m : ArgMatches) → option_map (λ p. p.0) (subcommand_rows_of m) ≡ subcommand_name_of m
 name_first m = maps _ (λ p. p.0) (out-ArgMatches m).subcommand
 
 -- words of which the parse gives a name

@@ -1,2 +1,7 @@
 pub mod CommandLine
+pub mod HexText
+pub mod Many
+pub mod ManyLaw
+pub mod ManyWords
 pub mod Output
+pub mod SegmentText

@@ -4,16 +4,28 @@
 //! process ends. Each answer is one line of output.
 //!
 //! - `words`: what the words ask for, read by `clap` (`specs/CommandLine`)
-//! - `lines`: the line and the status of an answer (`specs/Output`)
+//! - `lines`: the line and the status of a case's answer (`specs/Output`)
+//! - `argument`: the segment that a hex text stands for (`specs/HexText`)
+//! - `segment_line`: the line and the status of a segment (`specs/SegmentText`)
 //! - `running`: the whole run, and the answers where the words can't be had
+//! - `many_words`, `many`: the words that ask for many cases, and the run that serves them too (`specs/ManyWords`,
+//!   `specs/Many`); it alone starts threads
+//! - `many_laws`: what the cutting of an input into cases means (`specs/ManyLaw`)
 //!
 //! What a case is answered is told by `checker`, and what is counted as a failure by `counted`.
 #![tactic(auto)]
 
+mod argument;
 mod lines;
+mod many;
+mod many_laws;
+mod many_words;
 mod running;
+mod segment_line;
 #[cfg(test)]
 mod tests;
 mod words;
 
+pub use many::run_all;
+pub use many_laws::cases_are_cut_back;
 pub use running::{answer_bad_memory, answer_bad_usage, run};

@@ -13,11 +13,11 @@ use std::alloc::Global;
 use std::io::Write;
 use verdict::{Verdict, print_verdict};
 
-/// The steps explain the trace.
+/// The steps explain the trace, or a segment is printed.
 pub const YES: u8 = 0;
 /// They do not.
 pub const NO: u8 = 1;
-/// A text is refused.
+/// A text or a segment is refused.
 pub const REFUSED: u8 = 2;
 /// The words ask for nothing that the program does.
 pub const USAGE: u8 = 3;

@@ -1,23 +1,28 @@
 //! The whole run of the program.
 
-ghost use Rattle.std.specs.Prelude.{◌≡◌, ◌≢◌, ◌⊎◌, ◌<◌, ◌^◌, IfSome, codes, map};
+ghost use Rattle.std.specs.Prelude.{◌≡◌, ◌≢◌, ◌⊎◌, ℕ, List, ◌<◌, ◌^◌, IfSome, codes, map};
 ghost use Rattle.std.specs.Io.KnownBytes.{Appends};
 ghost use Rattle.checker.specs.Cases.{case_result};
 ghost use Rattle.counted.specs.Counting.{left_of, failures_of};
-ghost use Rattle.cli.specs.CommandLine.{AsksCheck};
+ghost use Rattle.cli.specs.CommandLine.{AsksCheck, AsksNothing, AsksSegment};
+ghost use Rattle.cli.specs.HexText.{segment_in};
 ghost use Rattle.cli.specs.Output.{Ends, line_of, status_of};
+ghost use Rattle.cli.specs.SegmentText.{segment_line, segment_status};
 
+use crate::argument::{ArgumentFault, read_segment};
 use crate::lines::{DEVICE, MEMORY, USAGE, line_of, say, status_of};
-use crate::words::asks_for_check;
+use crate::segment_line::{segment_line, segment_status};
+use crate::words::{Asked, judge};
 use checker::{CaseFault, check_case};
 use counted::{Counted, ReadFault};
 use std::alloc::Global;
 use std::io::{BufRead, Write};
 
-/// Does what the words behind the program's name ask for, and answers the status: 0 where the case is explained, 1
-/// where it is not, 2 where its text is refused, 3 where the words are not `check` alone, 4 where memory ran out, and
-/// 5 where a read or a write failed. One line is written, which says the same; where the words are refused nothing is
-/// read. To write `bad memory` takes no memory.
+/// Does what the words behind the program's name ask for, and answers the status: 0 where the case is explained or the
+/// segment is printed, 1 where the case is not explained, 2 where its text or the segment is refused, 3 where the words
+/// are neither `check` alone nor `segment` with one word that begins with no dash, 4 where memory ran out, and 5 where
+/// a read or a write failed. One line is written, which says the same; only `check` reads. To write `bad memory` takes
+/// no memory.
 pub fn run<R: BufRead, W: Write>(
     alloc: Global,
     words: &[&str],
@@ -26,7 +31,8 @@ pub fn run<R: BufRead, W: Write>(
 ) -> u8
     requires { (failures_of r.old < 2 ^ 50) × (failures_of w.old < 2 ^ 50) }
     ensures check { AsksCheck (map (λ word. word.now) words.now) → result ≢ 5 → IfSome (left_of R.remaining r.old) (λ text. Ends (status_of (case_result text)) (line_of (case_result text)) result (left_of W.contents w.old) (left_of W.contents w.new)) }
-    ensures usage { ¬ AsksCheck (map (λ word. word.now) words.now) → result ≢ 5 → Ends 3 (codes "bad usage\n") result (left_of W.contents w.old) (left_of W.contents w.new) }
+    ensures segment { (text : List ℕ) → AsksSegment (map (λ word. word.now) words.now) text → result ≢ 5 → Ends (segment_status (segment_in text)) (segment_line (segment_in text)) result (left_of W.contents w.old) (left_of W.contents w.new) }
+    ensures usage { AsksNothing (map (λ word. word.now) words.now) → result ≢ 5 → Ends 3 (codes "bad usage\n") result (left_of W.contents w.old) (left_of W.contents w.new) }
     ensures unread { ¬ AsksCheck (map (λ word. word.now) words.now) → r.new ≡ r.old }
 
     // A device is at fault only where one failed, and then is said to be, where it can be.
@@ -34,9 +40,10 @@ pub fn run<R: BufRead, W: Write>(
     ensures told { result ≡ 5 → failures_of w.new ≡ failures_of w.old → Appends (left_of W.contents w.old) (left_of W.contents w.new) (codes "bad device\n") }
     ensures quiet { result ≢ 5 → (failures_of r.new ≡ failures_of r.old) × (failures_of w.new ≡ failures_of w.old) }
 {
-    match asks_for_check(alloc, words) {
-        Ok(true) => check(alloc, r, w),
-        Ok(false) => answer_bad_usage(w),
+    match judge(alloc, words) {
+        Ok(Asked::Check) => check(alloc, r, w),
+        Ok(Asked::Segment(text)) => show(alloc, text, w),
+        Ok(Asked::Nothing) => answer_bad_usage(w),
         Err(_) => answer_bad_memory(w),
     }
 }
@@ -90,6 +97,22 @@ fn answer<W: Write>(alloc: Global, text: &[u8], w: &mut Counted<W>) -> u8
         Err(CaseFault::OutOfMemory) => answer_bad_memory(w),
         answer => match line_of(alloc, &answer) {
             Ok(line) => say(w, line.as_slice(), status_of(&answer)),
+            Err(_) => answer_bad_memory(w),
+        },
+    }
+}
+
+// Writes the segment of a hex text, or its fault.
+fn show<W: Write>(alloc: Global, text: &str, w: &mut Counted<W>) -> u8
+    requires { failures_of w.old < 2 ^ 50 }
+    ensures segment { result ≢ 5 → Ends (segment_status (segment_in text.now)) (segment_line (segment_in text.now)) result (left_of W.contents w.old) (left_of W.contents w.new) }
+    ensures device { result ≡ 5 → failures_of w.old < failures_of w.new }
+    ensures quiet { result ≢ 5 → failures_of w.new ≡ failures_of w.old }
+{
+    match read_segment(alloc, text) {
+        Err(ArgumentFault::OutOfMemory) => answer_bad_memory(w),
+        answer => match segment_line(alloc, &answer) {
+            Ok(line) => say(w, line.as_slice(), segment_status(&answer)),
             Err(_) => answer_bad_memory(w),
         },
     }

@@ -1,5 +1,8 @@
 //! Runs with other words, and at ends that fail.
 
+mod many;
+mod segments;
+
 use crate::run;
 use counted::Counted;
 use std::io;
@@ -55,7 +58,7 @@ fn refuses_other_words(rt: HostRuntime) -> Result<(), Fail> {
         &["check", "--help"],
         &["--", "check"],
         &["many"],
-        &["segment", "00"],
+        &["segment"],
         &["--help"],
         &["-h"],
         &["--version"],

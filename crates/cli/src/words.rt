@@ -1,13 +1,24 @@
 //! What the words ask for.
 
-ghost use Rattle.std.specs.Prelude.{◌≡◌, ◌↔◌, false, IfOk, IsTrue, map};
-ghost use Rattle.clap.specs.Words.{app_of, subcommand_of, subcommand_rows_of, fault_of, FailsBy};
+ghost use Rattle.std.specs.Prelude.{◌≡◌, false, IfOk, map};
+ghost use Rattle.clap.specs.Words.{app_of, rule_of, subcommand_of, subcommand_rows_of, fault_of, FailsBy};
 ghost use Rattle.clap.specs.declared.builder.command.Command.TheViews.{out-Command};
-ghost use Rattle.cli.specs.CommandLine.{check, tool, AsksCheck};
+ghost use Rattle.cli.specs.CommandLine.{check, hex, is_dashed, segment, tool, IsAsked};
 
 use clap::error::ErrorKind;
-use clap::{ArgMatches, Command, Error};
+use clap::{Arg, ArgAction, ArgMatches, Command, Error};
 use std::alloc::{AllocError, Global};
+
+/// What words ask for.
+#[derive(Clone, Copy, Debug, PartialEq, Eq)]
+pub enum Asked<'a> {
+    /// That a case is checked.
+    Check,
+    /// The segment of this hex text.
+    Segment(&'a str),
+    /// Nothing that the program does.
+    Nothing,
+}
 
 // The subcommand that reads a case.
 fn make_check<'a>(alloc: Global) -> Command<'a>
@@ -17,14 +28,34 @@ fn make_check<'a>(alloc: Global) -> Command<'a>
     Command::new(alloc, "check")
 }
 
+// The text of the segment that is asked for.
+fn make_hex<'a>(alloc: Global) -> Arg<'a>
+    ensures rule { rule_of result ≡ hex }
+    ensures local { result.global ≡ false }
+{
+    Arg::new(alloc, "hex").required(true).action(ArgAction::Set)
+}
+
+// The subcommand that prints a segment.
+fn make_segment<'a>(alloc: Global) -> Result<Command<'a>, AllocError>
+    ensures app { IfOk result (λ command. app_of command ≡ segment) }
+    ensures local { IfOk result (λ command. (out-Command command).has_globals ≡ false) }
+{
+    let hex = make_hex(alloc);
+    let made = Command::new(alloc, "segment").arg(hex)?;
+    Ok(made)
+}
+
 // The whole command line. The words begin behind the program's name.
 fn make_tool<'a>(alloc: Global) -> Result<Command<'a>, AllocError>
     ensures { IfOk result (λ command. app_of command ≡ tool) }
 {
     let check = make_check(alloc);
+    let segment = make_segment(alloc)?;
     let top = Command::new(alloc, "tcpwit").no_binary_name(true);
-    let whole = top.subcommand(check)?;
-    Ok(whole)
+    let one = top.subcommand(check)?;
+    let two = one.subcommand(segment)?;
+    Ok(two)
 }
 
 // The words as `clap` reads them.
@@ -36,19 +67,29 @@ fn parse<'a>(alloc: Global, words: &'a [&'a str]) -> Result<ArgMatches<'a>, Erro
     tool.try_get_matches_from(words)
 }
 
-/// Whether the words are `check` alone.
-pub fn asks_for_check<'a>(alloc: Global, words: &'a [&'a str]) -> Result<bool, AllocError>
-    ensures { IfOk result (λ asks. IsTrue asks ↔ AsksCheck (map (λ word. word.now) words.now)) }
+// Whether a text begins with a dash.
+fn is_dashed(text: &str) -> bool
+    ensures { result ≡ is_dashed text.now }
+{
+    text.as_bytes().first() == Some(&b'-')
+}
+
+/// What the words ask for, want of memory aside.
+pub fn judge<'a>(alloc: Global, words: &'a [&'a str]) -> Result<Asked<'a>, AllocError>
+    ensures { IfOk result (λ asked. IsAsked asked (map (λ word. word.now) words.now)) }
 {
     match parse(alloc, words) {
+        // A word more would be a `--`, which `clap` lets pass, as it does a dash alone.
         Ok(matches) => match matches.subcommand_name() {
-            // A word more would be a `--` with nothing behind it, which `clap` lets pass.
-            Some(_) => Ok(words.len() == 1),
-            None => Ok(false),
+            Some(_) if words.len() == 1 => Ok(Asked::Check),
+            Some(name) if name == "segment" && words.len() == 2 && !is_dashed(words[1]) => {
+                Ok(Asked::Segment(words[1]))
+            }
+            _ => Ok(Asked::Nothing),
         },
         Err(error) => match error.kind() {
             ErrorKind::OutOfMemory => Err(AllocError),
-            _ => Ok(false),
+            _ => Ok(Asked::Nothing),
         },
     }
 }

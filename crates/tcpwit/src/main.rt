@@ -1,21 +1,23 @@
-//! The program `tcpwit`: `cli::run` on the process's words, its standard input and its standard output.
+//! The program `tcpwit`: `cli::run_all` on the process's words, its standard input and its standard output.
 #![tactic(auto)]
 
 ghost use Rattle.std.specs.Prelude.{◌≡◌, ◌<◌, ◌^◌, OnErr};
 ghost use Rattle.counted.specs.Counting.{failures_of};
 
-use cli::{answer_bad_memory, answer_bad_usage, run};
+use cli::{answer_bad_memory, answer_bad_usage, run_all};
 use counted::Counted;
 use std::alloc::{AllocError, Global};
 use std::env::Args;
 use std::io::{BufRead, ErrorKind, Input, Write};
 use std::process::ExitCode;
+use std::sync::Wait;
+use std::thread::Threads;
 
 fn main(rt: HostRuntime) -> ExitCode {
     let mut reader = Counted::new(rt.reader());
     let mut writer = Counted::new(rt.stdout());
     let status = match std::env::args(&rt) {
-        Ok(given) => match run_given(rt.alloc(), given, &mut reader, &mut writer) {
+        Ok(given) => match run_given(&rt, rt.alloc(), given, &mut reader, &mut writer) {
             Ok(status) => status,
             Err(AllocError) => answer_bad_memory(&mut writer),
         },
@@ -27,7 +29,8 @@ fn main(rt: HostRuntime) -> ExitCode {
 }
 
 // Runs with the words behind the program's name. Where they find no memory nothing is read or written.
-fn run_given<R: BufRead, W: Write>(
+fn run_given<R: BufRead, W: Write, H: Threads + Wait + Sync>(
+    rt: &H,
     alloc: Global,
     given: Args,
     r: &mut Counted<R>,
@@ -41,5 +44,5 @@ fn run_given<R: BufRead, W: Write>(
     for word in given.iter().skip(1) {
         words.push(word.as_str())?;
     }
-    Ok(run(alloc, words.as_slice(), r, w))
+    Ok(run_all(rt, alloc, words.as_slice(), r, w))
 }

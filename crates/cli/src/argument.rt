@@ -1,0 +1,39 @@
+//! The segment that the argument of `segment` stands for.
+
+ghost use Rattle.std.specs.Prelude.{◌≡◌};
+ghost use Rattle.cli.specs.HexText.{Gives};
+
+use hex::FromHexError;
+use segment::{SegFault, Segment, decode};
+use std::alloc::Global;
+use thiserror::Error;
+
+/// Why a text stands for no segment.
+#[derive(Clone, Copy, Debug, PartialEq, Eq, Error)]
+pub enum ArgumentFault {
+    /// It is no hex: the count of its digits is odd, or a digit is wrong.
+    #[error("the text is no hex")]
+    Hex,
+    /// Its bytes stand for no segment.
+    #[error("the bytes are no segment")]
+    Segment(SegFault),
+    /// Memory ran out; nothing is wrong with the text.
+    #[error("out of memory")]
+    OutOfMemory,
+}
+
+/// The segment that a hex text stands for, in either case, or the first fault.
+pub fn read_segment(alloc: Global, text: &str) -> Result<Segment, ArgumentFault>
+    ensures { Gives result text.now }
+{
+    let bytes = match hex::decode(alloc, text.as_bytes()) {
+        Ok(bytes) => bytes,
+        Err(FromHexError::OutOfMemory) => return Err(ArgumentFault::OutOfMemory),
+        Err(_) => return Err(ArgumentFault::Hex),
+    };
+    match decode(alloc, bytes.as_slice()) {
+        Ok(segment) => Ok(segment),
+        Err(SegFault::OutOfMemory) => Err(ArgumentFault::OutOfMemory),
+        Err(fault) => Err(ArgumentFault::Segment(fault)),
+    }
+}

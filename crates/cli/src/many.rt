@@ -1,0 +1,190 @@
+//! Many cases in one input, checked by several threads.
+
+ghost use Rattle.std.specs.Prelude.{◌≡◌, ◌≢◌, ◌⊎◌, ◌<◌, ◌^◌, ℕ, List, IfOk, IfSome, codes, map};
+ghost use Rattle.std.specs.Io.KnownBytes.{Appends};
+ghost use Rattle.checker.specs.Cases.{case_result};
+ghost use Rattle.parallel_check.specs.Answers.{AnswersEach};
+ghost use Rattle.counted.specs.Counting.{left_of, failures_of};
+ghost use Rattle.cli.specs.CommandLine.{AsksCheck, AsksNothing, AsksSegment};
+ghost use Rattle.cli.specs.HexText.{segment_in};
+ghost use Rattle.cli.specs.ManyWords.{AsksMany};
+ghost use Rattle.cli.specs.Output.{Ends, line_of, status_of};
+ghost use Rattle.cli.specs.SegmentText.{segment_line, segment_status};
+ghost use Rattle.cli.specs.Many.{cases_of, ends_case, greatest_status, lines_of_all, EndsMany};
+
+use crate::lines::{DEVICE, YES, line_of, say, status_of};
+use crate::many_words::asked_workers;
+use crate::running::{answer_bad_memory, run};
+use bstr::ByteSlice;
+use case_forms::OutOfMemory;
+use counted::{Counted, ReadFault};
+use line_fields::content;
+use parallel_check::{CaseResult, Gate, check_many};
+use std::alloc::Global;
+use std::io::{BufRead, Write};
+use std::sync::Wait;
+use std::thread::Threads;
+
+/// Does what the words behind the program's name ask for: where they ask for many cases, those of the input are checked by
+/// so many threads, a line is written for each in their order, and the greatest of their statuses is answered, 0 for none.
+/// For all other words it is `run`.
+pub fn run_all<R: BufRead, W: Write, H: Threads + Wait + Sync>(
+    rt: &H,
+    alloc: Global,
+    words: &[&str],
+    r: &mut Counted<R>,
+    w: &mut Counted<W>,
+) -> u8
+    requires { (failures_of r.old < 2 ^ 50) × (failures_of w.old < 2 ^ 50) }
+    ensures many { (n : ℕ) → AsksMany (map (λ word. word.now) words.now) n → result ≢ 5 → IfSome (left_of R.remaining r.old) (λ text. EndsMany (cases_of text) result (left_of W.contents w.old) (left_of W.contents w.new)) }
+    ensures check { AsksCheck (map (λ word. word.now) words.now) → result ≢ 5 → IfSome (left_of R.remaining r.old) (λ text. Ends (status_of (case_result text)) (line_of (case_result text)) result (left_of W.contents w.old) (left_of W.contents w.new)) }
+    ensures segment { (text : List ℕ) → AsksSegment (map (λ word. word.now) words.now) text → result ≢ 5 → Ends (segment_status (segment_in text)) (segment_line (segment_in text)) result (left_of W.contents w.old) (left_of W.contents w.new) }
+    ensures usage { AsksNothing (map (λ word. word.now) words.now) → ((n : ℕ) → ¬ AsksMany (map (λ word. word.now) words.now) n) → result ≢ 5 → Ends 3 (codes "bad usage\n") result (left_of W.contents w.old) (left_of W.contents w.new) }
+    ensures unread { ¬ AsksCheck (map (λ word. word.now) words.now) → ((n : ℕ) → ¬ AsksMany (map (λ word. word.now) words.now) n) → r.new ≡ r.old }
+
+    // A device is at fault only where one failed, and then is said to be, where it can be.
+    ensures device { result ≡ 5 → (failures_of r.old < failures_of r.new) ⊎ (failures_of w.old < failures_of w.new) }
+    ensures told { result ≡ 5 → failures_of w.new ≡ failures_of w.old → Appends (left_of W.contents w.old) (left_of W.contents w.new) (codes "bad device\n") }
+    ensures quiet { result ≢ 5 → (failures_of r.new ≡ failures_of r.old) × (failures_of w.new ≡ failures_of w.old) }
+{
+    match asked_workers(alloc, words) {
+        Ok(Some(workers)) => many(rt, alloc, workers, r, w),
+        Ok(None) => run(alloc, words, r, w),
+        Err(_) => answer_bad_memory(w),
+    }
+}
+
+// Reads the cases to the end of the input, and answers them.
+fn many<R: BufRead, W: Write, H: Threads + Wait + Sync>(
+    rt: &H,
+    alloc: Global,
+    workers: usize,
+    r: &mut Counted<R>,
+    w: &mut Counted<W>,
+) -> u8
+    requires { (failures_of r.old < 2 ^ 50) × (failures_of w.old < 2 ^ 50) }
+    ensures many { result ≢ 5 → IfSome (left_of R.remaining r.old) (λ text. EndsMany (cases_of text) result (left_of W.contents w.old) (left_of W.contents w.new)) }
+    ensures device { result ≡ 5 → (failures_of r.old < failures_of r.new) ⊎ (failures_of w.old < failures_of w.new) }
+    ensures told { result ≡ 5 → failures_of w.new ≡ failures_of w.old → Appends (left_of W.contents w.old) (left_of W.contents w.new) (codes "bad device\n") }
+    ensures quiet { result ≢ 5 → (failures_of r.new ≡ failures_of r.old) × (failures_of w.new ≡ failures_of w.old) }
+{
+    let mut text = Vec::new(alloc);
+    match r.append_all(&mut text) {
+        Ok(()) => answer_cases(rt, alloc, text, workers, w),
+        Err(ReadFault::Read) => {
+            let _ = say(w, b"bad device\n", DEVICE);
+            DEVICE
+        }
+        Err(ReadFault::OutOfMemory) => answer_bad_memory(w),
+    }
+}
+
+// Checks the cases of a text, and writes the answers.
+fn answer_cases<W: Write, H: Threads + Wait + Sync>(
+    rt: &H,
+    alloc: Global,
+    text: Vec<u8>,
+    workers: usize,
+    w: &mut Counted<W>,
+) -> u8
+    requires { failures_of w.old < 2 ^ 50 }
+    ensures many { result ≢ 5 → EndsMany (cases_of text.items) result (left_of W.contents w.old) (left_of W.contents w.new) }
+    ensures device { result ≡ 5 → failures_of w.old < failures_of w.new }
+    ensures quiet { result ≢ 5 → failures_of w.new ≡ failures_of w.old }
+{
+    match answers_to(rt, alloc, text, workers) {
+        Ok(answers) => tell(alloc, answers.as_slice(), w),
+        Err(_) => answer_bad_memory(w),
+    }
+}
+
+// Workers that nobody watches.
+struct Unwatched;
+
+impl Gate for Unwatched {
+    fn before(&self, _case: usize) {}
+
+    fn after(&self, _case: usize) {}
+}
+
+// The answers to the cases of a text.
+fn answers_to<H: Threads + Wait + Sync>(
+    rt: &H,
+    alloc: Global,
+    text: Vec<u8>,
+    workers: usize,
+) -> Result<Vec<CaseResult>, OutOfMemory>
+    ensures { IfOk result (λ answers. AnswersEach (cases_of text.items) answers.items) }
+{
+    let cases = cut_cases(alloc, text)?;
+    check_many(rt, alloc, cases.as_slice(), workers, &Unwatched)
+}
+
+// Whether a line, given with its end, ends a case.
+fn ends_case(raw: &[u8]) -> bool
+    ensures { result ≡ ends_case raw.now }
+{
+    let (text, ended) = content(raw);
+    ended && text == "end".as_bytes()
+}
+
+// The cases of a text, each copied once. The text is then let go.
+fn cut_cases(alloc: Global, text: Vec<u8>) -> Result<Vec<Vec<u8>>, OutOfMemory>
+    ensures { IfOk result (λ cases. map (λ case. case.items) cases.items ≡ cases_of text.items) }
+{
+    let mut cases = Vec::new(alloc);
+    let bytes = text.as_slice();
+    let mut start = 0;
+    let mut at = 0;
+    for raw in bytes.lines_with_terminator() {
+        let end = at + raw.len();
+        if ends_case(raw) {
+            cases.push(Vec::from_slice(alloc, &bytes[start..at])?)?;
+            start = end;
+        }
+        at = end;
+    }
+    if start >= bytes.len() {
+        return Ok(cases);
+    }
+    cases.push(Vec::from_slice(alloc, &bytes[start..])?)?;
+    Ok(cases)
+}
+
+// Writes a line for each answer, and gives the greatest status; where there is no memory for the lines, that alone is said.
+fn tell<W: Write>(alloc: Global, answers: &[CaseResult], w: &mut Counted<W>) -> u8
+    requires { failures_of w.old < 2 ^ 50 }
+    ensures said { result ≢ 5 → ((result ≡ 4) × Appends (left_of W.contents w.old) (left_of W.contents w.new) (codes "bad memory\n")) ⊎ ((result ≡ greatest_status answers.now) × Appends (left_of W.contents w.old) (left_of W.contents w.new) (lines_of_all answers.now)) }
+    ensures device { greatest_status answers.now ≢ 5 → result ≡ 5 → failures_of w.old < failures_of w.new }
+    ensures quiet { result ≢ 5 → failures_of w.new ≡ failures_of w.old }
+{
+    match lines_of_all(alloc, answers) {
+        Ok(lines) => say(w, lines.as_slice(), greatest_status(answers)),
+        Err(_) => answer_bad_memory(w),
+    }
+}
+
+// A line for each answer.
+#[tactic(auto, using(crate::proofs::ManyAnswers::lines_more))]
+fn lines_of_all(alloc: Global, answers: &[CaseResult]) -> Result<Vec<u8>, OutOfMemory>
+    ensures { IfOk result (λ lines. lines.items ≡ lines_of_all answers.now) }
+{
+    let mut lines = Vec::new(alloc);
+    for answer in answers {
+        let line = line_of(alloc, answer)?;
+        lines.extend_from_slice(line.as_slice())?;
+    }
+    Ok(lines)
+}
+
+// The greatest status of the answers, 0 for none.
+#[tactic(auto, using(crate::proofs::ManyAnswers::greatest_more))]
+fn greatest_status(answers: &[CaseResult]) -> u8
+    ensures { result ≡ greatest_status answers.now }
+{
+    let mut greatest = YES;
+    for answer in answers {
+        greatest = greatest.max(status_of(answer));
+    }
+    greatest
+}
