@@ -9,6 +9,7 @@
 //! - `headers`, `event_lines`, `witness_lines`, `long_lines`: texts that are refused, and texts at their limits
 //! - `order_of_lines`, `moments`: rules 1 to 6, and 39
 //! - `threads`, `answers`: rules 7 to 12
+//! - `many`: many cases in one input, by several numbers of workers
 #![tactic(auto)]
 
 #[cfg(test)]

@@ -5,10 +5,14 @@ mod beginnings;
 mod event_lines;
 mod headers;
 mod long_lines;
+mod many;
 mod moments;
 mod order_of_lines;
 mod threads;
+mod trace_forms;
 mod two_threads;
+mod wire_forms;
+mod witness_forms;
 mod witness_lines;
 
 use checker::{CaseFault, check_case};

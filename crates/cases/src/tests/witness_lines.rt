@@ -1,4 +1,4 @@
-//! Where a case is cut, the lines of a witness, and forms to come.
+//! Where a case is cut, the lines of a witness, and steps in an empty world.
 
 use super::{PLAIN, Worked, judges_all};
 use std::test::Fail;
@@ -113,53 +113,118 @@ fn first_fault_of_a_case(rt: HostRuntime) -> Result<(), Fail> {
     judges_all(&rt, rt.alloc(), &STEPS)
 }
 
-// Forms that this edition refuses.
-const TO_COME: [Worked; 6] = [
+// Lines and labels in a world with no endpoint and no segment.
+const EMPTY_WORLD: [Worked; 12] = [
     Worked {
-        name: "a call to come",
+        name: "an effect of open",
         header: PLAIN,
-        rest: "10 2 B open 0 4000 80\nwitness 1\n",
-        line: "bad trace 7 7 11 field",
-        status: 2,
+        rest: "10 2 B open 0 4000 80\n\
+               witness 1\n\
+               10 L 7\n\
+               10 D 2 ok 6\n",
+        line: "no 3 0 call-answer",
+        status: 1,
     },
     Worked {
-        name: "an answer to come",
+        name: "a call on a dead socket number",
         header: PLAIN,
-        rest: "10 2 E again\nwitness 1\n",
-        line: "bad trace 7 7 12 field",
-        status: 2,
+        rest: "10 2 B await 6\n\
+               10 2 E badsocket\n\
+               witness 1\n\
+               10 L 7\n\
+               10 D 2 badsocket\n\
+               10 L 8\n",
+        line: "yes 2 1",
+        status: 0,
     },
     Worked {
-        name: "a segment to come",
+        name: "a segment that nobody made",
         header: PLAIN,
-        rest: "30 3 O 0 00\nwitness 1\n",
-        line: "bad trace 7 5 6 field",
-        status: 2,
+        rest: "30 3 O 0 0fa00050fffffffe000000005002ffff00000000\n\
+               witness 1\n\
+               30 L 7 1\n",
+        line: "no 2 7 not-made",
+        status: 1,
     },
     Worked {
-        name: "a timer to come",
+        name: "a copy of nothing",
         header: PLAIN,
-        rest: "30 3 T 0 80 4000 rto\nwitness 1\n",
-        line: "bad trace 7 5 6 field",
-        status: 2,
+        rest: "30 3 I 0 0fa00050fffffffe000000005002ffff00000000\n\
+               witness 1\n\
+               30 L 7 7\n",
+        line: "no 2 7 no-emission",
+        status: 1,
     },
     Worked {
-        name: "a label to come",
+        name: "a timer of nobody",
         header: PLAIN,
-        rest: "witness 1\n30 K 0 12\n",
-        line: "bad witness 2 3 4 field",
-        status: 2,
+        rest: "30 3 T 0 80 4000 persist\n\
+               witness 1\n\
+               30 L 7\n",
+        line: "no 2 7 no-endpoint",
+        status: 1,
     },
     Worked {
-        name: "the effect of a call to come",
+        name: "a retransmission timer of nobody",
         header: PLAIN,
-        rest: "witness 1\n30 D 1 eof\n",
-        line: "bad witness 2 7 10 field",
-        status: 2,
+        rest: "30 3 T 0 80 4000 rto\n\
+               witness 1\n\
+               30 L 7 1 1\n",
+        line: "no 2 7 no-endpoint",
+        status: 1,
+    },
+    Worked {
+        name: "a retransmission timer without its values",
+        header: PLAIN,
+        rest: "30 3 T 0 80 4000 rto\n\
+               witness 1\n\
+               30 L 7\n",
+        line: "no 2 7 line-range",
+        status: 1,
+    },
+    Worked {
+        name: "a segment made by nobody",
+        header: PLAIN,
+        rest: "witness 1\n\
+               30 M 0 4000 80 0 0 S 65535 1\n",
+        line: "no 2 0 no-endpoint",
+        status: 1,
+    },
+    Worked {
+        name: "a segment taken that did not come",
+        header: PLAIN,
+        rest: "witness 1\n\
+               30 T 0 7 0 0 0\n",
+        line: "no 2 0 inbox",
+        status: 1,
+    },
+    Worked {
+        name: "a segment dropped that did not come",
+        header: PLAIN,
+        rest: "witness 1\n\
+               30 K 0 7\n",
+        line: "no 2 0 inbox",
+        status: 1,
+    },
+    Worked {
+        name: "a reset for what did not come",
+        header: PLAIN,
+        rest: "witness 1\n\
+               30 R 0 7\n",
+        line: "no 2 0 inbox",
+        status: 1,
+    },
+    Worked {
+        name: "a recovery of nobody",
+        header: PLAIN,
+        rest: "witness 1\n\
+               30 F 0 80 4000 1 1\n",
+        line: "no 2 0 no-endpoint",
+        status: 1,
     },
 ];
 
 #[test]
-fn refuses_later_forms(rt: HostRuntime) -> Result<(), Fail> {
-    judges_all(&rt, rt.alloc(), &TO_COME)
+fn judges_in_an_empty_world(rt: HostRuntime) -> Result<(), Fail> {
+    judges_all(&rt, rt.alloc(), &EMPTY_WORLD)
 }
