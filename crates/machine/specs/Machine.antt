@@ -16,10 +16,11 @@ use Rattle.machine.specs.Lookups.{place_of, endpoint_of, at_ports, given}
 use Rattle.machine.specs.Same.{same_answer}
 use Rattle.machine.specs.CallRules.{call_allows, is_bad_socket}
 use Rattle.machine.specs.CallEffects.{after_call}
-use Rattle.machine.specs.Making.{Making, making_rules}
+use Rattle.machine.specs.declared.making.Making.{Making}
+use Rattle.machine.specs.Making.{making_rules}
 use Rattle.machine.specs.MakingEffects.{emission_of, after_making}
 use Rattle.machine.specs.Wires.{out_rules, sent, in_rules}
-use Rattle.machine.specs.TakingRules.{How}
+use Rattle.machine.specs.declared.how.How.{How}
 use Rattle.machine.specs.Meeting.{taker, taker_rules, after_taking}
 use Rattle.machine.specs.Resets.{reset_rules, reset_of}
 use Rattle.machine.specs.Timing.{Expiry, Growth, Recovery, expiry_rules, after_expiry, recovery_rules, after_recovery}

@@ -5,21 +5,11 @@ use Rattle.case_forms.specs.declared.calls.State.TheVariants as states
 use Rattle.case_forms.specs.declared.steps.Flags.{Flags}
 use Rattle.verdict.specs.declared.rule.Rule.{Rule}
 use Rattle.verdict.specs.declared.rule.Rule.TheVariants as rules
-use Rattle.seqno.specs.declared.word.Word.{Word}
 use Rattle.streams.specs.Sent.{end_of}
 use Rattle.window_rules.specs.Windows.{offered_edge, congestion_edge}
+use Rattle.machine.specs.declared.making.Making.{Making}
 use Rattle.machine.specs.Endpoints.{Endpoint, max_made, next, flag_count}
 use Rattle.machine.specs.Lookups.{is_closed, is_syn_sent, is_syn_received}
-
--- a segment to be made: between which ports, from which position on, with so many bytes, and the initial send sequence number with the first SYN
-pub record Making : Type 0 where
-  pub lport : ℕ
-  pub rport : ℕ
-  pub pos : ℕ
-  pub len : ℕ
-  pub flags : Flags
-  pub window : ℕ
-  pub iss : Option Word
 
 -- the positions that it takes (RFC 9293, 3.3.1: SEG.LEN)
 abbrev pub making_length : Making → ℕ

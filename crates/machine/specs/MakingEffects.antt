@@ -10,7 +10,8 @@ use Rattle.timer_rules.specs.declared.timers.Timers.{Timers}
 use Rattle.timer_rules.specs.Timers.{armed}
 use Rattle.machine.specs.Endpoints.{Name, Endpoint, Emission, next}
 use Rattle.machine.specs.CallEffects.{shut_down}
-use Rattle.machine.specs.Making.{Making, making_length, has_new_bytes}
+use Rattle.machine.specs.declared.making.Making.{Making}
+use Rattle.machine.specs.Making.{making_length, has_new_bytes}
 
 abbrev pub word_zero : Word
 word_zero = record { 0 = 0 }

@@ -13,7 +13,8 @@ use Rattle.timer_rules.specs.declared.timers.Timers.{Timers}
 use Rattle.machine.specs.Endpoints.{Fault, Refused, Reset, Endpoint, Emission, Listener, Body, new_endpoint, max_made}
 use Rattle.machine.specs.Lookups.{is_closed, is_syn_sent, is_syn_received, place_of, listener_on}
 use Rattle.machine.specs.CallEffects.{shut_down}
-use Rattle.machine.specs.TakingRules.{How, told_smss, acknowledges_syn, listener_rules, syn_sent_rules, connected_rules}
+use Rattle.machine.specs.declared.how.How.{How}
+use Rattle.machine.specs.TakingRules.{told_smss, acknowledges_syn, listener_rules, syn_sent_rules, connected_rules}
 use Rattle.machine.specs.TakingEffects.{timeout_taken, rto_taken, persist_taken, taken}
 
 -- whom a segment finds: the endpoint of its ports, if that is not CLOSED, else the listener on its destination port

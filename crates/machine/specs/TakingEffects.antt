@@ -12,7 +12,8 @@ use Rattle.window_rules.specs.Growth.{counted_after}
 use Rattle.timer_rules.specs.declared.timers.Timers.{Timers}
 use Rattle.timer_rules.specs.Timers.{sampled, raised_for_lost_syn, armed, stopped, all_stopped}
 use Rattle.machine.specs.Endpoints.{Stream, Window, Endpoint, Emission, max_made, next, flag_count}
-use Rattle.machine.specs.TakingRules.{How, is_new_ack, acknowledges_syn, acked, is_duplicate}
+use Rattle.machine.specs.declared.how.How.{How}
+use Rattle.machine.specs.TakingRules.{is_new_ack, acknowledges_syn, acked, is_duplicate}
 
 -- the position of a segment's first byte, and that behind its last, where its FIN stands
 abbrev pub first_byte : Emission → ℕ

@@ -10,14 +10,9 @@ use Rattle.seqno.specs.Near.{near_position}
 use Rattle.streams.specs.Makings.{made_again}
 use Rattle.window_rules.specs.Windows.{initial_window}
 use Rattle.window_rules.specs.Growth.{may_grow, on_duplicate}
+use Rattle.machine.specs.declared.how.How.{How}
 use Rattle.machine.specs.Endpoints.{Name, same_name, Endpoint, Emission, Body, max_made, next, receive_window, segment_length}
 use Rattle.machine.specs.Lookups.{is_syn_received, same_word}
-
--- the choices at taking: the congestion window then, whether bytes are kept, and whether the round trip is measured
-pub record How : Type 0 where
-  pub cwnd : ℕ
-  pub keep : Bool
-  pub sample : Bool
 
 -- the segment acknowledges what was not acknowledged before (RFC 5681, 2)
 abbrev pub is_new_ack : Endpoint → Emission → Bool
@@ -117,9 +112,12 @@ is_queue_full h b l = option_map_or (λ x. nat_le (x.backlog + h.extra) (length 
 abbrev pub joins_full_queue : Header → Body → Endpoint → Emission → Bool
 joins_full_queue h b e m = is_syn_received e.state && not m.flags.rst && option_map_or (is_queue_full h b) e.listener false
 
--- the rules in the other states
-abbrev pub connected_rules : Header → Body → Name → Endpoint → How → Emission → List (Rule × Bool)
-connected_rules h b me e how m =
+-- the rules in the other states, where it is known whether the child would join a full queue
+abbrev pub rules_with_queue : (full : Bool) → Name → Endpoint → How → Emission → List (Rule × Bool)
+rules_with_queue full me e how m =
     (rules.NotPeer, not (is_from_peer me e m)) ∷ (rules.Number, is_bad_number e m) ∷ (rules.Unacceptable, not (is_acceptable e m))
-    ∷ (rules.AckRange, is_bad_ack_range e m) ∷ (rules.QueueFull, joins_full_queue h b e m)
+    ∷ (rules.AckRange, is_bad_ack_range e m) ∷ (rules.QueueFull, full)
     ∷ (rules.Growth, nat_lt (greatest_window e m) how.cwnd) ∷ (rules.Sample, how.sample && not (may_sample e m)) ∷ []
+
+abbrev pub connected_rules : Header → Body → Name → Endpoint → How → Emission → List (Rule × Bool)
+connected_rules h b me e how m = rules_with_queue (joins_full_queue h b e m) me e how m

@@ -13,3 +13,13 @@
 //! - `specs/Machine`: all of it as one machine of two hosts; `specs/Steps`: which step a line of a witness asks for
 //! - `specs/Forgetting`: what may be let go
 #![tactic(auto)]
+
+mod endpoint;
+mod how;
+mod making;
+mod queue;
+
+pub use endpoint::{Emission, Endpoint, Fault, Listener, Name, Socket, Stream, Thing, Window};
+pub use how::How;
+pub use making::Making;
+pub use queue::Queue;

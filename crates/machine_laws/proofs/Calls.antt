@@ -19,7 +19,15 @@ use Rattle.streams.specs.Lists.{Within, modify}
 use Rattle.streams.specs.Received.{received, waiting}
 use Rattle.streams.proofs.Fronts.{body_grows, body_ends}
 use Rattle.hosts.specs.Tables.{pick, other}
-use Rattle.machine.specs.Endpoints.{Name, Fault, Refused, Reset, Timeout, Stream, Endpoint, Thing, Listens, Ends, Socket, Body, new_endpoint}
+use Rattle.machine.specs.declared.endpoint.Name.{Name}
+use Rattle.machine.specs.declared.endpoint.Fault.{Fault}
+use Rattle.machine.specs.declared.endpoint.Stream.{Stream}
+use Rattle.machine.specs.declared.endpoint.Endpoint.{Endpoint}
+use Rattle.machine.specs.declared.endpoint.Thing.{Thing}
+use Rattle.machine.specs.declared.endpoint.Socket.{Socket}
+use Rattle.machine.specs.declared.endpoint.Fault.TheVariants.{Refused, Reset, Timeout}
+use Rattle.machine.specs.declared.endpoint.Thing.TheVariants.{Listens, Ends}
+use Rattle.machine.specs.Endpoints.{Body, new_endpoint}
 use Rattle.machine.specs.Lookups.{is_syn_sent, given, if_live, thing_of, queue_of}
 use Rattle.machine.specs.Same.{is_prefix}
 use Rattle.machine.specs.CallRules.{tells, is_bad_socket, listener_allows, endpoint_allows, thing_allows, socket_allows, call_allows, send_allows, open_send_allows}

@@ -7,7 +7,9 @@ use Rattle.streams.specs.Cells.{bytes_of, front, has_fin}
 use Rattle.streams.specs.Lists.{IsPrefixOf}
 use Rattle.streams.specs.Received.{arrived, received, waiting, is_ended}
 use Rattle.streams.proofs.ReadLemmas.{in_order, ended_has_fin}
-use Rattle.machine.specs.Endpoints.{Name, Stream, Endpoint}
+use Rattle.machine.specs.declared.endpoint.Name.{Name}
+use Rattle.machine.specs.declared.endpoint.Stream.{Stream}
+use Rattle.machine.specs.declared.endpoint.Endpoint.{Endpoint}
 use Rattle.machine.specs.CallRules.{is_read_out}
 use Rattle.machine_laws.specs.Consequences.{find, HasStream}
 use Rattle.machine_laws.proofs.Rules.{both_true, zero_from}

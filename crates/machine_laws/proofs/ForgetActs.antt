@@ -11,11 +11,16 @@ use Rattle.verdict.specs.declared.rule.Rule.TheVariants as rules
 use Rattle.verdict.specs.Rules.{first_broken}
 use Rattle.verdict.proofs.RuleLemmas.{none_all}
 use Rattle.streams.specs.Sent.{piece}
-use Rattle.machine.specs.Endpoints.{Name, Endpoint, Emission, Body}
+use Rattle.machine.specs.declared.endpoint.Name.{Name}
+use Rattle.machine.specs.declared.endpoint.Endpoint.{Endpoint}
+use Rattle.machine.specs.declared.endpoint.Emission.{Emission}
+use Rattle.machine.specs.Endpoints.{Body}
 use Rattle.machine.specs.Lookups.{is_closed, is_syn_sent, listener_on, place_of, endpoint_at}
-use Rattle.machine.specs.Making.{Making, is_bad_payload, is_bad_place, making_rules}
+use Rattle.machine.specs.declared.making.Making.{Making}
+use Rattle.machine.specs.Making.{is_bad_payload, is_bad_place, making_rules}
 use Rattle.machine.specs.MakingEffects.{emission_of, after_making}
-use Rattle.machine.specs.TakingRules.{How, syn_sent_rules, connected_rules}
+use Rattle.machine.specs.declared.how.How.{How}
+use Rattle.machine.specs.TakingRules.{syn_sent_rules, connected_rules}
 use Rattle.machine.specs.Meeting.{Taker, Nobody, AtListener, AtEndpoint, listener_taker, endpoint_taker, taker, taker_rules, child, endpoint_taken, after_taking}
 use Rattle.machine.specs.Resets.{finds_nothing}
 use Rattle.machine.specs.Timing.{expiry_rules, after_expiry, recovery_rules, after_recovery}

@@ -6,7 +6,8 @@ use Rattle.std.proofs.lemmas.Option.{slice_get-map}
 use Rattle.verdict.specs.declared.rule.Rule.{Rule}
 use Rattle.verdict.specs.declared.rule.Rule.TheVariants as rules
 use Rattle.streams.specs.Lists.{modify}
-use Rattle.machine.specs.Endpoints.{Endpoint, Body}
+use Rattle.machine.specs.declared.endpoint.Endpoint.{Endpoint}
+use Rattle.machine.specs.Endpoints.{Body}
 use Rattle.machine.specs.Lookups.{has_ports, last_from, place_of, endpoint_of, with_endpoint, at_ports}
 use Rattle.machine.specs.Machine.{rules_at}
 use Rattle.machine.specs.Forgetting.{forget_endpoint, forget_body}

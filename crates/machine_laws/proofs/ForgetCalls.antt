@@ -9,7 +9,10 @@ use Rattle.case_forms.specs.declared.calls.Call.TheVariants as calls
 use Rattle.case_forms.specs.declared.calls.Answer.{Answer}
 use Rattle.case_forms.specs.declared.calls.Answer.TheVariants as answers
 use Rattle.case_forms.specs.declared.calls.State.TheVariants as states
-use Rattle.machine.specs.Endpoints.{Endpoint, Thing, Listens, Ends, Body, new_endpoint}
+use Rattle.machine.specs.declared.endpoint.Endpoint.{Endpoint}
+use Rattle.machine.specs.declared.endpoint.Thing.{Thing}
+use Rattle.machine.specs.declared.endpoint.Thing.TheVariants.{Listens, Ends}
+use Rattle.machine.specs.Endpoints.{Body, new_endpoint}
 use Rattle.machine.specs.Lookups.{endpoint_of, is_closed, is_connected, queue_of, thing_of}
 use Rattle.machine.specs.CallRules.{shut_allows, endpoint_allows, thing_allows, socket_allows, gives_or_in_use, is_bad_socket, call_allows}
 use Rattle.machine.specs.CallEffects.{orphaned, thing_gone, after_gone, accepted_from, after_accept, change_thing, change, after_send, after_recv, after_shut, after_close, after_abort, after_call, dead}

@@ -7,10 +7,11 @@ use Rattle.case_forms.specs.declared.timer.Timer.TheVariants.{Rto, Persist, Msl2
 use Rattle.streams.specs.Makings.{once}
 use Rattle.streams.proofs.Covers.{covered-append, covered-covered}
 use Rattle.streams.proofs.Fades.{below-mark, fade-fade}
-use Rattle.machine.specs.Endpoints.{Endpoint}
+use Rattle.machine.specs.declared.endpoint.Endpoint.{Endpoint}
 use Rattle.machine.specs.CallEffects.{shut_down, after_shut, after_close, after_abort, orphaned, after_send, after_recv}
 use Rattle.machine.specs.Lookups.{is_syn_sent}
-use Rattle.machine.specs.Making.{Making, making_length}
+use Rattle.machine.specs.declared.making.Making.{Making}
+use Rattle.machine.specs.Making.{making_length}
 use Rattle.machine.specs.MakingEffects.{endpoint_made, after_making}
 use Rattle.machine.specs.Timing.{Growth, after_expiry, after_recovery}
 use Rattle.machine.specs.Forgetting.{forget_endpoint}

@@ -7,7 +7,8 @@ use Rattle.streams.specs.Received.{waiting, is_ended}
 use Rattle.streams.specs.Sent.{end_of, piece}
 use Rattle.streams.proofs.Covers.{covered-covered, drop-covered, length-covered}
 use Rattle.streams.proofs.Fades.{drop-fade, fade-fade, is_fin-fade, length-front-fade}
-use Rattle.machine.specs.Endpoints.{Endpoint, next, max_made}
+use Rattle.machine.specs.declared.endpoint.Endpoint.{Endpoint}
+use Rattle.machine.specs.Endpoints.{next, max_made}
 use Rattle.machine.specs.Forgetting.{forget_endpoint}
 
 pub next-forget : (e : Endpoint) → next (forget_endpoint e) ≡ next e

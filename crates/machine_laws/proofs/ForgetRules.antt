@@ -6,10 +6,15 @@ use Rattle.case_forms.specs.declared.timer.Timer.{Timer}
 use Rattle.case_forms.specs.declared.timer.Timer.TheVariants.{Rto, Persist, Msl2, Giveup}
 use Rattle.case_forms.specs.declared.calls.Answer.{Answer}
 use Rattle.case_forms.specs.declared.calls.Answer.TheVariants as answers
-use Rattle.machine.specs.Endpoints.{Endpoint, Emission, Name, Body}
+use Rattle.machine.specs.declared.endpoint.Endpoint.{Endpoint}
+use Rattle.machine.specs.declared.endpoint.Emission.{Emission}
+use Rattle.machine.specs.declared.endpoint.Name.{Name}
+use Rattle.machine.specs.Endpoints.{Body}
 use Rattle.machine.specs.CallRules.{await_allows, recv_allows}
-use Rattle.machine.specs.Making.{Making, making_rules}
-use Rattle.machine.specs.TakingRules.{How, is_acceptable_at, place_taken, syn_sent_rules, connected_rules}
+use Rattle.machine.specs.declared.making.Making.{Making}
+use Rattle.machine.specs.Making.{making_rules}
+use Rattle.machine.specs.declared.how.How.{How}
+use Rattle.machine.specs.TakingRules.{is_acceptable_at, place_taken, syn_sent_rules, connected_rules}
 use Rattle.machine.specs.Timing.{Growth, expiry_rules, recovery_rules}
 use Rattle.machine.specs.Forgetting.{forget_endpoint}
 use Rattle.machine_laws.proofs.ForgetReads.{next-forget, max_made-forget, end_of-forget, ended-forget, waiting-forget, again-forget}

@@ -12,9 +12,11 @@ use Rattle.streams.specs.Makings.{once}
 use Rattle.streams.specs.Forgetting.{forgotten}
 use Rattle.streams.proofs.Covers.{covered-covered, get-covered}
 use Rattle.streams.proofs.Fades.{fade-put_all, is_fin-fade, length-front-fade}
-use Rattle.machine.specs.Endpoints.{Endpoint, Emission}
+use Rattle.machine.specs.declared.endpoint.Endpoint.{Endpoint}
+use Rattle.machine.specs.declared.endpoint.Emission.{Emission}
 use Rattle.machine.specs.Lookups.{is_syn_sent}
-use Rattle.machine.specs.TakingRules.{How, is_new_ack, acknowledges_syn}
+use Rattle.machine.specs.declared.how.How.{How}
+use Rattle.machine.specs.TakingRules.{is_new_ack, acknowledges_syn}
 use Rattle.machine.specs.TakingEffects.{acknowledged, kept_start, kept_bytes, keeps_fin, receive_after, state_taken, timeout_taken, timers_taken, taken}
 use Rattle.machine.specs.Meeting.{timers_met, una_met, met_peer, reset_fault, was_reset, endpoint_taken}
 use Rattle.machine.specs.Forgetting.{forget_endpoint}

@@ -13,7 +13,7 @@ use Rattle.hosts.specs.Tables.{Both, pick, on, Made, gone_out, waiting, settled}
 use Rattle.hosts.specs.Hosts.{Aim, ThatHost, ThatSocket, HostState, Turn, Idle, Called, Answered, World, Deed, Does, Expires, Makes, Sends, Gets, Takes, Drops, Answers, Step, Begin, Finish, Effect, At, turn_of}
 use Rattle.hosts.specs.HostRules.{just, deed_rules, aim_of, fresh_rules, call_rules, effect_rules, step_rules, Permitted}
 use Rattle.hosts.specs.HostSteps.{act_made, deed_after, call_after, effect_after, after}
-use Rattle.machine.specs.Endpoints.{Emission}
+use Rattle.machine.specs.declared.endpoint.Emission.{Emission}
 use Rattle.machine.specs.Machine.{Act, aim, gives, tcp, tcp_shape}
 use Rattle.machine.specs.Machine as acts
 use Rattle.machine.specs.Wires as wires

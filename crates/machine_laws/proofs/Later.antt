@@ -12,7 +12,10 @@ use Rattle.streams.specs.Received.{next, arrived, received}
 use Rattle.streams.specs.Sent.{cells}
 use Rattle.hosts.specs.Tables.{Both, pick}
 use Rattle.hosts.specs.Hosts.{HostState}
-use Rattle.machine.specs.Endpoints.{Name, Stream, Endpoint, Emission}
+use Rattle.machine.specs.declared.endpoint.Name.{Name}
+use Rattle.machine.specs.declared.endpoint.Stream.{Stream}
+use Rattle.machine.specs.declared.endpoint.Endpoint.{Endpoint}
+use Rattle.machine.specs.declared.endpoint.Emission.{Emission}
 use Rattle.machine.specs.Lookups.{is_syn_sent}
 use Rattle.machine.specs.Machine.{tcp_shape}
 use Rattle.machine_laws.specs.Consequences.{find, HasStream}

@@ -14,10 +14,15 @@ use Rattle.streams.specs.Cells.{front}
 use Rattle.streams.proofs.Fronts.{front_at}
 use Rattle.streams.proofs.Pieces.{carried_in}
 use Rattle.hosts.specs.Tables.{pick}
-use Rattle.machine.specs.Endpoints.{Name, Stream, Endpoint, Emission, Body, next}
+use Rattle.machine.specs.declared.endpoint.Name.{Name}
+use Rattle.machine.specs.declared.endpoint.Stream.{Stream}
+use Rattle.machine.specs.declared.endpoint.Endpoint.{Endpoint}
+use Rattle.machine.specs.declared.endpoint.Emission.{Emission}
+use Rattle.machine.specs.Endpoints.{Body, next}
 use Rattle.machine.specs.Lookups.{is_syn_sent, place_of, at_ports, with_endpoint}
 use Rattle.machine.specs.CallEffects.{shut_down}
-use Rattle.machine.specs.Making.{Making, may_make, may_make_syn, may_make_reset, may_make_other, is_bad_payload, is_bad_ack, is_beyond_offer, is_congesting, making_rules}
+use Rattle.machine.specs.declared.making.Making.{Making}
+use Rattle.machine.specs.Making.{may_make, may_make_syn, may_make_reset, may_make_other, is_bad_payload, is_bad_ack, is_beyond_offer, is_congesting, making_rules}
 use Rattle.machine.specs.MakingEffects.{emission_of, after_making, endpoint_made}
 use Rattle.machine.specs.Timing.{Expiry, Growth, Recovery, after_expiry, after_recovery}
 use Rattle.machine.specs.Machine.{made_at, rules_at}

@@ -11,7 +11,9 @@ use Rattle.streams.specs.Received.{next, received}
 use Rattle.streams.proofs.Places.{get_append, all_push, all_modify, same_at}
 use Rattle.hosts.specs.Tables.{Both, pick, other, with_host}
 use Rattle.hosts.specs.Hosts.{HostState}
-use Rattle.machine.specs.Endpoints.{Name, Stream, Endpoint}
+use Rattle.machine.specs.declared.endpoint.Name.{Name}
+use Rattle.machine.specs.declared.endpoint.Stream.{Stream}
+use Rattle.machine.specs.declared.endpoint.Endpoint.{Endpoint}
 use Rattle.machine.specs.Lookups.{is_syn_sent}
 use Rattle.machine.specs.Machine.{tcp_shape}
 use Rattle.machine_laws.specs.Consequences.{find, HasStream}

@@ -10,7 +10,9 @@ use Rattle.streams.specs.Cells.{Taken, bytes_of, front, leading}
 use Rattle.streams.specs.Received.{Receiving, arrived, received, waiting, told}
 use Rattle.streams.proofs.Fronts.{front_prefix}
 use Rattle.streams.proofs.ReadLemmas.{waiting_arrived, received_told, told_within}
-use Rattle.machine.specs.Endpoints.{Name, Stream, Endpoint}
+use Rattle.machine.specs.declared.endpoint.Name.{Name}
+use Rattle.machine.specs.declared.endpoint.Stream.{Stream}
+use Rattle.machine.specs.declared.endpoint.Endpoint.{Endpoint}
 use Rattle.machine_laws.specs.Consequences.{find}
 use Rattle.machine_laws.proofs.Later.{Hosts, all_cells, GoodStream}
 

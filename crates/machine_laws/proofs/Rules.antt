@@ -10,7 +10,8 @@ use Rattle.verdict.specs.declared.rule.Rule.{Rule}
 use Rattle.verdict.specs.Rules.{first_broken}
 use Rattle.hosts.specs.Tables.{on, host_is}
 use Rattle.hosts.specs.HostRules.{just}
-use Rattle.machine.specs.Endpoints.{Name, same_name}
+use Rattle.machine.specs.declared.endpoint.Name.{Name}
+use Rattle.machine.specs.Endpoints.{same_name}
 use Rattle.machine.specs.Same.{is_prefix}
 
 -- the thing is there, and the rules on it pass

@@ -18,7 +18,10 @@ use Rattle.hosts.specs.Tables.{pick}
 use Rattle.hosts.specs.Hosts.{Turn, Idle, Called, Answered, World, Step, Begin, Finish, Effect, At, Stamped, turn_of}
 use Rattle.hosts.specs.HostRules.{aim_of, effect_rules, Permitted}
 use Rattle.hosts.specs.HostSteps.{after, after_all, start, Lawful}
-use Rattle.machine.specs.Endpoints.{Name, Stream, Endpoint, Ends}
+use Rattle.machine.specs.declared.endpoint.Name.{Name}
+use Rattle.machine.specs.declared.endpoint.Stream.{Stream}
+use Rattle.machine.specs.declared.endpoint.Endpoint.{Endpoint}
+use Rattle.machine.specs.declared.endpoint.Thing.TheVariants.{Ends}
 use Rattle.machine.specs.CallRules.{is_bad_socket, listener_allows, call_allows, recv_allows}
 use Rattle.machine.specs.Machine.{tcp, tcp_shape, aim}
 use Rattle.machine_laws.specs.Runs.{owner, is_socket_of, call_told, call_told_end, call_accepted, call_ended, of_turn, of_effect, told_from, told_end_from, accepted_from, ended_from}

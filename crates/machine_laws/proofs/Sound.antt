@@ -9,7 +9,11 @@ use Rattle.case_forms.specs.declared.calls.State.{State}
 use Rattle.streams.specs.Lists.{modify}
 use Rattle.streams.proofs.Places.{modify_later, push_later, all_push}
 use Rattle.hosts.proofs.Entries.{lookup_insert}
-use Rattle.machine.specs.Endpoints.{Endpoint, Listener, Listens, Ends, Socket, Body}
+use Rattle.machine.specs.declared.endpoint.Endpoint.{Endpoint}
+use Rattle.machine.specs.declared.endpoint.Listener.{Listener}
+use Rattle.machine.specs.declared.endpoint.Socket.{Socket}
+use Rattle.machine.specs.declared.endpoint.Thing.TheVariants.{Listens, Ends}
+use Rattle.machine.specs.Endpoints.{Body}
 use Rattle.machine.specs.Lookups.{is_syn_sent, is_syn_received, given, queue_of, place_of, at_ports, with_endpoint}
 use Rattle.machine.specs.CallEffects.{dead, with_socket, accepted_from}
 use Rattle.machine_laws.specs.Runs.{endpoint_place, owner}

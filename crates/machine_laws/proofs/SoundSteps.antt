@@ -23,12 +23,17 @@ use Rattle.hosts.specs.Tables.{pick, other, with_host, waiting}
 use Rattle.hosts.specs.Hosts.{HostState, Turn, Idle, Called, Answered, World, Deed, Does, Expires, Makes, Sends, Gets, Takes, Drops, Answers, Step, Begin, Finish, Effect, At, turn_of}
 use Rattle.hosts.specs.HostRules.{aim_of, fresh_rules, effect_rules, Permitted}
 use Rattle.hosts.specs.HostSteps.{deed_after, call_after, effect_after, after}
-use Rattle.machine.specs.Endpoints.{Endpoint, Emission, Thing, Listens, Ends, Body, new_endpoint}
+use Rattle.machine.specs.declared.endpoint.Endpoint.{Endpoint}
+use Rattle.machine.specs.declared.endpoint.Emission.{Emission}
+use Rattle.machine.specs.declared.endpoint.Thing.{Thing}
+use Rattle.machine.specs.declared.endpoint.Thing.TheVariants.{Listens, Ends}
+use Rattle.machine.specs.Endpoints.{Body, new_endpoint}
 use Rattle.machine.specs.Lookups.{is_syn_sent, is_syn_received, given, thing_of, queue_of, with_endpoint}
 use Rattle.machine.specs.CallEffects.{shut_down, ended_state, after_shut, after_close, after_abort, orphaned, without_listener, dead, thing_gone, after_gone, accepted_from, after_accept, change_thing, change, after_send, after_recv, after_call}
-use Rattle.machine.specs.Making.{Making}
+use Rattle.machine.specs.declared.making.Making.{Making}
 use Rattle.machine.specs.MakingEffects.{endpoint_made, after_making}
-use Rattle.machine.specs.TakingRules.{How, is_new_ack, acknowledges_syn}
+use Rattle.machine.specs.declared.how.How.{How}
+use Rattle.machine.specs.TakingRules.{is_new_ack, acknowledges_syn}
 use Rattle.machine.specs.TakingEffects.{fin_acknowledged, acknowledged, finished, state_taken, taken}
 use Rattle.machine.specs.Meeting.{Taker, Nobody, AtListener, AtEndpoint, taker, child, met_peer, was_reset, endpoint_taken, after_taking}
 use Rattle.machine.specs.Timing.{Growth, after_expiry, after_recovery}

@@ -19,13 +19,16 @@ use Rattle.hosts.specs.Tables.{pick, other, with_host, on, Made, unsent, gone_ou
 use Rattle.hosts.specs.Hosts.{HostState, Turn, Idle, Called, Answered, World, Deed, Does, Expires, Makes, Sends, Gets, Takes, Drops, Answers, Step, Begin, Finish, Effect, At, turn_of}
 use Rattle.hosts.specs.HostRules.{aim_of, fresh_rules, call_rules, effect_rules, Permitted}
 use Rattle.hosts.specs.HostSteps.{deed_after, call_after, effect_after, after}
-use Rattle.machine.specs.Endpoints.{Name, Emission, Thing, Body}
+use Rattle.machine.specs.declared.endpoint.Name.{Name}
+use Rattle.machine.specs.declared.endpoint.Emission.{Emission}
+use Rattle.machine.specs.declared.endpoint.Thing.{Thing}
+use Rattle.machine.specs.Endpoints.{Body}
 use Rattle.machine.specs.Lookups.{given, thing_of}
 use Rattle.machine.specs.CallRules.{is_bad_socket, thing_allows, socket_allows, call_allows}
 use Rattle.machine.specs.CallEffects.{after_call}
-use Rattle.machine.specs.Making.{Making}
+use Rattle.machine.specs.declared.making.Making.{Making}
 use Rattle.machine.specs.Wires.{sent}
-use Rattle.machine.specs.TakingRules.{How}
+use Rattle.machine.specs.declared.how.How.{How}
 use Rattle.machine.specs.Meeting.{taker, taker_rules}
 use Rattle.machine.specs.Resets.{reset_of}
 use Rattle.machine.specs.Machine.{Calls, tcp, tcp_shape, aim, gives}

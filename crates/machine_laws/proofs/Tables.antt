@@ -6,7 +6,7 @@ use Rattle.indexmap.specs.IndexMap.{insert_entry}
 use Rattle.hosts.specs.Tables.{on, Made, waiting, settled}
 use Rattle.hosts.specs.Hosts.{HostState}
 use Rattle.hosts.proofs.Entries.{lookup_insert}
-use Rattle.machine.specs.Endpoints.{Emission}
+use Rattle.machine.specs.declared.endpoint.Emission.{Emission}
 use Rattle.machine.specs.Machine.{tcp_shape}
 
 -- whatever stands in a table has this

@@ -18,9 +18,14 @@ use Rattle.streams.specs.Cells.{Taken, body, bytes_of, front, put, put_all}
 use Rattle.streams.specs.Received.{Receiving, next, arrived, received, kept}
 use Rattle.streams.proofs.Fronts.{all_put_all, next_put_all, syn_taken, front_put_all, bytes_of-append}
 use Rattle.streams.proofs.Pieces.{carried_in}
-use Rattle.machine.specs.Endpoints.{Name, Stream, Endpoint, Emission, Body, flag_count, same_name, max_made}
+use Rattle.machine.specs.declared.endpoint.Name.{Name}
+use Rattle.machine.specs.declared.endpoint.Stream.{Stream}
+use Rattle.machine.specs.declared.endpoint.Endpoint.{Endpoint}
+use Rattle.machine.specs.declared.endpoint.Emission.{Emission}
+use Rattle.machine.specs.Endpoints.{Body, flag_count, same_name, max_made}
 use Rattle.machine.specs.Lookups.{is_closed, is_syn_sent, place_of, listener_on}
-use Rattle.machine.specs.TakingRules.{How, syn_sent_rules, connected_rules, acknowledges_syn}
+use Rattle.machine.specs.declared.how.How.{How}
+use Rattle.machine.specs.TakingRules.{syn_sent_rules, connected_rules, acknowledges_syn}
 use Rattle.machine.specs.TakingEffects.{kept_bytes, keeps_fin, receive_after, fin_acknowledged, acknowledged, finished, taken}
 use Rattle.machine.specs.Meeting.{Taker, Nobody, AtListener, AtEndpoint, listener_taker, endpoint_taker, taker, taker_rules, child, met_peer, was_reset, endpoint_taken, after_taking}
 use Rattle.machine_laws.specs.Consequences.{HasStream}

@@ -25,11 +25,17 @@ use Rattle.hosts.specs.Tables.{pick, other, with_host, waiting}
 use Rattle.hosts.specs.Hosts.{HostState, Turn, Idle, Called, Answered, World, Deed, Does, Expires, Makes, Sends, Gets, Takes, Drops, Answers, Step, Begin, Finish, Effect, At, turn_of}
 use Rattle.hosts.specs.HostRules.{aim_of, Permitted}
 use Rattle.hosts.specs.HostSteps.{deed_after, call_after, effect_after, after}
-use Rattle.machine.specs.Endpoints.{Name, Endpoint, Emission, Thing, Listens, Ends, Body, new_endpoint, max_made, flight}
+use Rattle.machine.specs.declared.endpoint.Name.{Name}
+use Rattle.machine.specs.declared.endpoint.Endpoint.{Endpoint}
+use Rattle.machine.specs.declared.endpoint.Emission.{Emission}
+use Rattle.machine.specs.declared.endpoint.Thing.{Thing}
+use Rattle.machine.specs.declared.endpoint.Thing.TheVariants.{Listens, Ends}
+use Rattle.machine.specs.Endpoints.{Body, new_endpoint, max_made, flight}
 use Rattle.machine.specs.Lookups.{is_syn_sent, place_of, endpoint_at, endpoint_of, at_ports, with_endpoint, thing_of, queue_of}
 use Rattle.machine.specs.CallEffects.{shut_down, after_shut, after_close, after_abort, orphaned, thing_gone, dead, accepted_from, after_accept, change_thing, after_send, after_recv, after_call}
 use Rattle.machine.specs.MakingEffects.{endpoint_made, after_making}
-use Rattle.machine.specs.TakingRules.{How, syn_sent_rules, connected_rules, listener_rules, greatest_at_syn, greatest_window}
+use Rattle.machine.specs.declared.how.How.{How}
+use Rattle.machine.specs.TakingRules.{syn_sent_rules, connected_rules, listener_rules, greatest_at_syn, greatest_window}
 use Rattle.machine.specs.TakingEffects.{taken as segment_taken}
 use Rattle.machine.specs.Meeting.{Taker, Nobody, AtListener, AtEndpoint, taker, taker_rules, child, met_peer, was_reset, endpoint_taken, after_taking}
 use Rattle.machine.specs.Timing.{Expiry, Growth, Recovery, greatest_values, expiry_rules, after_expiry, recovery_rules, after_recovery}

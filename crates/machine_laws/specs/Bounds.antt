@@ -8,10 +8,14 @@ use Rattle.window_rules.specs.Losses.{halved, recovery_window}
 use Rattle.hosts.specs.Tables.{pick, waiting}
 use Rattle.hosts.specs.Hosts.{World, Step, At, Does, Expires, Takes}
 use Rattle.hosts.specs.HostSteps.{after}
-use Rattle.machine.specs.Endpoints.{Name, Endpoint, Emission, max_made, flight}
+use Rattle.machine.specs.declared.endpoint.Name.{Name}
+use Rattle.machine.specs.declared.endpoint.Endpoint.{Endpoint}
+use Rattle.machine.specs.declared.endpoint.Emission.{Emission}
+use Rattle.machine.specs.Endpoints.{max_made, flight}
 use Rattle.machine.specs.Lookups.{is_syn_sent, place_of, endpoint_of}
-use Rattle.machine.specs.Making.{Making}
-use Rattle.machine.specs.TakingRules.{How, greatest_at_syn, greatest_window}
+use Rattle.machine.specs.declared.making.Making.{Making}
+use Rattle.machine.specs.declared.how.How.{How}
+use Rattle.machine.specs.TakingRules.{greatest_at_syn, greatest_window}
 use Rattle.machine.specs.Meeting.{taker, AtEndpoint}
 use Rattle.machine.specs.Timing.{Expiry, Growth, Recovery, greatest_values}
 use Rattle.machine.specs.Machine as acts

@@ -8,7 +8,9 @@ use Rattle.streams.specs.Sent.{cells}
 use Rattle.hosts.specs.Tables.{Both, pick}
 use Rattle.hosts.specs.Hosts.{HostState, Stamped}
 use Rattle.hosts.specs.HostSteps.{after}
-use Rattle.machine.specs.Endpoints.{Name, Stream, Endpoint}
+use Rattle.machine.specs.declared.endpoint.Name.{Name}
+use Rattle.machine.specs.declared.endpoint.Stream.{Stream}
+use Rattle.machine.specs.declared.endpoint.Endpoint.{Endpoint}
 use Rattle.machine.specs.Machine.{tcp, tcp_shape}
 use Rattle.machine_laws.specs.Runs.{world_at_end, is_socket_of, told_to, was_told_end, accepted_by, was_ended}
 

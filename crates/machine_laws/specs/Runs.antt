@@ -10,7 +10,10 @@ use Rattle.case_forms.specs.declared.calls.Answer.TheVariants as answers
 use Rattle.hosts.specs.Tables.{Both, pick}
 use Rattle.hosts.specs.Hosts.{HostState, Turn, Idle, Called, Answered, World, Step, Begin, Finish, Effect, At, Stamped, turn_of}
 use Rattle.hosts.specs.HostSteps.{after, after_all, start}
-use Rattle.machine.specs.Endpoints.{Name, Thing, Listens, Ends, Body}
+use Rattle.machine.specs.declared.endpoint.Name.{Name}
+use Rattle.machine.specs.declared.endpoint.Thing.{Thing}
+use Rattle.machine.specs.declared.endpoint.Thing.TheVariants.{Listens, Ends}
+use Rattle.machine.specs.Endpoints.{Body}
 use Rattle.machine.specs.Machine.{tcp, tcp_shape}
 
 -- the world at the end of a run

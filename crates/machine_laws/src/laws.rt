@@ -6,7 +6,7 @@ ghost use Rattle.case_forms.specs.declared.calls.Host.{Host};
 ghost use Rattle.hosts.specs.Hosts.{At, Makes, Stamped, Step, World};
 ghost use Rattle.hosts.specs.HostRules.{Permitted};
 ghost use Rattle.hosts.specs.HostSteps.{Lawful, start};
-ghost use Rattle.machine.specs.Making.{Making};
+ghost use Rattle.machine.specs.declared.making.Making.{Making};
 ghost use Rattle.machine.specs.Machine.{tcp, tcp_shape};
 ghost use Rattle.machine_laws.specs.Runs.{world_at_end};
 ghost use Rattle.machine_laws.specs.Bounds.{NewDataFits, WindowsFollow};

@@ -15,7 +15,7 @@ use Rattle.hosts.specs.Hosts.{Aim, ThatHost, ThatSocket, Turn, Idle, Called, Ans
 use Rattle.hosts.specs.HostRules.{step_rules}
 use Rattle.hosts.specs.Books.{Aims, FitsItem, HostRun, Item, Do, Bring, Key, OwnStep, item_line, next}
 use Rattle.hosts.specs.Keys.{EachEntry, KeysRise, before}
-use Rattle.machine.specs.Endpoints.{Socket}
+use Rattle.machine.specs.declared.endpoint.Socket.{Socket}
 use Rattle.machine.specs.Machine.{aim, gives, tcp, tcp_shape}
 use Rattle.recordings.specs.Recordings.{TcpEntry}
 

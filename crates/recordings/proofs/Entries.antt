@@ -8,10 +8,11 @@ use Rattle.case_forms.specs.declared.trace.Wire.{Wire}
 use Rattle.machine.proofs.Telling as telling
 use Rattle.hosts.specs.Hosts.{Stamped, Step}
 use Rattle.hosts.specs.Books.{Bring, Do, Key}
-use Rattle.machine.specs.Endpoints.{Emission, Name}
+use Rattle.machine.specs.declared.endpoint.Emission.{Emission}
+use Rattle.machine.specs.declared.endpoint.Name.{Name}
 use Rattle.machine.specs.Machine.{tcp_shape}
-use Rattle.machine.specs.Making.{Making}
-use Rattle.machine.specs.TakingRules.{How}
+use Rattle.machine.specs.declared.making.Making.{Making}
+use Rattle.machine.specs.declared.how.How.{How}
 use Rattle.recordings.specs.Recordings.{TcpEntry}
 
 abbrev pub header : Header

@@ -9,7 +9,7 @@ ghost use Rattle.hosts.specs.Books.{end};
 ghost use Rattle.hosts.specs.Keys.{Books};
 ghost use Rattle.hosts.specs.Placing.{Explains};
 ghost use Rattle.machine.specs.Machine.{tcp, tcp_shape};
-ghost use Rattle.machine.specs.Making.{Making};
+ghost use Rattle.machine.specs.declared.making.Making.{Making};
 ghost use Rattle.machine_laws.specs.Bounds.{NewDataFits, WindowsFollow};
 ghost use Rattle.machine_laws.specs.Runs.{world_at_end};
 ghost use Rattle.machine_laws.specs.Consequences.{AcknowledgedWasTaken, EndIsWhole, ReceivedIsAPrefix};

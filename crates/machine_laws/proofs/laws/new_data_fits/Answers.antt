@@ -7,9 +7,12 @@ use Rattle.verdict.specs.declared.rule.Rule.TheVariants as rules
 use Rattle.verdict.specs.Rules.{first_broken}
 use Rattle.window_rules.specs.Windows.{offered_edge, congestion_edge}
 use Rattle.hosts.specs.Tables.{pick}
-use Rattle.machine.specs.Endpoints.{Endpoint, Emission, max_made}
+use Rattle.machine.specs.declared.endpoint.Endpoint.{Endpoint}
+use Rattle.machine.specs.declared.endpoint.Emission.{Emission}
+use Rattle.machine.specs.Endpoints.{max_made}
 use Rattle.machine.specs.Lookups.{place_of}
-use Rattle.machine.specs.Making.{Making, making_rules, has_new_bytes}
+use Rattle.machine.specs.declared.making.Making.{Making}
+use Rattle.machine.specs.Making.{making_rules, has_new_bytes}
 use Rattle.machine.specs.MakingEffects.{emission_of}
 use Rattle.machine.specs.Machine.{made_at}
 use Rattle.machine_laws.specs.Bounds.{InBothWindows}

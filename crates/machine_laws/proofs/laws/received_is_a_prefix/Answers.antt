@@ -2,7 +2,8 @@ use Rattle.std.proofs.Common.{◌≡◌, ◌⊎◌, ℕ, List, [], Option, None,
 use Rattle.hosts.specs.HostSteps.{start}
 use Rattle.streams.specs.Lists.{IsPrefixOf}
 use Rattle.streams.specs.Received.{received}
-use Rattle.machine.specs.Endpoints.{Name, Endpoint}
+use Rattle.machine.specs.declared.endpoint.Name.{Name}
+use Rattle.machine.specs.declared.endpoint.Endpoint.{Endpoint}
 use Rattle.machine.specs.Machine.{tcp}
 use Rattle.machine_laws.specs.Runs.{world_at_end, told_to, accepted_by}
 use Rattle.machine_laws.specs.Consequences.{BeginsWhatPeerSent}

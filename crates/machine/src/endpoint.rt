@@ -1,0 +1,145 @@
+//! What a host has, as values: endpoints, segments that were made, listeners, and what socket numbers name.
+
+use crate::queue::Queue;
+use case_forms::{Flags, Host, State};
+use segment::Bytes;
+use seqno::Word;
+use streams::{Makings, ReceiveBuffer, SendBuffer};
+use timer_rules::Timers;
+use window_rules::Congestion;
+
+/// An endpoint, by its host and its place in the order of creation there. A name is never given twice.
+#[derive(Clone, Copy, Debug, PartialEq, Eq)]
+pub struct Name {
+    pub host: Host,
+    pub number: u32,
+}
+
+/// The two streams of an endpoint, by position (RFC 9293, 3.4).
+#[derive(Drop)]
+pub struct Stream {
+    /// The maker of the first SYN that was taken.
+    pub peer: Option<Name>,
+    /// The bytes that sends accepted.
+    pub accepted: SendBuffer,
+    /// Sending was ended.
+    pub ended: bool,
+    /// What was taken, and what of it was delivered.
+    pub receive: ReceiveBuffer,
+    /// The oldest position that is not acknowledged (RFC 9293, 3.3.1: SND.UNA).
+    pub una: u64,
+}
+
+/// The window that the peer offers, and how far own windows reached (RFC 9293, 3.3.1).
+#[derive(Clone, Copy, Debug, PartialEq, Eq)]
+pub struct Window {
+    /// The offered window in bytes (SND.WND).
+    pub wnd: u16,
+    /// The position of the segment by which it was taken (SND.WL1).
+    pub wl1: u64,
+    /// The position that this segment acknowledged (SND.WL2).
+    pub wl2: u64,
+    /// The greatest position that an own window reached (RCV.NXT + RCV.WND).
+    pub edge: u64,
+}
+
+/// Why an endpoint failed.
+#[derive(Clone, Copy, Debug, PartialEq, Eq)]
+pub enum Fault {
+    Refused,
+    Reset,
+    Timeout,
+}
+
+/// One end of a connection (RFC 9293, 3.3).
+#[derive(Drop)]
+pub struct Endpoint {
+    /// Its own port.
+    pub lport: u16,
+    /// The peer's port.
+    pub rport: u16,
+    /// The place of the listener that made it, until it is accepted; None for one that was opened.
+    pub listener: Option<u32>,
+    /// The initial send sequence number, once it is given.
+    pub iss: Option<Word>,
+    /// The initial receive sequence number, once the peer's SYN was taken.
+    pub irs: Option<Word>,
+    pub state: State,
+    /// Why it failed, if it did.
+    pub fault: Option<Fault>,
+    /// A reset is to be made.
+    pub reset_due: bool,
+    /// Its socket was closed.
+    pub closed: bool,
+    pub stream: Stream,
+    /// When each position was made.
+    pub makings: Makings,
+    pub window: Window,
+    pub congestion: Congestion,
+    /// Up to this position what was made may be made again.
+    pub recover: u64,
+    /// A byte behind a window of 0 is to be made (RFC 9293, 3.8.6.1).
+    pub probe_due: bool,
+    pub timers: Timers,
+    /// Expiries since a segment was taken.
+    pub tries: u32,
+    /// Expiries of the retransmission timer since a new acknowledgment.
+    pub backs: u32,
+    /// One of them came before the SYN was acknowledged.
+    pub syn_lost: bool,
+}
+
+/// A segment that was made (RFC 9293, 3.1).
+#[derive(Drop)]
+pub struct Emission {
+    /// Its maker; of a reset that answers, the maker of the segment answered.
+    pub maker: Name,
+    /// The peer that its maker knew then.
+    pub knew: Option<Name>,
+    pub lport: u16,
+    pub rport: u16,
+    /// The true positions of its number and its acknowledgment.
+    pub pos: u64,
+    pub ack: u64,
+    pub seq: Word,
+    pub ack_seq: Word,
+    pub flags: Flags,
+    pub window: u16,
+    pub payload: Bytes,
+    /// A reset that answers a segment.
+    pub answers: bool,
+    /// Its bytes, once it went out; none before.
+    pub bytes: Bytes,
+    /// The MSS that its options tell, once it went out.
+    pub mss: Option<u16>,
+    /// When it went out, in microseconds.
+    pub moment: u64,
+}
+
+/// A listener (RFC 9293, 3.10.1).
+#[derive(Drop)]
+pub struct Listener {
+    pub port: u16,
+    /// How many children its queue holds, `extra` aside.
+    pub backlog: u16,
+    pub is_open: bool,
+    /// Its children that are established and not accepted, in the order of joining.
+    pub queue: Queue,
+}
+
+/// What a socket number names.
+#[derive(Clone, Copy, Debug, PartialEq, Eq)]
+pub enum Thing {
+    /// The listener at this place of the host's.
+    Listens(u32),
+    /// The endpoint at this place.
+    Ends(u32),
+}
+
+/// A socket number that was given.
+#[derive(Clone, Copy, Debug, PartialEq, Eq)]
+pub struct Socket {
+    pub thing: Thing,
+    /// It was not closed or aborted since.
+    pub live: bool,
+}
