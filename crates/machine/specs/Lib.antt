@@ -15,3 +15,4 @@ pub mod Timing
 pub mod Machine
 pub mod Steps
 pub mod Forgetting
+pub mod Bounds

@@ -1,9 +1,13 @@
 //! What a host has, as values: endpoints, segments that were made, listeners, and what socket numbers name.
 
+ghost use Rattle.std.specs.Prelude.{◌≡◌, IfOk};
+ghost use Rattle.machine.specs.Endpoints.{new_endpoint};
+
 use crate::queue::Queue;
 use case_forms::{Flags, Host, State};
-use segment::Bytes;
+use segment::{Bytes, OutOfMemory};
 use seqno::Word;
+use std::alloc::Global;
 use streams::{Makings, ReceiveBuffer, SendBuffer};
 use timer_rules::Timers;
 use window_rules::Congestion;
@@ -89,6 +93,52 @@ pub struct Endpoint {
     pub syn_lost: bool,
 }
 
+impl Endpoint {
+    /// An endpoint at its creation, between its own port and the peer's. A child has the place of its listener.
+    pub fn new(
+        alloc: Global,
+        lport: u16,
+        rport: u16,
+        listener: Option<u32>,
+        state: State,
+    ) -> Endpoint
+        ensures { result ≡ new_endpoint lport rport listener state }
+    {
+        Endpoint {
+            lport,
+            rport,
+            listener,
+            iss: None,
+            irs: None,
+            state,
+            fault: None,
+            reset_due: false,
+            closed: false,
+            stream: Stream {
+                peer: None,
+                accepted: SendBuffer::new(alloc),
+                ended: false,
+                receive: ReceiveBuffer::new(alloc),
+                una: 0,
+            },
+            makings: Makings::new(alloc),
+            window: Window {
+                wnd: 0,
+                wl1: 0,
+                wl2: 0,
+                edge: 0,
+            },
+            congestion: Congestion::start(),
+            recover: 0,
+            probe_due: false,
+            timers: Timers::start(),
+            tries: 0,
+            backs: 0,
+            syn_lost: false,
+        }
+    }
+}
+
 /// A segment that was made (RFC 9293, 3.1).
 #[derive(Drop)]
 pub struct Emission {
@@ -114,6 +164,31 @@ pub struct Emission {
     pub mss: Option<u16>,
     /// When it went out, in microseconds.
     pub moment: u64,
+}
+
+impl Emission {
+    /// An equal segment.
+    pub fn copy(&self) -> Result<Emission, OutOfMemory>
+        ensures { IfOk result (λ m. m ≡ self.now) }
+    {
+        Ok(Emission {
+            maker: self.maker,
+            knew: self.knew,
+            lport: self.lport,
+            rport: self.rport,
+            pos: self.pos,
+            ack: self.ack,
+            seq: self.seq,
+            ack_seq: self.ack_seq,
+            flags: self.flags,
+            window: self.window,
+            payload: self.payload.copy()?,
+            answers: self.answers,
+            bytes: self.bytes.copy()?,
+            mss: self.mss,
+            moment: self.moment,
+        })
+    }
 }
 
 /// A listener (RFC 9293, 3.10.1).

@@ -11,7 +11,7 @@
 //! - `specs/TakingRules`, `specs/TakingEffects`: taking segments; `specs/Resets`: answering them by a reset
 //! - `specs/Timing`: timers that expire, and fast recovery
 //! - `specs/Machine`: all of it as one machine of two hosts; `specs/Steps`: which step a line of a witness asks for
-//! - `specs/Forgetting`: what may be let go
+//! - `specs/Forgetting`: what may be let go; `specs/Bounds`: what holds of all that is kept after so many steps
 #![tactic(auto)]
 
 mod endpoint;

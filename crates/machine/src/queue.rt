@@ -1,5 +1,8 @@
 //! A listen queue.
 
+ghost use Rattle.std.specs.Prelude.{◌≡◌, ◌-◌, [], ◌∷◌, ◌++◌, OnOk, OnErr, drop, length, slice_get, take};
+
+use std::alloc::{AllocError, Global};
 use std::collections::VecDeque;
 use std::marker::Model;
 
@@ -15,4 +18,52 @@ impl Model for Queue {
     ghost Value = { List ℕ };
 
     ghost view = { λ q. q.places.items };
+}
+
+impl Queue {
+    /// A queue in which nobody stands.
+    pub fn new(alloc: Global) -> Queue
+        ensures { result ≡ [] }
+    {
+        Queue {
+            places: VecDeque::new(alloc),
+        }
+    }
+
+    /// How many stand in it.
+    pub fn len(&self) -> usize
+        ensures { result ≡ length self.now }
+    {
+        self.places.len()
+    }
+
+    /// The first to have joined. None: nobody stands in it.
+    pub fn first(&self) -> Option<u32>
+        ensures { result ≡ slice_get self.now 0 }
+    {
+        self.places.front().copied()
+    }
+
+    /// One more joins at the end. Where memory runs out the queue is as it was.
+    pub fn join(&mut self, place: u32) -> Result<(), AllocError>
+        ensures ok { OnOk result (self.new ≡ self.old ++ place ∷ []) }
+        ensures err { OnErr result (self.new ≡ self.old) }
+    {
+        self.places.push_back(place)?;
+        Ok(())
+    }
+
+    /// The first leaves.
+    pub fn leave(&mut self)
+        ensures { self.new ≡ drop 1 self.old }
+    {
+        self.places.pop_front();
+    }
+
+    /// The last leaves.
+    pub fn leave_last(&mut self)
+        ensures { self.new ≡ take (length self.old - 1) self.old }
+    {
+        self.places.pop_back();
+    }
 }

@@ -1,10 +1,11 @@
 //! The segment that is made, and its endpoint then.
 
-ghost use Rattle.std.specs.Prelude.{◌≡◌, ◌+◌, ◌≤◌, max, if◌then◌else◌, false, IfOk, OnOk, OnErr};
+ghost use Rattle.std.specs.Prelude.{◌≡◌, ◌+◌, ◌≤◌, ◌<◌, ◌^◌, max, if◌then◌else◌, false, IfOk, OnOk, OnErr};
 ghost use Rattle.machine.specs.Endpoints.{next};
 ghost use Rattle.machine.specs.CallEffects.{shut_down};
 ghost use Rattle.machine.specs.MakingEffects.{word_zero, numbered, emission_of, timed, endpoint_made, after_making};
-ghost use Rattle.making.specs.Small.{limit, IsSmall};
+ghost use Rattle.machine.specs.Bounds.{greatest_position, IsSmallEmission};
+ghost use Rattle.making.specs.Small.{IsSmall};
 
 use crate::rules::{has_new_bytes, making_length};
 use case_forms::{State, Timer};
@@ -25,6 +26,7 @@ pub fn make(
 ) -> Result<Emission, OutOfMemory>
     requires { IsSmall endpoint.old making.now }
     ensures made { IfOk result (λ m. m ≡ emission_of me endpoint.old making.now) }
+    ensures small { IfOk result IsSmallEmission }
     ensures ok { OnOk result (endpoint.new ≡ after_making endpoint.old making.now moment) }
     ensures err { OnErr result (endpoint.new ≡ endpoint.old) }
 {
@@ -42,7 +44,9 @@ fn emission_of(
     me: Name,
     making: &Making,
 ) -> Result<Emission, OutOfMemory>
-    ensures { IfOk result (λ m. m ≡ emission_of me endpoint.now making.now) }
+    requires { making.now.pos ≤ greatest_position }
+    ensures made { IfOk result (λ m. m ≡ emission_of me endpoint.now making.now) }
+    ensures small { IfOk result IsSmallEmission }
 {
     let payload = endpoint
         .stream
@@ -72,6 +76,7 @@ fn emission_of(
 fn acknowledgment(endpoint: &Endpoint, making: &Making) -> (u64, Word)
     ensures position { result.0 ≡ (if making.now.flags.ack then next endpoint.now else 0) }
     ensures number { result.1 ≡ (if making.now.flags.ack then numbered endpoint.now.irs (next endpoint.now) else word_zero) }
+    ensures small { result.0 < 2 ^ 63 }
 {
     if !making.flags.ack {
         return (0, Word(0));
@@ -110,7 +115,6 @@ fn change(endpoint: &mut Endpoint, making: &Making, moment: u64) -> Result<(), O
 
 // How far its own windows reached then.
 fn own_edge(endpoint: &Endpoint, making: &Making) -> u64
-    requires { next endpoint.now ≤ limit }
     ensures { result ≡ (if making.now.flags.ack then max endpoint.now.window.edge (next endpoint.now + making.now.window) else endpoint.now.window.edge) }
 {
     let edge = endpoint.window.edge;

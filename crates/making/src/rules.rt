@@ -6,7 +6,8 @@ ghost use Rattle.verdict.specs.Rules.{first_broken};
 ghost use Rattle.machine.specs.Endpoints.{max_made, next, flag_count};
 ghost use Rattle.machine.specs.Lookups.{is_closed, is_syn_sent, is_syn_received};
 ghost use Rattle.machine.specs.Making.{making_length, has_new_bytes, may_carry, may_finish, may_not_send, may_make_syn, may_make_reset, may_make_other, may_make, makes_nothing, is_bad_iss, is_bad_payload, is_bad_ack, old_end, is_bad_empty_place, is_bad_place, is_beyond_offer, is_congesting, making_rules};
-ghost use Rattle.making.specs.Small.{limit, IsSmall};
+ghost use Rattle.machine.specs.Bounds.{greatest_position};
+ghost use Rattle.making.specs.Small.{IsSmall};
 
 use case_forms::State;
 use machine::{Endpoint, Making};
@@ -65,7 +66,7 @@ fn flag_count(flag: bool) -> u64
 
 /// Whether bytes that were not made before are among a segment's.
 pub(crate) fn has_new_bytes(endpoint: &Endpoint, making: &Making) -> bool
-    requires { making.now.pos ≤ limit }
+    requires { making.now.pos ≤ greatest_position }
     ensures { result ≡ has_new_bytes endpoint.now making.now }
 {
     0 < making.len && endpoint.makings.end() < making.pos + making.len as u64
@@ -162,7 +163,7 @@ fn is_bad_iss(endpoint: &Endpoint, making: &Making) -> bool
 }
 
 fn is_bad_payload(endpoint: &Endpoint, making: &Making) -> bool
-    requires { making.now.pos ≤ limit }
+    requires { making.now.pos ≤ greatest_position }
     ensures { result ≡ is_bad_payload endpoint.now making.now }
 {
     if making.flags.syn {
@@ -189,21 +190,21 @@ fn is_bad_ack(endpoint: &Endpoint, making: &Making) -> bool
 }
 
 fn old_end(endpoint: &Endpoint, making: &Making) -> u64
-    requires { making.now.pos ≤ limit }
+    requires { making.now.pos ≤ greatest_position }
     ensures { result ≡ old_end endpoint.now making.now }
 {
     (making.pos + making_length(making)).min(endpoint.makings.end())
 }
 
 fn is_bad_empty_place(endpoint: &Endpoint, making: &Making) -> bool
-    requires { making.now.pos ≤ limit }
+    requires { making.now.pos ≤ greatest_position }
     ensures { result ≡ is_bad_empty_place endpoint.now making.now }
 {
     making.pos + 1 < endpoint.stream.una || endpoint.makings.end() < making.pos
 }
 
 fn is_bad_place(endpoint: &Endpoint, making: &Making) -> bool
-    requires { making.now.pos ≤ limit }
+    requires { making.now.pos ≤ greatest_position }
     ensures { result ≡ is_bad_place endpoint.now making.now }
 {
     let end = endpoint.makings.end();

@@ -1,6 +1,6 @@
 //! A number on the wire, from a position and back (RFC 9293, 3.4).
 
-ghost use Rattle.std.specs.Prelude.{◌≡◌, ◌≤◌, ◌^◌, ℕ, Option};
+ghost use Rattle.std.specs.Prelude.{◌≡◌, ◌<◌, ◌^◌, ℕ, Option};
 ghost use Rattle.seqno.specs.Near.{near_position};
 ghost use Rattle.seqno.specs.Numbers.{number_of, Reads};
 
@@ -23,9 +23,9 @@ pub fn number(base: Word, pos: u64) -> Word
 }
 
 /// The position that a number reads as: less than 2^31 above `near`, or at most 2^31 below it. `base` is the number of
-/// position 0. There is none where it would be below 0. `near` is at most 10^18.
+/// position 0. There is none where it would be below 0. `near` is below 2^63.
 pub fn read_near(near: u64, base: Word, w: Word) -> Option<u64>
-    requires { near ≤ 10 ^ 18 }
+    requires { near < 2 ^ 63 }
 
     ensures reads { Reads near base w result }
 

@@ -55,7 +55,8 @@ impl ReceiveBuffer {
 
     /// The next position that is expected: 0 before the SYN was taken.
     pub fn next(&self) -> u64
-        ensures { result ≡ next self.now }
+        ensures value { result ≡ next self.now }
+        ensures small { result < 2 ^ 63 }
     {
         self.gone + self.ready as u64
     }

@@ -2,7 +2,6 @@
 
 ghost use Rattle.std.specs.Prelude.{◌≡◌};
 ghost use Rattle.machine.specs.TakingRules.{is_acceptable, is_acceptable_at, is_bad_ack_range, is_in_window};
-ghost use Rattle.taking.specs.Bounds.{IsSmall};
 
 use crate::numbers::place_taken;
 use crate::reading::{is_syn_received, max_made, next, receive_window, segment_length};
@@ -11,7 +10,6 @@ use machine::{Emission, Endpoint};
 /// Whether the segment is acceptable: its first or its last position lies in the receive window; at a window of 0 it
 /// begins at the next position. In SYN-RECEIVED the peer's SYN is let in again with its acknowledgment (RFC 9293, 3.5).
 pub fn is_acceptable(endpoint: &Endpoint, m: &Emission) -> bool
-    requires small { IsSmall endpoint.now }
     ensures { result ≡ is_acceptable endpoint.now m.now }
 {
     if is_syn_received(endpoint.state) && m.flags.syn && m.flags.ack && m.pos == 0 && !m.answers {

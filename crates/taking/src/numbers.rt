@@ -4,7 +4,6 @@ ghost use Rattle.std.specs.Prelude.{◌≡◌, ◌+◌, ◌^◌, ◌&&◌, false
 ghost use Rattle.std.specs.Option.{option_map_or};
 ghost use Rattle.machine.specs.Records.{same_name};
 ghost use Rattle.machine.specs.TakingRules.{is_bad_number, is_from_peer, place_taken, reads_as};
-ghost use Rattle.taking.specs.Bounds.{IsSmall};
 
 use crate::reading::{next, same_name, same_word};
 use machine::{Emission, Endpoint, Name};
@@ -27,7 +26,6 @@ pub fn is_from_peer(me: Name, endpoint: &Endpoint, m: &Emission) -> bool
 /// The position at which the segment begins; of a reset that answers, what its number reads as near the next position.
 /// None: that would be below position 0, or the endpoint took no SYN.
 pub fn place_taken(endpoint: &Endpoint, m: &Emission) -> Option<u64>
-    requires small { IsSmall endpoint.now }
     ensures { result ≡ place_taken endpoint.now m.now }
 {
     if !m.answers {
@@ -42,7 +40,6 @@ pub fn place_taken(endpoint: &Endpoint, m: &Emission) -> Option<u64>
 /// Whether a number of the segment does not read back to the position that it was made at. Of a reset that answers:
 /// whether its sequence number reads as no position.
 pub fn is_bad_number(endpoint: &Endpoint, m: &Emission) -> bool
-    requires small { IsSmall endpoint.now }
     ensures { result ≡ is_bad_number endpoint.now m.now }
 {
     if m.answers {

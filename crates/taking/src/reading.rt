@@ -40,7 +40,8 @@ pub(crate) fn max_made(endpoint: &Endpoint) -> u64
 }
 
 pub(crate) fn next(endpoint: &Endpoint) -> u64
-    ensures { result ≡ next endpoint.now }
+    ensures value { result ≡ next endpoint.now }
+    ensures small { result < 2 ^ 63 }
 {
     endpoint.stream.receive.next()
 }

@@ -5,7 +5,6 @@ ghost use Rattle.std.specs.Result.{result_err};
 ghost use Rattle.verdict.specs.Rules.{first_broken};
 ghost use Rattle.streams.specs.Makings.{made_again};
 ghost use Rattle.machine.specs.TakingRules.{listener_rules, rules_with_queue, syn_sent_rules};
-ghost use Rattle.taking.specs.Bounds.{IsSmall};
 
 use crate::acceptance::{is_acceptable, is_bad_ack_range};
 use crate::acknowledgments::{answers_syn, may_sample};
@@ -60,7 +59,6 @@ pub fn admits_connected(
     how: How,
     m: &Emission,
 ) -> Result<(), Rule>
-    requires small { IsSmall endpoint.now }
     ensures { result_err result ≡ first_broken (rules_with_queue full me endpoint.now how m.now) }
 {
     if !is_from_peer(me, endpoint, m) {

@@ -12,7 +12,7 @@ pub struct Congestion {
     pub ssthresh: u32,
     /// The greatest payload of a segment that is sent.
     pub smss: u32,
-    /// What was acknowledged in congestion avoidance and did not let cwnd grow yet, at most 10^18.
+    /// What was acknowledged in congestion avoidance and did not let cwnd grow yet, below 2^63.
     pub counted: u64,
     /// How many duplicate acknowledgments came since the last new one.
     pub dup: u32,

@@ -1,6 +1,6 @@
 //! What an acknowledgment does to the congestion window (RFC 5681, 3.1 and 3.2). Windows count bytes.
 
-ghost use Rattle.std.specs.Prelude.{◌≡◌, ◌+◌, ◌-◌, ◌*◌, ◌≤◌, ◌^◌};
+ghost use Rattle.std.specs.Prelude.{◌≡◌, ◌+◌, ◌-◌, ◌*◌, ◌≤◌, ◌<◌, ◌^◌};
 ghost use Rattle.window_rules.specs.Windows.{greatest_window};
 ghost use Rattle.window_rules.specs.Growth.{slow_start, fills_window, increment, avoidance, growth, may_grow, is_avoiding, counted_after, on_duplicate};
 
@@ -20,10 +20,10 @@ pub fn may_grow(congestion: &Congestion, acked: u64) -> u64
 }
 
 /// How many bytes are counted after an acknowledgment of `acked` new positions, the SYN not counted. Both counts are
-/// at most 10^18.
+/// below 2^63.
 pub fn counted_after(congestion: &Congestion, acked: u64) -> u64
-    requires acked { acked ≤ 10 ^ 18 }
-    requires counted { congestion.now.counted ≤ 10 ^ 18 }
+    requires acked { acked < 2 ^ 63 }
+    requires counted { congestion.now.counted < 2 ^ 63 }
     ensures value { result ≡ counted_after congestion.now acked }
     ensures limit { result ≤ congestion.now.counted + acked }
 {

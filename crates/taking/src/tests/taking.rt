@@ -1,7 +1,7 @@
 //! The rules of taking.
 
-use super::{ME, PEER, acknowledgment, admits, up};
-use crate::{admits_listening, admits_syn_sent, told_smss};
+use super::{ME, PEER, acknowledgment, up};
+use crate::{admits_connected, admits_listening, admits_syn_sent, told_smss};
 use case_forms::{Flags, State};
 use machine::{How, Name};
 use segment::Bytes;
@@ -27,13 +27,13 @@ fn takes_an_acknowledgment(rt: HostRuntime) -> Result<(), AllocError> {
         sample: true,
         ..window(4010)
     };
-    assert_eq!(rt; admits(false, &endpoint, sample, &m), Ok(()));
+    assert_eq!(rt; admits_connected(false, ME, &endpoint, sample, &m), Ok(()));
     assert_eq!(rt;
-        admits(false, &endpoint, window(4011), &m),
+        admits_connected(false, ME, &endpoint, window(4011), &m),
         Err(Rule::Growth)
     );
     assert_eq!(rt;
-        admits(true, &endpoint, window(4010), &m),
+        admits_connected(true, ME, &endpoint, window(4010), &m),
         Err(Rule::QueueFull)
     );
     Ok(())
@@ -45,12 +45,21 @@ fn takes_nothing_of_older_endpoints(rt: HostRuntime) -> Result<(), AllocError> {
     let endpoint = up(rt.alloc())?;
     let mut m = acknowledgment(rt.alloc())?;
     m.maker = Name { number: 7, ..PEER };
-    assert_eq!(rt; admits(false, &endpoint, window(0), &m), Err(Rule::NotPeer));
+    assert_eq!(rt;
+        admits_connected(false, ME, &endpoint, window(0), &m),
+        Err(Rule::NotPeer)
+    );
     m.maker = PEER;
     m.knew = Some(Name { number: 0, ..ME });
-    assert_eq!(rt; admits(false, &endpoint, window(0), &m), Err(Rule::NotPeer));
+    assert_eq!(rt;
+        admits_connected(false, ME, &endpoint, window(0), &m),
+        Err(Rule::NotPeer)
+    );
     m.knew = None;
-    assert_eq!(rt; admits(false, &endpoint, window(0), &m), Ok(()));
+    assert_eq!(rt;
+        admits_connected(false, ME, &endpoint, window(0), &m),
+        Ok(())
+    );
     Ok(())
 }
 
@@ -64,10 +73,13 @@ fn measures_what_was_made_once(rt: HostRuntime) -> Result<(), AllocError> {
         sample: true,
         ..window(0)
     };
-    assert_eq!(rt; admits(false, &endpoint, sample, &m), Err(Rule::Sample));
+    assert_eq!(rt;
+        admits_connected(false, ME, &endpoint, sample, &m),
+        Err(Rule::Sample)
+    );
     m.ack = 5;
     m.ack_seq = Word(1005);
-    assert_eq!(rt; admits(false, &endpoint, sample, &m), Ok(()));
+    assert_eq!(rt; admits_connected(false, ME, &endpoint, sample, &m), Ok(()));
     Ok(())
 }
 
@@ -85,14 +97,18 @@ fn takes_what_lies_in_the_window(rt: HostRuntime) -> Result<(), AllocError> {
     ] {
         m.pos = pos;
         m.seq = Word(seq);
-        assert_eq!(rt; admits(false, &endpoint, window(0), &m), want, "at {pos}");
+        assert_eq!(rt;
+            admits_connected(false, ME, &endpoint, window(0), &m),
+            want,
+            "at {pos}"
+        );
     }
     m.ack = 12;
     m.ack_seq = Word(1012);
     m.pos = 1;
     m.seq = Word(50_001);
     assert_eq!(rt;
-        admits(false, &endpoint, window(0), &m),
+        admits_connected(false, ME, &endpoint, window(0), &m),
         Err(Rule::AckRange)
     );
     Ok(())
@@ -105,21 +121,27 @@ fn reads_numbers_near_the_next(rt: HostRuntime) -> Result<(), AllocError> {
     let mut m = acknowledgment(rt.alloc())?;
     m.pos = 2_147_483_649;
     m.seq = Word(2_147_533_649);
-    assert_eq!(rt; admits(false, &endpoint, window(0), &m), Err(Rule::Number));
+    assert_eq!(rt;
+        admits_connected(false, ME, &endpoint, window(0), &m),
+        Err(Rule::Number)
+    );
     m.pos = 2_147_483_648;
     m.seq = Word(2_147_533_648);
     assert_eq!(rt;
-        admits(false, &endpoint, window(0), &m),
+        admits_connected(false, ME, &endpoint, window(0), &m),
         Err(Rule::Unacceptable)
     );
     m.answers = true;
     m.maker = ME;
     assert_eq!(rt;
-        admits(false, &endpoint, window(0), &m),
+        admits_connected(false, ME, &endpoint, window(0), &m),
         Err(Rule::Unacceptable)
     );
     m.seq = Word(49_999);
-    assert_eq!(rt; admits(false, &endpoint, window(0), &m), Err(Rule::Number));
+    assert_eq!(rt;
+        admits_connected(false, ME, &endpoint, window(0), &m),
+        Err(Rule::Number)
+    );
     Ok(())
 }
 
