@@ -7,10 +7,10 @@ use Rattle.case_forms.specs.declared.calls.Answer.{Answer}
 use Rattle.case_forms.specs.declared.calls.Answer.TheVariants as answers
 use Rattle.case_forms.specs.declared.calls.State.{State}
 use Rattle.case_forms.specs.declared.calls.State.TheVariants as states
-use Rattle.streams.specs.Received.{waiting, is_ended}
+use Rattle.streams.specs.Received.{waiting, is_ended, starts}
 use Rattle.machine.specs.Endpoints.{Fault, Refused, Reset, Timeout, Endpoint, Thing, Listens, Ends, Body, is_up}
 use Rattle.machine.specs.Lookups.{is_syn_sent, is_connected, is_listening, queue_of, thing_of}
-use Rattle.machine.specs.Same.{same_state, is_prefix}
+use Rattle.machine.specs.Same.{same_state}
 
 -- the answer tells of this fault
 abbrev pub tells : Fault → Answer → Bool
@@ -64,7 +64,7 @@ is_read_out e = is_ended e.stream.receive && length (waiting e.stream.receive) =
 
 -- `recv`: the next bytes in order; the end behind the last; a fault; nothing yet (RFC 9293, 3.10.3)
 abbrev pub recv_allows : Endpoint → ℕ → Answer → Bool
-recv_allows e most (answers.Bytes bytes) = nat_le 1 (length bytes) && nat_le (length bytes) most && is_prefix bytes (waiting e.stream.receive)
+recv_allows e most (answers.Bytes bytes) = nat_le 1 (length bytes) && nat_le (length bytes) most && starts bytes (waiting e.stream.receive)
 recv_allows e most answers.Eof = is_read_out e
 recv_allows e most answers.Again = not (is_some e.fault) && length (waiting e.stream.receive) == 0 && not (is_read_out e)
 recv_allows e most answers.NotConn = not (is_some e.fault) && not (is_up e)

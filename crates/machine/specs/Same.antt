@@ -11,12 +11,6 @@ same_bytes [] (y ∷ ys) = false
 same_bytes (x ∷ xs) [] = false
 same_bytes (x ∷ xs) (y ∷ ys) = x == y && same_bytes xs ys
 
--- the second list begins with the first
-abbrev pub is_prefix : List ℕ → List ℕ → Bool
-is_prefix [] ys = true
-is_prefix (x ∷ xs) [] = false
-is_prefix (x ∷ xs) (y ∷ ys) = x == y && is_prefix xs ys
-
 -- a state's place among the states, by which two are told apart
 abbrev pub state_place : State → ℕ
 state_place states.Closed = 0

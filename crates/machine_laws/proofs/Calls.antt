@@ -16,8 +16,9 @@ use Rattle.case_forms.specs.declared.calls.State.{State}
 use Rattle.case_forms.specs.declared.calls.State.TheVariants as states
 use Rattle.streams.specs.Cells.{body}
 use Rattle.streams.specs.Lists.{Within, modify}
-use Rattle.streams.specs.Received.{received, waiting}
+use Rattle.streams.specs.Received.{received, starts, waiting}
 use Rattle.streams.proofs.Fronts.{body_grows, body_ends}
+use Rattle.streams.proofs.ReadLemmas.{starts_prefix}
 use Rattle.hosts.specs.Tables.{pick, other}
 use Rattle.machine.specs.declared.endpoint.Name.{Name}
 use Rattle.machine.specs.declared.endpoint.Fault.{Fault}
@@ -29,11 +30,10 @@ use Rattle.machine.specs.declared.endpoint.Fault.TheVariants.{Refused, Reset, Ti
 use Rattle.machine.specs.declared.endpoint.Thing.TheVariants.{Listens, Ends}
 use Rattle.machine.specs.Endpoints.{Body, new_endpoint}
 use Rattle.machine.specs.Lookups.{is_syn_sent, given, if_live, thing_of, queue_of}
-use Rattle.machine.specs.Same.{is_prefix}
 use Rattle.machine.specs.CallRules.{tells, is_bad_socket, listener_allows, endpoint_allows, thing_allows, socket_allows, call_allows, send_allows, open_send_allows}
 use Rattle.machine.specs.CallEffects.{dead, shut_down, ended_state, after_shut, after_close, after_abort, orphaned, without_listener, thing_gone, accepted_from, after_accept, change_thing, after_send, after_recv, after_call}
 use Rattle.machine_laws.specs.Runs.{endpoint_place, owner, is_socket_of, call_accepted, call_ended}
-use Rattle.machine_laws.proofs.Rules.{map_or_cases, both_true, prefix_from, number_same, number_self, is_not}
+use Rattle.machine_laws.proofs.Rules.{map_or_cases, both_true, number_same, number_self, is_not}
 use Rattle.machine_laws.proofs.Later.{Hosts, name, all_cells, Later, GoodStream, GoodEnd}
 use Rattle.machine_laws.proofs.Moves.{Added, nothing, Adds, adds_nothing, UnaIn, una_in, Changes, Fresh, GoodEnds, Moves, moves_not, moves_one, moves_plain, moves_map, moves_push, silent}
 use Rattle.machine_laws.proofs.Makes.{either_stream, either_waits}
@@ -260,7 +260,7 @@ moves_call a host (calls.Send h bytes) (answers.Given n) g may =
 moves_call a host (calls.Recv h most) (answers.Bytes bytes) g may =
     let b = (pick a host).body in
     let x = named b h (calls.Recv h most) (answers.Bytes bytes) may refl (λ queue. refused queue) in
-    let rest = prefix_from bytes (waiting x.2.stream.receive) (both_true (nat_le 1 (length bytes) && nat_le (length bytes) most) (is_prefix bytes (waiting x.2.stream.receive)) x.4).1 in
+    let rest = starts_prefix bytes (waiting x.2.stream.receive) (both_true (nat_le 1 (length bytes) && nat_le (length bytes) most) (starts bytes (waiting x.2.stream.receive)) x.4).1 in
     subst (λ (o : Option Thing). Moves a host (λ j. call_adds a (calls.Recv h most) (answers.Bytes bytes) (name host j)) b.endpoints (option_map_or (change_thing b (after_recv bytes)) o b).endpoints) (sym x.1)
     (moves_socket a host h x.0 (after_recv bytes) (λ c. record { told = if c then bytes else []; accepted = []; ended = false }) refl (owner_of b h (Ends x.0) x.1).0 g
     (λ e at. changes_recv a (name host x.0) e bytes rest.0 (g x.0 e at)

@@ -1,5 +1,5 @@
 -- From a step that breaks no rule to the facts.
-use Rattle.std.proofs.Common.{◌≡◌, ℕ, ◌<◌, ◌≤◌, Bool, true, false, List, [], ◌∷◌, ◌++◌, Option, Some, None, refl, ap, sym, arith}
+use Rattle.std.proofs.Common.{◌≡◌, ℕ, ◌<◌, ◌≤◌, Bool, true, false, List, [], ◌∷◌, Option, Some, None, refl, ap, sym, arith}
 use Rattle.std.specs.Prelude.{if◌then◌else◌, ◌==◌, ◌&&◌, ◌||◌, not, nat_lt, nat_le}
 use Rattle.std.specs.Option.{option_map_or}
 use Rattle.std.proofs.lemmas.Bool.Decides.{nat_tests}
@@ -12,7 +12,6 @@ use Rattle.hosts.specs.Tables.{on, host_is}
 use Rattle.hosts.specs.HostRules.{just}
 use Rattle.machine.specs.declared.endpoint.Name.{Name}
 use Rattle.machine.specs.Endpoints.{same_name}
-use Rattle.machine.specs.Same.{is_prefix}
 
 -- the thing is there, and the rules on it pass
 pub on_passes : {A : Type 0} (o : Option A) (r : Rule) (f : A → List (Rule × Bool)) → first_broken (on o (just r true) f) ≡ None → (x : A) × (o ≡ Some x) × (first_broken (f x) ≡ None)
@@ -119,12 +118,3 @@ some_name (Some p) n e = ap (λ (x : Name). Some x) (name_same p n e)
 pub any_name : (p : Option Name) (n q : Name) → option_map_or (λ r. same_name r n) p true ≡ true → p ≡ Some q → p ≡ Some n
 any_name None n q e f = absurd (none-some q f)
 any_name (Some p) n q e f = ap (λ (x : Name). Some x) (name_same p n e)
-
-pub prefix_from : (xs ys : List ℕ) → is_prefix xs ys ≡ true → (rest : List ℕ) × (xs ++ rest ≡ ys)
-prefix_from [] ys e = (ys, refl)
-prefix_from (x ∷ xs) [] e = absurd cc
-prefix_from (x ∷ xs) (y ∷ ys) e =
-    let parts = both_true (x == y) (is_prefix xs ys) e in
-    let here : x ≡ y = number_same x y parts.0 in
-    let more = prefix_from xs ys parts.1 in
-    (more.0, let tail = more.1 in cc)
