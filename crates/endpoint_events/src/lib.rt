@@ -12,6 +12,8 @@
 mod answers;
 mod calls;
 mod reading;
+#[cfg(test)]
+mod tests;
 mod timing;
 
 pub use answers::{endpoint_allows, listener_allows};
