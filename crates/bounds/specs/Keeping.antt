@@ -1,10 +1,51 @@
 -- What holds of all that is kept after so many steps is kept by each step, and leaves room for one more.
-use Rattle.std.specs.Prelude.{◌<◌, ℕ, List}
+use Rattle.std.specs.Prelude.{◌≡◌, ◌<◌, ◌^◌, ℕ, suc, List, None}
 use Rattle.std.specs.List.{All}
+use Rattle.case_forms.specs.declared.trace.Header.{Header}
+use Rattle.case_forms.specs.declared.calls.Host.{Host}
+use Rattle.case_forms.specs.declared.calls.Answer.{Answer}
+use Rattle.case_forms.specs.declared.calls.Answer.TheVariants as answers
+use Rattle.case_forms.specs.declared.trace.Wire.{Wire}
+use Rattle.verdict.specs.Rules.{first_broken}
 use Rattle.machine.specs.declared.endpoint.Endpoint.{Endpoint}
-use Rattle.machine.specs.Bounds.{HasRoom, IsKept, most_steps}
+use Rattle.machine.specs.declared.endpoint.Emission.{Emission}
+use Rattle.machine.specs.Endpoints.{Body, empty}
+use Rattle.machine.specs.Bounds.{HasRoom, IsKept, IsKeptBody, IsSmallEmission, most_steps}
+use Rattle.machine.specs.Forgetting.{forget_body}
+use Rattle.machine.specs.Machine.{Act, Calls, Makes, Takes, Resets, Expires, Recovers, act_rules, act_after}
+use Rattle.machine.specs.Resets.{reset_of}
+use Rattle.machine.specs.Wires.{sent}
 
 -- before the last step that a case may have, there is room for what one step more may add
 pub record HaveRoom : Type 0 where
   pub endpoint : (steps : ℕ) (e : Endpoint) → steps < most_steps → IsKept steps e → HasRoom e
   pub endpoints : (steps : ℕ) (es : List Endpoint) → steps < most_steps → All (IsKept steps) es → All HasRoom es
+
+-- a number that an answer gives is small
+abbrev pub IsSmallAnswer : Answer → Type 0
+IsSmallAnswer (answers.Given n) = n < 2 ^ 32
+IsSmallAnswer answer = Unit {0}
+
+-- the numbers of an act that counts and positions take over are small
+abbrev pub IsSmallAct : Act → Type 0
+IsSmallAct (Calls call answer) = IsSmallAnswer answer
+IsSmallAct (Makes making) = Unit {0}
+IsSmallAct (Takes how m) = IsSmallEmission m
+IsSmallAct (Resets m) = Unit {0}
+IsSmallAct (Expires expiry growth) = Unit {0}
+IsSmallAct (Recovers recovery) = Unit {0}
+
+-- a host begins with nothing; a permitted act is one step more, and what may be let go is let go then
+pub record ActsKeep : Type 0 where
+  pub starts : IsKeptBody 0 empty
+  pub acts : (h : Header) (me : Host) (moment steps : ℕ) (b : Body) (act : Act) → IsSmallAct act → first_broken (act_rules h me moment b act) ≡ None → IsKeptBody steps b → IsKeptBody (suc steps) (forget_body (act_after h me moment b act))
+
+-- what holds after so many steps holds after one more in which nothing happens
+pub record KeptLonger : Type 0 where
+  pub endpoint : (steps : ℕ) (e : Endpoint) → IsKept steps e → IsKept (suc steps) e
+  pub body : (steps : ℕ) (b : Body) → IsKeptBody steps b → IsKeptBody (suc steps) b
+
+-- resets that answer are small, and segments that go out are as small as they were made
+pub record EmissionsAreSmall : Type 0 where
+  pub resets : (m : Emission) → IsSmallEmission (reset_of m)
+  pub goes : (moment : ℕ) (wire : Wire) (m : Emission) → IsSmallEmission m → IsSmallEmission (sent moment wire m)

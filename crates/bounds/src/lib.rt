@@ -6,4 +6,4 @@
 
 mod laws;
 
-pub use laws::have_room;
+pub use laws::{acts_keep, emissions_are_small, have_room, kept_longer};
