@@ -30,5 +30,6 @@ pub use acknowledgments::{
 };
 pub use growth::{greatest_at_syn, greatest_window, told_smss};
 pub use numbers::{is_bad_number, is_from_peer, place_taken};
+pub use reading::{is_syn_received, max_made, next};
 pub use rules::{admits_connected, admits_listening, admits_syn_sent};
 pub use timing::{admits_expiry, admits_recovery};

@@ -27,19 +27,22 @@ pub(crate) fn is_closed(state: State) -> bool
     matches!(state, State::Closed)
 }
 
-pub(crate) fn is_syn_received(state: State) -> bool
+/// Whether the state is SYN-RECEIVED.
+pub fn is_syn_received(state: State) -> bool
     ensures { result ≡ is_syn_received state }
 {
     matches!(state, State::SynReceived)
 }
 
-pub(crate) fn max_made(endpoint: &Endpoint) -> u64
+/// The position behind all that was made (RFC 9293, 3.3.1: SND.NXT at its greatest).
+pub fn max_made(endpoint: &Endpoint) -> u64
     ensures { result ≡ max_made endpoint.now }
 {
     endpoint.makings.end()
 }
 
-pub(crate) fn next(endpoint: &Endpoint) -> u64
+/// The next position that is expected of the peer: 0 before its SYN was taken (RFC 9293, 3.3.1: RCV.NXT).
+pub fn next(endpoint: &Endpoint) -> u64
     ensures value { result ≡ next endpoint.now }
     ensures small { result < 2 ^ 63 }
 {
