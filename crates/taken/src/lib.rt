@@ -19,6 +19,8 @@ mod meeting;
 mod resetting;
 mod segment;
 mod taken;
+#[cfg(test)]
+mod tests;
 mod timing;
 
 pub use meeting::{child, joins};
