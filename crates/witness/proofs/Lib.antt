@@ -4,4 +4,5 @@ pub mod PartLaw
 pub mod LabelLaw
 pub mod StepLaw
 pub mod TextLaw
+pub mod LimitsLaw
 pub mod PrintLaw

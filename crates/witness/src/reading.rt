@@ -2,6 +2,7 @@
 
 ghost use Rattle.std.specs.Prelude.{◌<◌, ◌^◌, length, Ok, IfOk};
 ghost use Rattle.case_forms.specs.declared.steps.Witness.{Witness};
+ghost use Rattle.case_forms.specs.Witnesses.{IsWitness};
 ghost use Rattle.line_fields.specs.Reading.{Gives};
 ghost use Rattle.line_fields.specs.Folding.{read_lines};
 ghost use Rattle.witness.specs.Steps.{step_of};
@@ -72,6 +73,8 @@ pub fn read_witness(alloc: Global, text: &[u8]) -> Result<Witness, TextFault>
     ensures found { IfOk result (λ w. IsWitnessText w text.now) }
     // What is spelled so is read, unless memory runs out.
     ensures only { (w : Witness) → IsWitnessText w text.now → Gives (λ w. w) result (Ok w) }
+    // It keeps the limits on the count of its steps and on the positions that they name.
+    ensures limits { IfOk result IsWitness }
     // Which fault it is.
     ensures exact { Gives (λ w. w) result (witness_of text.now) }
 {

@@ -1,6 +1,7 @@
 use Rattle.std.proofs.Common.{subst}
 use Rattle.line_fields.specs.Reading.{Gives}
 use Rattle.witness.proofs.TextLaw.{is_found, text_again}
+use Rattle.witness.proofs.LimitsLaw.{is_limited}
 use Rattle.witness.proofs.reading.read_witness.Goals as goal
 
 pub returns-clause-found : goal.returns-clause-found
@@ -8,3 +9,6 @@ returns-clause-found c = is_found c.args.text.now c.read.result c.read.ensures
 
 pub returns-clause-only : goal.returns-clause-only
 returns-clause-only c = λ w spelled. subst (λ f. Gives (λ w. w) c.read.result f) (text_again w c.args.text.now spelled) c.read.ensures
+
+pub returns-clause-limits : goal.returns-clause-limits
+returns-clause-limits c = is_limited c.args.text.now c.read.result c.read.ensures
