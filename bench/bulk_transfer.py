@@ -1,0 +1,121 @@
+#!/usr/bin/env python3
+"""Writes the case of one long transfer to standard output: a trace, and a witness that explains it.
+
+Host 1 listens and host 0 connects. Then comes round after round: host 0 sends 64 to 100 bytes, which go out in one segment
+and arrive; host 1 receives them and acknowledges, and the acknowledgment arrives. A round has 8 event lines and 14 steps.
+The numbers of host 0 wrap in the first or second round, those of host 1 behind its SYN. The congestion window grows by all
+that is acknowledged, each round trip is measured, and nothing is lost.
+
+The one argument is the count of rounds, 160,000 where it is missing: then the case has 1,280,012 event lines, 2,240,021 steps
+and 232 million bytes. The verdict on N rounds is `yes A B` with A = 12 + 8 N and B = 9 + 6 N.
+"""
+
+import random
+import sys
+
+ROUNDS = 160_000
+FIRST_EVENT_LINE = 7
+HEADER = ["trace 1", "skew 0", "msl 120000000", "grain 1000", "minrto 1000000", "extra 0"]
+
+# Ports and initial send sequence numbers by host, sockets, and what windows are offered.
+PORTS = (4000, 80)
+FIRST_NUMBERS = (4_294_967_200, 4_294_967_295)
+LISTENER, SENDER, RECEIVER = 5, 6, 7
+WINDOW = 65535
+INITIAL_WINDOW = 4 * 536
+
+# Which thread calls at which host, and which records the segments there.
+CALLERS = (2, 1)
+WIRES = (3, 4)
+
+FLAG_BITS = {"S": 0x02, "A": 0x10, "AS": 0x12}
+
+
+class Case:
+    """The event lines and the steps so far, the moment of the last of them, and how many segments were made."""
+
+    def __init__(self):
+        self.moment = 0
+        self.events = []
+        self.steps = []
+        self.made = 0
+
+    def event(self, thread, what, extra=""):
+        """One event line, and the step that takes it, ten microseconds after the line before. Answers its number."""
+        self.moment += 10
+        number = FIRST_EVENT_LINE + len(self.events)
+        self.events.append(f"{self.moment} {thread} {what}")
+        self.steps.append(f"{self.moment} L {number}{extra}")
+        return number
+
+    def step(self, what):
+        """A hidden step, at the moment of the line before."""
+        self.steps.append(f"{self.moment} {what}")
+
+    def call(self, thread, call, answer):
+        """A call that has its effect at once."""
+        self.event(thread, f"B {call}")
+        self.step(f"D {thread} {answer}")
+        self.event(thread, f"E {answer}")
+
+    def segment(self, host, position, flags, acked, payload=b"", first=""):
+        """Makes a segment, which goes out and arrives. Answers the number of the line by which it came in."""
+        other = 1 - host
+        sequence = (FIRST_NUMBERS[host] + position) % 2**32
+        acknowledgment = 0 if acked is None else (FIRST_NUMBERS[other] + acked) % 2**32
+        hexed = (
+            f"{PORTS[host]:04x}{PORTS[other]:04x}{sequence:08x}{acknowledgment:08x}"
+            f"50{FLAG_BITS[flags]:02x}{WINDOW:04x}00000000{payload.hex()}"
+        )
+        self.made += 1
+        self.step(f"M {host} {PORTS[host]} {PORTS[other]} {position} {len(payload)} {flags} {WINDOW}{first}")
+        out = self.event(WIRES[host], f"O {host} {hexed}", f" {self.made}")
+        return self.event(WIRES[other], f"I {other} {hexed}", f" {out}")
+
+    def take(self, host, line, window, keep, sample):
+        """The host takes what came by that line, and chooses its congestion window."""
+        self.step(f"T {host} {line} {window} {keep} {sample}")
+
+
+def connect(case):
+    """The listener, the handshake, and the accepted socket."""
+    case.call(CALLERS[1], f"listen 1 {PORTS[1]} 4", f"ok {LISTENER}")
+    case.call(CALLERS[0], f"open 0 {PORTS[0]} {PORTS[1]}", f"ok {SENDER}")
+    line = case.segment(0, 0, "S", None, first=f" {FIRST_NUMBERS[0]}")
+    case.take(1, line, 0, 0, 0)
+    line = case.segment(1, 0, "AS", 1, first=f" {FIRST_NUMBERS[1]}")
+    case.take(0, line, INITIAL_WINDOW, 0, 1)
+    line = case.segment(0, 1, "A", 1)
+    case.take(1, line, INITIAL_WINDOW, 0, 1)
+    case.call(CALLERS[1], f"accept {LISTENER}", f"ok {RECEIVER}")
+
+
+def transfer(case, sent, payload):
+    """One round, behind so many bytes."""
+    size = len(payload)
+    position = 1 + sent
+    case.call(CALLERS[0], f"send {SENDER} {payload.hex()}", f"ok {size}")
+    line = case.segment(0, position, "A", 1, payload)
+    case.take(1, line, INITIAL_WINDOW, 1, 0)
+    case.call(CALLERS[1], f"recv {RECEIVER} {size}", f"data {payload.hex()}")
+    line = case.segment(1, 1, "A", position + size)
+    case.take(0, line, INITIAL_WINDOW + sent + size, 0, 1)
+
+
+def main():
+    rounds = int(sys.argv[1]) if len(sys.argv) > 1 else ROUNDS
+    chosen = random.Random(1)
+    case = Case()
+    connect(case)
+    sent = 0
+    for _ in range(rounds):
+        payload = chosen.randbytes(chosen.randint(64, 100))
+        transfer(case, sent, payload)
+        sent += len(payload)
+    for lines in (HEADER, case.events, ["witness 1"], case.steps):
+        for line in lines:
+            sys.stdout.write(line + "\n")
+
+
+if __name__ == "__main__":
+    main()
