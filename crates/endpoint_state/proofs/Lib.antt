@@ -1,2 +1,3 @@
 pub mod Lookups
 mod PortLemmas
+pub mod Entries

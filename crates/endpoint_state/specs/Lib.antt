@@ -2,4 +2,6 @@ pub mod Bodies
 pub mod Ports
 pub mod Worlds
 pub mod Calls
+pub mod Turns
+pub mod Passages
 pub use Rattle.verdict.specs.Rules

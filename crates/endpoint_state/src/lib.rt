@@ -6,10 +6,22 @@
 //! - `body`: what one host has, seen by calls
 //! - `world`: the two hosts, and where each thread is in its calls
 //! - `calls`: the call rule, and the beginning, the effect and the end of a call
+//!
+//! The tables of the machine of two TCP hosts (`hosts`, at the kernel of `machine`), and what lines do to them;
+//! `specs/Turns` and `specs/Passages` say it table by table:
+//!
+//! - `turn`, `threads`: where each thread is, and the lines that begin and end a call
+//! - `made`, `sending`: segments that were made, and the lines that go out
+//! - `arriving`: the lines that come in, and what waits in an inbox
 #![tactic(auto)]
 
+pub mod arriving;
 mod body;
 mod calls;
+pub mod made;
+pub mod sending;
+pub mod threads;
+pub mod turn;
 mod world;
 
 pub use body::Listener;
