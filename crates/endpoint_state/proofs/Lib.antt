@@ -1,3 +1,4 @@
 pub mod Lookups
 mod PortLemmas
 pub mod Entries
+pub mod Agreements

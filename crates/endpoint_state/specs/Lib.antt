@@ -4,4 +4,5 @@ pub mod Worlds
 pub mod Calls
 pub mod Turns
 pub mod Passages
+pub mod Machines
 pub use Rattle.verdict.specs.Rules

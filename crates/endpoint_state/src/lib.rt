@@ -13,17 +13,22 @@
 //! - `turn`, `threads`: where each thread is, and the lines that begin and end a call
 //! - `made`, `sending`: segments that were made, and the lines that go out
 //! - `arriving`: the lines that come in, and what waits in an inbox
+//! - `laws`: that these are the rules and effects of the machine
 #![tactic(auto)]
 
 pub mod arriving;
 mod body;
 mod calls;
+mod laws;
 pub mod made;
 pub mod sending;
+#[cfg(test)]
+mod tests;
 pub mod threads;
 pub mod turn;
 mod world;
 
 pub use body::Listener;
 pub use calls::{begin_call, call_allowed, do_call, end_call};
+pub use laws::tables_are_the_machines;
 pub use world::{Turn, World};
