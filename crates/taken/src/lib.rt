@@ -10,18 +10,18 @@
 //! - `meeting`: taking the peer's SYN, at a listener or in SYN-SENT
 //! - `resetting`: taking a reset
 //! - `taken`: taking any other segment
-//! - `segment`: all of them, by state
+//! - `receiving`: all of them, by state
 #![tactic(auto)]
 
 mod acknowledging;
 mod keeping;
 mod meeting;
+mod receiving;
 mod resetting;
-mod segment;
 mod taken;
 #[cfg(test)]
 mod tests;
 mod timing;
 
 pub use meeting::{child, joins};
-pub use segment::take_segment;
+pub use receiving::take_segment;

@@ -1,0 +1,35 @@
+-- Indexes: what leads to an endpoint or a listener in constant time, and what it has to say.
+use Rattle.std.specs.Prelude.{◌≡◌, ℕ, Bool, true, false, nat_eq, ◌&&◌, ◌||◌, List, [], ◌∷◌, Option, None, Some, slice_get, Vec}
+use Rattle.std.specs.declared.alloc.Global.{Global}
+use Rattle.std.specs.Map.{lookup}
+use Rattle.std.specs.Option.{option_map_or, IsSomeAnd}
+use Rattle.machine.specs.declared.endpoint.Endpoint.{Endpoint}
+use Rattle.machine.specs.declared.endpoint.Listener.{Listener}
+use Rattle.machine.specs.Lookups.{last_from, has_ports}
+
+-- the two pairs of ports are one
+abbrev pub same_ports : ℕ × ℕ → ℕ × ℕ → Bool
+same_ports a b = nat_eq a.0 b.0 && nat_eq a.1 b.1
+
+-- the number stands in the list
+abbrev pub stands_in : ℕ → List ℕ → Bool
+stands_in n [] = false
+stands_in n (m ∷ ms) = nat_eq n m || stands_in n ms
+
+-- each pair of ports leads to the endpoint created last there, and each endpoint stands among the children of its listener
+pub record IsIndexed (found : ℕ → ℕ → Option ℕ) (is_child : ℕ → ℕ → Bool) (endpoints : List Endpoint) : Type 0 where
+  pub ports : (lport rport : ℕ) → found lport rport ≡ last_from (has_ports lport rport) 0 None endpoints
+  pub children : (place l : ℕ) (e : Endpoint) → slice_get endpoints place ≡ Some e → e.listener ≡ Some l → is_child l place ≡ true
+
+-- the port of each open listener leads to it, and a port leads to no listener of another port
+pub record IsListening (found : ℕ → Option ℕ) (listeners : List Listener) : Type 0 where
+  pub live : (place : ℕ) (x : Listener) → slice_get listeners place ≡ Some x → x.is_open ≡ true → found x.port ≡ Some place
+  pub port : (port place : ℕ) → found port ≡ Some place → IsSomeAnd (slice_get listeners place) (λ x. x.port ≡ port)
+
+-- where a map from pairs of ports leads
+abbrev pub find_ports : List ((ℕ × ℕ) × ℕ) → ℕ → ℕ → Option ℕ
+find_ports entries lport rport = lookup (same_ports (lport, rport)) entries
+
+-- the place stands among the children of that listener
+abbrev pub is_child_in : List (ℕ × Vec ℕ Global) → ℕ → ℕ → Bool
+is_child_in entries l place = option_map_or (λ places. stands_in place places.items) (lookup (nat_eq l) entries) false

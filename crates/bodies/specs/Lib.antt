@@ -1,0 +1,4 @@
+pub mod Indexes
+pub mod Takers
+pub mod Changes
+pub mod Calls
