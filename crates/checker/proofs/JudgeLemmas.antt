@@ -13,30 +13,33 @@ use Rattle.verdict.specs.declared.rule.Rule.TheVariants.{Unplaced}
 use Rattle.verdict.specs.declared.report.Verdict.{Verdict}
 use Rattle.verdict.specs.declared.report.Verdict.TheVariants.{Yes, No}
 use Rattle.interval_order.specs.Orders.{unplaced}
-use Rattle.endpoint_state.specs.Worlds.{World, start}
-use Rattle.spec_step.specs.Runs.{Act, world_after}
-use Rattle.checker.specs.Seen.{moves, act_of, acts}
+use Rattle.hosts.specs.Hosts.{World, Stamped}
+use Rattle.hosts.specs.HostSteps.{start, after_all}
+use Rattle.machine.specs.Machine.{tcp, tcp_shape}
+use Rattle.checker.specs.Seen.{moves, act_of, stamped}
 use Rattle.checker.specs.Verdicts.{act_after, broken, next_world, takes_line, line_named, verdict, verdict_from, verdict_left, refused_or}
 use Rattle.checker.specs.Explains.{Explains, IsYes}
 use Rattle.checker.specs.Judges.{Says}
 use Rattle.checker.proofs.YesLemmas.{yes_explains, explains_yes}
 
-after_more : (w : World) (act : Option Act) (rest : List Act) → world_after w (cons_option act rest) ≡ world_after (option_map_or (act_after w) act w) rest
-after_more w None rest = refl
-after_more w (Some act) rest = refl
+after_more : (header : Header) (w : World tcp_shape) (act : Option (Stamped tcp_shape)) (rest : List (Stamped tcp_shape))
+    → after_all (tcp header) w (cons_option act rest) ≡ after_all (tcp header) (option_map_or (act_after header w) act w) rest
+after_more header w None rest = refl
+after_more header w (Some act) rest = refl
 
 -- the world that steps leave, and one step more
-world_more : (header : Header) (lines : List Line) (w : World) (earlier : List Step) (s : Step) → world_after w (acts header lines (earlier ++ s ∷ [])) ≡ next_world header lines (world_after w (acts header lines earlier)) s
-world_more header lines w [] s = after_more w (act_of header lines s) []
+pub world_more : (header : Header) (lines : List Line) (w : World tcp_shape) (earlier : List Step) (s : Step)
+    → after_all (tcp header) w (stamped header lines (earlier ++ s ∷ [])) ≡ next_world header lines (after_all (tcp header) w (stamped header lines earlier)) s
+world_more header lines w [] s = after_more header w (act_of header lines s) []
 world_more header lines w (t ∷ earlier) s =
-    after_more w (act_of header lines t) (acts header lines (earlier ++ s ∷ []))
+    after_more header w (act_of header lines t) (stamped header lines (earlier ++ s ∷ []))
     ∙ world_more header lines (next_world header lines w t) earlier s
-    ∙ ap (λ (u : World). next_world header lines u s) (sym (after_more w (act_of header lines t) (acts header lines earlier)))
+    ∙ ap (λ (u : World tcp_shape). next_world header lines u s) (sym (after_more header w (act_of header lines t) (stamped header lines earlier)))
 
 -- What the verdict on the steps that are left says, where the earlier ones broke no rule.
 module _ (t : Trace) where
-  abbrev world_of : List Step → World
-  world_of earlier = world_after (start t.header) (acts t.header t.lines earlier)
+  abbrev world_of : List Step → World tcp_shape
+  world_of earlier = after_all (tcp t.header) (start (tcp t.header)) (stamped t.header t.lines earlier)
 
   abbrev breaks : List Step → Step → Option Rule
   breaks earlier s = broken t.header t.lines earlier (world_of earlier) s
@@ -86,7 +89,7 @@ module _ (t : Trace) where
       by_rule None is rest =
           subst (λ (r : Option Rule). SaysLeft earlier (s ∷ steps) (refused_or r earlier s (verdict_from t.header t.lines (earlier ++ s ∷ []) (next_world t.header t.lines (world_of earlier) s) steps))) (sym is)
           (front earlier s steps (verdict_from t.header t.lines (earlier ++ s ∷ []) (next_world t.header t.lines (world_of earlier) s) steps) is
-          (subst (λ (u : World). SaysLeft (earlier ++ s ∷ []) steps (verdict_from t.header t.lines (earlier ++ s ∷ []) u steps)) (world_more t.header t.lines (start t.header) earlier s) rest))
+          (subst (λ (u : World tcp_shape). SaysLeft (earlier ++ s ∷ []) steps (verdict_from t.header t.lines (earlier ++ s ∷ []) u steps)) (world_more t.header t.lines (start (tcp t.header)) earlier s) rest))
       by_rule (Some rule) is rest =
           subst (λ (r : Option Rule). SaysLeft earlier (s ∷ steps) (refused_or r earlier s (verdict_from t.header t.lines (earlier ++ s ∷ []) (next_world t.header t.lines (world_of earlier) s) steps))) (sym is)
           (inr (0, omega arith, (s, refl, subst (λ (xs : List Step). breaks xs s ≡ Some rule) (sym (append-nil earlier)) is, refl), λ i u lt here. absurd (omega arith)))

@@ -1,5 +1,5 @@
 -- The rules of a step may be asked of the lines that are not placed.
-use Rattle.std.proofs.Common.{◌≡◌, ℕ, Bool, true, false, cond, not, List, [], ◌++◌, refl, sym, ap, ◌∙◌, Option, Some, None}
+use Rattle.std.proofs.Common.{◌≡◌, ℕ, Bool, true, false, cond, not, List, [], ◌++◌, refl, sym, ap, subst, ◌∙◌, Option, Some, None, ◌≤◌, ◌+◌, arith}
 use Rattle.std.specs.Option.{option_map, option_map_or}
 use Rattle.case_forms.specs.declared.trace.Header.{Header}
 use Rattle.case_forms.specs.declared.trace.Line.{Line}
@@ -13,14 +13,20 @@ use Rattle.case_forms.specs.Traces.{line_at}
 use Rattle.verdict.specs.declared.rule.Rule.{Rule}
 use Rattle.verdict.specs.declared.rule.Rule.TheVariants as rules
 use Rattle.verdict.specs.Rules.{first_broken}
+use Rattle.verdict.proofs.RuleLemmas.{first_broken-append_some}
 use Rattle.interval_order.specs.Orders.{Order, taking, is_placed, order_of, held_line, is_offered}
 use Rattle.interval_order.specs.OrderRules.{order_rules}
 use Rattle.interval_order.proofs.OrderLemmas.{held_is}
-use Rattle.endpoint_state.specs.Worlds.{World}
+use Rattle.hosts.specs.Hosts.{World, Stamped}
+use Rattle.machine.specs.Machine.{tcp_shape}
+use Rattle.machine.specs.Steps.{line_step}
+use Rattle.machine.specs.Forgetting.{forget}
+use Rattle.machine_laws.proofs.ForgetWorlds.{step_rules-forget, after-forgets, makes_permitted}
+use Rattle.endpoint_state.specs.Worlds.{Progress, after}
 use Rattle.spec_step.specs.declared.label.Label.TheVariants as deeds
-use Rattle.spec_step.specs.Runs.{Act}
-use Rattle.checker.specs.Seen.{moves, act_of}
-use Rattle.checker.specs.Verdicts.{act_rules, broken}
+use Rattle.spec_step.specs.Steps.{step_of}
+use Rattle.checker.specs.Seen.{moves, move_of, act_of}
+use Rattle.checker.specs.Verdicts.{act_rules, act_after, broken}
 use Rattle.checker.specs.Kept.{held_act, kept_broken}
 
 -- a line that is no longer held breaks a rule of order, whatever the machine says
@@ -31,6 +37,18 @@ gone o moment n extras none = by_test (is_offered o n) refl
     by_test true is = (rules.LineAgain, λ rest. simp (none, is) refl)
     by_test false is = (rules.LineRange, λ rest. simp (none, is) refl)
 
+-- what the machine is asked to do with a line
+abbrev line_act : ℕ → Extras → Option Line → Option (Stamped tcp_shape)
+line_act moment extras found = option_map (λ step. record { moment = moment; step = step }) (option_map (λ line. line_step line extras) found)
+
+-- the same by what the label does with the line
+abbrev deed_act : ℕ → Extras → Option Line → Option (Stamped tcp_shape)
+deed_act moment extras found = option_map (λ deed. record { moment = moment; step = step_of deed }) (option_map (λ line. deeds.L line extras) found)
+
+same_act : (moment : ℕ) (extras : Extras) (found : Option Line) → deed_act moment extras found ≡ line_act moment extras found
+same_act moment extras None = refl
+same_act moment extras (Some line) = refl
+
 module _ (header : Header) (lines : List Line) (earlier : List Step) where
   held_not_placed : (n : ℕ) → is_placed (moves earlier) n ≡ false → held_line (order_of header lines (moves earlier)) n ≡ line_at header lines n
   held_not_placed n is = held_is header lines (moves earlier) n ∙ ap (λ (b : Bool). cond (not b) (line_at header lines n) None) is
@@ -38,24 +56,22 @@ module _ (header : Header) (lines : List Line) (earlier : List Step) where
   held_placed : (n : ℕ) → is_placed (moves earlier) n ≡ true → held_line (order_of header lines (moves earlier)) n ≡ None
   held_placed n is = held_is header lines (moves earlier) n ∙ ap (λ (b : Bool). cond (not b) (line_at header lines n) None) is
 
-  -- what the machine is asked to do with a line
-  abbrev line_act : ℕ → Extras → Option Line → Option Act
-  line_act moment extras found = option_map (λ deed. record { moment = moment; label = deed }) (option_map (λ line. deeds.L line extras) found)
+  abbrev machine_part : World tcp_shape → Option (Stamped tcp_shape) → List (Rule × Bool)
+  machine_part w act = option_map_or (act_rules header w) act []
 
-  abbrev line_rules : World → ℕ → Extras → Option Line → List (Rule × Bool)
-  line_rules w moment extras found = option_map_or (act_rules w) (line_act moment extras found) []
-
-  broken_at : (w : World) (moment : ℕ) (label : Label) (span : Span)
-      → broken header lines earlier w (record { moment = moment; label = label; span = span }) ≡ kept_broken (order_of header lines (moves earlier)) w (record { moment = moment; label = label; span = span })
+  broken_at : (w : World tcp_shape) (moment : ℕ) (label : Label) (span : Span)
+      → broken header lines earlier w (record { moment = moment; label = label; span = span }) ≡ kept_broken header (order_of header lines (moves earlier)) w (record { moment = moment; label = label; span = span })
   broken_at w moment (L n extras) span = by_test (is_placed (moves earlier) n) refl
     where
       by_test : (b : Bool) → is_placed (moves earlier) n ≡ b
-          → broken header lines earlier w (record { moment = moment; label = L n extras; span = span }) ≡ kept_broken (order_of header lines (moves earlier)) w (record { moment = moment; label = L n extras; span = span })
+          → broken header lines earlier w (record { moment = moment; label = L n extras; span = span }) ≡ kept_broken header (order_of header lines (moves earlier)) w (record { moment = moment; label = L n extras; span = span })
       by_test false is =
-          ap (λ (found : Option Line). first_broken (order_rules (order_of header lines (moves earlier)) (taking moment n (extras_count extras)) ++ line_rules w moment extras found)) (sym (held_not_placed n is))
+          ap (λ (found : Option Line). first_broken (order_rules (order_of header lines (moves earlier)) (taking moment n (extras_count extras)) ++ machine_part w (line_act moment extras found))) (sym (held_not_placed n is))
+          ∙ ap (λ (act : Option (Stamped tcp_shape)). first_broken (order_rules (order_of header lines (moves earlier)) (taking moment n (extras_count extras)) ++ machine_part w act))
+          (sym (same_act moment extras (held_line (order_of header lines (moves earlier)) n)))
       by_test true is =
           let none = gone (order_of header lines (moves earlier)) moment n (extras_count extras) (held_placed n is) in
-          none.1 (line_rules w moment extras (line_at header lines n)) ∙ sym (none.1 (line_rules w moment extras (held_line (order_of header lines (moves earlier)) n)))
+          none.1 (machine_part w (line_act moment extras (line_at header lines n))) ∙ sym (none.1 (machine_part w (deed_act moment extras (held_line (order_of header lines (moves earlier)) n))))
   broken_at w moment (D t answer) span = refl
   broken_at w moment (M host local remote position len flags window iss) span = refl
   broken_at w moment (T host line cwnd keep sample) span = refl
@@ -64,20 +80,20 @@ module _ (header : Header) (lines : List Line) (earlier : List Step) where
   broken_at w moment (F host local remote cwnd ssthresh) span = refl
 
   -- the rules may be asked of the line that is held
-  pub broken_is : (w : World) (s : Step) → broken header lines earlier w s ≡ kept_broken (order_of header lines (moves earlier)) w s
+  pub broken_is : (w : World tcp_shape) (s : Step) → broken header lines earlier w s ≡ kept_broken header (order_of header lines (moves earlier)) w s
   broken_is w s = broken_at w s.moment s.label s.span
 
-  act_at : (w : World) (moment : ℕ) (label : Label) (span : Span)
-      → kept_broken (order_of header lines (moves earlier)) w (record { moment = moment; label = label; span = span }) ≡ None
+  act_at : (w : World tcp_shape) (moment : ℕ) (label : Label) (span : Span)
+      → kept_broken header (order_of header lines (moves earlier)) w (record { moment = moment; label = label; span = span }) ≡ None
       → held_act (order_of header lines (moves earlier)) (record { moment = moment; label = label; span = span }) ≡ act_of header lines (record { moment = moment; label = label; span = span })
   act_at w moment (L n extras) span ok = by_test (is_placed (moves earlier) n) refl
     where
       by_test : (b : Bool) → is_placed (moves earlier) n ≡ b
           → held_act (order_of header lines (moves earlier)) (record { moment = moment; label = L n extras; span = span }) ≡ act_of header lines (record { moment = moment; label = L n extras; span = span })
-      by_test false is = ap (line_act moment extras) (held_not_placed n is)
+      by_test false is = same_act moment extras (held_line (order_of header lines (moves earlier)) n) ∙ ap (line_act moment extras) (held_not_placed n is)
       by_test true is =
           let none = gone (order_of header lines (moves earlier)) moment n (extras_count extras) (held_placed n is) in
-          let h : Some none.0 ≡ None = sym (none.1 (line_rules w moment extras (held_line (order_of header lines (moves earlier)) n))) ∙ ok in absurd cc
+          let h : Some none.0 ≡ None = sym (none.1 (machine_part w (deed_act moment extras (held_line (order_of header lines (moves earlier)) n)))) ∙ ok in absurd cc
   act_at w moment (D t answer) span ok = refl
   act_at w moment (M host local remote position len flags window iss) span ok = refl
   act_at w moment (T host line cwnd keep sample) span ok = refl
@@ -86,5 +102,36 @@ module _ (header : Header) (lines : List Line) (earlier : List Step) where
   act_at w moment (F host local remote cwnd ssthresh) span ok = refl
 
   -- and the act is that of the line that is held, where no rule is broken
-  pub act_is : (w : World) (s : Step) → kept_broken (order_of header lines (moves earlier)) w s ≡ None → held_act (order_of header lines (moves earlier)) s ≡ act_of header lines s
+  pub act_is : (w : World tcp_shape) (s : Step) → kept_broken header (order_of header lines (moves earlier)) w s ≡ None → held_act (order_of header lines (moves earlier)) s ≡ act_of header lines s
   act_is w s ok = act_at w s.moment s.label s.span ok
+
+-- the rules may be asked of the world of which all is forgotten that may be let go
+pub broken_forgets : (header : Header) (o : Order) (w : World tcp_shape) (s : Step) → kept_broken header o (forget w) s ≡ kept_broken header o w s
+broken_forgets header o w s = ap (λ (rest : List (Rule × Bool)). first_broken (order_rules o (move_of s) ++ rest)) (by_act (held_act o s))
+  where
+    by_act : (act : Option (Stamped tcp_shape)) → option_map_or (act_rules header (forget w)) act [] ≡ option_map_or (act_rules header w) act []
+    by_act None = refl
+    by_act (Some act) = step_rules-forget header act.moment w act.step
+
+-- what is kept after an act that breaks no rule is what is kept of the whole world after it
+pub next_forgets : (header : Header) (p : Progress) (w : World tcp_shape) (act : Option (Stamped tcp_shape))
+    → p.header ≡ header → p.world ≡ forget w → first_broken (option_map_or (act_rules header w) act []) ≡ None
+    → (option_map_or (λ a. after p a.moment a.step) act p).world ≡ forget (option_map_or (act_after header w) act w)
+next_forgets header p w None h is ok = is
+next_forgets header p w (Some act) h is ok = rw (h, is) (after-forgets header act.moment w act.step (makes_permitted header act.moment w act.step ok))
+
+-- no act changes the header, and each is one step at most
+pub next_header : (p : Progress) (act : Option (Stamped tcp_shape)) → (option_map_or (λ a. after p a.moment a.step) act p).header ≡ p.header
+next_header p None = refl
+next_header p (Some act) = refl
+
+pub next_steps : (p : Progress) (act : Option (Stamped tcp_shape)) → (option_map_or (λ a. after p a.moment a.step) act p).steps ≤ p.steps + 1
+next_steps p None = omega arith
+next_steps p (Some act) = omega arith
+
+-- the rule of order that a step breaks which takes a line is the least that it breaks
+pub refused_line : (header : Header) (o : Order) (w : World tcp_shape) (s : Step) (n : ℕ) (extras : Extras) (rule : Rule)
+    → s.label ≡ L n extras → Some rule ≡ first_broken (order_rules o (taking s.moment n (extras_count extras))) → Some rule ≡ kept_broken header o w s
+refused_line header o w s n extras rule is broken =
+    subst (λ (label : Label). Some rule ≡ kept_broken header o w (record s { label = label })) (sym is)
+    (sym (first_broken-append_some (order_rules o (taking s.moment n (extras_count extras))) (option_map_or (act_rules header w) (held_act o (record s { label = L n extras })) []) rule (sym broken)))

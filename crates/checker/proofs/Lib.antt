@@ -4,3 +4,4 @@ pub mod CheckLemmas
 pub mod JudgeLemmas
 pub mod OfferLemmas
 pub mod CaseLemmas
+pub mod ConsequenceLemmas

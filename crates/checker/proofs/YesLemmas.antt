@@ -15,16 +15,16 @@ use Rattle.interval_order.specs.Orders.{Move, unplaced, order_of}
 use Rattle.interval_order.specs.OrderRules.{order_rules}
 use Rattle.interval_order.proofs.PlacedFrom.{IsOrderly, placed_from_orderly}
 use Rattle.interval_order.proofs.PlacedTo.{orderly_from_placed}
-use Rattle.endpoint_state.specs.Worlds.{World, start}
-use Rattle.spec_step.specs.Runs.{Act, IsRun}
-use Rattle.checker.specs.Seen.{move_of, moves, act_of, acts}
+use Rattle.hosts.specs.Hosts.{World, Stamped}
+use Rattle.hosts.specs.HostSteps.{start, Lawful}
+use Rattle.hosts.proofs.Placed.{turns}
+use Rattle.machine.specs.Machine.{tcp, tcp_shape}
+use Rattle.checker.specs.Seen.{move_of, moves, act_of, stamped}
 use Rattle.checker.specs.Verdicts.{act_rules, act_after, broken, next_world, verdict, verdict_from, verdict_left, refused_or}
 use Rattle.checker.specs.Explains.{Explains, IsYes}
-use Rattle.spec_step.proofs.RunLemmas.{RunFrom, run_from, run_at}
-use Rattle.spec_step.proofs.TurnLemmas.{run_takes_turns}
 
 -- no step breaks a rule, and each line is placed in the end
-abbrev IsClean : Header → List Line → List Step → World → List Step → Type 0
+abbrev IsClean : Header → List Line → List Step → World tcp_shape → List Step → Type 0
 IsClean header lines earlier w [] = unplaced header lines (moves earlier) ≡ []
 IsClean header lines earlier w (s ∷ steps) = (broken header lines earlier w s ≡ None) × IsClean header lines (earlier ++ s ∷ []) (next_world header lines w s) steps
 
@@ -32,7 +32,7 @@ none_left : (left : List (ℕ × Line)) (steps : List Step) → IsYes (verdict_l
 none_left [] steps said = refl
 none_left (e ∷ left) steps said = absurd said
 
-clean_from_yes : (header : Header) (lines : List Line) (earlier : List Step) (w : World) (steps : List Step) → IsYes (verdict_from header lines earlier w steps) → IsClean header lines earlier w steps
+clean_from_yes : (header : Header) (lines : List Line) (earlier : List Step) (w : World tcp_shape) (steps : List Step) → IsYes (verdict_from header lines earlier w steps) → IsClean header lines earlier w steps
 clean_from_yes header lines earlier w [] said = none_left (unplaced header lines (moves earlier)) earlier said
 clean_from_yes header lines earlier w (s ∷ steps) said =
     by_rule (broken header lines earlier w s) refl said (λ rest. clean_from_yes header lines (earlier ++ s ∷ []) (next_world header lines w s) steps rest)
@@ -48,7 +48,7 @@ left_said : (left : List (ℕ × Line)) (steps : List Step) → left ≡ [] → 
 left_said [] steps e = tt
 left_said (x ∷ left) steps e = absurd cc
 
-yes_from_clean : (header : Header) (lines : List Line) (earlier : List Step) (w : World) (steps : List Step) → IsClean header lines earlier w steps → IsYes (verdict_from header lines earlier w steps)
+yes_from_clean : (header : Header) (lines : List Line) (earlier : List Step) (w : World tcp_shape) (steps : List Step) → IsClean header lines earlier w steps → IsYes (verdict_from header lines earlier w steps)
 yes_from_clean header lines earlier w [] clean = left_said (unplaced header lines (moves earlier)) earlier clean
 yes_from_clean header lines earlier w (s ∷ steps) clean =
     subst (λ (r : Option Rule). IsYes (refused_or r earlier s (verdict_from header lines (earlier ++ s ∷ []) (next_world header lines w s) steps))) (sym clean.0)
@@ -58,55 +58,56 @@ moves_more : (earlier : List Step) (s : Step) → moves (earlier ++ s ∷ []) �
 moves_more earlier s = map-append move_of earlier (s ∷ [])
 
 -- the machine's part of the rules of a step
-abbrev act_part : World → Option Act → List (Rule × Bool)
-act_part w act = option_map_or (act_rules w) act []
+abbrev act_part : Header → World tcp_shape → Option (Stamped tcp_shape) → List (Rule × Bool)
+act_part header w act = option_map_or (act_rules header w) act []
 
-order_part : (header : Header) (lines : List Line) (earlier : List Step) (w : World) (steps : List Step) → IsClean header lines earlier w steps → IsOrderly header lines (moves earlier) (moves steps)
+order_part : (header : Header) (lines : List Line) (earlier : List Step) (w : World tcp_shape) (steps : List Step) → IsClean header lines earlier w steps → IsOrderly header lines (moves earlier) (moves steps)
 order_part header lines earlier w [] clean = clean
 order_part header lines earlier w (s ∷ steps) clean = (
-  (none_both (order_rules (order_of header lines (moves earlier)) (move_of s)) (act_part w (act_of header lines s)) clean.0).0,
+  (none_both (order_rules (order_of header lines (moves earlier)) (move_of s)) (act_part header w (act_of header lines s)) clean.0).0,
   subst (λ (ms : List Move). IsOrderly header lines ms (moves steps)) (moves_more earlier s) (order_part header lines (earlier ++ s ∷ []) (next_world header lines w s) steps clean.1),
 )
 
-run_more : (w : World) (act : Option Act) (rest : List Act) → first_broken (act_part w act) ≡ None → RunFrom (option_map_or (act_after w) act w) rest → RunFrom w (cons_option act rest)
-run_more w None rest none run = run
-run_more w (Some act) rest none run = (none, run)
+run_more : (header : Header) (w : World tcp_shape) (act : Option (Stamped tcp_shape)) (rest : List (Stamped tcp_shape)) → first_broken (act_part header w act) ≡ None → Lawful (tcp header) (option_map_or (act_after header w) act w) rest → Lawful (tcp header) w (cons_option act rest)
+run_more header w None rest none run = run
+run_more header w (Some act) rest none run = (none, run)
 
-run_part : (header : Header) (lines : List Line) (earlier : List Step) (w : World) (steps : List Step) → IsClean header lines earlier w steps → RunFrom w (acts header lines steps)
+run_part : (header : Header) (lines : List Line) (earlier : List Step) (w : World tcp_shape) (steps : List Step) → IsClean header lines earlier w steps → Lawful (tcp header) w (stamped header lines steps)
 run_part header lines earlier w [] clean = tt
 run_part header lines earlier w (s ∷ steps) clean =
-    run_more w (act_of header lines s) (acts header lines steps)
-    (none_both (order_rules (order_of header lines (moves earlier)) (move_of s)) (act_part w (act_of header lines s)) clean.0).1
+    run_more header w (act_of header lines s) (stamped header lines steps)
+    (none_both (order_rules (order_of header lines (moves earlier)) (move_of s)) (act_part header w (act_of header lines s)) clean.0).1
     (run_part header lines (earlier ++ s ∷ []) (next_world header lines w s) steps clean.1)
 
-run_none : (w : World) (act : Option Act) (rest : List Act) → RunFrom w (cons_option act rest) → first_broken (act_part w act) ≡ None
-run_none w None rest run = refl
-run_none w (Some act) rest run = run.0
+run_none : (header : Header) (w : World tcp_shape) (act : Option (Stamped tcp_shape)) (rest : List (Stamped tcp_shape)) → Lawful (tcp header) w (cons_option act rest) → first_broken (act_part header w act) ≡ None
+run_none header w None rest run = refl
+run_none header w (Some act) rest run = run.0
 
-run_rest : (w : World) (act : Option Act) (rest : List Act) → RunFrom w (cons_option act rest) → RunFrom (option_map_or (act_after w) act w) rest
-run_rest w None rest run = run
-run_rest w (Some act) rest run = run.1
+run_rest : (header : Header) (w : World tcp_shape) (act : Option (Stamped tcp_shape)) (rest : List (Stamped tcp_shape)) → Lawful (tcp header) w (cons_option act rest) → Lawful (tcp header) (option_map_or (act_after header w) act w) rest
+run_rest header w None rest run = run
+run_rest header w (Some act) rest run = run.1
 
-both_parts : (header : Header) (lines : List Line) (earlier : List Step) (w : World) (steps : List Step) → IsOrderly header lines (moves earlier) (moves steps) → RunFrom w (acts header lines steps) → IsClean header lines earlier w steps
+both_parts : (header : Header) (lines : List Line) (earlier : List Step) (w : World tcp_shape) (steps : List Step) → IsOrderly header lines (moves earlier) (moves steps) → Lawful (tcp header) w (stamped header lines steps) → IsClean header lines earlier w steps
 both_parts header lines earlier w [] orderly run = orderly
 both_parts header lines earlier w (s ∷ steps) orderly run = (
-  first_broken-append_none (order_rules (order_of header lines (moves earlier)) (move_of s)) (act_part w (act_of header lines s)) orderly.0 ∙ run_none w (act_of header lines s) (acts header lines steps) run,
+  first_broken-append_none (order_rules (order_of header lines (moves earlier)) (move_of s)) (act_part header w (act_of header lines s)) orderly.0 ∙ run_none header w (act_of header lines s) (stamped header lines steps) run,
   both_parts header lines (earlier ++ s ∷ []) (next_world header lines w s) steps
       (subst (λ (ms : List Move). IsOrderly header lines ms (moves steps)) (sym (moves_more earlier s)) orderly.1)
-      (run_rest w (act_of header lines s) (acts header lines steps) run),
+      (run_rest header w (act_of header lines s) (stamped header lines steps) run),
 )
 
 pub yes_explains : (t : Trace) (w : Witness) → IsYes (verdict t w) → Explains t w
 yes_explains t w said =
-    let clean : IsClean t.header t.lines [] (start t.header) w.steps = clean_from_yes t.header t.lines [] (start t.header) w.steps said in
-    let run : IsRun t.header (acts t.header t.lines w.steps) = run_at (start t.header) (acts t.header t.lines w.steps) (run_part t.header t.lines [] (start t.header) w.steps clean) in
+    let first : World tcp_shape = start (tcp t.header) in
+    let clean : IsClean t.header t.lines [] first w.steps = clean_from_yes t.header t.lines [] first w.steps said in
+    let run : Lawful (tcp t.header) first (stamped t.header t.lines w.steps) = run_part t.header t.lines [] first w.steps clean in
     record {
-      placed = placed_from_orderly t.header t.lines (moves w.steps) (order_part t.header t.lines [] (start t.header) w.steps clean);
-      turns = run_takes_turns t.header (acts t.header t.lines w.steps) run;
+      placed = placed_from_orderly t.header t.lines (moves w.steps) (order_part t.header t.lines [] first w.steps clean);
+      turns = λ thread. turns (tcp t.header) thread first (stamped t.header t.lines w.steps) run;
       run = run;
     }
 
 pub explains_yes : (t : Trace) (w : Witness) → Explains t w → IsYes (verdict t w)
 explains_yes t w e =
-    yes_from_clean t.header t.lines [] (start t.header) w.steps
-    (both_parts t.header t.lines [] (start t.header) w.steps (orderly_from_placed t.header t.lines (moves w.steps) e.placed) (run_from (start t.header) (acts t.header t.lines w.steps) e.run))
+    yes_from_clean t.header t.lines [] (start (tcp t.header)) w.steps
+    (both_parts t.header t.lines [] (start (tcp t.header)) w.steps (orderly_from_placed t.header t.lines (moves w.steps) e.placed) e.run)

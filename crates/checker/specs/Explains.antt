@@ -5,17 +5,19 @@ use Rattle.case_forms.specs.declared.steps.Witness.{Witness}
 use Rattle.verdict.specs.declared.report.Verdict.{Verdict}
 use Rattle.verdict.specs.declared.report.Verdict.TheVariants.{Yes, No}
 use Rattle.interval_order.specs.Placed.{Placed}
-use Rattle.spec_step.specs.Runs.{IsRun}
-use Rattle.spec_step.specs.Turns.{marks, TakesTurns}
-use Rattle.checker.specs.Seen.{moves, acts}
+use Rattle.hosts.specs.Hosts.{Idle}
+use Rattle.hosts.specs.HostSteps.{start, Lawful}
+use Rattle.hosts.specs.Placing.{Turns}
+use Rattle.machine.specs.Machine.{tcp}
+use Rattle.checker.specs.Seen.{moves, stamped}
 
 pub record Explains (t : Trace) (w : Witness) : Type 0 where
   -- each line is taken once and in time, and the lines of a thread in their order
   pub placed : Placed t.header t.lines (moves w.steps)
   -- in each thread the beginning of a call, one effect and the end with its answer take turns
-  pub turns : (thread : ℕ) → TakesTurns (marks thread (acts t.header t.lines w.steps))
+  pub turns : (thread : ℕ) → Turns (tcp t.header) thread Idle (stamped t.header t.lines w.steps)
   -- the steps are a run of the machine
-  pub run : IsRun t.header (acts t.header t.lines w.steps)
+  pub run : Lawful (tcp t.header) (start (tcp t.header)) (stamped t.header t.lines w.steps)
 
 -- the verdict is yes
 abbrev pub IsYes : Verdict → Type 0

@@ -9,15 +9,14 @@ use Rattle.verdict.specs.declared.rule.Rule.TheVariants.{Unplaced}
 use Rattle.verdict.specs.declared.report.Verdict.{Verdict}
 use Rattle.verdict.specs.declared.report.Verdict.TheVariants.{Yes, No}
 use Rattle.interval_order.specs.Orders.{unplaced}
-use Rattle.endpoint_state.specs.Worlds.{start}
-use Rattle.spec_step.specs.Runs.{world_after}
-use Rattle.checker.specs.Seen.{moves, acts}
+use Rattle.machine_laws.specs.Runs.{world_at_end}
+use Rattle.checker.specs.Seen.{moves, stamped}
 use Rattle.checker.specs.Verdicts.{broken, takes_line, line_named}
 use Rattle.checker.specs.Explains.{Explains}
 
 -- the least rule that the step at a place breaks, after the steps before it and in the world that they leave
 abbrev pub broken_at : Trace → Witness → ℕ → Step → Option Rule
-broken_at t w place s = broken t.header t.lines (take place w.steps) (world_after (start t.header) (acts t.header t.lines (take place w.steps))) s
+broken_at t w place s = broken t.header t.lines (take place w.steps) (world_at_end t.header (stamped t.header t.lines (take place w.steps))) s
 
 -- the step at that place is the first that breaks a rule; it breaks this one and no lesser one, and names this line
 pub record BreaksFirst (t : Trace) (w : Witness) (place line : ℕ) (rule : Rule) : Type 0 where

@@ -4,3 +4,4 @@ pub mod Explains
 pub mod Judges
 pub mod Kept
 pub mod Cases
+pub mod Consequences

@@ -15,28 +15,29 @@ use Rattle.verdict.specs.declared.report.Verdict.TheVariants.{Yes, No}
 use Rattle.verdict.specs.Rules.{first_broken}
 use Rattle.interval_order.specs.Orders.{unplaced, order_of}
 use Rattle.interval_order.specs.OrderRules.{order_rules}
-use Rattle.endpoint_state.specs.Worlds.{World, start}
-use Rattle.spec_step.specs.StepRules.{step_rules, after}
-use Rattle.spec_step.specs.Runs.{Act}
+use Rattle.hosts.specs.Hosts.{World, Stamped}
+use Rattle.hosts.specs.HostRules.{step_rules}
+use Rattle.hosts.specs.HostSteps.{after, start}
+use Rattle.machine.specs.Machine.{tcp, tcp_shape}
 use Rattle.checker.specs.Seen.{move_of, moves, act_of}
 
--- the machine's rules of a step, and the world after it
-abbrev pub act_rules : World → Act → List (Rule × Bool)
-act_rules w act = step_rules w act.moment act.label
+-- the machine's rules of a step, and the whole world after it
+abbrev pub act_rules : Header → World tcp_shape → Stamped tcp_shape → List (Rule × Bool)
+act_rules header w act = step_rules (tcp header) act.moment w act.step
 
-abbrev pub act_after : World → Act → World
-act_after w act = after w act.moment act.label
+abbrev pub act_after : Header → World tcp_shape → Stamped tcp_shape → World tcp_shape
+act_after header w act = after (tcp header) act.moment w act.step
 
 -- all rules of a step, after these earlier ones and in the world that they leave: those of order, then those of the machine
-abbrev pub all_rules : Header → List Line → List Step → World → Step → List (Rule × Bool)
-all_rules header lines earlier w s = order_rules (order_of header lines (moves earlier)) (move_of s) ++ option_map_or (act_rules w) (act_of header lines s) []
+abbrev pub all_rules : Header → List Line → List Step → World tcp_shape → Step → List (Rule × Bool)
+all_rules header lines earlier w s = order_rules (order_of header lines (moves earlier)) (move_of s) ++ option_map_or (act_rules header w) (act_of header lines s) []
 
 -- the least rule that the step breaks
-abbrev pub broken : Header → List Line → List Step → World → Step → Option Rule
+abbrev pub broken : Header → List Line → List Step → World tcp_shape → Step → Option Rule
 broken header lines earlier w s = first_broken (all_rules header lines earlier w s)
 
-abbrev pub next_world : Header → List Line → World → Step → World
-next_world header lines w s = option_map_or (act_after w) (act_of header lines s) w
+abbrev pub next_world : Header → List Line → World tcp_shape → Step → World tcp_shape
+next_world header lines w s = option_map_or (act_after header w) (act_of header lines s) w
 
 -- whether a step takes a line; else it is hidden
 abbrev pub takes_line : Label → Bool
@@ -59,11 +60,11 @@ refused_or None earlier s rest = rest
 refused_or (Some rule) earlier s rest = No (length earlier + 2) (line_named s.label) rule
 
 -- the verdict on the steps that are left
-abbrev pub verdict_from : Header → List Line → List Step → World → List Step → Verdict
+abbrev pub verdict_from : Header → List Line → List Step → World tcp_shape → List Step → Verdict
 verdict_from header lines earlier w [] = verdict_left (unplaced header lines (moves earlier)) earlier
 verdict_from header lines earlier w (s ∷ steps) =
     refused_or (broken header lines earlier w s) earlier s (verdict_from header lines (earlier ++ s ∷ []) (next_world header lines w s) steps)
 
 -- the verdict on a witness for a trace
 abbrev pub verdict : Trace → Witness → Verdict
-verdict t w = verdict_from t.header t.lines [] (start t.header) w.steps
+verdict t w = verdict_from t.header t.lines [] (start (tcp t.header)) w.steps

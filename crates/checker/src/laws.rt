@@ -9,6 +9,11 @@ ghost use Rattle.interval_order.specs.Placed.{Precedes, TakesAt};
 ghost use Rattle.checker.specs.Seen.{moves};
 ghost use Rattle.checker.specs.Verdicts.{verdict};
 ghost use Rattle.checker.specs.Explains.{Explains, IsYes};
+ghost use Rattle.checker.specs.Consequences.{ReadsBeginWhatWasSent, EndsAreWhole, AllAcknowledgedWasTaken, AllKeepWindows};
+
+use machine_laws::{
+    acknowledged_was_taken, end_is_whole, new_data_fits, received_is_a_prefix, windows_follow,
+};
 
 /// Where a witness explains a trace, a line that precedes another in the interval order (of one thread and with the
 /// smaller number, or earlier by more than the skew) is taken first.
@@ -20,3 +25,24 @@ pub fn earlier_lines_are_taken_first()
 pub fn explained_is_yes()
     ensures { (t : Trace) (w : Witness) → IsYes (verdict t w) ↔ Explains t w }
 {}
+
+/// What follows for streams and windows where the witness explains the trace.
+pub fn explained_follows()
+    // What reads were told is how the bytes begin that the peer's sends accepted.
+    ensures received { (t : Trace) (w : Witness) → Explains t w → ReadsBeginWhatWasSent t w }
+
+    // Reads that were told the end were told all of them.
+    ensures whole { (t : Trace) (w : Witness) → Explains t w → EndsAreWhole t w }
+
+    // What is acknowledged was taken before.
+    ensures acknowledged { (t : Trace) (w : Witness) → Explains t w → AllAcknowledgedWasTaken t w }
+
+    // New data ends in both windows, and windows follow their rules.
+    ensures windows { (t : Trace) (w : Witness) → Explains t w → AllKeepWindows t w }
+{
+    received_is_a_prefix();
+    end_is_whole();
+    acknowledged_was_taken();
+    new_data_fits();
+    windows_follow();
+}

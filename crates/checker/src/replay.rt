@@ -3,22 +3,29 @@
 //! Memory grows with the trace, since all its lines are offered at the start; a step costs the logarithm of the number
 //! of lines that wait.
 
-ghost use Rattle.std.specs.Prelude.{◌≡◌, ◌↔◌, ◌++◌, List, [], IfOk, IfNone};
-ghost use Rattle.case_forms.specs.declared.trace.Header.{Header};
+ghost use Rattle.std.specs.Prelude.{◌≡◌, ◌↔◌, ◌<◌, ◌++◌, List, [], length, IfOk, IfNone};
 ghost use Rattle.case_forms.specs.declared.trace.Line.{Line};
-ghost use Rattle.std.specs.Option.{option_map_or};
+ghost use Rattle.std.specs.List.{All};
 ghost use Rattle.case_forms.specs.Traces.{first_event_line, IsRecorded, IsTrace};
+ghost use Rattle.case_forms.specs.Witnesses.{IsWithinLimits, IsWitness};
 ghost use Rattle.interval_order.specs.Orders.{passing, order_of, order_after};
 ghost use Rattle.interval_order.specs.OrderRules.{order_rules};
 ghost use Rattle.verdict.specs.Rules.{first_broken};
-ghost use Rattle.spec_step.specs.StepRules.{step_rules, after};
+ghost use Rattle.hosts.specs.HostRules.{step_rules};
+ghost use Rattle.hosts.specs.HostSteps as hosts;
+ghost use Rattle.machine.specs.Bounds.{most_steps};
+ghost use Rattle.machine.specs.Machine.{tcp};
+ghost use Rattle.endpoint_state.specs.Worlds.{start, after};
+ghost use Rattle.spec_step.specs.Steps as deeds;
+ghost use Rattle.spec_step.specs.Steps.{step_of};
 ghost use Rattle.checker.specs.Seen.{move_of};
-ghost use Rattle.endpoint_state.specs.Worlds.{start};
 ghost use Rattle.checker.specs.Verdicts.{verdict, verdict_from, verdict_left, takes_line, line_named};
-ghost use Rattle.checker.specs.Kept.{kept_broken, kept_world};
+ghost use Rattle.checker.specs.Kept.{kept_broken, kept_progress};
 ghost use Rattle.checker.specs.Explains.{Explains, IsYes};
 ghost use Rattle.checker.specs.Judges.{Says};
+ghost use Rattle.checker.specs.Consequences.{ReadsBeginWhatWasSent, EndsAreWhole, AllAcknowledgedWasTaken, AllKeepWindows};
 
+use crate::laws::explained_follows;
 use case_forms::{Header, Label, Line, OutOfMemory, Step, Trace, Witness};
 use endpoint_state::World;
 use interval_order::Window;
@@ -31,13 +38,22 @@ use verdict::{Rule, Verdict};
 /// Yes with the counts of lines and of hidden steps exactly where the steps explain the trace; else no at the first
 /// step that breaks a rule, with the least rule that it breaks, or, where none does, with the least line left over.
 pub fn check(alloc: Global, trace: &Trace, witness: &Witness) -> Result<Verdict, OutOfMemory>
-    requires { IsTrace trace.now }
+    requires trace { IsTrace trace.now }
+    requires witness { IsWitness witness.now }
     ensures exact { IfOk result (λ v. v ≡ verdict trace.now witness.now) }
 
     // What the verdict says of the two lists, in places.
     ensures says { IfOk result (Says trace.now witness.now) }
     ensures explained { IfOk result (λ v. IsYes v ↔ Explains trace.now witness.now) }
+
+    // What follows from a yes: what reads were told is how the bytes begin that the peer's sends accepted; reads that were
+    // told the end were told all of them; what is acknowledged was taken before; windows are kept.
+    ensures received { IfOk result (λ v. IsYes v → ReadsBeginWhatWasSent trace.now witness.now) }
+    ensures whole { IfOk result (λ v. IsYes v → EndsAreWhole trace.now witness.now) }
+    ensures acknowledged { IfOk result (λ v. IsYes v → AllAcknowledgedWasTaken trace.now witness.now) }
+    ensures windows { IfOk result (λ v. IsYes v → AllKeepWindows trace.now witness.now) }
 {
+    explained_follows();
     judge(
         alloc,
         &trace.header,
@@ -53,8 +69,10 @@ fn judge(
     lines: &[Line],
     steps: &[Step],
 ) -> Result<Verdict, OutOfMemory>
-    requires { IsRecorded (first_event_line header.now) 0 lines.now }
-    ensures { IfOk result (λ v. v ≡ verdict_from header.now lines.now [] (start header.now) steps.now) }
+    requires lines { IsRecorded (first_event_line header.now) 0 lines.now }
+    requires few { length steps.now < 10000000 }
+    requires within { All (λ s. IsWithinLimits s.label) steps.now }
+    ensures { IfOk result (λ v. v ≡ verdict_from header.now lines.now [] (hosts.start (tcp header.now)) steps.now) }
 {
     let mut window = offer_all(alloc, header, lines)?;
     let mut world = World::start(alloc, header);
@@ -67,7 +85,10 @@ fn replay_all(
     world: &mut World,
     steps: &[Step],
 ) -> Result<Verdict, OutOfMemory>
-    ensures { IfOk result (λ v. (header : Header) (lines : List Line) → window.old ≡ order_of header lines [] → v ≡ verdict_from header lines [] world.old steps.now) }
+    requires begun { world.old ≡ start world.old.header }
+    requires few { length steps.now < 10000000 }
+    requires within { All (λ s. IsWithinLimits s.label) steps.now }
+    ensures { IfOk result (λ v. (lines : List Line) → window.old ≡ order_of world.old.header lines [] → v ≡ verdict_from world.old.header lines [] (hosts.start (tcp world.old.header)) steps.now) }
 {
     for (place, step) in steps.iter().enumerate() {
         if let Some(rule) = replay(window, world, step)? {
@@ -103,9 +124,11 @@ fn offer_all(alloc: Global, header: &Header, lines: &[Line]) -> Result<Window, O
 
 // Does a step, or says which rule it breaks.
 fn replay(window: &mut Window, world: &mut World, step: &Step) -> Result<Option<Rule>, OutOfMemory>
-    ensures rule { IfOk result (λ r. r ≡ kept_broken window.old world.old step.now) }
+    requires steps { world.old.steps < most_steps }
+    requires label { IsWithinLimits step.now.label }
+    ensures rule { IfOk result (λ r. r ≡ kept_broken world.old.header window.old world.old.world step.now) }
     ensures order { IfOk result (λ r. IfNone r (window.new ≡ order_after window.old (move_of step.now))) }
-    ensures world { IfOk result (λ r. IfNone r (world.new ≡ kept_world window.old world.old step.now)) }
+    ensures world { IfOk result (λ r. IfNone r (world.new ≡ kept_progress window.old world.old step.now)) }
 {
     match &step.label {
         Label::L(number, extras) => match window.place(*number, extras.count(), step.moment) {
@@ -140,9 +163,11 @@ fn pass(
     moment: u64,
     deed: &Deed,
 ) -> Result<Option<Rule>, OutOfMemory>
-    ensures rule { IfOk result (λ r. r ≡ first_broken (order_rules window.old (passing moment) ++ step_rules world.old moment deed.now)) }
+    requires steps { world.old.steps < most_steps }
+    requires label { deeds.IsWithinLimits deed.now }
+    ensures rule { IfOk result (λ r. r ≡ first_broken (order_rules window.old (passing moment) ++ step_rules (tcp world.old.header) moment world.old.world (step_of deed.now))) }
     ensures order { IfOk result (λ r. IfNone r (window.new ≡ order_after window.old (passing moment))) }
-    ensures world { IfOk result (λ r. IfNone r (world.new ≡ after world.old moment deed.now)) }
+    ensures world { IfOk result (λ r. IfNone r (world.new ≡ after world.old moment (step_of deed.now))) }
 {
     match window.pass(moment) {
         Ok(()) => act(world, moment, deed),
@@ -152,8 +177,10 @@ fn pass(
 
 // Does what a step does in the machine, or says which of its rules the step breaks.
 fn act(world: &mut World, moment: u64, deed: &Deed) -> Result<Option<Rule>, OutOfMemory>
-    ensures rule { IfOk result (λ r. r ≡ first_broken (step_rules world.old moment deed.now)) }
-    ensures after { IfOk result (λ r. IfNone r (world.new ≡ after world.old moment deed.now)) }
+    requires steps { world.old.steps < most_steps }
+    requires label { deeds.IsWithinLimits deed.now }
+    ensures rule { IfOk result (λ r. r ≡ first_broken (step_rules (tcp world.old.header) moment world.old.world (step_of deed.now))) }
+    ensures after { IfOk result (λ r. IfNone r (world.new ≡ after world.old moment (step_of deed.now))) }
 {
     match apply(world, moment, deed) {
         Ok(()) => Ok(None),

@@ -1,43 +1,22 @@
--- Worlds: the two hosts, and where each thread is in its calls.
-use Rattle.std.specs.Prelude.{ℕ, nat_eq, List, [], Option, None, Some, unwrap_or, if◌then◌else◌}
-use Rattle.std.specs.Map.{lookup}
-use Rattle.indexmap.specs.IndexMap.{insert_entry}
+-- What a case has come to: the machine's world, of which all is forgotten that may be let go, and how many steps led there.
+use Rattle.std.specs.Prelude.{ℕ, suc}
 use Rattle.case_forms.specs.declared.trace.Header.{Header}
-use Rattle.case_forms.specs.declared.calls.Host.{Host}
-use Rattle.case_forms.specs.declared.calls.Host.TheVariants.{Zero, One}
-use Rattle.endpoint_state.specs.declared.world.Turn.{Turn}
-use Rattle.endpoint_state.specs.declared.world.Turn.TheVariants.{Idle}
-use Rattle.endpoint_state.specs.Bodies.{Body, empty, given}
+use Rattle.hosts.specs.Hosts.{World, Step}
+use Rattle.hosts.specs.HostSteps as hosts
+use Rattle.machine.specs.Machine.{tcp, tcp_shape}
+use Rattle.machine.specs.Forgetting.{forget}
 
-pub record World : Type 0 where
+pub record Progress : Type 0 where
   -- the header of the case
   pub header : Header
-  -- what each host has
-  pub zero : Body
-  pub one : Body
-  -- each thread that called, with where it is
-  pub threads : List (ℕ × Turn)
+  pub world : World tcp_shape
+  -- the steps done
+  pub steps : ℕ
 
 -- before the first step
-abbrev pub start : Header → World
-start header = record { header = header; zero = empty; one = empty; threads = [] }
+abbrev pub start : Header → Progress
+start header = record { header = header; world = hosts.start (tcp header); steps = 0 }
 
--- where a thread is: in no call, in one that had no effect yet, or in one that had it
-abbrev pub turn : World → ℕ → Turn
-turn w t = unwrap_or (lookup (nat_eq t) w.threads) Idle
-
-abbrev pub with_turn : World → ℕ → Turn → World
-with_turn w t u = record w { threads = insert_entry nat_eq w.threads t u }
-
--- what a host has
-abbrev pub body_of : World → Host → Body
-body_of w Zero = w.zero
-body_of w One = w.one
-
-abbrev pub with_body : World → Host → Body → World
-with_body w Zero b = record w { zero = b }
-with_body w One b = record w { one = b }
-
--- the host that gave a socket number
-abbrev pub giver : World → ℕ → Option Host
-giver w n = if given w.zero n then Some Zero else if given w.one n then Some One else None
+-- after one step more at a moment
+abbrev pub after : Progress → ℕ → Step tcp_shape → Progress
+after p moment step = record p { world = forget (hosts.after (tcp p.header) moment p.world step); steps = suc p.steps }

@@ -16,19 +16,19 @@
 //! - `laws`: that these are the rules and effects of the machine
 #![tactic(auto)]
 
-pub mod arriving;
-mod body;
+mod arriving;
 mod calls;
+mod host;
+mod hosts;
 mod laws;
-pub mod made;
-pub mod sending;
+mod made;
+mod sending;
 #[cfg(test)]
 mod tests;
-pub mod threads;
-pub mod turn;
+mod threads;
+mod turn;
 mod world;
 
-pub use body::Listener;
-pub use calls::{begin_call, call_allowed, do_call, end_call};
+pub use calls::{admits_effect, call_allowed, do_call};
 pub use laws::tables_are_the_machines;
-pub use world::{Turn, World};
+pub use world::World;

@@ -1,58 +1,63 @@
-//! The two hosts, and where each thread is in its calls.
+//! What a case has come to: the two hosts, where threads are in their calls, and how many steps were done.
 
-ghost use Rattle.std.specs.Prelude.{◌≡◌, nat_eq, is_some, true, false, OnOk, OnErr};
-ghost use Rattle.std.specs.Map.{lookup};
-ghost use Rattle.std.specs.Option.{option_copied, option_map_or};
-ghost use Rattle.endpoint_state.specs.Bodies.{body_allows, body_after, given};
-ghost use Rattle.endpoint_state.specs.Worlds.{start, with_turn, body_of, with_body, giver};
-ghost use Rattle.endpoint_state.specs.Calls.{number_given};
+ghost use Rattle.std.specs.Prelude.{◌≡◌, ◌<◌, ◌≤◌, ◌+◌, ◌^◌, suc, None, OnOk, OnErr};
+ghost use Rattle.std.specs.Result.{result_err};
+ghost use Rattle.verdict.specs.Rules.{first_broken};
+ghost use Rattle.hosts.specs.Hosts.{At, Begin, Finish, Answers, Does, Drops, Expires, Gets, Makes, Sends, Takes};
+ghost use Rattle.hosts.specs.HostRules.{Permitted, step_rules};
+ghost use Rattle.machine.specs.Bounds.{greatest_position, most_steps};
+ghost use Rattle.machine.specs.Machine.{tcp};
+ghost use Rattle.endpoint_state.specs.Worlds.{after, start};
+ghost use Rattle.endpoint_state.specs.Sides.{AreReady};
 
-use crate::body::Body;
-use case_forms::{Answer, Call, Header, Host, OutOfMemory};
+use crate::hosts::Hosts;
+use crate::threads::{admits_begin, admits_end, begin, finish};
+use crate::turn::Turn;
+use case_forms::{Answer, Call, Header, Host, Timer, Wire};
 use indexmap::IndexMap;
+use machine::{How, Making};
+use segment::OutOfMemory;
 use std::alloc::Global;
 use std::marker::Model;
+use verdict::Rule;
 
-/// Where a thread is.
-#[derive(Debug, PartialEq, Eq, Drop)]
-pub enum Turn {
-    /// In no call.
-    Idle,
-    /// In a call that had no effect yet.
-    Called(Call),
-    /// In a call that had its effect, with this answer.
-    Answered(Answer),
-}
-
-/// What a case has come to: what the hosts have, and where the threads are. Contracts see it as the record `World` of
-/// the definitions.
+/// What a case has come to. Contracts see it as the record `Progress` of the definitions.
 #[derive(Drop)]
 pub struct World {
-    header: Header,
-    zero: Body,
-    one: Body,
+    pub(crate) alloc: Global,
+    pub(crate) header: Header,
+    pub(crate) hosts: Hosts,
     /// Each thread that called, with where it is. None is ever taken out.
-    threads: IndexMap<u32, Turn>,
+    pub(crate) threads: IndexMap<u32, Turn>,
+    /// How many segments were made.
+    count: u32,
+    pub(crate) steps: u64,
 }
 
 impl Model for World {
-    ghost use Rattle.endpoint_state.specs.Worlds.{World};
+    ghost use Rattle.endpoint_state.specs.Worlds.{Progress};
+    ghost use Rattle.endpoint_state.specs.Kept.{IsKeptWorld};
 
-    ghost Value = { World };
+    ghost Value = { Progress };
 
-    ghost view = { λ a. record { header = a.header; zero = a.zero; one = a.one; threads = a.threads.entries } };
+    ghost view = { λ a. record { header = a.header; world = record { hosts = a.hosts; threads = a.threads.entries; count = a.count }; steps = a.steps } };
+
+    ghost invariant = { λ a. IsKeptWorld a.steps (record { hosts = a.hosts; threads = a.threads.entries; count = a.count }) };
 }
 
 impl World {
     /// The world before the first step.
+    #[tactic(auto, using(crate::proofs::Keeping::kept_start))]
     pub fn start(alloc: Global, header: &Header) -> World
         ensures { result ≡ start header.now }
     {
         World {
+            alloc,
             header: *header,
-            zero: Body::new(alloc),
-            one: Body::new(alloc),
+            hosts: Hosts::new(alloc, header),
             threads: IndexMap::new(alloc),
+            count: 0,
+            steps: 0,
         }
     }
 
@@ -63,62 +68,306 @@ impl World {
         &self.header
     }
 
-    /// Where a thread is. `None`: it never called, and so is in no call.
-    pub fn turn(&self, thread: u32) -> Option<&Turn>
-        ensures { option_copied result ≡ lookup (nat_eq thread) self.now.threads }
+    /// How many steps were done.
+    pub fn steps(&self) -> u64
+        ensures { result ≡ self.now.steps }
     {
-        self.threads.get(&thread)
+        self.steps
     }
 
-    /// Puts a thread where it is now. Where memory runs out nothing is changed, and a thread that called before takes
-    /// none.
-    pub(crate) fn set_turn(&mut self, thread: u32, turn: Turn) -> Result<(), OutOfMemory>
-        ensures ok { OnOk result (self.new ≡ with_turn self.old thread turn) }
-        ensures err { OnErr result (self.new ≡ self.old) }
-        ensures absent { OnErr result (is_some (lookup (nat_eq thread) self.old.threads) ≡ false) }
+    /// Whether a thread may begin a call. An error is the first rule that is broken.
+    pub fn admits_begin(&self, thread: u32, call: &Call) -> Result<(), Rule>
+        ensures { result_err result ≡ first_broken (step_rules (tcp self.now.header) 0 self.now.world (Begin 0 thread call.now)) }
     {
-        self.threads.insert(thread, turn)?;
+        admits_begin(&self.threads, thread)
+    }
+
+    /// Whether a thread's call may end with this answer. An error is the first rule that is broken.
+    pub fn admits_finish(&self, thread: u32, answer: &Answer) -> Result<(), Rule>
+        ensures { result_err result ≡ first_broken (step_rules (tcp self.now.header) 0 self.now.world (Finish 0 thread answer.now)) }
+    {
+        admits_end(&self.threads, thread, answer)
+    }
+
+    /// Whether the segment that was made under this number may go out so. An error is the first rule that is broken.
+    pub fn admits_sending(
+        &self,
+        host: Host,
+        line: u64,
+        number: u32,
+        wire: &Wire,
+    ) -> Result<(), Rule>
+        ensures { result_err result ≡ first_broken (step_rules (tcp self.now.header) 0 self.now.world (At host (Sends line number wire.now))) }
+    {
+        self.hosts.near(host).admits_sending(number, wire)
+    }
+
+    /// Whether a copy of the other host's line `copied` may come in so, at a moment in microseconds. An error is the first
+    /// rule that is broken.
+    pub fn admits_arrival(
+        &self,
+        host: Host,
+        moment: u64,
+        line: u64,
+        copied: u64,
+        wire: &Wire,
+    ) -> Result<(), Rule>
+        ensures { result_err result ≡ first_broken (step_rules (tcp self.now.header) moment self.now.world (At host (Gets line copied wire.now))) }
+    {
+        self.hosts
+            .far(host)
+            .admits_arrival(&self.header, moment, copied, wire)
+    }
+
+    /// Whether a host may make a segment. An error is the first rule that is broken.
+    pub fn admits_making(&self, host: Host, making: &Making) -> Result<(), Rule>
+        requires steps { self.now.steps < most_steps }
+        requires small { making.now.pos ≤ greatest_position }
+        ensures { result_err result ≡ first_broken (step_rules (tcp self.now.header) 0 self.now.world (At host (Makes making.now))) }
+    {
+        self.hosts
+            .near(host)
+            .admits_making(&self.header, host, 0, making)
+    }
+
+    /// Whether a host may take the segment that came in with this line. An error is the first rule that is broken.
+    pub fn admits_taking(&self, host: Host, moment: u64, line: u64, how: How) -> Result<(), Rule>
+        ensures { result_err result ≡ first_broken (step_rules (tcp self.now.header) moment self.now.world (At host (Takes line how))) }
+    {
+        self.hosts
+            .near(host)
+            .admits_taking(&self.header, host, moment, line, how)
+    }
+
+    /// Whether a host may drop what came in with this line. An error is the first rule that is broken.
+    pub fn admits_dropping(&self, host: Host, line: u64) -> Result<(), Rule>
+        ensures { result_err result ≡ first_broken (step_rules (tcp self.now.header) 0 self.now.world (At host (Drops line))) }
+    {
+        self.hosts
+            .near(host)
+            .admits_dropping(&self.header, host, 0, line)
+    }
+
+    /// Whether a host may answer by a reset what came in with this line. An error is the first rule that is broken.
+    pub fn admits_reset(&self, host: Host, moment: u64, line: u64) -> Result<(), Rule>
+        ensures { result_err result ≡ first_broken (step_rules (tcp self.now.header) moment self.now.world (At host (Answers line))) }
+    {
+        self.hosts
+            .near(host)
+            .admits_reset(&self.header, host, moment, line)
+    }
+
+    /// Whether a timer of the endpoint of these ports may expire at a moment in microseconds, with this congestion window
+    /// and slow start threshold in bytes from then on. An error is the first rule that is broken.
+    pub fn admits_expiry(
+        &self,
+        host: Host,
+        moment: u64,
+        line: u64,
+        lport: u16,
+        rport: u16,
+        timer: Timer,
+        cwnd: u32,
+        ssthresh: u32,
+    ) -> Result<(), Rule>
+        ensures { result_err result ≡ first_broken (step_rules (tcp self.now.header) moment self.now.world (At host (Expires line (record { lport = lport; rport = rport; timer = timer }) (record { cwnd = cwnd; ssthresh = ssthresh })))) }
+    {
+        self.hosts.near(host).admits_expiry(
+            &self.header,
+            host,
+            moment,
+            line,
+            lport,
+            rport,
+            timer,
+            cwnd,
+            ssthresh,
+        )
+    }
+
+    /// Whether fast recovery may begin at the endpoint of these ports, with this congestion window and slow start
+    /// threshold in bytes. An error is the first rule that is broken.
+    pub fn admits_recovery(
+        &self,
+        host: Host,
+        lport: u16,
+        rport: u16,
+        cwnd: u32,
+        ssthresh: u32,
+    ) -> Result<(), Rule>
+        ensures { result_err result ≡ first_broken (step_rules (tcp self.now.header) 0 self.now.world (At host (Does (record { lport = lport; rport = rport; cwnd = cwnd; ssthresh = ssthresh })))) }
+    {
+        self.hosts
+            .near(host)
+            .admits_recovery(&self.header, host, 0, lport, rport, cwnd, ssthresh)
+    }
+
+    /// A thread begins a call. Where memory runs out nothing is changed.
+    pub fn begin(&mut self, thread: u32, call: &Call) -> Result<(), OutOfMemory>
+        requires steps { self.old.steps < most_steps }
+        requires permitted { Permitted (tcp self.old.header) 0 self.old.world (Begin 0 thread call.now) }
+        ensures ok { OnOk result (self.new ≡ after self.old 0 (Begin 0 thread call.now)) }
+        ensures err { OnErr result (self.new ≡ self.old) }
+    {
+        begin(&mut self.threads, thread, call)?;
+        self.steps += 1;
         Ok(())
     }
 
-    /// What a host has.
-    pub(crate) fn body(&self, host: Host) -> &Body
-        ensures { result.now ≡ body_of self.now host }
-    {
-        match host {
-            Host::Zero => &self.zero,
-            Host::One => &self.one,
-        }
-    }
-
-    /// The host that gave a socket number.
-    pub(crate) fn giver(&self, number: u32) -> Option<Host>
-        ensures { result ≡ giver self.now number }
-    {
-        if self.zero.is_given(number) {
-            Some(Host::Zero)
-        } else if self.one.is_given(number) {
-            Some(Host::One)
-        } else {
-            None
-        }
-    }
-
-    /// What a call does at a host once it got its answer. Where memory runs out nothing is changed.
-    pub(crate) fn do_call_at(
-        &mut self,
-        host: Host,
-        call: &Call,
-        answer: &Answer,
-    ) -> Result<(), OutOfMemory>
-        requires new { option_map_or (given (body_of self.old host)) (number_given call.now answer.now) false ≡ false }
-        requires allowed { body_allows (body_of self.old host) call.now answer.now ≡ true }
-        ensures ok { OnOk result (self.new ≡ with_body self.old host (body_after (body_of self.old host) call.now answer.now)) }
+    /// A thread's call ends. Where memory runs out nothing is changed.
+    pub fn finish(&mut self, thread: u32, answer: &Answer) -> Result<(), OutOfMemory>
+        requires steps { self.old.steps < most_steps }
+        requires permitted { Permitted (tcp self.old.header) 0 self.old.world (Finish 0 thread answer.now) }
+        ensures ok { OnOk result (self.new ≡ after self.old 0 (Finish 0 thread answer.now)) }
         ensures err { OnErr result (self.new ≡ self.old) }
     {
-        match host {
-            Host::Zero => self.zero.do_call(call, answer),
-            Host::One => self.one.do_call(call, answer),
-        }
+        finish(&mut self.threads, thread)?;
+        self.steps += 1;
+        Ok(())
+    }
+
+    /// A host makes a segment, at a moment in microseconds. Where memory runs out nothing is changed.
+    pub fn make(&mut self, host: Host, making: &Making, moment: u64) -> Result<(), OutOfMemory>
+        requires steps { self.old.steps < most_steps }
+        requires small { making.now.pos ≤ greatest_position }
+        requires permitted { Permitted (tcp self.old.header) moment self.old.world (At host (Makes making.now)) }
+        ensures ok { OnOk result (self.new ≡ after self.old moment (At host (Makes making.now))) }
+        ensures err { OnErr result (self.new ≡ self.old) }
+    {
+        let fresh = self.count + 1;
+        self.hosts
+            .make(self.alloc, &self.header, host, making, moment, fresh)?;
+        self.count = fresh;
+        self.steps += 1;
+        Ok(())
+    }
+
+    /// The segment that was made under this number goes out with this line, at a moment in microseconds. Where memory runs out
+    /// nothing is changed.
+    pub fn send(
+        &mut self,
+        host: Host,
+        line: u64,
+        number: u32,
+        wire: &Wire,
+        moment: u64,
+    ) -> Result<(), OutOfMemory>
+        requires steps { self.old.steps < most_steps }
+        requires permitted { Permitted (tcp self.old.header) moment self.old.world (At host (Sends line number wire.now)) }
+        ensures ok { OnOk result (self.new ≡ after self.old moment (At host (Sends line number wire.now))) }
+        ensures err { OnErr result (self.new ≡ self.old) }
+    {
+        self.hosts
+            .send_made(&self.header, host, line, number, wire, moment)?;
+        self.steps += 1;
+        Ok(())
+    }
+
+    /// A copy of the other host's line `copied` comes in with this line. Where memory runs out nothing is changed.
+    pub fn arrive(
+        &mut self,
+        host: Host,
+        line: u64,
+        copied: u64,
+        wire: &Wire,
+        moment: u64,
+    ) -> Result<(), OutOfMemory>
+        requires steps { self.old.steps < most_steps }
+        requires permitted { Permitted (tcp self.old.header) moment self.old.world (At host (Gets line copied wire.now)) }
+        ensures ok { OnOk result (self.new ≡ after self.old moment (At host (Gets line copied wire.now))) }
+        ensures err { OnErr result (self.new ≡ self.old) }
+    {
+        self.hosts
+            .get(&self.header, host, line, copied, wire, moment)?;
+        self.steps += 1;
+        Ok(())
+    }
+
+    /// A host takes what came in with this line, at a moment in microseconds. Where memory runs out nothing is changed.
+    pub fn take(&mut self, host: Host, line: u64, how: How, moment: u64) -> Result<(), OutOfMemory>
+        requires steps { self.old.steps < most_steps }
+        requires permitted { Permitted (tcp self.old.header) moment self.old.world (At host (Takes line how)) }
+        ensures ok { OnOk result (self.new ≡ after self.old moment (At host (Takes line how))) }
+        ensures err { OnErr result (self.new ≡ self.old) }
+    {
+        self.hosts
+            .take(self.alloc, &self.header, host, line, how, moment)?;
+        self.steps += 1;
+        Ok(())
+    }
+
+    /// A host drops what came in with this line.
+    pub fn drop_arrival(&mut self, host: Host, line: u64, moment: u64)
+        requires steps { self.old.steps < most_steps }
+        requires permitted { Permitted (tcp self.old.header) moment self.old.world (At host (Drops line)) }
+        ensures { self.new ≡ after self.old moment (At host (Drops line)) }
+    {
+        self.hosts.drop_waiting(&self.header, host, line, moment);
+        self.steps += 1;
+    }
+
+    /// A host answers by a reset what came in with this line. Where memory runs out nothing is changed.
+    pub fn answer(&mut self, host: Host, line: u64, moment: u64) -> Result<(), OutOfMemory>
+        requires steps { self.old.steps < most_steps }
+        requires permitted { Permitted (tcp self.old.header) moment self.old.world (At host (Answers line)) }
+        ensures ok { OnOk result (self.new ≡ after self.old moment (At host (Answers line))) }
+        ensures err { OnErr result (self.new ≡ self.old) }
+    {
+        let fresh = self.count + 1;
+        self.hosts
+            .answer(self.alloc, &self.header, host, line, moment, fresh)?;
+        self.count = fresh;
+        self.steps += 1;
+        Ok(())
+    }
+
+    /// A timer of the endpoint of these ports expires, at a moment in microseconds, with this congestion window and slow start
+    /// threshold in bytes from then on.
+    pub fn expire(
+        &mut self,
+        host: Host,
+        line: u64,
+        lport: u16,
+        rport: u16,
+        timer: Timer,
+        cwnd: u32,
+        ssthresh: u32,
+        moment: u64,
+    )
+        requires steps { self.old.steps < most_steps }
+        requires permitted { Permitted (tcp self.old.header) moment self.old.world (At host (Expires line (record { lport = lport; rport = rport; timer = timer }) (record { cwnd = cwnd; ssthresh = ssthresh }))) }
+        ensures { self.new ≡ after self.old moment (At host (Expires line (record { lport = lport; rport = rport; timer = timer }) (record { cwnd = cwnd; ssthresh = ssthresh }))) }
+    {
+        self.hosts.expire(
+            &self.header,
+            host,
+            line,
+            lport,
+            rport,
+            timer,
+            cwnd,
+            ssthresh,
+            moment,
+        );
+        self.steps += 1;
+    }
+
+    /// Fast recovery begins at the endpoint of these ports, with this congestion window and slow start threshold in bytes.
+    pub fn recover(
+        &mut self,
+        host: Host,
+        lport: u16,
+        rport: u16,
+        cwnd: u32,
+        ssthresh: u32,
+        moment: u64,
+    )
+        requires steps { self.old.steps < most_steps }
+        requires permitted { Permitted (tcp self.old.header) moment self.old.world (At host (Does (record { lport = lport; rport = rport; cwnd = cwnd; ssthresh = ssthresh }))) }
+        ensures { self.new ≡ after self.old moment (At host (Does (record { lport = lport; rport = rport; cwnd = cwnd; ssthresh = ssthresh }))) }
+    {
+        self.hosts
+            .recover(&self.header, host, lport, rport, cwnd, ssthresh, moment);
+        self.steps += 1;
     }
 }

@@ -1,5 +1,2 @@
-pub mod StepRules
-pub mod Runs
-pub mod Turns
+pub mod Steps
 pub mod Faults
-pub use Rattle.verdict.specs.Rules

@@ -1,23 +1,19 @@
-//! The machine's rules, and the world after a step.
+//! A step of the machine, told by its label: whether it breaks a rule, and the world after it.
 //!
-//! `specs/StepRules.antt` has the rules of each label, least first, and the world after it; `specs/Runs.antt` what a run
-//! is; `specs/Turns.antt` how the calls of a thread take turns in one. Nothing here knows the order of lines: which
-//! line a step may take is told by `interval_order`.
+//! `specs/Steps.antt` says which step of the machine a label asks for. Nothing here knows the order of lines: which line
+//! a step may take is told by `interval_order`. What the world is, and what each step does to it, is `endpoint_state`'s.
 //!
 //! - `label`: what a step does
-//! - `rules`: which steps the machine admits
+//! - `extras`: the extra numbers of a line
+//! - `rules`: the least rule that a step breaks
 //! - `step`: the world after a step
-//! - `laws`: what holds of every run
 #![tactic(auto)]
 
+mod extras;
 mod label;
-mod laws;
 mod rules;
 mod step;
-#[cfg(test)]
-mod tests;
 
 pub use label::Label;
-pub use laws::calls_take_turns;
 pub use rules::admits;
 pub use step::{StepFault, apply};

@@ -1,80 +1,100 @@
-//! Which steps the machine admits: a function for each label, with its rules in their order.
+//! The least rule that a step breaks.
 
-ghost use Rattle.std.specs.Prelude.{◌≡◌};
+ghost use Rattle.std.specs.Prelude.{◌≡◌, ◌<◌};
+ghost use Rattle.std.specs.Option.{option_map};
 ghost use Rattle.std.specs.Result.{result_err};
 ghost use Rattle.verdict.specs.Rules.{first_broken};
-ghost use Rattle.endpoint_state.specs.Worlds.{turn};
-ghost use Rattle.spec_step.specs.StepRules.{same_answer, begin_rules, end_rules, effect_rules, event_rules, step_rules};
+ghost use Rattle.hosts.specs.HostRules.{step_rules};
+ghost use Rattle.hosts.specs.Hosts.{Effect};
+ghost use Rattle.machine.specs.Bounds.{most_steps};
+ghost use Rattle.machine.specs.Machine.{tcp};
+ghost use Rattle.machine.specs.Steps.{line_step};
+ghost use Rattle.spec_step.specs.Steps.{step_of, IsWithinLimits};
 
+use crate::extras::{first_extra, second_extra};
 use crate::label::Label;
-use case_forms::{Answer, Event, Line};
-use endpoint_state::{Turn, World, call_allowed};
+use case_forms::{Answer, Event, Extras, Line};
+use endpoint_state::World;
+use machine::{How, Making};
+use seqno::Word;
 use verdict::Rule;
 
 /// Whether the machine admits a step at a moment, in microseconds. An error is the least rule that the step breaks.
 pub fn admits(world: &World, moment: u64, label: &Label) -> Result<(), Rule>
-    ensures { result_err result ≡ first_broken (step_rules world.now moment label.now) }
+    requires steps { world.now.steps < most_steps }
+    requires label { IsWithinLimits label.now }
+    ensures { result_err result ≡ first_broken (step_rules (tcp world.now.header) moment world.now.world (step_of label.now)) }
 {
     match label {
-        Label::L(line, _) => admits_line(world, line),
-        Label::D(thread, answer) => admits_effect(world, *thread, answer),
-        Label::M(..) => Err(Rule::NoEndpoint),
-        Label::T(..) => Err(Rule::Inbox),
-        Label::K(..) => Err(Rule::Inbox),
-        Label::R(..) => Err(Rule::Inbox),
-        Label::F(..) => Err(Rule::NoEndpoint),
-    }
-}
-
-fn admits_line(world: &World, line: &Line) -> Result<(), Rule>
-    ensures { result_err result ≡ first_broken (event_rules (turn world.now line.now.thread) line.now.event) }
-{
-    match &line.event {
-        Event::CallBegin(_) => admits_begin(world, line.thread),
-        Event::CallEnd(answer) => admits_end(world, line.thread, answer),
-        Event::Sent(..) => Err(Rule::NotMade),
-        Event::Came(..) => Err(Rule::NoEmission),
-        Event::Expired(..) => Err(Rule::NoEndpoint),
-    }
-}
-
-fn admits_begin(world: &World, thread: u32) -> Result<(), Rule>
-    ensures { result_err result ≡ first_broken (begin_rules (turn world.now thread)) }
-{
-    match world.turn(thread) {
-        None | Some(Turn::Idle) => Ok(()),
-        Some(Turn::Called(_)) | Some(Turn::Answered(_)) => Err(Rule::ThreadBusy),
-    }
-}
-
-fn admits_end(world: &World, thread: u32, answer: &Answer) -> Result<(), Rule>
-    ensures { result_err result ≡ first_broken (end_rules (turn world.now thread) answer.now) }
-{
-    match world.turn(thread) {
-        None | Some(Turn::Idle) => Err(Rule::NoCall),
-        Some(Turn::Called(_)) => Err(Rule::AnswerDiffers),
-        Some(Turn::Answered(given)) => {
-            if is_same(given, answer) {
-                Ok(())
-            } else {
-                Err(Rule::AnswerDiffers)
-            }
+        Label::L(line, extras) => admits_line(world, moment, line, *extras),
+        Label::D(thread, answer) => admits_effect(world, moment, *thread, answer),
+        Label::M(host, lport, rport, pos, len, flags, window, iss) => {
+            let making = Making {
+                lport: *lport,
+                rport: *rport,
+                pos: *pos,
+                len: *len,
+                flags: *flags,
+                window: *window,
+                iss: word(*iss),
+            };
+            world.admits_making(*host, &making)
+        }
+        Label::T(host, line, cwnd, keep, sample) => {
+            let how = How {
+                cwnd: *cwnd,
+                keep: *keep,
+                sample: *sample,
+            };
+            world.admits_taking(*host, moment, *line, how)
+        }
+        Label::K(host, line) => world.admits_dropping(*host, *line),
+        Label::R(host, line) => world.admits_reset(*host, moment, *line),
+        Label::F(host, lport, rport, cwnd, ssthresh) => {
+            world.admits_recovery(*host, *lport, *rport, *cwnd, *ssthresh)
         }
     }
 }
 
-fn admits_effect(world: &World, thread: u32, answer: &Answer) -> Result<(), Rule>
-    ensures { result_err result ≡ first_broken (effect_rules world.now (turn world.now thread) answer.now) }
+fn admits_line(world: &World, moment: u64, line: &Line, extras: Extras) -> Result<(), Rule>
+    ensures { result_err result ≡ first_broken (step_rules (tcp world.now.header) moment world.now.world (line_step line.now extras)) }
 {
-    match world.turn(thread) {
-        None | Some(Turn::Idle) => Err(Rule::NoCall),
-        Some(Turn::Answered(_)) => Err(Rule::DoneTwice),
-        Some(Turn::Called(call)) => call_allowed(world, call, answer),
+    match &line.event {
+        Event::CallBegin(call) => world.admits_begin(line.thread, call),
+        Event::CallEnd(answer) => world.admits_finish(line.thread, answer),
+        Event::Sent(host, wire) => {
+            world.admits_sending(*host, line.number, first_extra(extras), wire)
+        }
+        Event::Came(host, wire) => {
+            let copied = first_extra(extras) as u64;
+            world.admits_arrival(*host, moment, line.number, copied, wire)
+        }
+        Event::Expired(host, lport, rport, timer) => world.admits_expiry(
+            *host,
+            moment,
+            line.number,
+            *lport,
+            *rport,
+            *timer,
+            first_extra(extras),
+            second_extra(extras),
+        ),
     }
 }
 
-fn is_same(given: &Answer, answer: &Answer) -> bool
-    ensures { result ≡ same_answer given.now answer.now }
+#[tactic(auto, using(endpoint_state::proofs::CallLemmas::effect_at_any_moment))]
+fn admits_effect(world: &World, moment: u64, thread: u32, answer: &Answer) -> Result<(), Rule>
+    ensures { result_err result ≡ first_broken (step_rules (tcp world.now.header) moment world.now.world (Effect thread answer.now)) }
 {
-    given == answer
+    endpoint_state::admits_effect(world, thread, answer)
+}
+
+/// An initial send sequence number.
+pub(crate) fn word(iss: Option<u32>) -> Option<Word>
+    ensures { result ≡ option_map (λ n. record { 0 = n }) iss }
+{
+    match iss {
+        Some(iss) => Some(Word(iss)),
+        None => None,
+    }
 }

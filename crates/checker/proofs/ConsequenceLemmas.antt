@@ -1,0 +1,28 @@
+-- What holds of each run holds of the steps of a witness that explains its trace.
+use Rattle.std.proofs.Common.{◌≡◌, ℕ, zero, suc, List, [], ◌∷◌, take, subst, Some, Result, Ok, Err}
+use Rattle.std.specs.Prelude.{slice_get, IfOk, ◌↔◌}
+use Rattle.case_forms.specs.declared.trace.Trace.{Trace}
+use Rattle.case_forms.specs.declared.steps.Witness.{Witness}
+use Rattle.verdict.specs.declared.report.Verdict.{Verdict}
+use Rattle.hosts.specs.Hosts.{World, Stamped}
+use Rattle.hosts.specs.HostRules.{Permitted}
+use Rattle.hosts.specs.HostSteps.{after, after_all, Lawful}
+use Rattle.machine.specs.Machine.{tcp, tcp_shape}
+use Rattle.case_forms.specs.declared.trace.Header.{Header}
+use Rattle.checker.specs.Explains.{Explains, IsYes}
+
+-- the steps before one of a run are a run, and it is permitted after them
+pub run_at : (h : Header) (w : World tcp_shape) (xs : List (Stamped tcp_shape)) → Lawful (tcp h) w xs → (place : ℕ) (x : Stamped tcp_shape) → slice_get xs place ≡ Some x
+    → Lawful (tcp h) w (take place xs) × Permitted (tcp h) x.moment (after_all (tcp h) w (take place xs)) x.step
+run_at h w [] may place x here = absurd cc
+run_at h w (first ∷ xs) may zero x here =
+    let same : first ≡ x = cc in
+    (tt, subst (λ (y : Stamped tcp_shape). Permitted (tcp h) y.moment w y.step) same may.0)
+run_at h w (first ∷ xs) may (suc place) x here =
+    let rest = run_at h (after (tcp h) first.moment w first.step) xs may.1 place x here in
+    ((may.0, rest.0), rest.1)
+
+-- what holds where a witness explains its trace holds where the verdict is yes
+pub yes_then : {E : Type 0} (t : Trace) (w : Witness) (P : Type 0) (r : Result Verdict E) → (Explains t w → P) → IfOk r (λ v. IsYes v ↔ Explains t w) → IfOk r (λ v. IsYes v → P)
+yes_then t w P (Ok v) then explained = λ said. then (explained.0 said)
+yes_then t w P (Err e) then explained = tt

@@ -1,0 +1,30 @@
+use Rattle.std.proofs.Common.{subst, take}
+use Rattle.hosts.specs.Hosts.{Step}
+use Rattle.hosts.specs.HostRules.{Permitted}
+use Rattle.hosts.specs.HostSteps.{start}
+use Rattle.machine.specs.Machine.{tcp, tcp_shape}
+use Rattle.machine_laws.specs.Runs.{world_at_end}
+use Rattle.checker.specs.Consequences.{steps_of}
+use Rattle.checker.proofs.ConsequenceLemmas.{run_at}
+use Rattle.checker.proofs.laws.explained_follows.Goals as goal
+
+pub returns-clause-received : goal.returns-clause-received
+returns-clause-received c = λ t w e. c.received_is_a_prefix.ensures t.header (steps_of t w) e.run
+
+pub returns-clause-whole : goal.returns-clause-whole
+returns-clause-whole c = λ t w e. c.end_is_whole.ensures t.header (steps_of t w) e.run
+
+pub returns-clause-acknowledged : goal.returns-clause-acknowledged
+returns-clause-acknowledged c = λ t w e place x here.
+    let run = run_at t.header (start (tcp t.header)) (steps_of t w) e.run place x here in
+    c.acknowledged_was_taken.ensures t.header (take place (steps_of t w)) x run.0 run.1
+
+pub returns-clause-windows : goal.returns-clause-windows
+returns-clause-windows c = λ t w e place x here.
+    let before = take place (steps_of t w) in
+    let may = (run_at t.header (start (tcp t.header)) (steps_of t w) e.run place x here).1 in
+    record {
+      follow = c.windows_follow.ensures t.header x.moment (world_at_end t.header before) x.step may;
+      fits = λ host m is. c.new_data_fits.ensures t.header x.moment (world_at_end t.header before) host m
+          (subst (λ (step : Step tcp_shape). Permitted (tcp t.header) x.moment (world_at_end t.header before) step) is may);
+    }

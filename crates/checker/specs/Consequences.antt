@@ -1,0 +1,43 @@
+-- What follows, of a trace and a witness that explains it, for the bytes of streams and for windows (RFC 9293, 3.4, 3.8 and 3.10; RFC 5681, 3.1 and 3.2).
+use Rattle.std.specs.Prelude.{◌≡◌, ℕ, List, Some, slice_get, take}
+use Rattle.case_forms.specs.declared.trace.Header.{Header}
+use Rattle.case_forms.specs.declared.trace.Trace.{Trace}
+use Rattle.case_forms.specs.declared.calls.Host.{Host}
+use Rattle.case_forms.specs.declared.steps.Witness.{Witness}
+use Rattle.hosts.specs.Hosts.{At, Makes, Stamped}
+use Rattle.machine.specs.declared.making.Making.{Making}
+use Rattle.machine.specs.Machine.{tcp_shape}
+use Rattle.machine_laws.specs.Runs.{world_at_end}
+use Rattle.machine_laws.specs.Consequences.{ReceivedIsAPrefix, EndIsWhole, AcknowledgedWasTaken}
+use Rattle.machine_laws.specs.Bounds.{NewDataFits, WindowsFollow}
+use Rattle.checker.specs.Seen.{stamped}
+
+-- the steps of a witness as the machine sees them
+abbrev pub steps_of : Trace → Witness → List (Stamped tcp_shape)
+steps_of t w = stamped t.header t.lines w.steps
+
+-- what holds of each step, with the steps before it
+abbrev pub EachStep : List (Stamped tcp_shape) → (List (Stamped tcp_shape) → Stamped tcp_shape → Type 0) → Type 0
+EachStep steps P = (place : ℕ) (x : Stamped tcp_shape) → slice_get steps place ≡ Some x → P (take place steps) x
+
+-- what the reads on a socket number were told is how the bytes begin that the sends of its peer accepted
+abbrev pub ReadsBeginWhatWasSent : Trace → Witness → Type 0
+ReadsBeginWhatWasSent t w = ReceivedIsAPrefix t.header (steps_of t w)
+
+-- reads that were told the end were told all that the sends of their peer ever accepted, and the peer's sending was ended
+abbrev pub EndsAreWhole : Trace → Witness → Type 0
+EndsAreWhole t w = EndIsWhole t.header (steps_of t w)
+
+-- whatever a step acknowledges, but for a SYN, the peer took before that step
+abbrev pub AllAcknowledgedWasTaken : Trace → Witness → Type 0
+AllAcknowledgedWasTaken t w = EachStep (steps_of t w) (λ before x. AcknowledgedWasTaken t.header before x)
+
+-- what a step does with windows, in the world that the steps before it left
+pub record KeepsWindows (h : Header) (before : List (Stamped tcp_shape)) (x : Stamped tcp_shape) : Type 0 where
+  -- the congestion window and the slow start threshold change where a segment is taken, where a retransmission timer expires and where fast recovery begins alone, and stay at or below what these allow
+  pub follow : WindowsFollow h x.moment (world_at_end h before) x.step
+  -- bytes that are made for the first time end in the window that the peer offers and in the congestion window
+  pub fits : (host : Host) (m : Making) → x.step ≡ At host (Makes m) → NewDataFits (world_at_end h before) host m
+
+abbrev pub AllKeepWindows : Trace → Witness → Type 0
+AllKeepWindows t w = EachStep (steps_of t w) (λ before x. KeepsWindows t.header before x)
