@@ -1,8 +1,9 @@
 //! The specification machine: what two TCP hosts may do (RFC 9293, RFC 6298, RFC 5681, in one fixed profile).
 //!
-//! Nothing here runs. The definitions stand in `specs/`, in two layers: `hosts` has the tables under numbers, the
-//! threads and the wires; this crate has what is below them, one body for each host and the acts on it, which know no
-//! number of a table, no thread and no other host.
+//! The definitions stand in `specs/`, in two layers: `hosts` has the tables under numbers, the threads and the wires;
+//! this crate has what is below them, one body for each host and the acts on it, which know no number of a table, no
+//! thread and no other host. In code there are only the values of which they speak: endpoints, segments that were made,
+//! listeners with their queues, sockets. What is done with them is in the crates above.
 //!
 //! - `specs/Endpoints`: what a host has
 //! - `specs/Lookups`: how endpoints, listeners and sockets are found
