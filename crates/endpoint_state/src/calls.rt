@@ -17,7 +17,7 @@ ghost use Rattle.endpoint_state.specs.Worlds.{after};
 ghost use Rattle.endpoint_state.specs.Calls.{allowed_at, gives_again, rules_of_call};
 ghost use Rattle.case_forms.specs.declared.trace.Header.{Header};
 
-use crate::hosts::Hosts;
+use crate::both::Hosts;
 use crate::threads::{answered, open_call};
 use crate::world::World;
 use case_forms::{Answer, Call, Header, Host};

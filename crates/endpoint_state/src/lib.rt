@@ -17,9 +17,9 @@
 #![tactic(auto)]
 
 mod arriving;
+mod both;
 mod calls;
 mod host;
-mod hosts;
 mod laws;
 mod made;
 mod sending;

@@ -10,7 +10,7 @@ ghost use Rattle.machine.specs.Machine.{tcp};
 ghost use Rattle.endpoint_state.specs.Worlds.{after, start};
 ghost use Rattle.endpoint_state.specs.Sides.{AreReady};
 
-use crate::hosts::Hosts;
+use crate::both::Hosts;
 use crate::threads::{admits_begin, admits_end, begin, finish};
 use crate::turn::Turn;
 use case_forms::{Answer, Call, Header, Host, Timer, Wire};
