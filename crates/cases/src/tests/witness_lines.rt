@@ -122,8 +122,8 @@ const EMPTY_WORLD: [Worked; 12] = [
                witness 1\n\
                10 L 7\n\
                10 D 2 ok 6\n",
-        line: "no 3 0 call-answer",
-        status: 1,
+        line: "yes 1 1",
+        status: 0,
     },
     Worked {
         name: "a call on a dead socket number",
