@@ -6,7 +6,9 @@
 //!
 //! - `two_threads`: the case of the README and its changes, moments with skew, ports
 //! - `beginnings`: every beginning of that case
-//! - `headers`, `event_lines`, `witness_lines`, `long_lines`: texts that are refused, and texts at their limits
+//! - `beginnings_of_five_bytes`: every beginning of a case with a handshake and five bytes
+//! - `headers`, `event_lines`, `trace_forms`, `wire_forms`, `witness_lines`, `witness_forms`, `long_lines`: texts that are
+//!   refused, and texts at their limits
 //! - `order_of_lines`, `moments`: rules 1 to 6, and 39
 //! - `threads`, `answers`: rules 7 to 12
 //! - `many`: many cases in one input, by several numbers of workers

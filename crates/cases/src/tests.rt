@@ -2,6 +2,7 @@
 
 mod answers;
 mod beginnings;
+mod beginnings_of_five_bytes;
 mod event_lines;
 mod headers;
 mod long_lines;
