@@ -5,3 +5,5 @@ pub mod JudgeLemmas
 pub mod OfferLemmas
 pub mod CaseLemmas
 pub mod ConsequenceLemmas
+pub mod PeerLemmas
+pub mod AgainLemmas

@@ -5,3 +5,5 @@ pub mod Judges
 pub mod Kept
 pub mod Cases
 pub mod Consequences
+pub mod Peers
+pub mod Again

@@ -1,14 +1,18 @@
 //! What a yes means for every trace and every witness.
 
-ghost use Rattle.std.specs.Prelude.{◌≡◌, ◌<◌, ◌↔◌, ℕ, Some};
+ghost use Rattle.std.specs.Prelude.{◌≡◌, ◌<◌, ◌↔◌, ℕ, List, Some};
 ghost use Rattle.case_forms.specs.declared.trace.Line.{Line};
 ghost use Rattle.case_forms.specs.declared.trace.Trace.{Trace};
 ghost use Rattle.case_forms.specs.declared.steps.Witness.{Witness};
 ghost use Rattle.case_forms.specs.Traces.{line_at};
+ghost use Rattle.trace_reader.specs.TraceText.{IsTraceText};
+ghost use Rattle.trace_reader.specs.Printed.{trace_text};
 ghost use Rattle.interval_order.specs.Placed.{Precedes, TakesAt};
 ghost use Rattle.checker.specs.Seen.{moves};
 ghost use Rattle.checker.specs.Verdicts.{verdict};
 ghost use Rattle.checker.specs.Explains.{Explains, IsYes};
+ghost use Rattle.checker.specs.Peers.{AllPeersAreMet, EachPeerWasMet};
+ghost use Rattle.checker.specs.Again.{HaveTwo};
 ghost use Rattle.checker.specs.Consequences.{ReadsBeginWhatWasSent, EndsAreWhole, AllAcknowledgedWasTaken, AllKeepWindows};
 
 use machine_laws::{
@@ -46,3 +50,24 @@ pub fn explained_follows()
     new_data_fits();
     windows_follow();
 }
+
+/// Who the peer of an endpoint is, where a witness explains a trace: the endpoint that made the SYN which it took first.
+pub fn peers_are_met()
+    // A step leaves the peer of each endpoint as it is, or the endpoint had none and the step takes for it, at a listener
+    // whose child it then is or in SYN-SENT, a segment with SYN, which the peer made.
+    ensures each { (t : Trace) (w : Witness) → Explains t w → AllPeersAreMet t w }
+
+    // A peer at the end was met so by some step.
+    ensures all { (t : Trace) (w : Witness) → Explains t w → EachPeerWasMet t w }
+{}
+
+/// The verdict is the same on a trace that some text stands for and on one that is read from what is printed of it.
+pub fn verdict_when_read_again()
+    ensures same { (t u : Trace) (w : Witness) (text : List ℕ) → IsTraceText t text → IsTraceText u (trace_text t) → verdict u w ≡ verdict t w }
+    ensures yes { (t u : Trace) (w : Witness) (text : List ℕ) → IsTraceText t text → IsTraceText u (trace_text t) → IsYes (verdict t w) → IsYes (verdict u w) }
+{}
+
+/// A trace may have two witnesses that are both answered yes, with their hidden steps in another order.
+pub fn two_witnesses_of_one_trace()
+    ensures { (t : Trace) × (v : Witness) × (w : Witness) × HaveTwo t v w }
+{}

@@ -1,0 +1,73 @@
+-- What says the same in other words: one trace but for its spans, and two witnesses of one trace.
+use Rattle.std.specs.Prelude.{◌≡◌, List, [], ◌∷◌, map}
+use Rattle.case_forms.specs.declared.calls.Host.TheVariants.{Zero}
+use Rattle.case_forms.specs.declared.calls.Call.TheVariants as calls
+use Rattle.case_forms.specs.declared.calls.Answer.TheVariants as answers
+use Rattle.case_forms.specs.declared.trace.Span.{Span}
+use Rattle.case_forms.specs.declared.trace.Event.TheVariants as events
+use Rattle.case_forms.specs.declared.trace.Line.{Line}
+use Rattle.case_forms.specs.declared.trace.Trace.{Trace}
+use Rattle.case_forms.specs.declared.steps.Extras.TheVariants as extras
+use Rattle.case_forms.specs.declared.steps.Label.{Label}
+use Rattle.case_forms.specs.declared.steps.Label.TheVariants as labels
+use Rattle.case_forms.specs.declared.steps.Step.{Step}
+use Rattle.case_forms.specs.declared.steps.Witness.{Witness}
+use Rattle.case_forms.specs.Traces.{IsTrace}
+use Rattle.case_forms.specs.Witnesses.{IsWitness}
+use Rattle.checker.specs.Verdicts.{verdict}
+use Rattle.checker.specs.Explains.{IsYes}
+
+-- no place in a text
+abbrev pub nowhere : Span
+nowhere = record { line = 0; start = 0; stop = 0 }
+
+-- a line, and a trace, without its place in a text
+abbrev pub placeless : Line → Line
+placeless line = record line { span = nowhere }
+
+abbrev pub without_spans : Trace → Trace
+without_spans t = record t { lines = map placeless t.lines }
+
+-- what the steps of a witness do, in their order
+abbrev pub labels_of : Witness → List Label
+labels_of w = map (λ s. s.label) w.steps
+
+-- a trace and two witnesses that do something else, or the same in another order, and are both answered yes
+pub record HaveTwo (t : Trace) (v w : Witness) : Type 0 where
+  pub trace : IsTrace t
+  pub one : IsWitness v
+  pub two : IsWitness w
+  pub differ : labels_of v ≡ labels_of w → ⊥
+  pub yes_one : IsYes (verdict t v)
+  pub yes_two : IsYes (verdict t w)
+
+-- two threads listen on host 0, on ports 80 and 81, at the same time, and are given the socket numbers 5 and 6
+abbrev pub two_listen : Trace
+two_listen = record {
+  header = record { skew = 0; msl = 120000000; grain = 1000; minrto = 1000000; extra = 0 };
+  lines =
+      record { number = 7; moment = 10; thread = 1; event = events.CallBegin (calls.Listen Zero 80 4); span = nowhere }
+      ∷ record { number = 8; moment = 10; thread = 2; event = events.CallBegin (calls.Listen Zero 81 4); span = nowhere }
+      ∷ record { number = 9; moment = 20; thread = 1; event = events.CallEnd (answers.Given 5); span = nowhere }
+      ∷ record { number = 10; moment = 20; thread = 2; event = events.CallEnd (answers.Given 6); span = nowhere }
+      ∷ [];
+}
+
+-- the effects of both calls at 15, in this order
+abbrev pub effects_in_order : Step → Step → Witness
+effects_in_order first second = record {
+  steps =
+      record { moment = 10; label = labels.L 7 extras.Bare; span = nowhere }
+      ∷ record { moment = 10; label = labels.L 8 extras.Bare; span = nowhere }
+      ∷ first
+      ∷ second
+      ∷ record { moment = 20; label = labels.L 9 extras.Bare; span = nowhere }
+      ∷ record { moment = 20; label = labels.L 10 extras.Bare; span = nowhere }
+      ∷ [];
+}
+
+abbrev pub gives_five : Step
+gives_five = record { moment = 15; label = labels.D 1 (answers.Given 5); span = nowhere }
+
+abbrev pub gives_six : Step
+gives_six = record { moment = 15; label = labels.D 2 (answers.Given 6); span = nowhere }
