@@ -22,6 +22,13 @@ run_at h w (first ∷ xs) may (suc place) x here =
     let rest = run_at h (after (tcp h) first.moment w first.step) xs may.1 place x here in
     ((may.0, rest.0), rest.1)
 
+-- the first steps of a run are a run
+pub run_until : (h : Header) (w : World tcp_shape) (xs : List (Stamped tcp_shape)) → Lawful (tcp h) w xs → (place : ℕ) → Lawful (tcp h) w (take place xs)
+run_until h w [] may zero = tt
+run_until h w [] may (suc place) = tt
+run_until h w (x ∷ xs) may zero = tt
+run_until h w (x ∷ xs) may (suc place) = (may.0, run_until h (after (tcp h) x.moment w x.step) xs may.1 place)
+
 -- what holds where a witness explains its trace holds where the verdict is yes
 pub yes_then : {E : Type 0} (t : Trace) (w : Witness) (P : Type 0) (r : Result Verdict E) → (Explains t w → P) → IfOk r (λ v. IsYes v ↔ Explains t w) → IfOk r (λ v. IsYes v → P)
 yes_then t w P (Ok v) then explained = λ said. then (explained.0 said)

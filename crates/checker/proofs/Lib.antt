@@ -7,3 +7,5 @@ pub mod CaseLemmas
 pub mod ConsequenceLemmas
 pub mod PeerLemmas
 pub mod AgainLemmas
+pub mod SpanLemmas
+pub mod CountLemmas

@@ -24,7 +24,7 @@ use Rattle.checker.specs.Verdicts.{act_rules, act_after, broken, next_world, ver
 use Rattle.checker.specs.Explains.{Explains, IsYes}
 
 -- no step breaks a rule, and each line is placed in the end
-abbrev IsClean : Header → List Line → List Step → World tcp_shape → List Step → Type 0
+abbrev pub IsClean : Header → List Line → List Step → World tcp_shape → List Step → Type 0
 IsClean header lines earlier w [] = unplaced header lines (moves earlier) ≡ []
 IsClean header lines earlier w (s ∷ steps) = (broken header lines earlier w s ≡ None) × IsClean header lines (earlier ++ s ∷ []) (next_world header lines w s) steps
 
@@ -32,7 +32,7 @@ none_left : (left : List (ℕ × Line)) (steps : List Step) → IsYes (verdict_l
 none_left [] steps said = refl
 none_left (e ∷ left) steps said = absurd said
 
-clean_from_yes : (header : Header) (lines : List Line) (earlier : List Step) (w : World tcp_shape) (steps : List Step) → IsYes (verdict_from header lines earlier w steps) → IsClean header lines earlier w steps
+pub clean_from_yes : (header : Header) (lines : List Line) (earlier : List Step) (w : World tcp_shape) (steps : List Step) → IsYes (verdict_from header lines earlier w steps) → IsClean header lines earlier w steps
 clean_from_yes header lines earlier w [] said = none_left (unplaced header lines (moves earlier)) earlier said
 clean_from_yes header lines earlier w (s ∷ steps) said =
     by_rule (broken header lines earlier w s) refl said (λ rest. clean_from_yes header lines (earlier ++ s ∷ []) (next_world header lines w s) steps rest)
@@ -54,7 +54,7 @@ yes_from_clean header lines earlier w (s ∷ steps) clean =
     subst (λ (r : Option Rule). IsYes (refused_or r earlier s (verdict_from header lines (earlier ++ s ∷ []) (next_world header lines w s) steps))) (sym clean.0)
     (yes_from_clean header lines (earlier ++ s ∷ []) (next_world header lines w s) steps clean.1)
 
-moves_more : (earlier : List Step) (s : Step) → moves (earlier ++ s ∷ []) ≡ moves earlier ++ move_of s ∷ []
+pub moves_more : (earlier : List Step) (s : Step) → moves (earlier ++ s ∷ []) ≡ moves earlier ++ move_of s ∷ []
 moves_more earlier s = map-append move_of earlier (s ∷ [])
 
 -- the machine's part of the rules of a step

@@ -1,19 +1,21 @@
 //! What a yes means for every trace and every witness.
 
-ghost use Rattle.std.specs.Prelude.{◌≡◌, ◌<◌, ◌↔◌, ℕ, List, Some};
+ghost use Rattle.std.specs.Prelude.{◌≡◌, ◌<◌, ◌↔◌, ℕ, List, Some, length, take};
 ghost use Rattle.case_forms.specs.declared.trace.Line.{Line};
 ghost use Rattle.case_forms.specs.declared.trace.Trace.{Trace};
 ghost use Rattle.case_forms.specs.declared.steps.Witness.{Witness};
 ghost use Rattle.case_forms.specs.Traces.{line_at};
 ghost use Rattle.trace_reader.specs.TraceText.{IsTraceText};
 ghost use Rattle.trace_reader.specs.Printed.{trace_text};
+ghost use Rattle.verdict.specs.declared.report.Verdict.TheVariants.{Yes};
 ghost use Rattle.interval_order.specs.Placed.{Precedes, TakesAt};
 ghost use Rattle.checker.specs.Seen.{moves};
 ghost use Rattle.checker.specs.Verdicts.{verdict};
 ghost use Rattle.checker.specs.Explains.{Explains, IsYes};
 ghost use Rattle.checker.specs.Peers.{AllPeersAreMet, EachPeerWasMet};
-ghost use Rattle.checker.specs.Again.{HaveTwo};
-ghost use Rattle.checker.specs.Consequences.{ReadsBeginWhatWasSent, EndsAreWhole, AllAcknowledgedWasTaken, AllKeepWindows};
+ghost use Rattle.checker.specs.Again.{HaveTwo, without_spans};
+ghost use Rattle.machine_laws.specs.Consequences.{ReceivedIsAPrefix, EndIsWhole};
+ghost use Rattle.checker.specs.Consequences.{steps_of, ReadsBeginWhatWasSent, EndsAreWhole, AllAcknowledgedWasTaken, AllKeepWindows};
 
 use machine_laws::{
     acknowledged_was_taken, end_is_whole, new_data_fits, received_is_a_prefix, windows_follow,
@@ -28,6 +30,11 @@ pub fn earlier_lines_are_taken_first()
 /// The verdict is yes exactly where the witness explains the trace.
 pub fn explained_is_yes()
     ensures { (t : Trace) (w : Witness) → IsYes (verdict t w) ↔ Explains t w }
+{}
+
+/// A yes counts all event lines of the trace.
+pub fn yes_counts_all_lines()
+    ensures { (t : Trace) (w : Witness) (lines hidden : ℕ) → verdict t w ≡ Yes lines hidden → lines ≡ length t.lines }
 {}
 
 /// What follows for streams and windows where the witness explains the trace.
@@ -51,6 +58,18 @@ pub fn explained_follows()
     windows_follow();
 }
 
+/// What follows for streams holds at each moment of the witness, for what was told and accepted by then.
+pub fn streams_at_each_moment()
+    // What reads were told by then is how the bytes begin that the peer's sends accepted by then.
+    ensures received { (t : Trace) (w : Witness) → Explains t w → (place : ℕ) → ReceivedIsAPrefix t.header (take place (steps_of t w)) }
+
+    // Reads that were told the end by then were told all of them by then.
+    ensures whole { (t : Trace) (w : Witness) → Explains t w → (place : ℕ) → EndIsWhole t.header (take place (steps_of t w)) }
+{
+    received_is_a_prefix();
+    end_is_whole();
+}
+
 /// Who the peer of an endpoint is, where a witness explains a trace: the endpoint that made the SYN which it took first.
 pub fn peers_are_met()
     // A step leaves the peer of each endpoint as it is, or the endpoint had none and the step takes for it, at a listener
@@ -61,10 +80,12 @@ pub fn peers_are_met()
     ensures all { (t : Trace) (w : Witness) → Explains t w → EachPeerWasMet t w }
 {}
 
-/// The verdict is the same on a trace that some text stands for and on one that is read from what is printed of it.
+/// The verdict is the same on a trace that some text stands for and on one that is read from what is printed of it; and
+/// wherever two traces are the same but for the places of their lines in a text.
 pub fn verdict_when_read_again()
     ensures same { (t u : Trace) (w : Witness) (text : List ℕ) → IsTraceText t text → IsTraceText u (trace_text t) → verdict u w ≡ verdict t w }
     ensures yes { (t u : Trace) (w : Witness) (text : List ℕ) → IsTraceText t text → IsTraceText u (trace_text t) → IsYes (verdict t w) → IsYes (verdict u w) }
+    ensures spans { (t u : Trace) (w : Witness) → without_spans t ≡ without_spans u → verdict t w ≡ verdict u w }
 {}
 
 /// A trace may have two witnesses that are both answered yes, with their hidden steps in another order.
