@@ -1,4 +1,5 @@
-//! What one host has, and what it does.
+//! What one host has, and what it does. Moments are in microseconds, windows and thresholds in bytes. Where memory runs out
+//! nothing is changed.
 
 ghost use Rattle.std.specs.Prelude.{◌≡◌, ◌≤◌, true, [], OnOk, OnErr};
 ghost use Rattle.hosts.specs.Hosts.{Answers, Does, Drops, Expires, Gets, Makes, Sends, Takes};
@@ -49,7 +50,7 @@ impl Model for HostState {
     ghost view = { λ a. record { body = a.body; made = a.made.entries; wire = a.wire.entries; inbox = a.inbox.entries } };
 }
 
-/// A segment is made under this number.
+/// A segment is made under this number, and waits to go out.
 pub(crate) fn make(
     alloc: Global,
     header: &Header,
@@ -133,7 +134,7 @@ pub(crate) fn take(
     Ok(())
 }
 
-/// It is dropped.
+/// The segment that waits under this line is dropped.
 pub(crate) fn drop_waiting(header: &Header, me: Host, host: &mut HostState, line: u64, moment: u64)
     requires ready { IsReady host.old }
     ensures { host.new ≡ forget_host (deed_after (tcp header.now) me moment 0 [] host.old (Drops line)) }
@@ -141,7 +142,7 @@ pub(crate) fn drop_waiting(header: &Header, me: Host, host: &mut HostState, line
     settle(&mut host.inbox, line);
 }
 
-/// It is answered by a reset, which gets this number.
+/// The segment that waits under this line is answered by a reset, which gets this number.
 pub(crate) fn answer(
     alloc: Global,
     header: &Header,
@@ -164,7 +165,7 @@ pub(crate) fn answer(
     Ok(())
 }
 
-/// A timer expires.
+/// A timer of the endpoint of these ports expires: then its congestion window and slow start threshold.
 pub(crate) fn expire(
     header: &Header,
     me: Host,
@@ -184,7 +185,7 @@ pub(crate) fn expire(
         .expire(lport, rport, timer, cwnd, ssthresh, moment);
 }
 
-/// Fast recovery begins.
+/// Fast recovery begins at the endpoint of these ports, with this congestion window and slow start threshold.
 pub(crate) fn recover(
     header: &Header,
     me: Host,
@@ -250,7 +251,8 @@ impl HostState {
         admits_sending(&self.made, number, wire)
     }
 
-    /// Whether what comes in at a moment is a copy of what the other host put on its wire with that line.
+    /// Whether what comes in at a moment at the other host is a copy of what this one put on its wire with the line `copied`. An
+    /// error is the first rule that is broken.
     pub(crate) fn admits_arrival(
         &self,
         header: &Header,
@@ -263,7 +265,7 @@ impl HostState {
         admits_arrival(header, moment, &self.wire, copied, wire)
     }
 
-    /// Whether it may make a segment.
+    /// Whether it may make a segment. An error is the first rule that is broken.
     pub(crate) fn admits_making(
         &self,
         header: &Header,
@@ -278,7 +280,7 @@ impl HostState {
         self.body.admits_making(making)
     }
 
-    /// Whether it may take the segment that waits under this line.
+    /// Whether it may take the segment that waits under this line. An error is the first rule that is broken.
     pub(crate) fn admits_taking(
         &self,
         header: &Header,
@@ -295,7 +297,7 @@ impl HostState {
         }
     }
 
-    /// Whether a segment waits under this line.
+    /// Whether it may drop what waits under this line. An error is the rule that nothing does.
     pub(crate) fn admits_dropping(
         &self,
         header: &Header,
@@ -311,7 +313,7 @@ impl HostState {
         }
     }
 
-    /// Whether it may answer by a reset the segment that waits under this line.
+    /// Whether it may answer by a reset the segment that waits under this line. An error is the first rule that is broken.
     pub(crate) fn admits_reset(
         &self,
         header: &Header,
@@ -327,7 +329,8 @@ impl HostState {
         }
     }
 
-    /// Whether a timer may expire.
+    /// Whether a timer of the endpoint of these ports may expire, with this window and threshold from then on. An error is the
+    /// first rule that is broken.
     pub(crate) fn admits_expiry(
         &self,
         header: &Header,
@@ -346,7 +349,8 @@ impl HostState {
             .admits_expiry(header, moment, lport, rport, timer, cwnd, ssthresh)
     }
 
-    /// Whether fast recovery may begin.
+    /// Whether fast recovery may begin at the endpoint of these ports, with this window and threshold. An error is the first rule
+    /// that is broken.
     pub(crate) fn admits_recovery(
         &self,
         header: &Header,

@@ -1,14 +1,17 @@
-//! What the machine remembers: hosts with their sockets, and threads with their calls.
+//! What the machine remembers of a case: two hosts with what they have, threads with their calls, how many segments were made,
+//! and how many steps were done. Each kind of step is two functions: the least rule that it breaks, and the world after it.
 //!
-//! `specs/Worlds.antt` says what a world is, `specs/Bodies.antt` and `specs/Calls.antt` what a call may answer and does.
-//! Which step is allowed when is told by `spec_step`.
+//! `specs/Worlds.antt` says what a case has come to, `specs/Calls.antt` what a call may answer, and `specs/Sides.antt` what both
+//! hosts have once one of them did something. `specs/Kept.antt` says what holds of every world here, so that counts and
+//! positions never overflow. Which step a label asks for is told by `spec_step`.
 //!
-//! - `body`: what one host has, seen by calls
-//! - `world`: the two hosts, and where each thread is in its calls
-//! - `calls`: the call rule, and the beginning, the effect and the end of a call
+//! - `world`: what a case has come to, and every step but the effect of a call
+//! - `calls`: the two rules of a call's answer, and the effect of a call
+//! - `host_pair`: the two hosts, and what one of them does
+//! - `host`: what one host has, and what it does
 //!
-//! The tables of the machine of two TCP hosts (`hosts`, at the kernel of `machine`), and what lines do to them;
-//! `specs/Turns` and `specs/Passages` say it table by table:
+//! The tables of a host and of the threads, and what lines do to them; `specs/Turns.antt` and `specs/Passages.antt` say it table
+//! by table:
 //!
 //! - `turn`, `threads`: where each thread is, and the lines that begin and end a call
 //! - `made`, `sending`: segments that were made, and the lines that go out
@@ -17,9 +20,9 @@
 #![tactic(auto)]
 
 mod arriving;
-mod both;
 mod calls;
 mod host;
+mod host_pair;
 mod laws;
 mod made;
 mod sending;

@@ -10,7 +10,7 @@ ghost use Rattle.machine.specs.Machine.{tcp};
 ghost use Rattle.endpoint_state.specs.Worlds.{after, start};
 ghost use Rattle.endpoint_state.specs.Sides.{AreReady};
 
-use crate::both::Hosts;
+use crate::host_pair::Hosts;
 use crate::threads::{admits_begin, admits_end, begin, finish};
 use crate::turn::Turn;
 use case_forms::{Answer, Call, Header, Host, Timer, Wire};
@@ -25,12 +25,15 @@ use verdict::Rule;
 #[derive(Drop)]
 pub struct World {
     pub(crate) alloc: Global,
+    /// The header of the case.
     pub(crate) header: Header,
+    /// What the hosts have.
     pub(crate) hosts: Hosts,
     /// Each thread that called, with where it is. None is ever taken out.
     pub(crate) threads: IndexMap<u32, Turn>,
-    /// How many segments were made.
+    /// How many segments were made: the next has this number and one.
     count: u32,
+    /// How many steps were done.
     pub(crate) steps: u64,
 }
 
@@ -46,7 +49,7 @@ impl Model for World {
 }
 
 impl World {
-    /// The world before the first step.
+    /// The world of a case with this header, before the first step.
     #[tactic(auto, using(crate::proofs::Keeping::kept_start))]
     pub fn start(alloc: Global, header: &Header) -> World
         ensures { result ≡ start header.now }
@@ -75,21 +78,22 @@ impl World {
         self.steps
     }
 
-    /// Whether a thread may begin a call. An error is the first rule that is broken.
+    /// Whether a thread may begin a call: it is in no other. An error is the first rule that is broken.
     pub fn admits_begin(&self, thread: u32, call: &Call) -> Result<(), Rule>
         ensures { result_err result ≡ first_broken (step_rules (tcp self.now.header) 0 self.now.world (Begin 0 thread call.now)) }
     {
         admits_begin(&self.threads, thread)
     }
 
-    /// Whether a thread's call may end with this answer. An error is the first rule that is broken.
+    /// Whether a thread's call may end with this answer: it had its effect with it. An error is the first rule that is broken.
     pub fn admits_finish(&self, thread: u32, answer: &Answer) -> Result<(), Rule>
         ensures { result_err result ≡ first_broken (step_rules (tcp self.now.header) 0 self.now.world (Finish 0 thread answer.now)) }
     {
         admits_end(&self.threads, thread, answer)
     }
 
-    /// Whether the segment that was made under this number may go out so. An error is the first rule that is broken.
+    /// Whether the segment that a host made under this number may go out so: it looks so, and didn't go out before. An error is
+    /// the first rule that is broken.
     pub fn admits_sending(
         &self,
         host: Host,
@@ -119,7 +123,7 @@ impl World {
             .admits_arrival(&self.header, moment, copied, wire)
     }
 
-    /// Whether a host may make a segment. An error is the first rule that is broken.
+    /// Whether a host may make a segment, at a position up to the greatest. An error is the first rule that is broken.
     pub fn admits_making(&self, host: Host, making: &Making) -> Result<(), Rule>
         requires steps { self.now.steps < most_steps }
         requires small { making.now.pos ≤ greatest_position }
@@ -130,7 +134,8 @@ impl World {
             .admits_making(&self.header, host, 0, making)
     }
 
-    /// Whether a host may take the segment that came in with this line. An error is the first rule that is broken.
+    /// Whether a host may take the segment that came in with this line, at a moment in microseconds. An error is the first rule
+    /// that is broken: nothing waits under this line (`Inbox`), or a later one.
     pub fn admits_taking(&self, host: Host, moment: u64, line: u64, how: How) -> Result<(), Rule>
         ensures { result_err result ≡ first_broken (step_rules (tcp self.now.header) moment self.now.world (At host (Takes line how))) }
     {
@@ -139,7 +144,7 @@ impl World {
             .admits_taking(&self.header, host, moment, line, how)
     }
 
-    /// Whether a host may drop what came in with this line. An error is the first rule that is broken.
+    /// Whether a host may drop what came in with this line. An error is the first rule that is broken: nothing waits (`Inbox`).
     pub fn admits_dropping(&self, host: Host, line: u64) -> Result<(), Rule>
         ensures { result_err result ≡ first_broken (step_rules (tcp self.now.header) 0 self.now.world (At host (Drops line))) }
     {
@@ -148,7 +153,8 @@ impl World {
             .admits_dropping(&self.header, host, 0, line)
     }
 
-    /// Whether a host may answer by a reset what came in with this line. An error is the first rule that is broken.
+    /// Whether a host may answer by a reset what came in with this line, at a moment in microseconds. An error is the first rule
+    /// that is broken.
     pub fn admits_reset(&self, host: Host, moment: u64, line: u64) -> Result<(), Rule>
         ensures { result_err result ≡ first_broken (step_rules (tcp self.now.header) moment self.now.world (At host (Answers line))) }
     {
@@ -202,7 +208,7 @@ impl World {
             .admits_recovery(&self.header, host, 0, lport, rport, cwnd, ssthresh)
     }
 
-    /// A thread begins a call. Where memory runs out nothing is changed.
+    /// A thread begins a call. The error is that memory ran out, and then nothing is changed.
     pub fn begin(&mut self, thread: u32, call: &Call) -> Result<(), OutOfMemory>
         requires steps { self.old.steps < most_steps }
         requires permitted { Permitted (tcp self.old.header) 0 self.old.world (Begin 0 thread call.now) }
@@ -214,7 +220,7 @@ impl World {
         Ok(())
     }
 
-    /// A thread's call ends. Where memory runs out nothing is changed.
+    /// A thread's call ends. The error is that memory ran out, and then nothing is changed.
     pub fn finish(&mut self, thread: u32, answer: &Answer) -> Result<(), OutOfMemory>
         requires steps { self.old.steps < most_steps }
         requires permitted { Permitted (tcp self.old.header) 0 self.old.world (Finish 0 thread answer.now) }
@@ -226,7 +232,8 @@ impl World {
         Ok(())
     }
 
-    /// A host makes a segment, at a moment in microseconds. Where memory runs out nothing is changed.
+    /// A host makes a segment, at a moment in microseconds; it gets the next number. The error is that memory ran out, and then
+    /// nothing is changed.
     pub fn make(&mut self, host: Host, making: &Making, moment: u64) -> Result<(), OutOfMemory>
         requires steps { self.old.steps < most_steps }
         requires small { making.now.pos ≤ greatest_position }
@@ -242,8 +249,8 @@ impl World {
         Ok(())
     }
 
-    /// The segment that was made under this number goes out with this line, at a moment in microseconds. Where memory runs out
-    /// nothing is changed.
+    /// The segment that a host made under this number goes out with this line, at a moment in microseconds. The error is that
+    /// memory ran out, and then nothing is changed.
     pub fn send(
         &mut self,
         host: Host,
@@ -263,7 +270,8 @@ impl World {
         Ok(())
     }
 
-    /// A copy of the other host's line `copied` comes in with this line. Where memory runs out nothing is changed.
+    /// A copy of the other host's line `copied` comes in with this line, at a moment in microseconds, and waits in the inbox.
+    /// The error is that memory ran out, and then nothing is changed.
     pub fn arrive(
         &mut self,
         host: Host,
@@ -283,7 +291,8 @@ impl World {
         Ok(())
     }
 
-    /// A host takes what came in with this line, at a moment in microseconds. Where memory runs out nothing is changed.
+    /// A host takes what came in with this line, at a moment in microseconds. The error is that memory ran out, and then nothing
+    /// is changed.
     pub fn take(&mut self, host: Host, line: u64, how: How, moment: u64) -> Result<(), OutOfMemory>
         requires steps { self.old.steps < most_steps }
         requires permitted { Permitted (tcp self.old.header) moment self.old.world (At host (Takes line how)) }
@@ -296,7 +305,7 @@ impl World {
         Ok(())
     }
 
-    /// A host drops what came in with this line.
+    /// A host drops what came in with this line, at a moment in microseconds.
     pub fn drop_arrival(&mut self, host: Host, line: u64, moment: u64)
         requires steps { self.old.steps < most_steps }
         requires permitted { Permitted (tcp self.old.header) moment self.old.world (At host (Drops line)) }
@@ -306,7 +315,8 @@ impl World {
         self.steps += 1;
     }
 
-    /// A host answers by a reset what came in with this line. Where memory runs out nothing is changed.
+    /// A host answers by a reset what came in with this line, at a moment in microseconds; the reset gets the next number, and
+    /// goes out later. The error is that memory ran out, and then nothing is changed.
     pub fn answer(&mut self, host: Host, line: u64, moment: u64) -> Result<(), OutOfMemory>
         requires steps { self.old.steps < most_steps }
         requires permitted { Permitted (tcp self.old.header) moment self.old.world (At host (Answers line)) }
@@ -352,7 +362,8 @@ impl World {
         self.steps += 1;
     }
 
-    /// Fast recovery begins at the endpoint of these ports, with this congestion window and slow start threshold in bytes.
+    /// Fast recovery begins at the endpoint of these ports, at a moment in microseconds, with this congestion window and slow
+    /// start threshold in bytes (RFC 5681, 3.2).
     pub fn recover(
         &mut self,
         host: Host,

@@ -1,4 +1,5 @@
-//! The extra numbers of a step that takes a line.
+//! The extra numbers of a step that takes a line: for a segment that goes out the number that it was made under, for one that
+//! comes in the line that it copies, for a timer the congestion window and the slow start threshold from then on, in bytes.
 
 ghost use Rattle.std.specs.Prelude.{◌≡◌};
 ghost use Rattle.machine.specs.Steps.{first_extra, second_extra};

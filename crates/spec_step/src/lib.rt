@@ -13,6 +13,8 @@ mod extras;
 mod label;
 mod rules;
 mod step;
+#[cfg(test)]
+mod tests;
 
 pub use label::Label;
 pub use rules::admits;

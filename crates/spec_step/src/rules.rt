@@ -56,6 +56,7 @@ pub fn admits(world: &World, moment: u64, label: &Label) -> Result<(), Rule>
     }
 }
 
+// The same of a step that takes a line.
 fn admits_line(world: &World, moment: u64, line: &Line, extras: Extras) -> Result<(), Rule>
     ensures { result_err result ≡ first_broken (step_rules (tcp world.now.header) moment world.now.world (line_step line.now extras)) }
 {
@@ -82,6 +83,7 @@ fn admits_line(world: &World, moment: u64, line: &Line, extras: Extras) -> Resul
     }
 }
 
+// The same of the effect of a call, whose rules read no moment.
 #[tactic(auto, using(endpoint_state::proofs::CallLemmas::effect_at_any_moment))]
 fn admits_effect(world: &World, moment: u64, thread: u32, answer: &Answer) -> Result<(), Rule>
     ensures { result_err result ≡ first_broken (step_rules (tcp world.now.header) moment world.now.world (Effect thread answer.now)) }

@@ -32,7 +32,8 @@ pub enum StepFault {
     OutOfMemory,
 }
 
-/// Does a step at a moment, in microseconds, where the machine admits it and memory allows.
+/// Does a step at a moment, in microseconds, where the machine admits it and memory allows. An error is the least rule that
+/// the step breaks, or that it breaks none and memory ran out; the world is then as it was.
 pub fn apply(world: &mut World, moment: u64, label: &Label) -> Result<(), StepFault>
     requires steps { world.old.steps < most_steps }
     requires label { IsWithinLimits label.now }
@@ -94,6 +95,7 @@ fn perform(world: &mut World, moment: u64, label: &Label) -> Result<(), OutOfMem
     }
 }
 
+// Does a step that takes a line.
 fn take_line(world: &mut World, moment: u64, line: &Line, extras: Extras) -> Result<(), OutOfMemory>
     requires steps { world.old.steps < most_steps }
     requires permitted { Permitted (tcp world.old.header) moment world.old.world (line_step line.now extras) }
@@ -128,6 +130,7 @@ fn take_line(world: &mut World, moment: u64, line: &Line, extras: Extras) -> Res
     }
 }
 
+// A call has its effect, which reads no moment.
 #[tactic(auto, using(endpoint_state::proofs::CallLemmas::effect_at_any_moment, endpoint_state::proofs::CallLemmas::after_at_any_moment))]
 fn have_effect(
     world: &mut World,

@@ -48,7 +48,7 @@ impl Hosts {
         }
     }
 
-    /// The other.
+    /// The other one.
     pub(crate) fn far(&self, host: Host) -> &HostState
         ensures { result.now ≡ pick self.now (other host) }
     {
@@ -123,7 +123,7 @@ impl Hosts {
         }
     }
 
-    /// It is dropped.
+    /// The segment that waits under this line is dropped.
     #[tactic(auto, using(crate::proofs::Still::still_host))]
     pub(crate) fn drop_waiting(&mut self, header: &Header, host: Host, line: u64, moment: u64)
         requires ready { AreReady self.old }
@@ -135,7 +135,7 @@ impl Hosts {
         }
     }
 
-    /// It is answered by a reset, which gets this number.
+    /// The segment that waits under this line is answered by a reset, which gets this number.
     #[tactic(auto, using(crate::proofs::Still::still_host))]
     pub(crate) fn answer(
         &mut self,
@@ -156,7 +156,7 @@ impl Hosts {
         }
     }
 
-    /// A timer expires.
+    /// A timer of the endpoint of these ports expires: then its congestion window and slow start threshold, in bytes.
     #[tactic(auto, using(crate::proofs::Still::still_host))]
     pub(crate) fn expire(
         &mut self,
@@ -201,7 +201,7 @@ impl Hosts {
         }
     }
 
-    /// Fast recovery begins.
+    /// Fast recovery begins at the endpoint of these ports, with this congestion window and slow start threshold in bytes.
     #[tactic(auto, using(crate::proofs::Still::still_host))]
     pub(crate) fn recover(
         &mut self,
