@@ -34,4 +34,5 @@ mod world;
 
 pub use calls::{admits_effect, call_allowed, do_call};
 pub use laws::tables_are_the_machines;
+pub use machine::{Endpoint, Listener};
 pub use world::World;

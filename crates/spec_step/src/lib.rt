@@ -17,5 +17,6 @@ mod step;
 mod tests;
 
 pub use label::Label;
+pub use machine::Emission;
 pub use rules::admits;
 pub use step::{StepFault, apply};
