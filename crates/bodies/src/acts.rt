@@ -20,7 +20,7 @@ use case_forms::{Header, Host, Timer};
 use machine::{Emission, How, Making, Name};
 use segment::OutOfMemory;
 use std::alloc::Global;
-use taken::joins;
+use endpoint::joins;
 
 impl Body {
     /// The endpoint of its ports makes a segment, at a moment in microseconds. None: there is no such endpoint. Where
@@ -118,7 +118,7 @@ impl Body {
         ensures ok { OnOk result (self.new ≡ forget_body (record self.old { endpoints = self.old.endpoints ++ child place how m.now moment ∷ [] })) }
         ensures err { OnErr result (self.new ≡ self.old) }
     {
-        let child = taken::child(alloc, place, how, m, moment);
+        let child = endpoint::child(alloc, place, how, m, moment);
         self.endpoints.add(alloc, child)
     }
 

@@ -18,7 +18,7 @@ use case_forms::{Header, Timer};
 use machine::{Emission, Endpoint, How, Making, Name};
 use segment::OutOfMemory;
 use std::alloc::Global;
-use taken::take_segment;
+use endpoint::take_segment;
 
 impl Endpoints {
     /// The endpoint of this name makes a segment, at a moment in microseconds. None: there is none at its place. Where
@@ -140,7 +140,7 @@ fn send_at(
 {
     if place < endpoints.len() {
         let endpoint = &mut endpoints[place];
-        endpoint_events::send(endpoint, bytes, count)?;
+        endpoint::send(endpoint, bytes, count)?;
         return Ok(());
     }
     Ok(())
@@ -153,7 +153,7 @@ fn deliver_at(endpoints: &mut Vec<Endpoint>, place: usize, bytes: &[u8])
 {
     if place < endpoints.len() {
         let endpoint = &mut endpoints[place];
-        endpoint_events::deliver(endpoint, bytes);
+        endpoint::deliver(endpoint, bytes);
     }
 }
 
@@ -217,7 +217,7 @@ fn make_one(
     ensures err { OnErr result (endpoint.new ≡ endpoint.old) }
 {
     let una = endpoint.stream.una;
-    let emission = making::make(alloc, endpoint, me, making, moment)?;
+    let emission = endpoint::make(alloc, endpoint, me, making, moment)?;
     endpoint.makings.forget_below(una);
     Ok(emission)
 }
@@ -235,7 +235,7 @@ fn expire_at(
 {
     if place < endpoints.len() {
         let endpoint = &mut endpoints[place];
-        endpoint_events::expire(endpoint, timer, cwnd, ssthresh, moment);
+        endpoint::expire(endpoint, timer, cwnd, ssthresh, moment);
     }
 }
 
@@ -245,7 +245,7 @@ fn recover_at(endpoints: &mut Vec<Endpoint>, place: usize, cwnd: u32, ssthresh: 
 {
     if place < endpoints.len() {
         let endpoint = &mut endpoints[place];
-        endpoint_events::recover(endpoint, cwnd, ssthresh);
+        endpoint::recover(endpoint, cwnd, ssthresh);
     }
 }
 
@@ -255,7 +255,7 @@ fn shut_at(endpoints: &mut Vec<Endpoint>, place: usize)
 {
     if place < endpoints.len() {
         let endpoint = &mut endpoints[place];
-        endpoint_events::shut(endpoint);
+        endpoint::shut(endpoint);
     }
 }
 
@@ -265,7 +265,7 @@ fn close_at(endpoints: &mut Vec<Endpoint>, place: usize)
 {
     if place < endpoints.len() {
         let endpoint = &mut endpoints[place];
-        endpoint_events::close(endpoint);
+        endpoint::close(endpoint);
     }
 }
 
@@ -275,7 +275,7 @@ fn abort_at(endpoints: &mut Vec<Endpoint>, place: usize)
 {
     if place < endpoints.len() {
         let endpoint = &mut endpoints[place];
-        endpoint_events::abort(endpoint);
+        endpoint::abort(endpoint);
     }
 }
 
@@ -285,6 +285,6 @@ fn accept_at(endpoints: &mut Vec<Endpoint>, place: usize)
 {
     if place < endpoints.len() {
         let endpoint = &mut endpoints[place];
-        endpoint_events::accept(endpoint);
+        endpoint::accept(endpoint);
     }
 }

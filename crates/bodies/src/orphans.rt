@@ -38,6 +38,6 @@ fn orphan_at(endpoints: &mut Vec<Endpoint>, place: usize, listener: u32)
 {
     if place < endpoints.len() {
         let endpoint = &mut endpoints[place];
-        endpoint_events::orphan(listener, endpoint);
+        endpoint::orphan(listener, endpoint);
     }
 }

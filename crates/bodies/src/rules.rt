@@ -12,13 +12,12 @@ ghost use Rattle.machine.specs.Meeting.{taker, taker_rules};
 ghost use Rattle.machine.specs.Resets.{finds_nothing, is_stray_ack, reset_rules};
 ghost use Rattle.machine.specs.Timing.{expiry_rules, recovery_rules};
 ghost use Rattle.machine.specs.Machine.{rules_at};
-ghost use Rattle.machine.specs.Lookups.{is_syn_received, is_syn_sent};
 ghost use Rattle.bodies.specs.declared.body.Found.TheVariants as found;
 ghost use Rattle.bodies.specs.Takers.{taker_found};
 
 use crate::{Body, Found};
 use case_forms::{Answer, Call, Header, Host, State, Timer};
-use endpoint_events::{endpoint_allows, listener_allows};
+use endpoint::{endpoint_allows, listener_allows};
 use machine::{Emission, Endpoint, How, Making, Name, Thing};
 use seqno::number;
 use verdict::Rule;
@@ -75,7 +74,7 @@ impl Body {
         ensures { result_err result ≡ first_broken (rules_at self.now making.now.lport making.now.rport (λ e. making_rules e making.now)) }
     {
         match self.endpoint_of(making.lport, making.rport) {
-            Some(endpoint) => making::admits_making(endpoint, making),
+            Some(endpoint) => endpoint::admits_making(endpoint, making),
             None => Err(Rule::NoEndpoint),
         }
     }
@@ -96,7 +95,7 @@ impl Body {
     {
         match self.endpoint_of(lport, rport) {
             Some(endpoint) => {
-                taking::admits_expiry(header, moment, endpoint, timer, cwnd, ssthresh)
+                endpoint::admits_expiry(header, moment, endpoint, timer, cwnd, ssthresh)
             }
             None => Err(Rule::NoEndpoint),
         }
@@ -114,7 +113,7 @@ impl Body {
         ensures { result_err result ≡ first_broken (rules_at self.now lport rport (λ e. recovery_rules e cwnd ssthresh)) }
     {
         match self.endpoint_of(lport, rport) {
-            Some(endpoint) => taking::admits_recovery(endpoint, cwnd, ssthresh),
+            Some(endpoint) => endpoint::admits_recovery(endpoint, cwnd, ssthresh),
             None => Err(Rule::NoEndpoint),
         }
     }
@@ -131,7 +130,7 @@ impl Body {
     {
         match self.taker(m) {
             Found::Nobody => Err(Rule::NoEndpoint),
-            Found::Listener(_) => taking::admits_listening(how, m),
+            Found::Listener(_) => endpoint::admits_listening(how, m),
             Found::Endpoint(place) => self.admits_taking_at(header, host, place, how, m),
         }
     }
@@ -150,21 +149,21 @@ impl Body {
             return Err(Rule::NoEndpoint);
         };
         if is_syn_sent(endpoint.state) {
-            return taking::admits_syn_sent(endpoint, how, m);
+            return endpoint::admits_syn_sent(endpoint, how, m);
         }
         let full = self.joins_full_queue(header, endpoint, m);
         let me = Name {
             host,
             number: place,
         };
-        taking::admits_connected(full, me, endpoint, how, m)
+        endpoint::admits_connected(full, me, endpoint, how, m)
     }
 
     // The endpoint is a child that would join a full queue.
     fn joins_full_queue(&self, header: &Header, endpoint: &Endpoint, m: &Emission) -> bool
         ensures { result ≡ joins_full_queue header.now self.now endpoint.now m.now }
     {
-        if !is_syn_received(endpoint.state) || m.flags.rst {
+        if !endpoint.state.is_syn_received() || m.flags.rst {
             return false;
         }
         match endpoint.listener {
@@ -242,23 +241,11 @@ fn childless_allows(call: &Call, answer: &Answer) -> bool
 fn is_stray_ack(endpoint: &Endpoint, m: &Emission) -> bool
     ensures { result ≡ is_stray_ack endpoint.now m.now }
 {
-    if !(is_syn_sent(endpoint.state) || is_syn_received(endpoint.state)) || !m.flags.ack {
+    if !(endpoint.state.is_syn_sent() || endpoint.state.is_syn_received()) || !m.flags.ack {
         return false;
     }
     match endpoint.iss {
         Some(iss) => m.ack_seq.0 != number(iss, 1).0,
         None => false,
     }
-}
-
-fn is_syn_sent(state: State) -> bool
-    ensures { result ≡ is_syn_sent state }
-{
-    matches!(state, State::SynSent)
-}
-
-fn is_syn_received(state: State) -> bool
-    ensures { result ≡ is_syn_received state }
-{
-    matches!(state, State::SynReceived)
 }

@@ -1,3 +1,4 @@
+pub mod States
 pub mod Traces
 pub mod Steps
 pub mod Witnesses

@@ -1,6 +1,7 @@
 //! Socket calls and their answers.
 
 ghost use Rattle.std.specs.Prelude.{◌≡◌, IfOk};
+ghost use Rattle.case_forms.specs.States.{is_closed, is_fin_wait_2, is_syn_received, is_syn_sent, is_time_wait};
 
 use crate::OutOfMemory;
 use segment::Bytes;
@@ -28,6 +29,43 @@ pub enum State {
     Closing,
     LastAck,
     TimeWait,
+}
+
+impl State {
+    /// Whether it is CLOSED.
+    pub fn is_closed(self) -> bool
+        ensures { result ≡ is_closed self }
+    {
+        matches!(self, State::Closed)
+    }
+
+    /// Whether it is SYN-SENT.
+    pub fn is_syn_sent(self) -> bool
+        ensures { result ≡ is_syn_sent self }
+    {
+        matches!(self, State::SynSent)
+    }
+
+    /// Whether it is SYN-RECEIVED.
+    pub fn is_syn_received(self) -> bool
+        ensures { result ≡ is_syn_received self }
+    {
+        matches!(self, State::SynReceived)
+    }
+
+    /// Whether it is FIN-WAIT-2.
+    pub fn is_fin_wait_2(self) -> bool
+        ensures { result ≡ is_fin_wait_2 self }
+    {
+        matches!(self, State::FinWait2)
+    }
+
+    /// Whether it is TIME-WAIT.
+    pub fn is_time_wait(self) -> bool
+        ensures { result ≡ is_time_wait self }
+    {
+        matches!(self, State::TimeWait)
+    }
 }
 
 /// What a thread asks for (RFC 9293, 3.9.1). Ports are 1 to 65535; a socket number is any that a call was or was not

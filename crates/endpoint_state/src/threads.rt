@@ -112,7 +112,7 @@ fn put(threads: &mut IndexMap<u32, Turn>, thread: u32, place: Place) -> Result<(
     Ok(())
 }
 
-#[tactic(auto, using(wires::proofs::Bytes::same_bytes_is))]
+#[tactic(auto, using(endpoint::proofs::Bytes::same_bytes_is))]
 fn same_answer(given: &Answer, answer: &Answer) -> bool
     ensures { result ≡ same_answer given.now answer.now }
 {

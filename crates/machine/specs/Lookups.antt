@@ -1,24 +1,11 @@
--- How endpoints, listeners and sockets are found, and tests of states.
+-- How endpoints, listeners and sockets are found.
 use Rattle.std.specs.Prelude.{ℕ, suc, ◌==◌, nat_eq, Bool, true, false, not, ◌&&◌, if◌then◌else◌, List, [], ◌∷◌, Option, None, Some, is_some, slice_get}
 use Rattle.std.specs.Map.{lookup}
 use Rattle.std.specs.Option.{option_map_or}
 use Rattle.streams.specs.Lists.{modify}
-use Rattle.case_forms.specs.declared.calls.State.{State}
-use Rattle.case_forms.specs.declared.calls.State.TheVariants as states
+pub use Rattle.case_forms.specs.States.{is_closed, is_syn_sent, is_syn_received}
 use Rattle.seqno.specs.declared.word.Word.{Word}
 use Rattle.machine.specs.Endpoints.{Endpoint, Listener, Thing, Socket, Body}
-
-abbrev pub is_closed : State → Bool
-is_closed states.Closed = true
-is_closed _ = false
-
-abbrev pub is_syn_sent : State → Bool
-is_syn_sent states.SynSent = true
-is_syn_sent _ = false
-
-abbrev pub is_syn_received : State → Bool
-is_syn_received states.SynReceived = true
-is_syn_received _ = false
 
 abbrev pub same_word : Word → Word → Bool
 same_word a b = a.0 == b.0

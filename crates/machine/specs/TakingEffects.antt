@@ -3,6 +3,7 @@ use Rattle.std.specs.Prelude.{ℕ, ◌+◌, ◌-◌, ◌==◌, nat_le, nat_lt, m
 use Rattle.case_forms.specs.declared.trace.Header.{Header}
 use Rattle.case_forms.specs.declared.calls.State.{State}
 use Rattle.case_forms.specs.declared.calls.State.TheVariants as states
+use Rattle.case_forms.specs.States.{is_time_wait}
 use Rattle.case_forms.specs.declared.timer.Timer.TheVariants.{Rto, Persist, Msl2}
 use Rattle.streams.specs.Received.{Receiving, kept, is_ended}
 use Rattle.streams.specs.Sent.{end_of}
@@ -102,10 +103,6 @@ rto_taken t all_acked new moment = if all_acked then stopped t Rto else if new t
 -- a window of 0 arms the persist timer where it is off, another turns it off (RFC 9293, 3.8.6.1)
 abbrev pub persist_taken : Timers → ℕ → ℕ → Timers
 persist_taken t window moment = if nat_lt 0 window then stopped t Persist else if is_some t.persist_armed then t else armed t Persist moment
-
-abbrev pub is_time_wait : State → Bool
-is_time_wait states.TimeWait = true
-is_time_wait _ = false
 
 -- the wait in TIME-WAIT begins on entering it; CLOSED turns all timers off (RFC 9293, 3.6.1)
 abbrev pub state_timers : Timers → State → State → ℕ → Timers

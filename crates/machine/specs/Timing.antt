@@ -1,8 +1,7 @@
 -- Timers that expire, and fast recovery (RFC 6298, 5; RFC 9293, 3.8.6.1 and 3.6.1; RFC 5681, 3.2).
 use Rattle.std.specs.Prelude.{ℕ, ◌+◌, ◌==◌, nat_le, nat_lt, Bool, true, false, not, ◌&&◌, ◌||◌, List, [], ◌∷◌, Some, is_some}
 use Rattle.case_forms.specs.declared.trace.Header.{Header}
-use Rattle.case_forms.specs.declared.calls.State.{State}
-use Rattle.case_forms.specs.declared.calls.State.TheVariants as states
+use Rattle.case_forms.specs.States.{is_fin_wait_2}
 use Rattle.case_forms.specs.declared.timer.Timer.{Timer}
 use Rattle.case_forms.specs.declared.timer.Timer.TheVariants.{Rto, Persist, Msl2, Giveup}
 use Rattle.verdict.specs.declared.rule.Rule.{Rule}
@@ -47,10 +46,6 @@ is_above e growth = nat_lt ((greatest_values e).0) growth.cwnd || nat_lt ((great
 -- data or the FIN is unsent or not acknowledged
 abbrev pub has_more : Endpoint → Bool
 has_more e = nat_lt e.stream.una (end_of e.stream.accepted + flag_count e.stream.ended)
-
-abbrev pub is_fin_wait_2 : State → Bool
-is_fin_wait_2 states.FinWait2 = true
-is_fin_wait_2 _ = false
 
 -- three expiries without an answer while something is open, or a closed socket that waits for the peer's FIN (this profile's own)
 abbrev pub may_give_up : Endpoint → Bool

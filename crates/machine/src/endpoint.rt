@@ -1,7 +1,7 @@
 //! What a host has, as values: endpoints, segments that were made, listeners, and what socket numbers name.
 
-ghost use Rattle.std.specs.Prelude.{◌≡◌, IfOk};
-ghost use Rattle.machine.specs.Endpoints.{new_endpoint};
+ghost use Rattle.std.specs.Prelude.{◌≡◌, ◌<◌, ◌^◌, IfOk};
+ghost use Rattle.machine.specs.Endpoints.{flight, is_up, max_made, new_endpoint, next, receive_window, segment_length};
 
 use crate::queue::Queue;
 use case_forms::{Flags, Host, State};
@@ -137,6 +137,42 @@ impl Endpoint {
             syn_lost: false,
         }
     }
+
+    /// The position behind all that was made (RFC 9293, 3.3.1: SND.NXT at its greatest).
+    pub fn max_made(&self) -> u64
+        ensures { result ≡ max_made self.now }
+    {
+        self.makings.end()
+    }
+
+    /// The next position that is expected of the peer: 0 before its SYN was taken (RFC 9293, 3.3.1: RCV.NXT).
+    pub fn next(&self) -> u64
+        ensures value { result ≡ next self.now }
+        ensures small { result < 2 ^ 63 }
+    {
+        self.stream.receive.next()
+    }
+
+    /// How many positions from the next one on its own windows have reached (RFC 9293, 3.3.1: RCV.WND).
+    pub fn receive_window(&self) -> u64
+        ensures { result ≡ receive_window self.now }
+    {
+        self.window.edge.saturating_sub(self.next())
+    }
+
+    /// How many positions are made and not acknowledged (RFC 5681, 2: FlightSize).
+    pub fn flight(&self) -> u64
+        ensures { result ≡ flight self.now }
+    {
+        self.max_made().saturating_sub(self.stream.una)
+    }
+
+    /// Whether its own SYN was acknowledged and the peer's SYN taken.
+    pub fn is_up(&self) -> bool
+        ensures { result ≡ is_up self.now }
+    {
+        1 <= self.stream.una && 1 <= self.next()
+    }
 }
 
 /// A segment that was made (RFC 9293, 3.1).
@@ -167,6 +203,14 @@ pub struct Emission {
 }
 
 impl Emission {
+    /// How many positions it takes: its bytes, its SYN and its FIN (RFC 9293, 3.3.1: SEG.LEN).
+    pub fn length(&self) -> u128
+        ensures value { result ≡ segment_length self.now }
+        ensures small { result < 2 ^ 65 }
+    {
+        self.payload.len() as u128 + self.flags.syn as u128 + self.flags.fin as u128
+    }
+
     /// An equal segment.
     pub fn copy(&self) -> Result<Emission, OutOfMemory>
         ensures { IfOk result (λ m. m ≡ self.now) }

@@ -1,0 +1,44 @@
+//! A segment arrives (RFC 9293, 3.10.7).
+
+ghost use Rattle.machine.specs.Bounds.{HasRoom, IsSmallEmission};
+ghost use Rattle.machine.specs.Forgetting.{forget_endpoint};
+ghost use Rattle.machine.specs.Lookups.{is_closed};
+ghost use Rattle.machine.specs.Meeting.{endpoint_taken};
+ghost use Rattle.std.specs.Prelude.{◌≡◌, false, OnOk, OnErr};
+
+pub(crate) mod listen;
+pub(crate) mod otherwise;
+pub(crate) mod syn_sent;
+
+use crate::arrives::otherwise::reset::was_reset;
+use crate::arrives::otherwise::taken;
+use crate::arrives::syn_sent::met_peer;
+use case_forms::Header;
+use machine::{Emission, Endpoint, How};
+use segment::OutOfMemory;
+
+/// An endpoint takes a segment at a moment in microseconds, in every state but CLOSED (RFC 9293, 3.10.7). Where memory
+/// is wanting, the endpoint stays as it was. Nothing is asked of the segment: `taking` tells whether it may be taken.
+pub fn take_segment(
+    header: &Header,
+    endpoint: &mut Endpoint,
+    how: How,
+    m: &Emission,
+    moment: u64,
+) -> Result<(), OutOfMemory>
+    requires room { HasRoom endpoint.old }
+    requires small { IsSmallEmission m.now }
+    requires open { is_closed endpoint.old.state ≡ false }
+    ensures ok { OnOk result (endpoint.new ≡ forget_endpoint (endpoint_taken header.now endpoint.old how m.now moment)) }
+    ensures err { OnErr result (endpoint.new ≡ endpoint.old) }
+{
+    if m.flags.rst {
+        was_reset(endpoint, how);
+        return Ok(());
+    }
+    if endpoint.state.is_syn_sent() {
+        met_peer(header, endpoint, how, m, moment);
+        return Ok(());
+    }
+    taken(header, endpoint, how, m, moment)
+}

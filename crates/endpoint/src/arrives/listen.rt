@@ -1,0 +1,47 @@
+//! A segment arrives in LISTEN (RFC 9293, 3.10.7.2).
+
+ghost use Rattle.machine.specs.Meeting.{child};
+ghost use Rattle.machine.specs.TakingRules.{listener_rules};
+ghost use Rattle.std.specs.Prelude.{◌≡◌};
+ghost use Rattle.std.specs.Result.{result_err};
+ghost use Rattle.verdict.specs.Rules.{first_broken};
+
+use crate::arrives::otherwise::window::persist_taken;
+use crate::arrives::syn_sent::told_smss;
+use case_forms::State;
+use machine::{Emission, Endpoint, How};
+use std::alloc::Global;
+use verdict::Rule;
+
+/// Whether a listener may take the segment: a SYN that is neither acknowledgment nor reset (RFC 9293, 3.10.7.2). An
+/// error is the first rule that is broken.
+pub fn admits_listening(how: How, m: &Emission) -> Result<(), Rule>
+    ensures { result_err result ≡ first_broken (listener_rules how m.now) }
+{
+    if !(m.flags.syn && !m.flags.ack && !m.flags.rst) {
+        return Err(Rule::State);
+    }
+    if 0 < how.cwnd {
+        return Err(Rule::Growth);
+    }
+    if how.sample {
+        return Err(Rule::Sample);
+    }
+    Ok(())
+}
+
+/// A child of the listener at this place, which took the peer's SYN at a moment in microseconds (RFC 9293, 3.10.7.2).
+pub fn child(alloc: Global, listener: u32, how: How, m: &Emission, moment: u64) -> Endpoint
+    ensures { result ≡ child listener how m.now moment }
+{
+    let mut child = Endpoint::new(alloc, m.rport, m.lport, Some(listener), State::SynReceived);
+    child.irs = Some(m.seq);
+    child.stream.peer = Some(m.maker);
+    child.stream.receive.meet();
+    child.window.wnd = m.window;
+    child.window.wl1 = m.pos;
+    child.congestion.cwnd = how.cwnd;
+    child.congestion.smss = told_smss(m);
+    child.timers = persist_taken(child.timers, m.window, moment);
+    child
+}

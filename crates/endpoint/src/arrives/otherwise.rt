@@ -1,0 +1,109 @@
+//! A segment arrives in any other state (RFC 9293, 3.10.7.4).
+
+ghost use Rattle.machine.specs.Bounds.{HasRoom, IsSmallEmission};
+ghost use Rattle.machine.specs.Endpoints.{next};
+ghost use Rattle.machine.specs.Forgetting.{forget_endpoint};
+ghost use Rattle.machine.specs.TakingEffects.{taken};
+ghost use Rattle.machine.specs.TakingRules.{rules_with_queue};
+ghost use Rattle.std.specs.Prelude.{◌≡◌, ◌≤◌, OnOk, OnErr};
+ghost use Rattle.std.specs.Result.{result_err};
+ghost use Rattle.verdict.specs.Rules.{first_broken};
+
+pub(crate) mod ack;
+pub(crate) mod congestion;
+pub(crate) mod fin;
+pub(crate) mod peer;
+pub(crate) mod reset;
+pub(crate) mod sequence;
+pub(crate) mod text;
+pub(crate) mod timers;
+pub(crate) mod window;
+
+use crate::arrives::otherwise::ack::{
+    acknowledged, backs_taken, is_bad_ack_range, may_sample, recover_taken, una_after,
+};
+use crate::arrives::otherwise::congestion::{congestion_taken, greatest_window};
+use crate::arrives::otherwise::fin::finished;
+use crate::arrives::otherwise::peer::is_from_peer;
+use crate::arrives::otherwise::sequence::{is_acceptable, is_bad_number};
+use crate::arrives::otherwise::text::receive;
+use crate::arrives::otherwise::timers::{state_timers, timers_before};
+use crate::arrives::otherwise::window::{probe_due_taken, window_taken};
+use case_forms::Header;
+use machine::{Emission, Endpoint, How, Name};
+use segment::OutOfMemory;
+use verdict::Rule;
+
+/// Whether an endpoint in any other state but CLOSED may take the segment (RFC 9293, 3.10.7.4). `full`: it is a child
+/// that would join a full queue. An error is the first rule that is broken.
+pub fn admits_connected(
+    full: bool,
+    me: Name,
+    endpoint: &Endpoint,
+    how: How,
+    m: &Emission,
+) -> Result<(), Rule>
+    ensures { result_err result ≡ first_broken (rules_with_queue full me endpoint.now how m.now) }
+{
+    if !is_from_peer(me, endpoint, m) {
+        return Err(Rule::NotPeer);
+    }
+    if is_bad_number(endpoint, m) {
+        return Err(Rule::Number);
+    }
+    if !is_acceptable(endpoint, m) {
+        return Err(Rule::Unacceptable);
+    }
+    if is_bad_ack_range(endpoint, m) {
+        return Err(Rule::AckRange);
+    }
+    if full {
+        return Err(Rule::QueueFull);
+    }
+    if greatest_window(endpoint, m) < how.cwnd as u64 {
+        return Err(Rule::Growth);
+    }
+    if how.sample && !may_sample(endpoint, m) {
+        return Err(Rule::Sample);
+    }
+    Ok(())
+}
+
+/// What the endpoint has then, at a moment in microseconds. Where memory is wanting, it stays as it was.
+pub(crate) fn taken(
+    header: &Header,
+    endpoint: &mut Endpoint,
+    how: How,
+    m: &Emission,
+    moment: u64,
+) -> Result<(), OutOfMemory>
+    requires room { HasRoom endpoint.old }
+    requires small { IsSmallEmission m.now }
+    requires met { 1 ≤ next endpoint.old }
+    ensures ok { OnOk result (endpoint.new ≡ forget_endpoint (taken header.now endpoint.old how m.now moment)) }
+    ensures err { OnErr result (endpoint.new ≡ endpoint.old) }
+{
+    let una = una_after(endpoint, m);
+    let old = endpoint.state;
+    let state = acknowledged(endpoint, m);
+    let window = window_taken(endpoint, m);
+    let congestion = congestion_taken(endpoint, how, m);
+    let recover = recover_taken(endpoint, m);
+    let probe_due = probe_due_taken(endpoint, m);
+    let timers = timers_before(header, endpoint, how, m, moment);
+    let backs = backs_taken(endpoint, m);
+    let ended = receive(endpoint, how, m)?;
+    let state = finished(state, ended);
+    endpoint.state = state;
+    endpoint.stream.una = una;
+    endpoint.window = window;
+    endpoint.congestion = congestion;
+    endpoint.recover = recover;
+    endpoint.probe_due = probe_due;
+    endpoint.timers = state_timers(timers, old, state, moment);
+    endpoint.tries = 0;
+    endpoint.backs = backs;
+    endpoint.stream.accepted.forget_below(una);
+    endpoint.makings.forget_below(una);
+    Ok(())
+}

@@ -1,0 +1,46 @@
+//! Eighth, the FIN bit.
+
+ghost use Rattle.machine.specs.Bounds.{IsSmallEmission};
+ghost use Rattle.machine.specs.TakingEffects.{fin_place, keeps_fin, finished};
+ghost use Rattle.std.specs.Prelude.{◌≡◌};
+
+use crate::arrives::otherwise::text::first_byte;
+use case_forms::State;
+use machine::{Emission, Endpoint, How};
+
+pub(crate) fn keeps_fin(endpoint: &Endpoint, how: How, m: &Emission) -> bool
+    requires { IsSmallEmission m.now }
+    ensures { result ≡ keeps_fin endpoint.now how m.now }
+{
+    let place = fin_place(m);
+    how.keep && m.flags.fin && endpoint.next() <= place && place <= endpoint.window.edge
+}
+
+pub(crate) fn fin_place(m: &Emission) -> u64
+    requires { IsSmallEmission m.now }
+    ensures { result ≡ fin_place m.now }
+{
+    first_byte(m) + m.payload.len() as u64
+}
+
+// The state once the peer's FIN was passed, where it was (RFC 9293, 3.10.7.4, eighth).
+pub(crate) fn finished(state: State, ended: bool) -> State
+    ensures { result ≡ finished state ended }
+{
+    if !ended {
+        return state;
+    }
+    match state {
+        State::Established => State::CloseWait,
+        State::FinWait1 => State::Closing,
+        State::FinWait2 => State::TimeWait,
+        State::Listen
+        | State::SynSent
+        | State::SynReceived
+        | State::CloseWait
+        | State::Closing
+        | State::LastAck
+        | State::TimeWait
+        | State::Closed => state,
+    }
+}

@@ -1,0 +1,59 @@
+//! Seventh, the segment text.
+
+ghost use Rattle.machine.specs.Bounds.{IsSmallEmission, greatest_position};
+ghost use Rattle.machine.specs.Endpoints.{next};
+ghost use Rattle.machine.specs.TakingEffects.{kept_bytes, kept_start, receive_after, first_byte};
+ghost use Rattle.std.specs.Prelude.{◌≡◌, ◌≤◌, IfOk, OnOk, OnErr, ◌+◌};
+ghost use Rattle.streams.specs.Forgetting.{forgotten};
+ghost use Rattle.streams.specs.Received.{is_ended};
+
+use crate::arrives::otherwise::fin::{fin_place, keeps_fin};
+use machine::{Emission, Endpoint, How};
+use segment::OutOfMemory;
+
+/// Keeps what is kept of a segment. The answer is whether the peer's FIN was taken then, with all before it.
+pub(crate) fn receive(endpoint: &mut Endpoint, how: How, m: &Emission) -> Result<bool, OutOfMemory>
+    requires small { IsSmallEmission m.now }
+    requires met { 1 ≤ next endpoint.old }
+    requires forgets { forgotten endpoint.old.stream.receive ≡ endpoint.old.stream.receive }
+    ensures ended { IfOk result (λ ended. ended ≡ is_ended (receive_after endpoint.old how m.now)) }
+    ensures ok { OnOk result (endpoint.new ≡ record endpoint.old { stream = record endpoint.old.stream { receive = forgotten (receive_after endpoint.old how m.now) } }) }
+    ensures err { OnErr result (endpoint.new ≡ endpoint.old) }
+{
+    let start = kept_start(endpoint, m);
+    let fin = keeps_fin(endpoint, how, m);
+    let bytes = kept_bytes(endpoint, how, m);
+    if bytes.is_empty() && !fin {
+        return Ok(endpoint.stream.receive.is_ended());
+    }
+    endpoint.stream.receive.keep(start, bytes, fin)?;
+    Ok(endpoint.stream.receive.is_ended())
+}
+
+pub(crate) fn kept_bytes<'a>(endpoint: &Endpoint, how: How, m: &'a Emission) -> &'a [u8]
+    requires { IsSmallEmission m.now }
+    ensures { result.now ≡ kept_bytes endpoint.now how m.now }
+{
+    let first = first_byte(m);
+    let start = kept_start(endpoint, m) - first;
+    let end = fin_place(m).min(endpoint.window.edge).saturating_sub(first);
+    if !how.keep || end <= start {
+        return &[];
+    }
+    &m.payload.as_slice()[start as usize..end as usize]
+}
+
+pub(crate) fn kept_start(endpoint: &Endpoint, m: &Emission) -> u64
+    requires { m.now.pos ≤ greatest_position }
+    ensures { result ≡ kept_start endpoint.now m.now }
+{
+    endpoint.next().max(first_byte(m))
+}
+
+pub(crate) fn first_byte(m: &Emission) -> u64
+    requires { m.now.pos ≤ greatest_position }
+    ensures value { result ≡ first_byte m.now }
+    ensures small { result ≤ greatest_position + 1 }
+{
+    m.pos + m.flags.syn as u64
+}

@@ -1,0 +1,53 @@
+//! The send window then.
+
+ghost use Rattle.machine.specs.TakingEffects.{takes_window, window_taken, opens, persist_taken};
+ghost use Rattle.std.specs.Prelude.{◌≡◌, ◌&&◌, not};
+
+use crate::arrives::otherwise::ack::{acknowledges_syn, opens};
+use case_forms::Timer;
+use machine::{Emission, Endpoint, Window};
+use timer_rules::Timers;
+
+/// Whether the window is taken from the segment: it is not older than the one that it was taken from last, or
+/// acknowledges the SYN.
+pub(crate) fn takes_window(endpoint: &Endpoint, m: &Emission) -> bool
+    ensures { result ≡ takes_window endpoint.now m.now }
+{
+    endpoint.stream.una <= m.ack
+        && (acknowledges_syn(endpoint, m)
+            || endpoint.window.wl1 < m.pos
+            || endpoint.window.wl1 == m.pos && endpoint.window.wl2 <= m.ack)
+}
+
+/// The window that the peer offers then.
+pub(crate) fn window_taken(endpoint: &Endpoint, m: &Emission) -> Window
+    ensures { result ≡ window_taken endpoint.now m.now }
+{
+    let mut window = endpoint.window;
+    if takes_window(endpoint, m) {
+        window.wnd = m.window;
+        window.wl1 = m.pos;
+        window.wl2 = m.ack;
+    }
+    window
+}
+
+/// Whether a byte behind a window of 0 is still to be made.
+pub(crate) fn probe_due_taken(endpoint: &Endpoint, m: &Emission) -> bool
+    ensures { result ≡ endpoint.now.probe_due && not (opens endpoint.now m.now) }
+{
+    endpoint.probe_due && !opens(endpoint, m)
+}
+
+/// A window of 0 arms the persist timer where it is off, another turns it off (RFC 9293, 3.8.6.1).
+pub(crate) fn persist_taken(timers: Timers, window: u16, moment: u64) -> Timers
+    ensures { result ≡ persist_taken timers window moment }
+{
+    let mut timers = timers;
+    if 0 < window {
+        timers.stop(Timer::Persist);
+    } else if timers.persist_armed.is_none() {
+        timers.arm(Timer::Persist, moment);
+    }
+    timers
+}

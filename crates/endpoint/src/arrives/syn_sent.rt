@@ -1,0 +1,174 @@
+//! A segment arrives in SYN-SENT (RFC 9293, 3.10.7.3): the peer is met.
+
+ghost use Rattle.case_forms.specs.declared.calls.State.TheVariants as states;
+ghost use Rattle.streams.specs.Received as received;
+ghost use Rattle.machine.specs.Forgetting.{forget_endpoint};
+ghost use Rattle.machine.specs.Lookups.{same_word, is_syn_received};
+ghost use Rattle.machine.specs.Meeting.{met_peer, una_met, timers_met};
+ghost use Rattle.machine.specs.TakingRules.{syn_sent_rules, answers_syn, told_smss, greatest_at_syn, acknowledges_syn};
+ghost use Rattle.seqno.specs.Numbers.{number_of};
+ghost use Rattle.std.specs.Option.{option_map_or};
+ghost use Rattle.std.specs.Prelude.{◌≡◌, false, ◌&&◌, if◌then◌else◌};
+ghost use Rattle.std.specs.Result.{result_err};
+ghost use Rattle.verdict.specs.Rules.{first_broken};
+
+use crate::arrives::otherwise::ack::{acknowledges_syn, is_no_sample};
+use crate::arrives::otherwise::timers::{rto_taken, timeout_taken};
+use crate::arrives::otherwise::window::persist_taken;
+use crate::same::same_word;
+use case_forms::{Header, State};
+use machine::{Emission, Endpoint, How, Window};
+use seqno::number;
+use timer_rules::Timers;
+use verdict::Rule;
+use window_rules::{Congestion, initial_window};
+
+/// Whether an endpoint in SYN-SENT may take the segment (RFC 9293, 3.10.7.3). An error is the first rule that is
+/// broken.
+pub fn admits_syn_sent(endpoint: &Endpoint, how: How, m: &Emission) -> Result<(), Rule>
+    ensures { result_err result ≡ first_broken (syn_sent_rules endpoint.now how m.now) }
+{
+    if !(m.flags.syn || m.flags.rst) {
+        return Err(Rule::State);
+    }
+    if (m.flags.ack || m.flags.rst) && !answers_syn(endpoint, m) {
+        return Err(Rule::AckRange);
+    }
+    if greatest_at_syn(endpoint, m) < how.cwnd as u64 {
+        return Err(Rule::Growth);
+    }
+    if how.sample && is_no_sample(endpoint, m) {
+        return Err(Rule::Sample);
+    }
+    Ok(())
+}
+
+/// Whether it acknowledges, in SYN-SENT, the endpoint's SYN, which is all that was made.
+pub(crate) fn answers_syn(endpoint: &Endpoint, m: &Emission) -> bool
+    ensures { result ≡ answers_syn endpoint.now m.now }
+{
+    m.flags.ack && endpoint.max_made() == 1 && has_syn_number(endpoint, m)
+}
+
+pub(crate) fn has_syn_number(endpoint: &Endpoint, m: &Emission) -> bool
+    ensures { result ≡ option_map_or (λ iss. same_word m.now.ack_seq (number_of iss 1)) endpoint.now.iss false }
+{
+    match endpoint.iss {
+        Some(iss) => same_word(m.ack_seq, number(iss, 1)),
+        None => false,
+    }
+}
+
+/// The segment size that a SYN tells of, 536 where it tells of none or of 0 (RFC 9293, 3.7.1).
+pub(crate) fn told_smss(m: &Emission) -> u32
+    ensures { result ≡ told_smss m.now }
+{
+    match m.mss {
+        Some(mss) => { if mss == 0 { 536 } else { mss as u32 } }
+        None => 536,
+    }
+}
+
+/// The greatest in SYN-SENT, with the segment size that the SYN brings.
+pub(crate) fn greatest_at_syn(endpoint: &Endpoint, m: &Emission) -> u64
+    ensures { result ≡ greatest_at_syn endpoint.now m.now }
+{
+    if m.flags.syn && !m.flags.rst && m.flags.ack {
+        initial_window(told_smss(m), endpoint.syn_lost)
+    } else {
+        endpoint.congestion.cwnd as u64
+    }
+}
+
+/// Whether the segment acknowledges the own SYN of a child in SYN-RECEIVED, so that the child joins its listener's
+/// queue.
+pub fn joins(endpoint: &Endpoint, m: &Emission) -> bool
+    ensures { result ≡ is_syn_received endpoint.now.state && acknowledges_syn endpoint.now m.now }
+{
+    endpoint.state.is_syn_received() && acknowledges_syn(endpoint, m)
+}
+
+/// In SYN-SENT the peer's SYN is taken: ESTABLISHED with an acknowledgment, else SYN-RECEIVED.
+pub(crate) fn met_peer(
+    header: &Header,
+    endpoint: &mut Endpoint,
+    how: How,
+    m: &Emission,
+    moment: u64,
+)
+    requires { endpoint.old.stream.receive ≡ received.empty }
+    ensures { endpoint.new ≡ forget_endpoint (met_peer header.now endpoint.old how m.now moment) }
+{
+    let una = una_met(endpoint, m);
+    let congestion = congestion_met(endpoint, how, m);
+    let window = window_met(endpoint, m);
+    let backs = if m.flags.ack { 0 } else { endpoint.backs };
+    endpoint.timers = timers_met(header, endpoint, how, m, moment, una);
+    endpoint.state = state_met(m);
+    endpoint.irs = Some(m.seq);
+    endpoint.stream.peer = Some(m.maker);
+    endpoint.stream.receive.meet();
+    endpoint.stream.una = una;
+    endpoint.window = window;
+    endpoint.congestion = congestion;
+    endpoint.tries = 0;
+    endpoint.backs = backs;
+    endpoint.stream.accepted.forget_below(una);
+    endpoint.makings.forget_below(una);
+}
+
+pub(crate) fn state_met(m: &Emission) -> State
+    ensures { result ≡ (if m.now.flags.ack then states.Established else states.SynReceived) }
+{
+    if m.flags.ack {
+        State::Established
+    } else {
+        State::SynReceived
+    }
+}
+
+pub(crate) fn una_met(endpoint: &Endpoint, m: &Emission) -> u64
+    ensures { result ≡ una_met endpoint.now m.now }
+{
+    let una = endpoint.stream.una;
+    if m.flags.ack { una.max(1) } else { una }
+}
+
+pub(crate) fn window_met(endpoint: &Endpoint, m: &Emission) -> Window
+    ensures { result ≡ record endpoint.now.window { wnd = m.now.window; wl1 = m.now.pos; wl2 = if m.now.flags.ack then 1 else 0 } }
+{
+    let mut window = endpoint.window;
+    window.wnd = m.window;
+    window.wl1 = m.pos;
+    window.wl2 = if m.flags.ack { 1 } else { 0 };
+    window
+}
+
+pub(crate) fn congestion_met(endpoint: &Endpoint, how: How, m: &Emission) -> Congestion
+    ensures { result ≡ record endpoint.now.congestion { cwnd = how.cwnd; smss = told_smss m.now; dup = if m.now.flags.ack then 0 else endpoint.now.congestion.dup } }
+{
+    let mut congestion = endpoint.congestion;
+    congestion.cwnd = how.cwnd;
+    congestion.smss = told_smss(m);
+    congestion.dup = if m.flags.ack { 0 } else { congestion.dup };
+    congestion
+}
+
+/// The timers once the peer's SYN was taken in SYN-SENT. A round trip is that of the own SYN, while it is not
+/// acknowledged.
+pub(crate) fn timers_met(
+    header: &Header,
+    endpoint: &Endpoint,
+    how: How,
+    m: &Emission,
+    moment: u64,
+    una: u64,
+) -> Timers
+    requires { una ≡ una_met endpoint.now m.now }
+    ensures { result ≡ timers_met header.now endpoint.now how m.now moment }
+{
+    let sample = how.sample && m.flags.ack && endpoint.stream.una == 0;
+    let measured = timeout_taken(header, endpoint, sample, 1, m.flags.ack, moment);
+    let running = rto_taken(measured, una == endpoint.max_made(), false, moment);
+    persist_taken(running, m.window, moment)
+}

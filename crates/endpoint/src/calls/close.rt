@@ -1,0 +1,107 @@
+//! CLOSE and ABORT: what they may be answered, and the endpoint then.
+
+ghost use Rattle.machine.specs.Bounds.{HasRoom};
+ghost use Rattle.machine.specs.CallEffects.{after_shut, after_close, shut_down, after_abort, orphaned, ended_state, resets_at_abort};
+ghost use Rattle.machine.specs.CallRules.{shut_allows};
+ghost use Rattle.machine.specs.Forgetting.{forget_endpoint};
+ghost use Rattle.std.specs.Prelude.{◌≡◌};
+
+use crate::calls::tells_fault;
+use case_forms::{Answer, State};
+use machine::Endpoint;
+
+pub(crate) fn shut_allows(endpoint: &Endpoint, answer: &Answer) -> bool
+    ensures { result ≡ shut_allows endpoint.now answer.now }
+{
+    match answer {
+        Answer::Done => endpoint.fault.is_none() && !endpoint.state.is_syn_sent(),
+        Answer::NotConn => endpoint.fault.is_some() || endpoint.state.is_syn_sent(),
+        _ => tells_fault(endpoint, answer),
+    }
+}
+
+/// `shut`: sending is ended, and a FIN is to be made (RFC 9293, 3.10.4).
+pub fn shut(endpoint: &mut Endpoint)
+    requires { HasRoom endpoint.old }
+    ensures { endpoint.new ≡ forget_endpoint (after_shut endpoint.old) }
+{
+    end_sending(endpoint);
+}
+
+/// `close`: sending is ended, and the socket is gone. An endpoint in SYN-SENT is CLOSED then.
+pub fn close(endpoint: &mut Endpoint)
+    requires { HasRoom endpoint.old }
+    ensures { endpoint.new ≡ forget_endpoint (after_close endpoint.old) }
+{
+    if endpoint.state.is_syn_sent() {
+        endpoint.stream.ended = true;
+        shut_down(endpoint);
+    } else {
+        end_sending(endpoint);
+    }
+    endpoint.closed = true;
+}
+
+/// `abort`: the endpoint is CLOSED at once, and a reset is due where the peer may know of it (RFC 9293, 3.10.5).
+pub fn abort(endpoint: &mut Endpoint)
+    requires { HasRoom endpoint.old }
+    ensures { endpoint.new ≡ forget_endpoint (after_abort endpoint.old) }
+{
+    end_at_once(endpoint);
+}
+
+/// The listener at this place is gone: its child that was not accepted is aborted, any other endpoint stays as it is.
+pub fn orphan(listener: u32, endpoint: &mut Endpoint)
+    requires { HasRoom endpoint.old }
+    ensures { endpoint.new ≡ forget_endpoint (orphaned listener endpoint.old) }
+{
+    if endpoint.listener == Some(listener) {
+        end_at_once(endpoint);
+    }
+}
+
+/// CLOSED: all timers are off.
+pub(crate) fn shut_down(endpoint: &mut Endpoint)
+    ensures { endpoint.new ≡ shut_down endpoint.old }
+{
+    endpoint.state = State::Closed;
+    endpoint.timers.stop_all();
+}
+
+pub(crate) fn ended_state(state: State) -> State
+    ensures { result ≡ ended_state state }
+{
+    match state {
+        State::Established => State::FinWait1,
+        State::CloseWait => State::LastAck,
+        _ => state,
+    }
+}
+
+pub(crate) fn end_sending(endpoint: &mut Endpoint)
+    ensures { endpoint.new ≡ after_shut endpoint.old }
+{
+    endpoint.stream.ended = true;
+    endpoint.state = ended_state(endpoint.state);
+}
+
+pub(crate) fn resets_at_abort(state: State) -> bool
+    ensures { result ≡ resets_at_abort state }
+{
+    matches!(
+        state,
+        State::SynReceived
+            | State::Established
+            | State::FinWait1
+            | State::FinWait2
+            | State::CloseWait
+    )
+}
+
+pub(crate) fn end_at_once(endpoint: &mut Endpoint)
+    ensures { endpoint.new ≡ after_abort endpoint.old }
+{
+    let reset_due = endpoint.reset_due || resets_at_abort(endpoint.state);
+    shut_down(endpoint);
+    endpoint.reset_due = reset_due;
+}

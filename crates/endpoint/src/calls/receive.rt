@@ -1,0 +1,47 @@
+//! RECEIVE: what it may be answered, and the endpoint then.
+
+ghost use Rattle.machine.specs.Bounds.{HasRoom};
+ghost use Rattle.machine.specs.CallEffects.{after_recv};
+ghost use Rattle.machine.specs.CallRules.{is_read_out, recv_allows};
+ghost use Rattle.machine.specs.Forgetting.{forget_endpoint};
+ghost use Rattle.std.specs.Prelude.{◌≡◌, ◌≤◌, length};
+ghost use Rattle.streams.specs.Received.{waiting};
+
+use crate::calls::tells_fault;
+use case_forms::Answer;
+use machine::Endpoint;
+
+pub(crate) fn is_read_out(endpoint: &Endpoint) -> bool
+    ensures { result ≡ is_read_out endpoint.now }
+{
+    endpoint.stream.receive.is_ended() && !endpoint.stream.receive.has_waiting()
+}
+
+pub(crate) fn recv_allows(endpoint: &Endpoint, most: u16, answer: &Answer) -> bool
+    ensures { result ≡ recv_allows endpoint.now most answer.now }
+{
+    match answer {
+        Answer::Bytes(bytes) => {
+            1 <= bytes.len()
+                && bytes.len() <= most as usize
+                && endpoint.stream.receive.starts_with(bytes.as_slice())
+        }
+        Answer::Eof => is_read_out(endpoint),
+        Answer::Again => {
+            endpoint.fault.is_none()
+                && !endpoint.stream.receive.has_waiting()
+                && !is_read_out(endpoint)
+        }
+        Answer::NotConn => endpoint.fault.is_none() && !endpoint.is_up(),
+        _ => tells_fault(endpoint, answer),
+    }
+}
+
+/// The bytes of a `recv`, which are the next that wait, are delivered and let go.
+pub fn deliver(endpoint: &mut Endpoint, bytes: &[u8])
+    requires room { HasRoom endpoint.old }
+    requires waiting { length bytes.now ≤ length (waiting endpoint.old.stream.receive) }
+    ensures { endpoint.new ≡ forget_endpoint (after_recv bytes.now endpoint.old) }
+{
+    endpoint.stream.receive.deliver(bytes.len());
+}

@@ -1,0 +1,66 @@
+//! SEND: what it may be answered, and the endpoint then.
+
+ghost use Rattle.machine.specs.Bounds.{HasRoom};
+ghost use Rattle.machine.specs.CallEffects.{after_send};
+ghost use Rattle.machine.specs.CallRules.{sends_some, open_send_allows, send_allows};
+ghost use Rattle.machine.specs.Forgetting.{forget_endpoint};
+ghost use Rattle.std.specs.Prelude.{◌≡◌, OnOk, OnErr, take};
+
+use crate::calls::{is_closed_answer, is_not_connected, tells_fault};
+use case_forms::{Answer, State};
+use machine::Endpoint;
+use segment::OutOfMemory;
+
+pub(crate) fn sends_some(bytes: &[u8], answer: &Answer) -> bool
+    ensures { result ≡ sends_some bytes.now answer.now }
+{
+    match answer {
+        Answer::Given(count) => 1 <= *count && *count as usize <= bytes.len(),
+        Answer::Again => true,
+        _ => false,
+    }
+}
+
+pub(crate) fn open_send_allows(state: State, bytes: &[u8], answer: &Answer) -> bool
+    ensures { result ≡ open_send_allows state bytes.now answer.now }
+{
+    match state {
+        State::SynSent | State::SynReceived => {
+            is_not_connected(answer) || sends_some(bytes, answer)
+        }
+        State::Established | State::CloseWait => sends_some(bytes, answer),
+        _ => is_closed_answer(answer),
+    }
+}
+
+pub(crate) fn send_allows(endpoint: &Endpoint, bytes: &[u8], answer: &Answer) -> bool
+    ensures { result ≡ send_allows endpoint.now bytes.now answer.now }
+{
+    if endpoint.fault.is_some() {
+        return tells_fault(endpoint, answer) || (endpoint.stream.ended && is_closed_answer(answer));
+    }
+    if endpoint.stream.ended {
+        return is_closed_answer(answer);
+    }
+    open_send_allows(endpoint.state, bytes, answer)
+}
+
+/// The first so many bytes of a `send` are accepted; all of them where there are no more. Where memory is wanting, the
+/// endpoint stays as it was.
+pub fn send(endpoint: &mut Endpoint, bytes: &[u8], count: u32) -> Result<(), OutOfMemory>
+    requires { HasRoom endpoint.old }
+    ensures ok { OnOk result (endpoint.new ≡ forget_endpoint (after_send bytes.now count endpoint.old)) }
+    ensures err { OnErr result (endpoint.new ≡ endpoint.old) }
+{
+    let una = endpoint.stream.una;
+    endpoint.stream.accepted.accept(first_bytes(bytes, count))?;
+    endpoint.stream.accepted.forget_below(una);
+    Ok(())
+}
+
+pub(crate) fn first_bytes(bytes: &[u8], count: u32) -> &[u8]
+    ensures { result.now ≡ take count bytes.now }
+{
+    let count = bytes.len().min(count as usize);
+    &bytes[..count]
+}

@@ -1,0 +1,38 @@
+//! What one endpoint does at each event of RFC 9293, 3.10. In each file the rules of an event and its effect stand beside each
+//! other; the definitions that their contracts cite stand in the crate `machine`, in `specs/`.
+//!
+//! - `calls`: what socket calls may be answered, and what they do (3.10.1 to 3.10.6)
+//! - `makes`: a segment is made (3.8, 3.10)
+//! - `arrives`: a segment arrives (3.10.7): in LISTEN, in SYN-SENT, and in the other states, in the order of the RFC
+//! - `timeouts`: a timer expires (3.10.8); `recovery`: fast recovery begins (RFC 5681, 3.2)
+//! - `reset`: the reset that answers a segment (3.5.2); `wire`: segments as bytes on the wire (3.1)
+//!
+//! An error is the first rule that is broken, by the order of `Rule`. An effect asks nothing again: its caller asked the rules.
+//! How endpoints are found, and what is under numbers of lines and of made segments, is `endpoint_state`'s.
+#![tactic(auto)]
+
+mod arrives;
+mod calls;
+mod makes;
+mod recovery;
+mod reset;
+mod same;
+#[cfg(test)]
+mod tests;
+mod timeouts;
+mod wire;
+
+pub use arrives::listen::{admits_listening, child};
+pub use arrives::otherwise::admits_connected;
+pub use arrives::syn_sent::{admits_syn_sent, joins};
+pub use arrives::take_segment;
+pub use calls::accept::{accept, listener_allows};
+pub use calls::close::{abort, close, orphan, shut};
+pub use calls::endpoint_allows;
+pub use calls::receive::deliver;
+pub use calls::send::send;
+pub use makes::{admits_making, make};
+pub use recovery::{admits_recovery, recover};
+pub use reset::reset_of;
+pub use timeouts::{admits_expiry, expire};
+pub use wire::{admits_in, admits_out, sent};

@@ -1,0 +1,148 @@
+//! A segment is made (RFC 9293, 3.8 and 3.10): all rules in their order, and the endpoint then.
+
+ghost use Rattle.endpoint.specs.Small.{IsSmall};
+ghost use Rattle.machine.specs.Bounds.{IsSmallEmission, greatest_position};
+ghost use Rattle.machine.specs.Making.{making_rules};
+ghost use Rattle.machine.specs.MakingEffects.{emission_of, after_making, timed, endpoint_made};
+ghost use Rattle.std.specs.Prelude.{◌≡◌, IfOk, OnOk, OnErr, ◌≤◌};
+ghost use Rattle.std.specs.Result.{result_err};
+ghost use Rattle.verdict.specs.Rules.{first_broken};
+
+pub(crate) mod edges;
+pub(crate) mod kind;
+pub(crate) mod payload;
+
+use crate::makes::edges::{acknowledgment, is_bad_ack, is_beyond_offer, is_congesting, own_edge};
+use crate::makes::kind::{close_after_reset, is_bad_iss, makes_nothing, may_make, numbered};
+use crate::makes::payload::{has_new_bytes, is_bad_payload, is_bad_place, making_length};
+use case_forms::{State, Timer};
+use machine::{Emission, Endpoint, Making, Name};
+use segment::{Bytes, OutOfMemory};
+use std::alloc::Global;
+use timer_rules::Timers;
+use verdict::Rule;
+
+/// Whether an endpoint may make a segment; else the first rule that it breaks, in the order of `Rule`.
+pub fn admits_making(endpoint: &Endpoint, making: &Making) -> Result<(), Rule>
+    requires { IsSmall endpoint.now making.now }
+    ensures { result_err result ≡ first_broken (making_rules endpoint.now making.now) }
+{
+    if makes_nothing(endpoint, making) {
+        return Err(Rule::NoEndpoint);
+    }
+    if !may_make(endpoint, making) {
+        return Err(Rule::State);
+    }
+    if is_bad_iss(endpoint, making) {
+        return Err(Rule::Iss);
+    }
+    if is_bad_payload(endpoint, making) {
+        return Err(Rule::PayloadRange);
+    }
+    if is_bad_ack(endpoint, making) {
+        return Err(Rule::AckField);
+    }
+    if is_bad_place(endpoint, making) {
+        return Err(Rule::OldData);
+    }
+    if is_beyond_offer(endpoint, making) {
+        return Err(Rule::Offered);
+    }
+    if is_congesting(endpoint, making) {
+        return Err(Rule::Congestion);
+    }
+    if endpoint.congestion.smss < making.len as u32 {
+        return Err(Rule::Size);
+    }
+    Ok(())
+}
+
+/// Makes a segment at an endpoint of this name, at a moment in microseconds. Where memory is wanting, the endpoint stays
+/// as it was. Nothing is asked of what is made: `admits_making` tells whether it may be.
+pub fn make(
+    alloc: Global,
+    endpoint: &mut Endpoint,
+    me: Name,
+    making: &Making,
+    moment: u64,
+) -> Result<Emission, OutOfMemory>
+    requires { IsSmall endpoint.old making.now }
+    ensures made { IfOk result (λ m. m ≡ emission_of me endpoint.old making.now) }
+    ensures small { IfOk result IsSmallEmission }
+    ensures ok { OnOk result (endpoint.new ≡ after_making endpoint.old making.now moment) }
+    ensures err { OnErr result (endpoint.new ≡ endpoint.old) }
+{
+    let emission = emission_of(alloc, endpoint, me, making)?;
+    change(endpoint, making, moment)?;
+    if making.flags.rst {
+        close_after_reset(endpoint);
+    }
+    Ok(emission)
+}
+
+pub(crate) fn emission_of(
+    alloc: Global,
+    endpoint: &Endpoint,
+    me: Name,
+    making: &Making,
+) -> Result<Emission, OutOfMemory>
+    requires { making.now.pos ≤ greatest_position }
+    ensures made { IfOk result (λ m. m ≡ emission_of me endpoint.now making.now) }
+    ensures small { IfOk result IsSmallEmission }
+{
+    let payload = endpoint
+        .stream
+        .accepted
+        .piece(alloc, making.pos, making.len as usize)?;
+    let (ack, ack_seq) = acknowledgment(endpoint, making);
+    Ok(Emission {
+        maker: me,
+        knew: endpoint.stream.peer,
+        lport: making.lport,
+        rport: making.rport,
+        pos: making.pos,
+        ack,
+        seq: numbered(endpoint.iss.or(making.iss), making.pos),
+        ack_seq,
+        flags: making.flags,
+        window: making.window,
+        payload: Bytes::from(payload),
+        answers: false,
+        bytes: Bytes::from(Vec::new(alloc)),
+        mss: None,
+        moment: 0,
+    })
+}
+
+// What the endpoint has then, but for a reset.
+pub(crate) fn change(
+    endpoint: &mut Endpoint,
+    making: &Making,
+    moment: u64,
+) -> Result<(), OutOfMemory>
+    requires { IsSmall endpoint.old making.now }
+    ensures ok { OnOk result (endpoint.new ≡ endpoint_made endpoint.old making.now moment) }
+    ensures err { OnErr result (endpoint.new ≡ endpoint.old) }
+{
+    let edge = own_edge(endpoint, making);
+    let probe_due = endpoint.probe_due && !has_new_bytes(endpoint, making);
+    let iss = endpoint.iss.or(making.iss);
+    let timers = timed(endpoint.timers, making, moment);
+    let length = making_length(making);
+    endpoint.makings.make(making.pos, length, moment)?;
+    endpoint.iss = iss;
+    endpoint.window.edge = edge;
+    endpoint.probe_due = probe_due;
+    endpoint.timers = timers;
+    Ok(())
+}
+
+pub(crate) fn timed(timers: Timers, making: &Making, moment: u64) -> Timers
+    ensures { result ≡ timed timers making.now moment }
+{
+    let mut timers = timers;
+    if 0 < making_length(making) && timers.rto_armed.is_none() {
+        timers.arm(Timer::Rto, moment);
+    }
+    timers
+}

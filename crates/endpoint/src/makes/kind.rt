@@ -1,0 +1,112 @@
+//! Which kinds of segments a state makes.
+
+ghost use Rattle.machine.specs.CallEffects.{shut_down};
+ghost use Rattle.machine.specs.Lookups.{is_syn_sent, is_syn_received};
+ghost use Rattle.machine.specs.Making.{may_carry, may_finish, may_not_send, may_make_syn, may_make_reset, may_make_other, may_make, makes_nothing, is_bad_iss};
+ghost use Rattle.machine.specs.MakingEffects.{numbered};
+ghost use Rattle.std.specs.Prelude.{◌≡◌, if◌then◌else◌, false};
+
+use case_forms::State;
+use machine::{Endpoint, Making};
+use seqno::{Word, number};
+
+pub(crate) fn may_carry(state: State) -> bool
+    ensures { result ≡ may_carry state }
+{
+    matches!(
+        state,
+        State::Established | State::FinWait1 | State::CloseWait | State::Closing | State::LastAck
+    )
+}
+
+pub(crate) fn may_finish(state: State) -> bool
+    ensures { result ≡ may_finish state }
+{
+    matches!(state, State::FinWait1 | State::Closing | State::LastAck)
+}
+
+pub(crate) fn may_not_send(state: State) -> bool
+    ensures { result ≡ may_not_send state }
+{
+    matches!(state, State::Closed | State::Listen | State::SynSent)
+}
+
+pub(crate) fn is_syn_state(state: State, ack: bool) -> bool
+    ensures { result ≡ (if ack then is_syn_received state else is_syn_sent state) }
+{
+    if ack {
+        matches!(state, State::SynReceived)
+    } else {
+        matches!(state, State::SynSent)
+    }
+}
+
+pub(crate) fn may_make_syn(endpoint: &Endpoint, making: &Making) -> bool
+    ensures { result ≡ may_make_syn endpoint.now making.now }
+{
+    is_syn_state(endpoint.state, making.flags.ack)
+        && endpoint.stream.una == 0
+        && !making.flags.fin
+        && !making.flags.rst
+}
+
+pub(crate) fn may_make_reset(endpoint: &Endpoint, making: &Making) -> bool
+    ensures { result ≡ may_make_reset endpoint.now making.now }
+{
+    (endpoint.reset_due || endpoint.closed && !endpoint.state.is_closed() && 1 <= endpoint.next())
+        && !making.flags.fin
+}
+
+pub(crate) fn may_make_other(endpoint: &Endpoint, making: &Making) -> bool
+    ensures { result ≡ may_make_other endpoint.now making.now }
+{
+    !may_not_send(endpoint.state)
+        && (making.len == 0 || may_carry(endpoint.state))
+        && (!making.flags.fin || may_finish(endpoint.state))
+}
+
+pub(crate) fn may_make(endpoint: &Endpoint, making: &Making) -> bool
+    ensures { result ≡ may_make endpoint.now making.now }
+{
+    if making.flags.syn {
+        may_make_syn(endpoint, making)
+    } else if making.flags.rst {
+        may_make_reset(endpoint, making)
+    } else {
+        may_make_other(endpoint, making)
+    }
+}
+
+pub(crate) fn makes_nothing(endpoint: &Endpoint, making: &Making) -> bool
+    ensures { result ≡ makes_nothing endpoint.now making.now }
+{
+    endpoint.state.is_closed() && !(making.flags.rst && endpoint.reset_due)
+}
+
+pub(crate) fn is_bad_iss(endpoint: &Endpoint, making: &Making) -> bool
+    ensures { result ≡ is_bad_iss endpoint.now making.now }
+{
+    if endpoint.iss.is_some() {
+        making.iss.is_some()
+    } else {
+        !(making.iss.is_some() && making.flags.syn)
+    }
+}
+
+// A reset closes the endpoint, and is no longer due.
+pub(crate) fn close_after_reset(endpoint: &mut Endpoint)
+    ensures { endpoint.new ≡ record (shut_down endpoint.old) { reset_due = false } }
+{
+    endpoint.state = State::Closed;
+    endpoint.timers.stop_all();
+    endpoint.reset_due = false;
+}
+
+pub(crate) fn numbered(base: Option<Word>, pos: u64) -> Word
+    ensures { result ≡ numbered base pos }
+{
+    match base {
+        Some(base) => number(base, pos),
+        None => Word(0),
+    }
+}

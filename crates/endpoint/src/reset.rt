@@ -1,0 +1,55 @@
+//! The reset that answers a segment (RFC 9293, 3.5.2).
+
+ghost use Rattle.machine.specs.Bounds.{IsSmallEmission};
+ghost use Rattle.machine.specs.Resets.{reset_of};
+ghost use Rattle.seqno.specs.Numbers.{number_of};
+ghost use Rattle.std.specs.Prelude.{◌≡◌};
+
+use case_forms::Flags;
+use machine::Emission;
+use segment::Bytes;
+use seqno::Word;
+use std::alloc::Global;
+
+/// How many numbers there are.
+const TURN: u128 = 1 << 32;
+
+/// The reset: at the number that the segment acknowledges, or at 0 with an acknowledgment of all its positions. It takes
+/// no memory.
+pub fn reset_of(alloc: Global, m: &Emission) -> Emission
+    ensures reset { result ≡ reset_of m.now }
+    ensures small { IsSmallEmission result }
+{
+    let acknowledges = m.flags.ack;
+    let behind = number_behind(m.seq, m.length());
+    Emission {
+        maker: m.maker,
+        knew: None,
+        lport: m.rport,
+        rport: m.lport,
+        pos: 0,
+        ack: 0,
+        seq: if acknowledges { m.ack_seq } else { Word(0) },
+        ack_seq: if acknowledges { Word(0) } else { behind },
+        flags: Flags {
+            ack: !acknowledges,
+            rst: true,
+            syn: false,
+            fin: false,
+        },
+        window: 0,
+        payload: Bytes::from(Vec::new(alloc)),
+        answers: true,
+        bytes: Bytes::from(Vec::new(alloc)),
+        mss: None,
+        moment: 0,
+    }
+}
+
+// The number so many positions further.
+pub(crate) fn number_behind(base: Word, length: u128) -> Word
+    ensures { result ≡ number_of base length }
+{
+    let turned = (length % TURN) as u32;
+    Word(base.0.wrapping_add(turned))
+}

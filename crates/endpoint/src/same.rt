@@ -1,0 +1,20 @@
+//! Comparisons that the rules speak of.
+
+ghost use Rattle.machine.specs.Lookups.{same_word};
+ghost use Rattle.machine.specs.Records.{same_name};
+ghost use Rattle.std.specs.Prelude.{◌≡◌};
+
+use machine::Name;
+use seqno::Word;
+
+pub(crate) fn same_name(a: Name, b: Name) -> bool
+    ensures { result ≡ same_name a b }
+{
+    a.host == b.host && a.number == b.number
+}
+
+pub(crate) fn same_word(a: Word, b: Word) -> bool
+    ensures { result ≡ same_word a b }
+{
+    a.0 == b.0
+}

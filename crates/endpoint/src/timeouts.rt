@@ -1,0 +1,176 @@
+//! A timer expires (RFC 9293, 3.10.8): which may, and the endpoint then.
+
+ghost use Rattle.case_forms.specs.declared.timer.Timer.TheVariants.{Giveup};
+ghost use Rattle.machine.specs.Bounds.{HasRoom};
+ghost use Rattle.machine.specs.CallEffects.{shut_down};
+ghost use Rattle.machine.specs.Forgetting.{forget_endpoint};
+ghost use Rattle.machine.specs.Timing.{expiry_rules, is_above, is_off, is_rto, greatest_values, has_more, may_give_up, after_expiry, after_rto, after_persist};
+ghost use Rattle.machine.specs.declared.endpoint.Fault.TheVariants.{Timeout};
+ghost use Rattle.std.specs.Prelude.{◌≡◌, ◌≢◌, ◌<◌, ◌+◌, ◌^◌, true, Some};
+ghost use Rattle.std.specs.Result.{result_err};
+ghost use Rattle.timer_rules.specs.Timers.{is_early};
+ghost use Rattle.verdict.specs.Rules.{first_broken};
+
+use crate::calls::close::shut_down;
+use case_forms::{Header, Timer};
+use machine::{Endpoint, Fault};
+use timer_rules::{TimerFault, Timers};
+use verdict::Rule;
+use window_rules::on_timeout;
+
+/// Whether a timer may expire at an endpoint at this moment (in microseconds), with this congestion window and slow
+/// start threshold (in bytes) from then on, of which only an expiry of the retransmission timer makes use. An error is
+/// the first rule that is broken.
+pub fn admits_expiry(
+    header: &Header,
+    moment: u64,
+    endpoint: &Endpoint,
+    timer: Timer,
+    cwnd: u32,
+    ssthresh: u32,
+) -> Result<(), Rule>
+    ensures { result_err result ≡ first_broken (expiry_rules header.now moment endpoint.now timer (record { cwnd = cwnd; ssthresh = ssthresh })) }
+{
+    if endpoint.state.is_closed() {
+        return Err(Rule::NoEndpoint);
+    }
+    if is_rto(timer) && is_above(endpoint, cwnd, ssthresh) {
+        return Err(Rule::Growth);
+    }
+    if is_off(endpoint, timer) {
+        return Err(Rule::TimerOff);
+    }
+    if is_early(&endpoint.timers, timer, moment, header) {
+        return Err(Rule::TimerEarly);
+    }
+    Ok(())
+}
+
+pub(crate) fn is_rto(timer: Timer) -> bool
+    ensures { result ≡ is_rto timer }
+{
+    matches!(timer, Timer::Rto)
+}
+
+// The congestion window and the slow start threshold.
+pub(crate) fn greatest_values(endpoint: &Endpoint) -> (u64, u64)
+    ensures { result ≡ greatest_values endpoint.now }
+{
+    on_timeout(
+        &endpoint.congestion,
+        endpoint.flight(),
+        endpoint.stream.una == 0,
+        0 < endpoint.backs,
+    )
+}
+
+pub(crate) fn is_above(endpoint: &Endpoint, cwnd: u32, ssthresh: u32) -> bool
+    ensures { result ≡ is_above endpoint.now (record { cwnd = cwnd; ssthresh = ssthresh }) }
+{
+    let greatest = greatest_values(endpoint);
+    greatest.0 < cwnd as u64 || greatest.1 < ssthresh as u64
+}
+
+pub(crate) fn is_off(endpoint: &Endpoint, timer: Timer) -> bool
+    ensures { result ≡ is_off endpoint.now timer }
+{
+    match timer {
+        Timer::Rto => endpoint.timers.rto_armed.is_none(),
+        Timer::Persist => {
+            !(endpoint.timers.persist_armed.is_some() && endpoint.is_up() && has_more(endpoint))
+        }
+        Timer::Msl2 => endpoint.timers.msl_armed.is_none(),
+        Timer::Giveup => !may_give_up(endpoint),
+    }
+}
+
+pub(crate) fn has_more(endpoint: &Endpoint) -> bool
+    ensures { result ≡ has_more endpoint.now }
+{
+    let end = endpoint.stream.accepted.end();
+    if endpoint.stream.ended {
+        endpoint.stream.una <= end
+    } else {
+        endpoint.stream.una < end
+    }
+}
+
+pub(crate) fn may_give_up(endpoint: &Endpoint) -> bool
+    ensures { result ≡ may_give_up endpoint.now }
+{
+    let is_open = endpoint.stream.una < endpoint.max_made()
+        || endpoint.timers.persist_armed.is_some();
+    (is_open && 3 <= endpoint.tries) || (endpoint.closed && endpoint.state.is_fin_wait_2())
+}
+
+pub(crate) fn is_early(timers: &Timers, timer: Timer, moment: u64, header: &Header) -> bool
+    ensures { result ≡ is_early timers.now timer moment header.now }
+{
+    match timer {
+        Timer::Giveup => false,
+        Timer::Rto => is_refused_early(timers, Timer::Rto, moment, header),
+        Timer::Persist => is_refused_early(timers, Timer::Persist, moment, header),
+        Timer::Msl2 => is_refused_early(timers, Timer::Msl2, moment, header),
+    }
+}
+
+pub(crate) fn is_refused_early(timers: &Timers, timer: Timer, moment: u64, header: &Header) -> bool
+    requires { timer ≢ Giveup }
+    ensures { result ≡ is_early timers.now timer moment header.now }
+{
+    matches!(
+        timers.may_expire(timer, moment, header),
+        Err(TimerFault::Early)
+    )
+}
+
+/// A timer expires at a moment in microseconds. Behind the retransmission timer the congestion window and the slow start
+/// threshold are these, in bytes, and all that was made may be made again; behind the persist timer a probe is due; the
+/// wait in TIME-WAIT is over, or the endpoint gives up, with a reset that is due.
+pub fn expire(endpoint: &mut Endpoint, timer: Timer, cwnd: u32, ssthresh: u32, moment: u64)
+    requires { HasRoom endpoint.old }
+    ensures { endpoint.new ≡ forget_endpoint (after_expiry endpoint.old timer (record { cwnd = cwnd; ssthresh = ssthresh }) moment) }
+{
+    match timer {
+        Timer::Rto => expire_retransmission(endpoint, cwnd, ssthresh, moment),
+        Timer::Persist => expire_persist(endpoint, moment),
+        Timer::Msl2 => shut_down(endpoint),
+        Timer::Giveup => give_up(endpoint),
+    }
+}
+
+pub(crate) fn expire_retransmission(endpoint: &mut Endpoint, cwnd: u32, ssthresh: u32, moment: u64)
+    requires tries { endpoint.old.tries + 1 < 2 ^ 32 }
+    requires backs { endpoint.old.backs + 1 < 2 ^ 32 }
+    ensures { endpoint.new ≡ after_rto endpoint.old (record { cwnd = cwnd; ssthresh = ssthresh }) moment }
+{
+    endpoint.recover = endpoint.max_made();
+    endpoint.congestion.cwnd = cwnd;
+    endpoint.congestion.ssthresh = ssthresh;
+    endpoint.congestion.dup = 0;
+    endpoint.congestion.counted = 0;
+    endpoint.congestion.fast = false;
+    endpoint.timers.back_off();
+    endpoint.timers.arm(Timer::Rto, moment);
+    endpoint.tries += 1;
+    endpoint.backs += 1;
+    endpoint.syn_lost = endpoint.syn_lost || endpoint.stream.una == 0;
+}
+
+pub(crate) fn expire_persist(endpoint: &mut Endpoint, moment: u64)
+    requires { endpoint.old.tries + 1 < 2 ^ 32 }
+    ensures { endpoint.new ≡ after_persist endpoint.old moment }
+{
+    endpoint.recover = endpoint.max_made();
+    endpoint.probe_due = true;
+    endpoint.timers.arm(Timer::Persist, moment);
+    endpoint.tries += 1;
+}
+
+pub(crate) fn give_up(endpoint: &mut Endpoint)
+    ensures { endpoint.new ≡ record (shut_down endpoint.old) { fault = Some Timeout; reset_due = true } }
+{
+    shut_down(endpoint);
+    endpoint.fault = Some(Fault::Timeout);
+    endpoint.reset_due = true;
+}

@@ -1,0 +1,106 @@
+//! Segments as bytes on the wire (RFC 9293, 3.1).
+
+ghost use Rattle.machine.specs.Bounds.{IsSmallEmission};
+ghost use Rattle.machine.specs.Same.{same_bytes};
+ghost use Rattle.machine.specs.Wires.{same_flags, shows, same_bool, out_rules, sent, in_rules};
+ghost use Rattle.std.specs.Prelude.{◌≡◌, IfOk, ◌+◌, nat_lt};
+ghost use Rattle.std.specs.Result.{result_err};
+ghost use Rattle.verdict.specs.Rules.{first_broken};
+
+use crate::same::same_word;
+use case_forms::{Flags, Header, Wire};
+use machine::Emission;
+use segment::{Flag, OutOfMemory, Segment};
+use verdict::Rule;
+
+/// Whether the segment's fields are those of the made one: the acknowledgment number where there is one, the window of
+/// all but a reset that answers.
+pub(crate) fn shows(segment: &Segment, m: &Emission) -> bool
+    ensures { result ≡ shows segment.now m.now }
+{
+    segment.src == m.lport
+        && segment.dst == m.rport
+        && same_word(segment.seq, m.seq)
+        && (!m.flags.ack || same_word(segment.ack, m.ack_seq))
+        && same_flags(segment, m.flags)
+        && (m.answers || segment.window == m.window)
+        && same_bytes(segment.payload.as_slice(), m.payload.as_slice())
+}
+
+#[tactic(auto, using(crate::proofs::Bytes::same_bytes_is))]
+pub(crate) fn same_bytes(a: &[u8], b: &[u8]) -> bool
+    ensures { result ≡ same_bytes a.now b.now }
+{
+    a == b
+}
+
+// The flags ACK, RST, SYN and FIN alone.
+pub(crate) fn same_flags(segment: &Segment, flags: Flags) -> bool
+    ensures { result ≡ same_flags segment.now flags }
+{
+    same_bool(segment.has(Flag::Ack), flags.ack)
+        && same_bool(segment.has(Flag::Rst), flags.rst)
+        && same_bool(segment.has(Flag::Syn), flags.syn)
+        && same_bool(segment.has(Flag::Fin), flags.fin)
+}
+
+pub(crate) fn same_bool(a: bool, b: bool) -> bool
+    ensures { result ≡ same_bool a b }
+{
+    a == b
+}
+
+/// Whether what goes out is the made segment. An error is the rule that is broken.
+pub fn admits_out(wire: &Wire, m: &Emission) -> Result<(), Rule>
+    ensures { result_err result ≡ first_broken (out_rules wire.now m.now) }
+{
+    if !shows(&wire.seg, m) {
+        return Err(Rule::BytesDiffer);
+    }
+    Ok(())
+}
+
+/// The made segment once it went out, at a moment in microseconds: with its bytes, and the MSS that they tell. An error:
+/// memory ran out.
+pub fn sent(moment: u64, wire: &Wire, m: &Emission) -> Result<Emission, OutOfMemory>
+    ensures sent { IfOk result (λ x. x ≡ sent moment wire.now m.now) }
+    ensures small { IsSmallEmission m.now → IfOk result IsSmallEmission }
+{
+    Ok(Emission {
+        maker: m.maker,
+        knew: m.knew,
+        lport: m.lport,
+        rport: m.rport,
+        pos: m.pos,
+        ack: m.ack,
+        seq: m.seq,
+        ack_seq: m.ack_seq,
+        flags: m.flags,
+        window: m.window,
+        payload: m.payload.copy()?,
+        answers: m.answers,
+        bytes: wire.bytes.copy()?,
+        mss: wire.seg.mss,
+        moment,
+    })
+}
+
+/// Whether what comes in at a moment, in microseconds, is a copy of a segment that went out, at most the maximum segment
+/// lifetime later (RFC 9293, 3.4.2). An error is the first rule that is broken.
+pub fn admits_in(header: &Header, moment: u64, wire: &Wire, m: &Emission) -> Result<(), Rule>
+    ensures { result_err result ≡ first_broken (in_rules header.now moment wire.now m.now) }
+{
+    if !same_bytes(wire.bytes.as_slice(), m.bytes.as_slice()) {
+        return Err(Rule::CopyDiffers);
+    }
+    if is_past_lifetime(header, moment, m) {
+        return Err(Rule::Lifetime);
+    }
+    Ok(())
+}
+
+pub(crate) fn is_past_lifetime(header: &Header, moment: u64, m: &Emission) -> bool
+    ensures { result ≡ nat_lt (m.now.moment + header.now.msl) moment }
+{
+    m.moment as u128 + (header.msl as u128) < moment as u128
+}
