@@ -1,8 +1,9 @@
 //! The timers then.
 
-ghost use Rattle.machine.specs.TakingEffects.{rto_taken, state_timers, timeout_taken, since_made};
+ghost use Rattle.machine.specs.Endpoints.{max_made};
+ghost use Rattle.machine.specs.TakingEffects.{persist_taken, rto_taken, since_made, state_timers, takes_window, timeout_taken, una_after};
 ghost use Rattle.machine.specs.TakingRules.{acknowledges_syn, is_new_ack};
-ghost use Rattle.std.specs.Prelude.{◌≡◌, ◌&&◌};
+ghost use Rattle.std.specs.Prelude.{◌≡◌, ◌==◌, ◌&&◌, if◌then◌else◌};
 
 use crate::arrives::otherwise::ack::{acknowledges_syn, is_new_ack, una_after};
 use crate::arrives::otherwise::window::{persist_taken, takes_window};
