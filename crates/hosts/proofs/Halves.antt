@@ -111,29 +111,13 @@ deed_wire k h s fresh far x (Expires line v growth) = inl refl
 deed_wire k h s fresh far x (Makes v) = inl refl
 deed_wire k h s fresh far x (Sends line number wire) = go (lookup (nat_eq number) x.made)
   where
-    go : (o : Option (Made k.shape.Emission)) → ((on o x (λ m. record x { made = insert_entry nat_eq x.made number (gone_out m); wire = insert_entry nat_eq x.wire line (k.sent s wire m.emission) })).wire ≡ x.wire) ⊎ ((l : ℕ) × (e : k.shape.Emission) × (Some line ≡ Some l) × ((on o x (λ m. record x { made = insert_entry nat_eq x.made number (gone_out m); wire = insert_entry nat_eq x.wire line (k.sent s wire m.emission) })).wire ≡ insert_entry nat_eq x.wire l e))
+    go : (o : Option (Made k.shape.Emission)) → (on o x.wire (λ m. insert_entry nat_eq x.wire line (k.sent s wire m.emission)) ≡ x.wire) ⊎ ((l : ℕ) × (e : k.shape.Emission) × (Some line ≡ Some l) × (on o x.wire (λ m. insert_entry nat_eq x.wire line (k.sent s wire m.emission)) ≡ insert_entry nat_eq x.wire l e))
     go None = inl refl
     go (Some m) = inr (line, k.sent s wire m.emission, refl, refl)
-deed_wire k h s fresh far x (Gets line copied wire) = inl (go (lookup (nat_eq copied) far))
-  where
-    go : (o : Option k.shape.Emission) → (on o x (λ e. record x { inbox = insert_entry nat_eq x.inbox line (Some e) })).wire ≡ x.wire
-    go None = refl
-    go (Some e) = refl
-deed_wire k h s fresh far x (Takes line how) = inl (go (waiting line x.inbox))
-  where
-    go : (o : Option k.shape.Emission) → (on o x (λ e. record x { body = k.act_after h s x.body (k.takes how e); inbox = settled line x.inbox })).wire ≡ x.wire
-    go None = refl
-    go (Some e) = refl
-deed_wire k h s fresh far x (Drops line) = inl (go (waiting line x.inbox))
-  where
-    go : (o : Option k.shape.Emission) → (on o x (λ e. record x { inbox = settled line x.inbox })).wire ≡ x.wire
-    go None = refl
-    go (Some e) = refl
-deed_wire k h s fresh far x (Answers line) = inl (go (waiting line x.inbox))
-  where
-    go : (o : Option k.shape.Emission) → (on o x (λ e. record x { body = k.act_after h s x.body (k.answers e); made = act_made k h s fresh x (k.answers e); inbox = settled line x.inbox })).wire ≡ x.wire
-    go None = refl
-    go (Some e) = refl
+deed_wire k h s fresh far x (Gets line copied wire) = inl refl
+deed_wire k h s fresh far x (Takes line how) = inl refl
+deed_wire k h s fresh far x (Drops line) = inl refl
+deed_wire k h s fresh far x (Answers line) = inl refl
 
 -- what stands on the wire stays, and what joins has the next line
 pub wire_grows : (k : Kernel) (x y : HostState k.shape) (ln : ℕ) (l : Option ℕ) → ((line : ℕ) → l ≡ Some line → line ≡ ln)

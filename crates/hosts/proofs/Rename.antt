@@ -61,41 +61,48 @@ deed_does k names h apt s far gar same fresh gresh x (Does v) is p = refl
 deed_does k names h apt s far gar same fresh gresh x (Expires line v growth) is p = refl
 deed_does k names h apt s far gar same fresh gresh x (Makes v) is p =
     ap (λ (m : List (ℕ × Made k.shape.Emission)). record { body = k.act_after h s x.body (k.making v); made = m; wire = retag (names.line h) x.wire; inbox = retag (names.line h) x.inbox }) (made_retag (names.made h) (apt.made h) fresh gresh (is refl) (k.act_makes h s x.body (k.making v)) x.made)
-deed_does k names h apt s far gar same fresh gresh x (Sends line number wire) is p = ap (λ (o : Option (Made k.shape.Emission)). on o (rehost k names h x) sends) (lookup_retag (names.made h) (apt.made h) number x.made) ∙ go (lookup (nat_eq number) x.made)
+deed_does k names h apt s far gar same fresh gresh x (Sends line number wire) is p = ap sends (lookup_retag (names.made h) (apt.made h) number x.made) ∙ go (lookup (nat_eq number) x.made)
   where
-    sends : Made k.shape.Emission → HostState k.shape
-    sends m = record (rehost k names h x) { made = insert_entry nat_eq (retag (names.made h) x.made) (names.made h number) (gone_out m); wire = insert_entry nat_eq (retag (names.line h) x.wire) (names.line h line) (k.sent s wire m.emission) }
+    sends : Option (Made k.shape.Emission) → HostState k.shape
+    sends o = record (rehost k names h x) {
+      made = on o (retag (names.made h) x.made) (λ m. insert_entry nat_eq (retag (names.made h) x.made) (names.made h number) (gone_out m));
+      wire = on o (retag (names.line h) x.wire) (λ m. insert_entry nat_eq (retag (names.line h) x.wire) (names.line h line) (k.sent s wire m.emission));
+    }
 
-    go : (o : Option (Made k.shape.Emission)) → on o (rehost k names h x) sends ≡ rehost k names h (on o x (λ m. record x { made = insert_entry nat_eq x.made number (gone_out m); wire = insert_entry nat_eq x.wire line (k.sent s wire m.emission) }))
+    go : (o : Option (Made k.shape.Emission)) → sends o ≡ rehost k names h (record x { made = on o x.made (λ m. insert_entry nat_eq x.made number (gone_out m)); wire = on o x.wire (λ m. insert_entry nat_eq x.wire line (k.sent s wire m.emission)) })
     go None = refl
     go (Some m) =
-        ap (λ (t : List (ℕ × Made k.shape.Emission)). record (sends m) { made = t }) (insert_retag (names.made h) (apt.made h) number (gone_out m) x.made)
+        ap (λ (t : List (ℕ × Made k.shape.Emission)). record (sends (Some m)) { made = t }) (insert_retag (names.made h) (apt.made h) number (gone_out m) x.made)
         ∙ ap (λ (t : List (ℕ × k.shape.Emission)). record (rehost k names h x) { made = retag (names.made h) (insert_entry nat_eq x.made number (gone_out m)); wire = t }) (insert_retag (names.line h) (apt.line h) line (k.sent s wire m.emission) x.wire)
 deed_does k names h apt s far gar same fresh gresh x (Gets line copied wire) is p =
     let got = on_passes (lookup (nat_eq copied) far) rules.NoEmission (λ e. k.in_rules s wire e) p in
-    let here = ap (λ (o : Option k.shape.Emission). on o (rehost k names h x) (λ e. record (rehost k names h x) { inbox = insert_entry nat_eq (retag (names.line h) x.inbox) (names.line h line) (Some e) })) (same copied got.0 got.1) in
-    let there = ap (λ (o : Option k.shape.Emission). rehost k names h (on o x (λ e. record x { inbox = insert_entry nat_eq x.inbox line (Some e) }))) got.1 in
+    let here = ap (λ (o : Option k.shape.Emission). record (rehost k names h x) { inbox = on o (retag (names.line h) x.inbox) (λ e. insert_entry nat_eq (retag (names.line h) x.inbox) (names.line h line) (Some e)) }) (same copied got.0 got.1) in
+    let there = ap (λ (o : Option k.shape.Emission). rehost k names h (record x { inbox = on o x.inbox (λ e. insert_entry nat_eq x.inbox line (Some e)) })) got.1 in
     here ∙ (boxed k names h apt line (Some got.0) x ∙ sym there)
-deed_does k names h apt s far gar same fresh gresh x (Takes line how) is p = ap (λ (o : Option k.shape.Emission). on o (rehost k names h x) takes) (waiting_retag (names.line h) (apt.line h) line x.inbox) ∙ go (waiting line x.inbox)
+deed_does k names h apt s far gar same fresh gresh x (Takes line how) is p = ap takes (waiting_retag (names.line h) (apt.line h) line x.inbox) ∙ go (waiting line x.inbox)
   where
-    takes : k.shape.Emission → HostState k.shape
-    takes e = record (rehost k names h x) { body = k.act_after h s x.body (k.takes how e); inbox = settled (names.line h line) (retag (names.line h) x.inbox) }
+    takes : Option k.shape.Emission → HostState k.shape
+    takes o = record (rehost k names h x) { body = on o x.body (λ e. k.act_after h s x.body (k.takes how e)); inbox = on o (retag (names.line h) x.inbox) (λ e. settled (names.line h line) (retag (names.line h) x.inbox)) }
 
-    go : (o : Option k.shape.Emission) → on o (rehost k names h x) takes ≡ rehost k names h (on o x (λ e. record x { body = k.act_after h s x.body (k.takes how e); inbox = settled line x.inbox }))
+    go : (o : Option k.shape.Emission) → takes o ≡ rehost k names h (record x { body = on o x.body (λ e. k.act_after h s x.body (k.takes how e)); inbox = on o x.inbox (λ e. settled line x.inbox) })
     go None = refl
     go (Some e) = boxed k names h apt line None (record x { body = k.act_after h s x.body (k.takes how e) })
-deed_does k names h apt s far gar same fresh gresh x (Drops line) is p = ap (λ (o : Option k.shape.Emission). on o (rehost k names h x) (λ e. record (rehost k names h x) { inbox = settled (names.line h line) (retag (names.line h) x.inbox) })) (waiting_retag (names.line h) (apt.line h) line x.inbox) ∙ go (waiting line x.inbox)
+deed_does k names h apt s far gar same fresh gresh x (Drops line) is p = ap (λ (o : Option k.shape.Emission). record (rehost k names h x) { inbox = on o (retag (names.line h) x.inbox) (λ e. settled (names.line h line) (retag (names.line h) x.inbox)) }) (waiting_retag (names.line h) (apt.line h) line x.inbox) ∙ go (waiting line x.inbox)
   where
-    go : (o : Option k.shape.Emission) → on o (rehost k names h x) (λ e. record (rehost k names h x) { inbox = settled (names.line h line) (retag (names.line h) x.inbox) }) ≡ rehost k names h (on o x (λ e. record x { inbox = settled line x.inbox }))
+    go : (o : Option k.shape.Emission) → (let y : HostState k.shape = record (rehost k names h x) { inbox = on o (retag (names.line h) x.inbox) (λ e. settled (names.line h line) (retag (names.line h) x.inbox)) } in y) ≡ rehost k names h (record x { inbox = on o x.inbox (λ e. settled line x.inbox) })
     go None = refl
     go (Some e) = boxed k names h apt line None x
-deed_does k names h apt s far gar same fresh gresh x (Answers line) is p = ap (λ (o : Option k.shape.Emission). on o (rehost k names h x) answers) (waiting_retag (names.line h) (apt.line h) line x.inbox) ∙ go (waiting line x.inbox)
+deed_does k names h apt s far gar same fresh gresh x (Answers line) is p = ap answers (waiting_retag (names.line h) (apt.line h) line x.inbox) ∙ go (waiting line x.inbox)
   where
-    answers : k.shape.Emission → HostState k.shape
-    answers e = record (rehost k names h x) { body = k.act_after h s x.body (k.answers e); made = act_made k h s gresh (rehost k names h x) (k.answers e); inbox = settled (names.line h line) (retag (names.line h) x.inbox) }
+    answers : Option k.shape.Emission → HostState k.shape
+    answers o = record (rehost k names h x) {
+      body = on o x.body (λ e. k.act_after h s x.body (k.answers e));
+      made = on o (retag (names.made h) x.made) (λ e. act_made k h s gresh (rehost k names h x) (k.answers e));
+      inbox = on o (retag (names.line h) x.inbox) (λ e. settled (names.line h line) (retag (names.line h) x.inbox));
+    }
 
-    go : (o : Option k.shape.Emission) → on o (rehost k names h x) answers ≡ rehost k names h (on o x (λ e. record x { body = k.act_after h s x.body (k.answers e); made = act_made k h s fresh x (k.answers e); inbox = settled line x.inbox }))
+    go : (o : Option k.shape.Emission) → answers o ≡ rehost k names h (record x { body = on o x.body (λ e. k.act_after h s x.body (k.answers e)); made = on o x.made (λ e. act_made k h s fresh x (k.answers e)); inbox = on o x.inbox (λ e. settled line x.inbox) })
     go None = refl
     go (Some e) =
-        ap (λ (m : List (ℕ × Made k.shape.Emission)). record (answers e) { made = m }) (made_retag (names.made h) (apt.made h) fresh gresh (is refl) (k.act_makes h s x.body (k.answers e)) x.made)
+        ap (λ (m : List (ℕ × Made k.shape.Emission)). record (answers (Some e)) { made = m }) (made_retag (names.made h) (apt.made h) fresh gresh (is refl) (k.act_makes h s x.body (k.answers e)) x.made)
         ∙ boxed k names h apt line None (record x { body = k.act_after h s x.body (k.answers e); made = act_made k h s fresh x (k.answers e) })

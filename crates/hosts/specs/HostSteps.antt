@@ -11,16 +11,36 @@ use Rattle.hosts.specs.HostRules.{aim_of, Permitted}
 abbrev pub act_made : (k : Kernel) → Host → ℕ → ℕ → HostState k.shape → k.shape.Act → List (ℕ × Made k.shape.Emission)
 act_made k me moment fresh h act = on (k.act_makes me moment h.body act) h.made (λ e. insert_entry nat_eq h.made fresh (unsent e))
 
+-- what was made, once the segment of that number went out
+abbrev pub made_gone_out : {E : Type 0} → ℕ → List (ℕ × Made E) → List (ℕ × Made E)
+made_gone_out number made = on (lookup (nat_eq number) made) made (λ m. insert_entry nat_eq made number (gone_out m))
+
+-- what stands on the wire, once the segment of that number went out with this line
+abbrev pub wire_after : (k : Kernel) → List (ℕ × Made k.shape.Emission) → (line number : ℕ) → k.shape.Wire → ℕ → List (ℕ × k.shape.Emission) → List (ℕ × k.shape.Emission)
+wire_after k made line number wire moment out = on (lookup (nat_eq number) made) out (λ m. insert_entry nat_eq out line (k.sent moment wire m.emission))
+
+-- the inbox, once a copy of that line of the other host came in with this one
+abbrev pub inbox_after : {E : Type 0} → List (ℕ × E) → (line copied : ℕ) → List (ℕ × Option E) → List (ℕ × Option E)
+inbox_after far line copied inbox = on (lookup (nat_eq copied) far) inbox (λ e. insert_entry nat_eq inbox line (Some e))
+
+-- the inbox, once what waits there with this line is taken, dropped or answered
+abbrev pub inbox_settled : {E : Type 0} → ℕ → List (ℕ × Option E) → List (ℕ × Option E)
+inbox_settled line inbox = on (waiting line inbox) inbox (λ e. settled line inbox)
+
 -- what a host has after what it does: a line that goes out marks its segment and puts it on the wire, a line that comes in joins the inbox, and what is taken, dropped or answered waits there no longer
 abbrev pub deed_after : (k : Kernel) → Host → ℕ → ℕ → List (ℕ × k.shape.Emission) → HostState k.shape → Deed k.shape → HostState k.shape
 deed_after k me moment fresh far h (Does x) = record h { body = k.act_after me moment h.body (k.does x) }
 deed_after k me moment fresh far h (Expires line x growth) = record h { body = k.act_after me moment h.body (k.expires x growth) }
 deed_after k me moment fresh far h (Makes x) = record h { body = k.act_after me moment h.body (k.making x); made = act_made k me moment fresh h (k.making x) }
-deed_after k me moment fresh far h (Sends line number wire) = on (lookup (nat_eq number) h.made) h (λ m. record h { made = insert_entry nat_eq h.made number (gone_out m); wire = insert_entry nat_eq h.wire line (k.sent moment wire m.emission) })
-deed_after k me moment fresh far h (Gets line copied wire) = on (lookup (nat_eq copied) far) h (λ e. record h { inbox = insert_entry nat_eq h.inbox line (Some e) })
-deed_after k me moment fresh far h (Takes line how) = on (waiting line h.inbox) h (λ e. record h { body = k.act_after me moment h.body (k.takes how e); inbox = settled line h.inbox })
-deed_after k me moment fresh far h (Drops line) = on (waiting line h.inbox) h (λ e. record h { inbox = settled line h.inbox })
-deed_after k me moment fresh far h (Answers line) = on (waiting line h.inbox) h (λ e. record h { body = k.act_after me moment h.body (k.answers e); made = act_made k me moment fresh h (k.answers e); inbox = settled line h.inbox })
+deed_after k me moment fresh far h (Sends line number wire) = record h { made = made_gone_out number h.made; wire = wire_after k h.made line number wire moment h.wire }
+deed_after k me moment fresh far h (Gets line copied wire) = record h { inbox = inbox_after far line copied h.inbox }
+deed_after k me moment fresh far h (Takes line how) = record h { body = on (waiting line h.inbox) h.body (λ e. k.act_after me moment h.body (k.takes how e)); inbox = inbox_settled line h.inbox }
+deed_after k me moment fresh far h (Drops line) = record h { inbox = inbox_settled line h.inbox }
+deed_after k me moment fresh far h (Answers line) = record h {
+  body = on (waiting line h.inbox) h.body (λ e. k.act_after me moment h.body (k.answers e));
+  made = on (waiting line h.inbox) h.made (λ e. act_made k me moment fresh h (k.answers e));
+  inbox = inbox_settled line h.inbox;
+}
 
 -- whether it takes a number for a made segment
 abbrev pub makes : (k : Kernel) → Deed k.shape → Bool

@@ -12,7 +12,7 @@ use Rattle.verdict.specs.Rules.{first_broken}
 use Rattle.hosts.specs.Tables.{Both, pick, on, Made, gone_out, waiting, settled}
 use Rattle.hosts.specs.Hosts.{Aim, ThatHost, ThatSocket, HostState, Turn, Idle, Called, Answered, World, Deed, Does, Expires, Makes, Sends, Gets, Takes, Drops, Answers, Step, Begin, Finish, Effect, At, turn_of}
 use Rattle.hosts.specs.HostRules.{just, deed_rules, aim_of, fresh_rules, call_rules, effect_rules, step_rules, Permitted}
-use Rattle.hosts.specs.HostSteps.{act_made, deed_after, call_after, effect_after, after}
+use Rattle.hosts.specs.HostSteps.{act_made, deed_after, call_after, effect_after, after, made_gone_out, wire_after, inbox_after, inbox_settled}
 use Rattle.machine.specs.declared.endpoint.Emission.{Emission}
 use Rattle.machine.specs.Machine.{Act, aim, gives, tcp, tcp_shape}
 use Rattle.machine.specs.Machine as acts
@@ -80,10 +80,6 @@ step_rules-forget h moment w (At One d) = deed_rules-forget h One moment w.hosts
 host-forget : (s : HostState tcp_shape) → forget_host (forget_host s) ≡ forget_host s
 host-forget s = rw (body-forget s.body) refl
 
-on-forgets : {A : Type 0} (o : Option A) (s t : HostState tcp_shape) (f g : A → HostState tcp_shape) → forget_host s ≡ forget_host t → ((x : A) → forget_host (f x) ≡ forget_host (g x)) → forget_host (on o s f) ≡ forget_host (on o t g)
-on-forgets None s t f g none some = none
-on-forgets (Some x) s t f g none some = some x
-
 -- where the deed changes no endpoint
 tables-forgets : (s : HostState tcp_shape) (made : List (ℕ × Made Emission)) (wire : List (ℕ × Emission)) (inbox : List (ℕ × Option Emission))
     → forget_host (record (forget_host s) { made = made; wire = wire; inbox = inbox }) ≡ forget_host (record s { made = made; wire = wire; inbox = inbox })
@@ -95,28 +91,29 @@ deed-forgets : (h : Header) (me : Host) (moment fresh : ℕ) (far : List (ℕ ×
 deed-forgets h me moment fresh far s (Does x) ok = rw (act-forgets h me moment s.body (acts.Recovers x)) refl
 deed-forgets h me moment fresh far s (Expires line x growth) ok = rw (act-forgets h me moment s.body (acts.Expires x growth)) refl
 deed-forgets h me moment fresh far s (Makes x) ok = rw (act-forgets h me moment s.body (acts.Makes x), makes-forget h me moment s.body x ok) refl
-deed-forgets h me moment fresh far s (Sends line number wire) ok =
-    on-forgets (lookup (nat_eq number) s.made) (forget_host s) s
-    (λ m. record (forget_host s) { made = insert_entry nat_eq s.made number (gone_out m); wire = insert_entry nat_eq s.wire line (wires.sent moment wire m.emission) })
-    (λ m. record s { made = insert_entry nat_eq s.made number (gone_out m); wire = insert_entry nat_eq s.wire line (wires.sent moment wire m.emission) })
-    (host-forget s) (λ m. tables-forgets s (insert_entry nat_eq s.made number (gone_out m)) (insert_entry nat_eq s.wire line (wires.sent moment wire m.emission)) s.inbox)
-deed-forgets h me moment fresh far s (Gets line copied wire) ok =
-    on-forgets (lookup (nat_eq copied) far) (forget_host s) s
-    (λ e. record (forget_host s) { inbox = insert_entry nat_eq s.inbox line (Some e) }) (λ e. record s { inbox = insert_entry nat_eq s.inbox line (Some e) })
-    (host-forget s) (λ e. tables-forgets s s.made s.wire (insert_entry nat_eq s.inbox line (Some e)))
-deed-forgets h me moment fresh far s (Takes line how) ok =
-    on-forgets (waiting line s.inbox) (forget_host s) s
-    (λ e. record (forget_host s) { body = acts.act_after h me moment (forget_body s.body) (acts.Takes how e); inbox = settled line s.inbox })
-    (λ e. record s { body = acts.act_after h me moment s.body (acts.Takes how e); inbox = settled line s.inbox })
-    (host-forget s) (λ e. rw (act-forgets h me moment s.body (acts.Takes how e)) refl)
-deed-forgets h me moment fresh far s (Drops line) ok =
-    on-forgets (waiting line s.inbox) (forget_host s) s (λ e. record (forget_host s) { inbox = settled line s.inbox }) (λ e. record s { inbox = settled line s.inbox })
-    (host-forget s) (λ e. tables-forgets s s.made s.wire (settled line s.inbox))
-deed-forgets h me moment fresh far s (Answers line) ok =
-    on-forgets (waiting line s.inbox) (forget_host s) s
-    (λ e. record (forget_host s) { made = act_made (tcp h) me moment fresh s (acts.Resets e); inbox = settled line s.inbox })
-    (λ e. record s { made = act_made (tcp h) me moment fresh s (acts.Resets e); inbox = settled line s.inbox })
-    (host-forget s) (λ e. tables-forgets s (act_made (tcp h) me moment fresh s (acts.Resets e)) s.wire (settled line s.inbox))
+deed-forgets h me moment fresh far s (Sends line number wire) ok = tables-forgets s (made_gone_out number s.made) (wire_after (tcp h) s.made line number wire moment s.wire) s.inbox
+deed-forgets h me moment fresh far s (Gets line copied wire) ok = tables-forgets s s.made s.wire (inbox_after far line copied s.inbox)
+deed-forgets h me moment fresh far s (Takes line how) ok = by (waiting line s.inbox)
+  where
+    after : HostState tcp_shape → Option Emission → HostState tcp_shape
+    after s o = record s { body = on o s.body (λ e. acts.act_after h me moment s.body (acts.Takes how e)); inbox = on o s.inbox (λ e. settled line s.inbox) }
+
+    by : (o : Option Emission) → forget_host (after (forget_host s) o) ≡ forget_host (after s o)
+    by None = host-forget s
+    by (Some e) = rw (act-forgets h me moment s.body (acts.Takes how e)) refl
+deed-forgets h me moment fresh far s (Drops line) ok = tables-forgets s s.made s.wire (inbox_settled line s.inbox)
+deed-forgets h me moment fresh far s (Answers line) ok = by (waiting line s.inbox)
+  where
+    after : HostState tcp_shape → Option Emission → HostState tcp_shape
+    after s o = record s {
+      body = on o s.body (λ e. s.body);
+      made = on o s.made (λ e. act_made (tcp h) me moment fresh s (acts.Resets e));
+      inbox = on o s.inbox (λ e. settled line s.inbox);
+    }
+
+    by : (o : Option Emission) → forget_host (after (forget_host s) o) ≡ forget_host (after s o)
+    by None = host-forget s
+    by (Some e) = tables-forgets s (act_made (tcp h) me moment fresh s (acts.Resets e)) s.wire (settled line s.inbox)
 
 call-forgets : (h : Header) (moment : ℕ) (hosts : Both (HostState tcp_shape)) (act : Act) (o : Option Host) → forget_hosts (call_after (tcp h) moment (forget_hosts hosts) act o) ≡ forget_hosts (call_after (tcp h) moment hosts act o)
 call-forgets h moment hosts act None = rw (body-forget hosts.zero.body, body-forget hosts.one.body) refl

@@ -27,6 +27,11 @@ pub on_cases : {A B : Type 0} (P : B → Type 0) (o : Option A) (none : B) (f : 
 on_cases P None none f p q = p
 on_cases P (Some x) none f p q = q x refl
 
+-- a property of what is or is not there
+pub option_cases : {A : Type 0} (P : Option A → Type 0) (o : Option A) → P None → ((x : A) → o ≡ Some x → P (Some x)) → P o
+option_cases P None p q = p
+option_cases P (Some x) p q = q x refl
+
 pub map_or_cases : {A B : Type 0} (P : B → Type 0) (o : Option A) (none : B) (f : A → B) → (o ≡ None → P none) → ((x : A) → o ≡ Some x → P (f x)) → P (option_map_or f o none)
 map_or_cases P None none f p q = p refl
 map_or_cases P (Some x) none f p q = q x refl

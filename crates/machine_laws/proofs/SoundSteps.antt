@@ -248,11 +248,11 @@ keeps_deed : (h : Header) (s : ℕ) (w : World tcp_shape) (host : Host) (d : Dee
 keeps_deed h s w host (Does x) g = keeps_at_ports (pick w.hosts host).body x.lport x.rport (λ e. after_recovery e x.cwnd x.ssthresh) g (λ e. record { listener = refl; late = λ y. y })
 keeps_deed h s w host (Expires line x growth) g = keeps_at_ports (pick w.hosts host).body x.lport x.rport (λ e. after_expiry e x.timer growth s) g (λ e. stays_expiry e x.timer growth s)
 keeps_deed h s w host (Makes m) g = keeps_at_ports (pick w.hosts host).body m.lport m.rport (λ e. after_making e m s) g (λ e. stays_making e m s)
-keeps_deed h s w host (Sends line number wire) g = let k = pick w.hosts host in on_cases (λ (x : HostState tcp_shape). Keeps k.body x.body None) (lookup (nat_eq number) k.made) k _ (keeps_not k.body g) (λ m e. keeps_not k.body g)
-keeps_deed h s w host (Gets line copied wire) g = let k = pick w.hosts host in on_cases (λ (x : HostState tcp_shape). Keeps k.body x.body None) (lookup (nat_eq copied) (pick w.hosts (other host)).wire) k _ (keeps_not k.body g) (λ m e. keeps_not k.body g)
-keeps_deed h s w host (Takes line how) g = let k = pick w.hosts host in on_cases (λ (x : HostState tcp_shape). Keeps k.body x.body None) (waiting line k.inbox) k _ (keeps_not k.body g) (λ m e. keeps_taking h k.body how m s g)
-keeps_deed h s w host (Drops line) g = let k = pick w.hosts host in on_cases (λ (x : HostState tcp_shape). Keeps k.body x.body None) (waiting line k.inbox) k _ (keeps_not k.body g) (λ m e. keeps_not k.body g)
-keeps_deed h s w host (Answers line) g = let k = pick w.hosts host in on_cases (λ (x : HostState tcp_shape). Keeps k.body x.body None) (waiting line k.inbox) k _ (keeps_not k.body g) (λ m e. keeps_not k.body g)
+keeps_deed h s w host (Sends line number wire) g = keeps_not (pick w.hosts host).body g
+keeps_deed h s w host (Gets line copied wire) g = keeps_not (pick w.hosts host).body g
+keeps_deed h s w host (Takes line how) g = let k = pick w.hosts host in on_cases (λ (b : Body). Keeps k.body b None) (waiting line k.inbox) k.body _ (keeps_not k.body g) (λ m e. keeps_taking h k.body how m s g)
+keeps_deed h s w host (Drops line) g = keeps_not (pick w.hosts host).body g
+keeps_deed h s w host (Answers line) g = let k = pick w.hosts host in on_cases (λ (b : Body). Keeps k.body b None) (waiting line k.inbox) k.body _ (keeps_not k.body g) (λ m e. keeps_not k.body g)
 
 -- sockets and queues after a step of the world
 pub record SoundStep (a b : Hosts) : Type 0 where

@@ -33,7 +33,7 @@ use Rattle.machine.specs.Meeting.{taker, taker_rules}
 use Rattle.machine.specs.Resets.{reset_of}
 use Rattle.machine.specs.Machine.{Calls, tcp, tcp_shape, aim, gives}
 use Rattle.machine_laws.specs.Runs.{of_effect, of_turn, call_accepted, call_ended}
-use Rattle.machine_laws.proofs.Rules.{on_passes, on_cases, not_false}
+use Rattle.machine_laws.proofs.Rules.{on_passes, option_cases, not_false}
 use Rattle.machine_laws.proofs.Tables.{AllIn, all_insert, inbox_join, inbox_settled}
 use Rattle.machine_laws.proofs.Later.{Hosts, name, GoodEmission, Good, emission_later}
 use Rattle.machine_laws.proofs.Moves.{Added, nothing, Adds, moves_not, silent, all_silent, Kept, kept_not, kept_host, kept_same, GoodEnds}
@@ -66,8 +66,8 @@ made_after c made fresh (Some x) new old = all_insert (λ (y : Made Emission). G
 
 kept_sends : (h : Header) (s : ℕ) (w : World tcp_shape) (host : Host) (line number : ℕ) (wire : Wire) → Good w.hosts → Kept all_silent w.hosts (after (tcp h) s w (At host (Sends line number wire))).hosts
 kept_sends h s w host line number wire g = let a = w.hosts in let k = pick a host in
-    on_cases (λ (x : HostState tcp_shape). Kept all_silent a (with_host a host x)) (lookup (nat_eq number) k.made) k
-    (λ m. record k { made = insert_entry nat_eq k.made number (gone_out m); wire = insert_entry nat_eq k.wire line (sent s wire m.emission) }) (kept_same a host g)
+    option_cases (λ (o : Option (Made Emission)). Kept all_silent a (with_host a host (record k { made = on o k.made (λ m. insert_entry nat_eq k.made number (gone_out m)); wire = on o k.wire (λ m. insert_entry nat_eq k.wire line (sent s wire m.emission)) })))
+    (lookup (nat_eq number) k.made) (kept_same a host g)
     (λ m e. kept_host a host (record k { made = insert_entry nat_eq k.made number (gone_out m); wire = insert_entry nat_eq k.wire line (sent s wire m.emission) }) all_silent g
     (moves_not a host silent k.body.endpoints (λ i. refl) (ends a host g)) (λ i. refl)
     (λ c later t. record {
@@ -78,8 +78,8 @@ kept_sends h s w host line number wire g = let a = w.hosts in let k = pick a hos
 
 kept_gets : (h : Header) (s : ℕ) (w : World tcp_shape) (host : Host) (line copied : ℕ) (wire : Wire) → Good w.hosts → Kept all_silent w.hosts (after (tcp h) s w (At host (Gets line copied wire))).hosts
 kept_gets h s w host line copied wire g = let a = w.hosts in let k = pick a host in
-    on_cases (λ (x : HostState tcp_shape). Kept all_silent a (with_host a host x)) (lookup (nat_eq copied) (pick a (other host)).wire) k
-    (λ m. record k { inbox = insert_entry nat_eq k.inbox line (Some m) }) (kept_same a host g)
+    option_cases (λ (o : Option Emission). Kept all_silent a (with_host a host (record k { inbox = on o k.inbox (λ m. insert_entry nat_eq k.inbox line (Some m)) })))
+    (lookup (nat_eq copied) (pick a (other host)).wire) (kept_same a host g)
     (λ m e. kept_host a host (record k { inbox = insert_entry nat_eq k.inbox line (Some m) }) all_silent g
     (moves_not a host silent k.body.endpoints (λ i. refl) (ends a host g)) (λ i. refl)
     (λ c later t. record {
@@ -90,15 +90,15 @@ kept_gets h s w host line copied wire g = let a = w.hosts in let k = pick a host
 
 kept_drops : (h : Header) (s : ℕ) (w : World tcp_shape) (host : Host) (line : ℕ) → Good w.hosts → Kept all_silent w.hosts (after (tcp h) s w (At host (Drops line))).hosts
 kept_drops h s w host line g = let a = w.hosts in let k = pick a host in
-    on_cases (λ (x : HostState tcp_shape). Kept all_silent a (with_host a host x)) (waiting line k.inbox) k (λ m. record k { inbox = settled line k.inbox }) (kept_same a host g)
+    option_cases (λ (o : Option Emission). Kept all_silent a (with_host a host (record k { inbox = on o k.inbox (λ m. settled line k.inbox) }))) (waiting line k.inbox) (kept_same a host g)
     (λ m e. kept_host a host (record k { inbox = settled line k.inbox }) all_silent g
     (moves_not a host silent k.body.endpoints (λ i. refl) (ends a host g)) (λ i. refl)
     (λ c later t. record { made = t.made; wire = t.wire; inbox = inbox_settled (GoodEmission c) k.inbox line t.inbox }))
 
 kept_answers : (h : Header) (s : ℕ) (w : World tcp_shape) (host : Host) (line : ℕ) → Good w.hosts → Kept all_silent w.hosts (after (tcp h) s w (At host (Answers line))).hosts
 kept_answers h s w host line g = let a = w.hosts in let k = pick a host in
-    on_cases (λ (x : HostState tcp_shape). Kept all_silent a (with_host a host x)) (waiting line k.inbox) k
-    (λ m. record k { made = insert_entry nat_eq k.made (suc w.count) (unsent (reset_of m)); inbox = settled line k.inbox }) (kept_same a host g)
+    option_cases (λ (o : Option Emission). Kept all_silent a (with_host a host (record k { body = on o k.body (λ m. k.body); made = on o k.made (λ m. insert_entry nat_eq k.made (suc w.count) (unsent (reset_of m))); inbox = on o k.inbox (λ m. settled line k.inbox) })))
+    (waiting line k.inbox) (kept_same a host g)
     (λ m e. kept_host a host (record k { made = insert_entry nat_eq k.made (suc w.count) (unsent (reset_of m)); inbox = settled line k.inbox }) all_silent g
     (moves_not a host silent k.body.endpoints (λ i. refl) (ends a host g)) (λ i. refl)
     (λ c later t. record {
@@ -109,8 +109,8 @@ kept_answers h s w host line g = let a = w.hosts in let k = pick a host in
 
 kept_takes : (h : Header) (s : ℕ) (w : World tcp_shape) (host : Host) (line : ℕ) (how : How) → Good w.hosts → Permitted (tcp h) s w (At host (Takes line how)) → Kept all_silent w.hosts (after (tcp h) s w (At host (Takes line how))).hosts
 kept_takes h s w host line how g may = let a = w.hosts in let k = pick a host in
-    on_cases (λ (x : HostState tcp_shape). Kept all_silent a (with_host a host x)) (waiting line k.inbox) k
-    (λ m. deed_taken m) (kept_same a host g)
+    option_cases (λ (o : Option Emission). Kept all_silent a (with_host a host (record k { body = on o k.body (λ m. (tcp h).act_after host s k.body ((tcp h).takes how m)); inbox = on o k.inbox (λ m. settled line k.inbox) })))
+    (waiting line k.inbox) (kept_same a host g)
     (λ m e.
     let t = on_passes (waiting line k.inbox) rules.Inbox (λ x. taker_rules h host k.body how x (taker k.body x)) may in
     let one : t.0 ≡ m = same_Some t.0 m (sym t.1 ∙ e) in

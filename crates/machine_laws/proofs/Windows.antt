@@ -168,20 +168,17 @@ follows_deed h s w host (Expires line x growth) may = let b = (pick w.hosts host
 follows_deed h s w host (Makes m) may = let b = (pick w.hosts host).body in
     follows_at_ports w (At host (Makes m)) host b m.lport m.rport (λ e. after_making e m s)
     (λ i e at there. unmoved w (At host (Makes m)) (name host i) e (after_making e m s) (either_windows m.flags.rst (record (shut_down (endpoint_made e m s)) { reset_due = false }) (endpoint_made e m s) e refl refl))
-follows_deed h s w host (Sends line number wire) may = let k = pick w.hosts host in let step : Step tcp_shape = At host (Sends line number wire) in
-    on_cases (λ (x : HostState tcp_shape). Follows w step host k.body.endpoints x.body.endpoints) (lookup (nat_eq number) k.made) k _ (follows_not w step host k.body.endpoints) (λ m e. follows_not w step host k.body.endpoints)
-follows_deed h s w host (Gets line copied wire) may = let k = pick w.hosts host in let step : Step tcp_shape = At host (Gets line copied wire) in
-    on_cases (λ (x : HostState tcp_shape). Follows w step host k.body.endpoints x.body.endpoints) (lookup (nat_eq copied) (pick w.hosts (other host)).wire) k _ (follows_not w step host k.body.endpoints) (λ m e. follows_not w step host k.body.endpoints)
+follows_deed h s w host (Sends line number wire) may = follows_not w (At host (Sends line number wire)) host (pick w.hosts host).body.endpoints
+follows_deed h s w host (Gets line copied wire) may = follows_not w (At host (Gets line copied wire)) host (pick w.hosts host).body.endpoints
 follows_deed h s w host (Takes line how) may = let k = pick w.hosts host in let step : Step tcp_shape = At host (Takes line how) in
-    on_cases (λ (x : HostState tcp_shape). Follows w step host k.body.endpoints x.body.endpoints) (waiting line k.inbox) k _ (follows_not w step host k.body.endpoints)
+    on_cases (λ (b : Body). Follows w step host k.body.endpoints b.endpoints) (waiting line k.inbox) k.body _ (follows_not w step host k.body.endpoints)
     (λ m e.
     let t = on_passes (waiting line k.inbox) rules.Inbox (λ x. taker_rules h host k.body how x (taker k.body x)) may in
     let one : t.0 ≡ m = same_Some t.0 m (sym t.1 ∙ e) in
     follows_taking h s w host line how m e (subst (λ (x : Emission). first_broken (taker_rules h host k.body how x (taker k.body x)) ≡ None) one t.2))
-follows_deed h s w host (Drops line) may = let k = pick w.hosts host in let step : Step tcp_shape = At host (Drops line) in
-    on_cases (λ (x : HostState tcp_shape). Follows w step host k.body.endpoints x.body.endpoints) (waiting line k.inbox) k _ (follows_not w step host k.body.endpoints) (λ m e. follows_not w step host k.body.endpoints)
+follows_deed h s w host (Drops line) may = follows_not w (At host (Drops line)) host (pick w.hosts host).body.endpoints
 follows_deed h s w host (Answers line) may = let k = pick w.hosts host in let step : Step tcp_shape = At host (Answers line) in
-    on_cases (λ (x : HostState tcp_shape). Follows w step host k.body.endpoints x.body.endpoints) (waiting line k.inbox) k _ (follows_not w step host k.body.endpoints) (λ m e. follows_not w step host k.body.endpoints)
+    on_cases (λ (b : Body). Follows w step host k.body.endpoints b.endpoints) (waiting line k.inbox) k.body _ (follows_not w step host k.body.endpoints) (λ m e. follows_not w step host k.body.endpoints)
 
 -- 2. calls
 
