@@ -31,11 +31,11 @@ use Rattle.machine.specs.Machine.{tcp, tcp_shape, Act, act_after, act_makes, act
 use Rattle.machine.specs.Machine as acts
 use Rattle.machine.specs.Forgetting.{forget, forget_body, forget_endpoint, forget_host}
 use Rattle.machine.specs.Bounds.{IsKept, IsKeptBody, IsSmallEmission, most_steps}
-use Rattle.bounds.specs.Keeping.{IsSmallAct, IsSmallAnswer}
-use Rattle.bounds.proofs.Bodies.{body_keeps, kept_body_later, starts_kept}
-use Rattle.bounds.proofs.Forgets.{IsBounded, all_kept_forgotten, bounded}
-use Rattle.bounds.proofs.Rooms.{have_room}
-use Rattle.bounds.proofs.Segments.{resets_small, sent_small}
+use Rattle.endpoint_state.specs.Keeping.{IsSmallAct, IsSmallAnswer}
+use Rattle.endpoint_state.proofs.Bodies.{body_keeps, kept_body_later, starts_kept}
+use Rattle.endpoint_state.proofs.Forgets.{IsBounded, all_kept_forgotten, bounded}
+use Rattle.endpoint_state.proofs.Rooms.{have_room}
+use Rattle.endpoint_state.proofs.Segments.{resets_small, sent_small}
 use Rattle.endpoint_state.specs.Kept.{AreSmall, IsKeptHost, IsKeptWorld, IsReady, IsSmallArrival}
 use Rattle.endpoint_state.specs.SmallSteps.{IsSmallDeed, IsSmallStep}
 use Rattle.endpoint_state.proofs.Still.{waiting_small}

@@ -21,7 +21,7 @@ ghost use Rattle.endpoint_state.specs.Kept.{IsReady};
 use crate::arriving::{admits_arrival, arrive, settle, waiting};
 use crate::made::Made;
 use crate::sending::{admits_sending, send};
-use bodies::Body;
+use crate::body::Body;
 use case_forms::{Answer, Call, Header, Host, Timer, Wire};
 use indexmap::IndexMap;
 use machine::{Emission, How, Making};

@@ -19,13 +19,21 @@
 //! - `laws`: that these are the rules and effects of the machine
 #![tactic(auto)]
 
+mod acts;
 mod arriving;
+mod body;
 mod calls;
+mod changes;
+mod endpoints;
 mod host;
 mod host_pair;
 mod laws;
+mod listeners;
 mod made;
+mod orphans;
+mod rules;
 mod sending;
+mod sockets;
 #[cfg(test)]
 mod tests;
 mod threads;
@@ -33,6 +41,6 @@ mod turn;
 mod world;
 
 pub use calls::{admits_effect, call_allowed, do_call};
-pub use laws::tables_are_the_machines;
+pub use laws::{acts_keep, emissions_are_small, have_room, kept_longer, tables_are_the_machines};
 pub use machine::{Endpoint, Listener};
 pub use world::World;

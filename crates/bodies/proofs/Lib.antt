@@ -1,8 +1,0 @@
-pub mod IndexLemmas
-pub mod ListenLemmas
-pub mod PlaceLemmas
-pub mod Forgotten
-pub mod Keeps
-pub mod BodyLemmas
-pub mod OrphanLemmas
-pub mod CallLemmas

@@ -1,9 +1,0 @@
-use Rattle.std.proofs.Common.{false, nat_eq, refl}
-use Rattle.std.specs.Map.{lookup}
-use Rattle.machine.specs.declared.endpoint.Listener.{Listener}
-use Rattle.bodies.proofs.ListenLemmas.{listening_modify}
-use Rattle.bodies.proofs.listeners.Listeners.close.Goals as goal
-
-pub invariant_of-self : goal.invariant_of-self
-invariant_of-self c = rw c.close_at.ensures
-    (listening_modify (λ p. lookup (nat_eq p) c.self.inside.places.entries) c.self.inside.all.items c.self.invariant c.args.place (λ (x : Listener). let y : Listener = record x { is_open = false } in y) (λ x. refl) (λ x opened. absurd cc))

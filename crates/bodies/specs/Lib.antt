@@ -1,4 +1,0 @@
-pub mod Indexes
-pub mod Takers
-pub mod Changes
-pub mod Calls

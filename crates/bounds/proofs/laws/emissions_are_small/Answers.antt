@@ -1,5 +1,0 @@
-use Rattle.bounds.proofs.Segments.{resets_small, sent_small}
-use Rattle.bounds.proofs.laws.emissions_are_small.Goals as goal
-
-pub returns : goal.returns
-returns c = record { resets = resets_small; goes = sent_small }

@@ -1,0 +1,236 @@
+-- What is said of a host holds of it after each act, with one step more.
+use Rattle.std.proofs.Common.{◌≡◌, ℕ, suc, ◌<◌, ◌≤◌, ◌^◌, Bool, true, false, List, [], ◌∷◌, ◌++◌, length, Option, None, Some, refl, subst, arith}
+use Rattle.std.specs.Prelude.{◌&&◌, if◌then◌else◌, slice_get}
+use Rattle.std.specs.List.{All}
+use Rattle.std.specs.Option.{option_map_or}
+use Rattle.std.proofs.lemmas.List.{length-map}
+use Rattle.std.proofs.lemmas.List.Elements.{All-map, All-nil, All-weaker}
+use Rattle.case_forms.specs.declared.trace.Header.{Header}
+use Rattle.case_forms.specs.declared.calls.Host.{Host}
+use Rattle.case_forms.specs.declared.calls.Call.{Call}
+use Rattle.case_forms.specs.declared.calls.Call.TheVariants as calls
+use Rattle.case_forms.specs.declared.calls.Answer.{Answer}
+use Rattle.case_forms.specs.declared.calls.Answer.TheVariants as answers
+use Rattle.case_forms.specs.declared.calls.State.TheVariants as states
+use Rattle.verdict.specs.Rules.{first_broken}
+use Rattle.verdict.proofs.RuleLemmas.{none_all}
+use Rattle.streams.specs.Lists.{modify}
+use Rattle.machine.specs.declared.endpoint.Endpoint.{Endpoint}
+use Rattle.machine.specs.declared.endpoint.Emission.{Emission}
+use Rattle.machine.specs.declared.endpoint.Listener.{Listener}
+use Rattle.machine.specs.declared.endpoint.Thing.{Thing}
+use Rattle.machine.specs.declared.endpoint.Thing.TheVariants.{Listens, Ends}
+use Rattle.machine.specs.declared.how.How.{How}
+use Rattle.machine.specs.Endpoints.{Body, empty, new_endpoint}
+use Rattle.machine.specs.Lookups.{is_syn_received, place_of, queue_of, thing_of, with_endpoint, at_ports}
+use Rattle.machine.specs.CallRules.{call_allows, endpoint_allows, is_bad_socket, thing_allows}
+use Rattle.machine.specs.CallEffects.{orphaned, without_listener, dead, thing_gone, after_gone, accepted_from, after_accept, change_thing, change, after_send, after_recv, after_shut, after_close, after_abort, after_call}
+use Rattle.machine.specs.MakingEffects.{after_making}
+use Rattle.machine.specs.Timing.{after_expiry, after_recovery}
+use Rattle.machine.specs.TakingRules.{acknowledges_syn}
+use Rattle.machine.specs.Meeting.{Taker, Nobody, AtListener, AtEndpoint, taker, child, endpoint_taken, joined, after_taking}
+use Rattle.machine.specs.Bounds.{IsKept, IsKeptBody}
+use Rattle.machine.specs.Forgetting.{forget_endpoint, forget_body}
+use Rattle.machine.specs.Machine.{Act, Calls, Makes, Takes, Resets, Expires, Recovers, act_rules, act_after}
+use Rattle.machine_laws.proofs.Rules.{map_or_cases, not_false}
+use Rattle.endpoint_state.specs.Keeping.{IsSmallAct, IsSmallAnswer}
+use Rattle.endpoint_state.proofs.Lists.{all_modify, all_push, length_modify, length_push}
+use Rattle.endpoint_state.proofs.Forgets.{IsBounded, bounded, bounded_later, kept_later, all_kept_forgotten}
+use Rattle.endpoint_state.proofs.Effects.{after_shut_bounded, after_close_bounded, after_abort_bounded, orphaned_bounded, accepted_bounded, after_send_bounded, after_recv_bounded, after_making_bounded, after_expiry_bounded, after_recovery_bounded}
+use Rattle.endpoint_state.proofs.Takes.{child_bounded, endpoint_taken_bounded}
+
+-- a host after so many steps, of which something may still be let go
+record IsBoundedBody (steps : ℕ) (b : Body) : Type 0 where
+  pub bounded : All (IsBounded steps) b.endpoints
+  pub endpoints : length b.endpoints ≤ steps
+  pub listeners : length b.listeners ≤ steps
+
+bounded_body : (steps : ℕ) (b : Body) → IsKeptBody steps b → IsBoundedBody steps b
+bounded_body steps b k = record { bounded = All-weaker (IsKept steps) (IsBounded steps) (bounded steps) b.endpoints k.kept; endpoints = k.endpoints; listeners = k.listeners }
+
+kept_body_forgotten : (steps : ℕ) (b : Body) → IsBoundedBody steps b → IsKeptBody steps (forget_body b)
+kept_body_forgotten steps b k =
+    let same = length-map b.endpoints forget_endpoint in
+    let few = k.endpoints in
+    record { kept = all_kept_forgotten steps b.endpoints k.bounded; endpoints = omega arith; listeners = k.listeners }
+
+pub kept_body_later : (steps : ℕ) (b : Body) → IsKeptBody steps b → IsKeptBody (suc steps) b
+kept_body_later steps b k =
+    let endpoints = k.endpoints in
+    let listeners = k.listeners in
+    record { kept = All-weaker (IsKept steps) (IsKept (suc steps)) (kept_later steps) b.endpoints k.kept; endpoints = omega arith; listeners = omega arith }
+
+pub starts_kept : IsKeptBody 0 empty
+starts_kept = record { kept = All-nil (IsKept 0); endpoints = omega arith; listeners = omega arith }
+
+-- 1. endpoints and listeners in their places
+
+all_later : (steps : ℕ) (es : List Endpoint) → All (IsBounded steps) es → All (IsBounded (suc steps)) es
+all_later steps es h = All-weaker (IsBounded steps) (IsBounded (suc steps)) (bounded_later steps) es h
+
+body_later : (steps : ℕ) (b : Body) → IsBoundedBody steps b → IsBoundedBody (suc steps) b
+body_later steps b k =
+    let endpoints = k.endpoints in
+    let listeners = k.listeners in
+    record { bounded = all_later steps b.endpoints k.bounded; endpoints = omega arith; listeners = omega arith }
+
+-- the endpoint at a place changes
+place_bounded : (steps : ℕ) (b : Body) (i : ℕ) (f : Endpoint → Endpoint) → ((e : Endpoint) → slice_get b.endpoints i ≡ Some e → IsBounded steps e → IsBounded (suc steps) (f e)) → IsBoundedBody steps b → IsBoundedBody (suc steps) (with_endpoint b i f)
+place_bounded steps b i f grows k =
+    let same = length_modify f b.endpoints i in
+    let endpoints = k.endpoints in
+    let listeners = k.listeners in
+    record {
+      bounded = all_modify (IsBounded steps) (IsBounded (suc steps)) f b.endpoints i (bounded_later steps) grows k.bounded;
+      endpoints = omega arith;
+      listeners = omega arith;
+    }
+
+ports_bounded : (steps : ℕ) (b : Body) (lport rport : ℕ) (f : Endpoint → Endpoint) → ((e : Endpoint) → IsBounded steps e → IsBounded (suc steps) (f e)) → IsBoundedBody steps b → IsBoundedBody (suc steps) (at_ports b lport rport f)
+ports_bounded steps b lport rport f grows k =
+    map_or_cases (IsBoundedBody (suc steps)) (place_of b lport rport) b (λ i. with_endpoint b i f) (λ none. body_later steps b k) (λ i at. place_bounded steps b i f (λ e there. grows e) k)
+
+-- an endpoint joins
+joins_bounded : (steps : ℕ) (b : Body) (e : Endpoint) → IsBounded (suc steps) e → IsBoundedBody steps b → IsBoundedBody (suc steps) (record b { endpoints = b.endpoints ++ e ∷ [] })
+joins_bounded steps b e new k =
+    let listeners = k.listeners in
+    record {
+      bounded = all_push (IsBounded (suc steps)) b.endpoints e (all_later steps b.endpoints k.bounded) new;
+      endpoints = length_push b.endpoints e steps k.endpoints;
+      listeners = omega arith;
+    }
+
+-- 2. calls
+
+changed_bounded : (steps : ℕ) (b : Body) (n : ℕ) (f : Endpoint → Endpoint) → ((e : Endpoint) → IsBounded steps e → IsBounded (suc steps) (f e)) → IsBoundedBody steps b → IsBoundedBody (suc steps) (change b n f)
+changed_bounded steps b n f grows k = by (thing_of b n)
+  where
+    by : (o : Option Thing) → IsBoundedBody (suc steps) (option_map_or (change_thing b f) o b)
+    by None = body_later steps b k
+    by (Some (Listens l)) = body_later steps b k
+    by (Some (Ends i)) = place_bounded steps b i f (λ e there. grows e) k
+
+recv_bounded : (steps : ℕ) (b : Body) (n most : ℕ) (bytes : List ℕ) → call_allows b (calls.Recv n most) (answers.Bytes bytes) ≡ true → IsBoundedBody steps b → IsBoundedBody (suc steps) (change b n (after_recv bytes))
+recv_bounded steps b n most bytes allowed k = by (thing_of b n) allowed
+  where
+    by : (o : Option Thing) → option_map_or (thing_allows b (calls.Recv n most) (answers.Bytes bytes)) o (is_bad_socket (answers.Bytes bytes)) ≡ true → IsBoundedBody (suc steps) (option_map_or (change_thing b (after_recv bytes)) o b)
+    by None h = body_later steps b k
+    by (Some (Listens l)) h = body_later steps b k
+    by (Some (Ends i)) h =
+        place_bounded steps b i (after_recv bytes)
+        (λ e there. after_recv_bounded most bytes steps e (subst (λ (o : Option Endpoint). option_map_or (λ x. endpoint_allows x (calls.Recv n most) (answers.Bytes bytes)) o false ≡ true) there h))
+        k
+
+gone_bounded : (steps : ℕ) (b : Body) (n : ℕ) (f : Endpoint → Endpoint) → ((e : Endpoint) → IsBounded steps e → IsBounded (suc steps) (f e)) → IsBoundedBody steps b → IsBoundedBody (suc steps) (after_gone b n f)
+gone_bounded steps b n f grows k = by (thing_of b n)
+  where
+    -- socket numbers are not spoken of
+    plain : (c : Body) → IsBoundedBody (suc steps) c → IsBoundedBody (suc steps) (record c { sockets = dead b.sockets n })
+    plain c k = record { bounded = k.bounded; endpoints = k.endpoints; listeners = k.listeners }
+
+    orphans : (l : ℕ) → IsBoundedBody (suc steps) (without_listener b l)
+    orphans l =
+        let places = length-map b.endpoints (orphaned l) in
+        let same = length_modify (λ (x : Listener). record x { is_open = false }) b.listeners l in
+        let endpoints = k.endpoints in
+        let listeners = k.listeners in
+        record {
+          bounded = All-map (IsBounded (suc steps)) (orphaned l) b.endpoints (All-weaker (IsBounded steps) (λ e. IsBounded (suc steps) (orphaned l e)) (orphaned_bounded steps l) b.endpoints k.bounded);
+          endpoints = omega arith;
+          listeners = omega arith;
+        }
+
+    by : (o : Option Thing) → IsBoundedBody (suc steps) (option_map_or (λ thing. record (thing_gone b thing f) { sockets = dead b.sockets n }) o b)
+    by None = body_later steps b k
+    by (Some (Listens l)) = plain (without_listener b l) (orphans l)
+    by (Some (Ends i)) = plain (with_endpoint b i f) (place_bounded steps b i f (λ e there. grows e) k)
+
+accept_bounded : (steps : ℕ) (b : Body) (n : ℕ) (o : Option Thing) → IsBoundedBody steps b → IsBoundedBody (suc steps) (option_map_or (after_accept b n) o b)
+accept_bounded steps b n o k = by o
+  where
+    from : (l : ℕ) (queue : List ℕ) → IsBoundedBody (suc steps) (accepted_from b l n queue)
+    from l [] = body_later steps b k
+    from l (place ∷ queue) =
+        let one = place_bounded steps b place (λ e. record e { listener = None }) (λ e there. accepted_bounded steps e) k in
+        let same = length_modify (λ (x : Listener). record x { queue = queue }) b.listeners l in
+        let listeners = k.listeners in
+        record { bounded = one.bounded; endpoints = one.endpoints; listeners = omega arith }
+
+    by : (o : Option Thing) → IsBoundedBody (suc steps) (option_map_or (after_accept b n) o b)
+    by None = body_later steps b k
+    by (Some (Listens l)) = from l (queue_of b l)
+    by (Some (Ends i)) = body_later steps b k
+
+listened_bounded : (steps : ℕ) (b : Body) (l : Listener) → IsBoundedBody steps b → IsBoundedBody (suc steps) (record b { listeners = b.listeners ++ l ∷ [] })
+listened_bounded steps b l k =
+    let later = body_later steps b k in
+    record { bounded = later.bounded; endpoints = later.endpoints; listeners = length_push b.listeners l steps k.listeners }
+
+opened_bounded : (lport rport steps : ℕ) → IsBounded steps (new_endpoint lport rport None states.SynSent)
+opened_bounded lport rport steps = record {
+  una = omega arith;
+  counted = omega arith;
+  dup = omega arith;
+  tries = omega arith;
+  backs = omega arith;
+  accepted = omega arith;
+  met = λ sent closed. absurd cc;
+  unmet = λ sent. refl;
+}
+
+socket_bounded : (steps : ℕ) (b c : Body) → b.endpoints ≡ c.endpoints → b.listeners ≡ c.listeners → IsBoundedBody steps b → IsBoundedBody steps c
+socket_bounded steps b c e l k = record {
+  bounded = subst (λ (es : List Endpoint). All (IsBounded steps) es) e k.bounded;
+  endpoints = subst (λ (es : List Endpoint). length es ≤ steps) e k.endpoints;
+  listeners = subst (λ (ls : List Listener). length ls ≤ steps) l k.listeners;
+}
+
+call_bounded : (steps : ℕ) (b : Body) (call : Call) (answer : Answer) → IsSmallAnswer answer → call_allows b call answer ≡ true → IsBoundedBody steps b → IsBoundedBody (suc steps) (after_call b call answer)
+call_bounded steps b (calls.Listen host port backlog) (answers.Given n) small allowed k =
+    let l : Listener = record { port = port; backlog = backlog; is_open = true; queue = [] } in
+    socket_bounded (suc steps) (record b { listeners = b.listeners ++ l ∷ [] }) _ refl refl (listened_bounded steps b l k)
+call_bounded steps b (calls.Connect host lport rport) (answers.Given n) small allowed k =
+    let e = new_endpoint lport rport None states.SynSent in
+    socket_bounded (suc steps) (record b { endpoints = b.endpoints ++ e ∷ [] }) _ refl refl (joins_bounded steps b e (opened_bounded lport rport (suc steps)) k)
+call_bounded steps b (calls.Accept h) (answers.Given n) small allowed k = accept_bounded steps b n (thing_of b h) k
+call_bounded steps b (calls.Send h bytes) (answers.Given n) small allowed k = changed_bounded steps b h (after_send bytes n) (after_send_bounded bytes n small steps) k
+call_bounded steps b (calls.Recv h most) (answers.Bytes bytes) small allowed k = recv_bounded steps b h most bytes allowed k
+call_bounded steps b (calls.Shut h) answers.Done small allowed k = changed_bounded steps b h after_shut (after_shut_bounded steps) k
+call_bounded steps b (calls.Close h) answers.Done small allowed k = gone_bounded steps b h after_close (after_close_bounded steps) k
+call_bounded steps b (calls.Abort h) answers.Done small allowed k = gone_bounded steps b h after_abort (after_abort_bounded steps) k
+call_bounded steps b _ _ small allowed k = body_later steps b k
+
+-- 3. segments
+
+length_joined : (b : Body) (i : ℕ) (e : Endpoint) (m : Emission) → length (joined b i e m) ≡ length b.listeners
+length_joined b i e m = by (is_syn_received e.state && acknowledges_syn e m) e.listener
+  where
+    by : (c : Bool) (o : Option ℕ) → length (if c then option_map_or (λ l. modify b.listeners l (λ x. record x { queue = x.queue ++ i ∷ [] })) o b.listeners else b.listeners) ≡ length b.listeners
+    by true None = refl
+    by true (Some l) = length_modify (λ (x : Listener). record x { queue = x.queue ++ i ∷ [] }) b.listeners l
+    by false o = refl
+
+taking_bounded : (h : Header) (how : How) (m : Emission) (moment steps : ℕ) (b : Body) (t : Taker) → m.ack < 2 ^ 63 → IsBoundedBody steps b → IsBoundedBody (suc steps) (after_taking h b how m moment t)
+taking_bounded h how m moment steps b Nobody small k = body_later steps b k
+taking_bounded h how m moment steps b (AtListener l) small k = joins_bounded steps b (child l how m moment) (child_bounded l how m moment (suc steps)) k
+taking_bounded h how m moment steps b (AtEndpoint i e) small k =
+    let one = place_bounded steps b i (λ x. endpoint_taken h x how m moment) (λ x there. endpoint_taken_bounded h how m moment steps x small) k in
+    let same = length_joined b i e m in
+    let listeners = k.listeners in
+    record { bounded = one.bounded; endpoints = one.endpoints; listeners = omega arith }
+
+-- 4. all acts
+
+act_bounded : (h : Header) (me : Host) (moment steps : ℕ) (b : Body) (act : Act) → IsSmallAct act → first_broken (act_rules h me moment b act) ≡ None → IsBoundedBody steps b → IsBoundedBody (suc steps) (act_after h me moment b act)
+act_bounded h me moment steps b (Calls call answer) small permitted k =
+    let all = none_all (act_rules h me moment b (Calls call answer)) permitted in
+    call_bounded steps b call answer small (not_false (call_allows b call answer) all.0) k
+act_bounded h me moment steps b (Makes m) small permitted k = ports_bounded steps b m.lport m.rport (λ e. after_making e m moment) (after_making_bounded m moment steps) k
+act_bounded h me moment steps b (Takes how m) small permitted k = taking_bounded h how m moment steps b (taker b m) small.ack k
+act_bounded h me moment steps b (Resets m) small permitted k = body_later steps b k
+act_bounded h me moment steps b (Expires x growth) small permitted k = ports_bounded steps b x.lport x.rport (λ e. after_expiry e x.timer growth moment) (after_expiry_bounded x.timer growth moment steps) k
+act_bounded h me moment steps b (Recovers x) small permitted k = ports_bounded steps b x.lport x.rport (λ e. after_recovery e x.cwnd x.ssthresh) (after_recovery_bounded x.cwnd x.ssthresh steps) k
+
+pub body_keeps : (h : Header) (me : Host) (moment steps : ℕ) (b : Body) (act : Act) → IsSmallAct act → first_broken (act_rules h me moment b act) ≡ None → IsKeptBody steps b → IsKeptBody (suc steps) (forget_body (act_after h me moment b act))
+body_keeps h me moment steps b act small permitted k =
+    kept_body_forgotten (suc steps) (act_after h me moment b act) (act_bounded h me moment steps b act small permitted (bounded_body steps b k))

@@ -1,0 +1,158 @@
+-- What is said of an endpoint's counts holds of it after each effect, with one step more.
+use Rattle.std.proofs.Common.{◌≡◌, ℕ, suc, ◌^◌, ◌<◌, Bool, true, false, List, [], ◌∷◌, None, length, take, refl, sym, subst, ◌∙◌, arith}
+use Rattle.std.specs.Prelude.{◌==◌, ◌&&◌, nat_le, if◌then◌else◌}
+use Rattle.std.specs.Option.{option_map_or}
+use Rattle.std.proofs.lemmas.List.{length-append, length-take}
+use Rattle.case_forms.specs.declared.calls.State.{State}
+use Rattle.case_forms.specs.declared.calls.State.TheVariants as states
+use Rattle.case_forms.specs.declared.calls.Answer.TheVariants as answers
+use Rattle.case_forms.specs.declared.timer.Timer.{Timer}
+use Rattle.case_forms.specs.declared.timer.Timer.TheVariants.{Rto, Persist, Msl2, Giveup}
+use Rattle.streams.specs.Received as received
+use Rattle.machine.specs.declared.endpoint.Endpoint.{Endpoint}
+use Rattle.machine.specs.Lookups.{is_closed, is_syn_sent}
+use Rattle.machine.specs.CallRules.{recv_allows}
+use Rattle.machine.specs.CallEffects.{shut_down, ended_state, after_shut, after_close, after_abort, orphaned, after_send, after_recv}
+use Rattle.machine.specs.declared.making.Making.{Making}
+use Rattle.machine.specs.MakingEffects.{endpoint_made, after_making}
+use Rattle.machine.specs.Timing.{Growth, after_expiry, after_recovery}
+use Rattle.endpoint_state.proofs.Forgets.{IsBounded, bounded_later}
+
+-- 1. calls
+
+shut : (steps : ℕ) (e : Endpoint) → IsBounded steps e → IsBounded steps (shut_down e)
+shut steps e b = record { una = b.una; counted = b.counted; dup = b.dup; tries = b.tries; backs = b.backs; accepted = b.accepted; met = λ sent closed. absurd cc; unmet = λ sent. absurd cc }
+
+ended_sent : (s : State) → is_syn_sent (ended_state s) ≡ is_syn_sent s
+ended_sent states.Established = refl
+ended_sent states.CloseWait = refl
+ended_sent _ = refl
+
+ended_closed : (s : State) → is_closed (ended_state s) ≡ is_closed s
+ended_closed states.Established = refl
+ended_closed states.CloseWait = refl
+ended_closed _ = refl
+
+shut_sending : (steps : ℕ) (e : Endpoint) → IsBounded steps e → IsBounded steps (after_shut e)
+shut_sending steps e b =
+    record {
+      una = b.una;
+      counted = b.counted;
+      dup = b.dup;
+      tries = b.tries;
+      backs = b.backs;
+      accepted = b.accepted;
+      met = λ sent closed. b.met (sym (ended_sent e.state) ∙ sent) (sym (ended_closed e.state) ∙ closed);
+      unmet = λ sent. b.unmet (sym (ended_sent e.state) ∙ sent);
+    }
+
+-- the sending was ended, and nothing else
+ending : (steps : ℕ) (e : Endpoint) → IsBounded steps e → IsBounded steps (record e { stream = record e.stream { ended = true } })
+ending steps e b = record { una = b.una; counted = b.counted; dup = b.dup; tries = b.tries; backs = b.backs; accepted = b.accepted; met = b.met; unmet = b.unmet }
+
+-- what changes here is not spoken of
+closing : (steps : ℕ) (e : Endpoint) → IsBounded steps e → IsBounded steps (record e { closed = true })
+closing steps e b = record { una = b.una; counted = b.counted; dup = b.dup; tries = b.tries; backs = b.backs; accepted = b.accepted; met = b.met; unmet = b.unmet }
+
+due : (steps : ℕ) (e : Endpoint) (c : Bool) → IsBounded steps e → IsBounded steps (record e { reset_due = c })
+due steps e c b = record { una = b.una; counted = b.counted; dup = b.dup; tries = b.tries; backs = b.backs; accepted = b.accepted; met = b.met; unmet = b.unmet }
+
+either : (steps : ℕ) (c : Bool) (x y : Endpoint) → IsBounded steps x → IsBounded steps y → IsBounded steps (if c then x else y)
+either steps true x y p q = p
+either steps false x y p q = q
+
+close_bounded : (steps : ℕ) (e : Endpoint) → IsBounded steps e → IsBounded steps (after_close e)
+close_bounded steps e b =
+    let gone : Endpoint = record e { stream = record e.stream { ended = true } } in
+    closing steps (if is_syn_sent e.state then shut_down gone else after_shut e)
+    (either steps (is_syn_sent e.state) (shut_down gone) (after_shut e) (shut steps gone (ending steps e b)) (shut_sending steps e b))
+
+abort_bounded : (steps : ℕ) (e : Endpoint) → IsBounded steps e → IsBounded steps (after_abort e)
+abort_bounded steps e b = due steps (shut_down e) _ (shut steps e b)
+
+orphan_bounded : (steps l : ℕ) (e : Endpoint) → IsBounded steps e → IsBounded steps (orphaned l e)
+orphan_bounded steps l e b = either steps (option_map_or (λ holder. holder == l) e.listener false) (after_abort e) e (abort_bounded steps e b) b
+
+adopted_bounded : (steps : ℕ) (e : Endpoint) → IsBounded steps e → IsBounded steps (record e { listener = None })
+adopted_bounded steps e b = record { una = b.una; counted = b.counted; dup = b.dup; tries = b.tries; backs = b.backs; accepted = b.accepted; met = b.met; unmet = b.unmet }
+
+pub after_shut_bounded : (steps : ℕ) (e : Endpoint) → IsBounded steps e → IsBounded (suc steps) (after_shut e)
+after_shut_bounded steps e b = bounded_later steps (after_shut e) (shut_sending steps e b)
+
+pub after_close_bounded : (steps : ℕ) (e : Endpoint) → IsBounded steps e → IsBounded (suc steps) (after_close e)
+after_close_bounded steps e b = bounded_later steps (after_close e) (close_bounded steps e b)
+
+pub after_abort_bounded : (steps : ℕ) (e : Endpoint) → IsBounded steps e → IsBounded (suc steps) (after_abort e)
+after_abort_bounded steps e b = bounded_later steps (after_abort e) (abort_bounded steps e b)
+
+pub orphaned_bounded : (steps l : ℕ) (e : Endpoint) → IsBounded steps e → IsBounded (suc steps) (orphaned l e)
+orphaned_bounded steps l e b = bounded_later steps (orphaned l e) (orphan_bounded steps l e b)
+
+pub accepted_bounded : (steps : ℕ) (e : Endpoint) → IsBounded steps e → IsBounded (suc steps) (record e { listener = None })
+accepted_bounded steps e b = bounded_later steps (record e { listener = None }) (adopted_bounded steps e b)
+
+pub after_send_bounded : (bytes : List ℕ) (n : ℕ) → n < 2 ^ 32 → (steps : ℕ) (e : Endpoint) → IsBounded steps e → IsBounded (suc steps) (after_send bytes n e)
+after_send_bounded bytes n small steps e b =
+    let later = bounded_later steps e b in
+    let both = length-append e.stream.accepted (take n bytes) in
+    let some = length-take n bytes in
+    let old = b.accepted in
+    record { una = b.una; counted = b.counted; dup = later.dup; tries = later.tries; backs = later.backs; accepted = omega arith; met = b.met; unmet = b.unmet }
+
+third_false : (b c : Bool) → (b && c && false) ≡ true → ⊥
+third_false true true e = cc
+third_false true false e = cc
+third_false false c e = cc
+
+-- where nothing was taken no bytes are given
+empty_gives : (e : Endpoint) (most : ℕ) (bytes : List ℕ) → e.stream.receive ≡ received.empty → recv_allows e most (answers.Bytes bytes) ≡ true → ⊥
+empty_gives e most [] none h = cc
+empty_gives e most (x ∷ bytes) none h =
+    third_false (nat_le 1 (length (x ∷ bytes))) (nat_le (length (x ∷ bytes)) most)
+    (subst (λ r. recv_allows (record e { stream = record e.stream { receive = r } }) most (answers.Bytes (x ∷ bytes)) ≡ true) none h)
+
+pub after_recv_bounded : (most : ℕ) (bytes : List ℕ) (steps : ℕ) (e : Endpoint) → recv_allows e most (answers.Bytes bytes) ≡ true → IsBounded steps e → IsBounded (suc steps) (after_recv bytes e)
+after_recv_bounded most bytes steps e allowed b =
+    let later = bounded_later steps e b in
+    record {
+      una = b.una;
+      counted = b.counted;
+      dup = later.dup;
+      tries = later.tries;
+      backs = later.backs;
+      accepted = later.accepted;
+      met = b.met;
+      unmet = λ sent. absurd (empty_gives e most bytes (b.unmet sent) allowed);
+    }
+
+-- 2. making, timers, recovery
+
+made_bounded : (m : Making) (moment steps : ℕ) (e : Endpoint) → IsBounded steps e → IsBounded steps (endpoint_made e m moment)
+made_bounded m moment steps e b = record { una = b.una; counted = b.counted; dup = b.dup; tries = b.tries; backs = b.backs; accepted = b.accepted; met = b.met; unmet = b.unmet }
+
+pub after_making_bounded : (m : Making) (moment steps : ℕ) (e : Endpoint) → IsBounded steps e → IsBounded (suc steps) (after_making e m moment)
+after_making_bounded m moment steps e b =
+    let made = made_bounded m moment steps e b in
+    let gone : Endpoint = record (shut_down (endpoint_made e m moment)) { reset_due = false } in
+    bounded_later steps (after_making e m moment)
+    (either steps m.flags.rst gone (endpoint_made e m moment) (due steps (shut_down (endpoint_made e m moment)) false (shut steps (endpoint_made e m moment) made)) made)
+
+pub after_expiry_bounded : (timer : Timer) (growth : Growth) (moment steps : ℕ) (e : Endpoint) → IsBounded steps e → IsBounded (suc steps) (after_expiry e timer growth moment)
+after_expiry_bounded Rto growth moment steps e b =
+    let later = bounded_later steps e b in
+    let tries = b.tries in
+    let backs = b.backs in
+    record { una = b.una; counted = omega arith; dup = omega arith; tries = omega arith; backs = omega arith; accepted = later.accepted; met = b.met; unmet = b.unmet }
+after_expiry_bounded Persist growth moment steps e b =
+    let later = bounded_later steps e b in
+    let tries = b.tries in
+    record { una = b.una; counted = b.counted; dup = later.dup; tries = omega arith; backs = later.backs; accepted = later.accepted; met = b.met; unmet = b.unmet }
+after_expiry_bounded Msl2 growth moment steps e b = bounded_later steps (shut_down e) (shut steps e b)
+after_expiry_bounded Giveup growth moment steps e b =
+    let later = bounded_later steps (shut_down e) (shut steps e b) in
+    record { una = b.una; counted = b.counted; dup = later.dup; tries = later.tries; backs = later.backs; accepted = later.accepted; met = later.met; unmet = later.unmet }
+
+pub after_recovery_bounded : (cwnd ssthresh steps : ℕ) (e : Endpoint) → IsBounded steps e → IsBounded (suc steps) (after_recovery e cwnd ssthresh)
+after_recovery_bounded cwnd ssthresh steps e b =
+    let later = bounded_later steps e b in
+    record { una = b.una; counted = b.counted; dup = later.dup; tries = later.tries; backs = later.backs; accepted = later.accepted; met = b.met; unmet = b.unmet }

@@ -1,0 +1,35 @@
+-- Changing one endpoint in its place, where of the others there is nothing to let go.
+use Rattle.std.proofs.Common.{◌≡◌, ℕ, zero, suc, ◌<◌, ◌≤◌, List, [], ◌∷◌, length, get_or, map, refl, ap, sym, ◌∙◌, arith}
+use Rattle.std.specs.Prelude.{slice_set}
+use Rattle.std.specs.List.{All}
+use Rattle.streams.specs.Lists.{modify}
+use Rattle.machine.specs.declared.endpoint.Endpoint.{Endpoint}
+use Rattle.machine.specs.Bounds.{IsForgotten, HasRoom}
+use Rattle.machine.specs.Forgetting.{forget_endpoint}
+use Rattle.endpoint_state.proofs.PlaceLemmas.{modified_at, modified_past}
+
+pub forget_same : (e : Endpoint) → IsForgotten e → forget_endpoint e ≡ e
+forget_same e h = simp (h.accepted, h.received, h.made) refl
+
+pub later : (e : Endpoint) (es : List Endpoint) → All HasRoom (e ∷ es) → All HasRoom es
+later e es room = λ k d within. room (suc k) d (omega arith)
+
+pub first : (e : Endpoint) (es : List Endpoint) → All HasRoom (e ∷ es) → HasRoom e
+first e es room = room 0 e (omega arith)
+
+pub all_same : (es : List Endpoint) → All HasRoom es → map forget_endpoint es ≡ es
+all_same [] room = refl
+all_same (e ∷ es) room = let here = forget_same e (first e es room).forgets in let rest = all_same es (later e es room) in cc
+
+pub modify_forgets : (es : List Endpoint) (i : ℕ) (f : Endpoint → Endpoint) → All HasRoom es → map forget_endpoint (modify es i f) ≡ modify es i (λ e. forget_endpoint (f e))
+modify_forgets [] i f room = refl
+modify_forgets (e ∷ es) zero f room = ap (λ (xs : List Endpoint). forget_endpoint (f e) ∷ xs) (all_same es (later e es room))
+modify_forgets (e ∷ es) (suc i) f room = let here = forget_same e (first e es room).forgets in let rest = modify_forgets es i f (later e es room) in cc
+
+-- the endpoint read at a place, changed and written back
+pub forgot_at : (es : List Endpoint) (i : ℕ) (x y : Endpoint) (f : Endpoint → Endpoint) → All HasRoom es → i < length es → x ≡ get_or es i x → y ≡ forget_endpoint (f x) → slice_set es i y ≡ map forget_endpoint (modify es i f)
+forgot_at es i x y f room within read is = modified_at es i x y (λ e. forget_endpoint (f e)) within read is ∙ sym (modify_forgets es i f room)
+
+-- there is none at the place
+pub forgot_past : (es : List Endpoint) (i : ℕ) (f : Endpoint → Endpoint) → All HasRoom es → length es ≤ i → es ≡ map forget_endpoint (modify es i f)
+forgot_past es i f room past = sym (ap (map forget_endpoint) (modified_past es i f past) ∙ all_same es room)

@@ -1,0 +1,84 @@
+-- Effects at one endpoint leave its ports and its listener, so that it is found as before.
+use Rattle.std.proofs.Common.{◌≡◌, ℕ, Bool, true, false, List, Option, None, nat_eq, refl, ap, ◌&&◌, ◌∙◌}
+use Rattle.std.specs.Prelude.{if◌then◌else◌, Result, Ok, Err, OnOk, OnErr}
+use Rattle.std.specs.List.{All}
+use Rattle.std.proofs.lemmas.Option.{none-some}
+use Rattle.case_forms.specs.declared.trace.Header.{Header}
+use Rattle.case_forms.specs.declared.timer.Timer.{Timer}
+use Rattle.case_forms.specs.declared.timer.Timer.TheVariants.{Rto, Persist, Msl2, Giveup}
+use Rattle.machine.specs.declared.endpoint.Endpoint.{Endpoint}
+use Rattle.machine.specs.declared.endpoint.Emission.{Emission}
+use Rattle.machine.specs.declared.making.Making.{Making}
+use Rattle.machine.specs.declared.how.How.{How}
+use Rattle.machine.specs.Lookups.{is_syn_sent}
+use Rattle.machine.specs.Bounds.{HasRoom}
+use Rattle.machine.specs.CallEffects.{shut_down, after_shut, after_close, after_abort, after_send, after_recv}
+use Rattle.machine.specs.MakingEffects.{endpoint_made, after_making}
+use Rattle.machine.specs.TakingEffects.{taken}
+use Rattle.machine.specs.Meeting.{met_peer, was_reset, endpoint_taken}
+use Rattle.machine.specs.Timing.{Growth, after_expiry, after_recovery}
+use Rattle.machine.specs.Forgetting.{forget_endpoint}
+use Rattle.endpoint_state.specs.Indexes.{IsIndexed}
+use Rattle.endpoint_state.specs.Changes.{Keeps, changed}
+use Rattle.endpoint_state.proofs.IndexLemmas.{indexed_modify}
+use Rattle.endpoint_state.proofs.Forgotten.{modify_forgets}
+
+pub keeps_same : (e : Endpoint) → Keeps e e
+keeps_same e = record { lport = refl; rport = refl; listener = λ l is. is }
+
+-- the index stays, where one endpoint changes so
+pub indexed_changed : (find : ℕ → ℕ → Option ℕ) (child : ℕ → ℕ → Bool) (es : List Endpoint) → IsIndexed find child es → All HasRoom es → (i : ℕ) (f : Endpoint → Endpoint) → ((e : Endpoint) → Keeps e (f e)) → IsIndexed find child (changed es i f)
+indexed_changed find child es index room i f keeps = rw (modify_forgets es i f room)
+    (indexed_modify find child es index i (λ e. forget_endpoint (f e)) (λ l r e. ap (λ (p : ℕ). nat_eq p l && nat_eq (f e).rport r) (keeps e).lport ∙ ap (λ (p : ℕ). nat_eq e.lport l && nat_eq p r) (keeps e).rport) (λ l e is. (keeps e).listener l is))
+
+pub keeps_made : (e : Endpoint) (m : Making) (moment : ℕ) → Keeps e (after_making e m moment)
+keeps_made e m moment = by m.flags.rst
+  where
+    by : (b : Bool) → Keeps e (if b then record (shut_down (endpoint_made e m moment)) { reset_due = false } else endpoint_made e m moment)
+    by true = record { lport = refl; rport = refl; listener = λ l is. is }
+    by false = record { lport = refl; rport = refl; listener = λ l is. is }
+
+pub keeps_expired : (e : Endpoint) (timer : Timer) (growth : Growth) (moment : ℕ) → Keeps e (after_expiry e timer growth moment)
+keeps_expired e Rto growth moment = record { lport = refl; rport = refl; listener = λ l is. is }
+keeps_expired e Persist growth moment = record { lport = refl; rport = refl; listener = λ l is. is }
+keeps_expired e Msl2 growth moment = record { lport = refl; rport = refl; listener = λ l is. is }
+keeps_expired e Giveup growth moment = record { lport = refl; rport = refl; listener = λ l is. is }
+
+pub keeps_recovered : (e : Endpoint) (cwnd ssthresh : ℕ) → Keeps e (after_recovery e cwnd ssthresh)
+keeps_recovered e cwnd ssthresh = record { lport = refl; rport = refl; listener = λ l is. is }
+
+pub keeps_taken : (h : Header) (e : Endpoint) (how : How) (m : Emission) (moment : ℕ) → Keeps e (endpoint_taken h e how m moment)
+keeps_taken h e how m moment = by m.flags.rst (is_syn_sent e.state)
+  where
+    by : (b c : Bool) → Keeps e (if b then was_reset e how else if c then met_peer h e how m moment else taken h e how m moment)
+    by true c = record { lport = refl; rport = refl; listener = λ l is. is }
+    by false true = record { lport = refl; rport = refl; listener = λ l is. is }
+    by false false = record { lport = refl; rport = refl; listener = λ l is. is }
+
+pub keeps_shut : (e : Endpoint) → Keeps e (after_shut e)
+keeps_shut e = record { lport = refl; rport = refl; listener = λ l is. is }
+
+pub keeps_close : (e : Endpoint) → Keeps e (after_close e)
+keeps_close e = by (is_syn_sent e.state)
+  where
+    by : (b : Bool) → Keeps e (record (if b then shut_down (record e { stream = record e.stream { ended = true } }) else after_shut e) { closed = true })
+    by true = record { lport = refl; rport = refl; listener = λ l is. is }
+    by false = record { lport = refl; rport = refl; listener = λ l is. is }
+
+pub keeps_abort : (e : Endpoint) → Keeps e (after_abort e)
+keeps_abort e = record { lport = refl; rport = refl; listener = λ l is. is }
+
+pub keeps_sent : (bytes : List ℕ) (n : ℕ) (e : Endpoint) → Keeps e (after_send bytes n e)
+keeps_sent bytes n e = record { lport = refl; rport = refl; listener = λ l is. is }
+
+pub keeps_received : (bytes : List ℕ) (e : Endpoint) → Keeps e (after_recv bytes e)
+keeps_received bytes e = record { lport = refl; rport = refl; listener = λ l is. is }
+
+pub keeps_accepted : (e : Endpoint) → Keeps e (record e { listener = None })
+keeps_accepted e = record { lport = refl; rport = refl; listener = λ l is. absurd (none-some l is) }
+
+-- also where memory may have run out
+pub indexed_tried : {A E : Type 0} (r : Result A E) (find : ℕ → ℕ → Option ℕ) (child : ℕ → ℕ → Bool) (es new : List Endpoint) → IsIndexed find child es → All HasRoom es → (i : ℕ) (f : Endpoint → Endpoint) → ((e : Endpoint) → Keeps e (f e))
+    → OnOk r (new ≡ changed es i f) → OnErr r (new ≡ es) → IsIndexed find child new
+indexed_tried (Ok x) find child es new index room i f keeps ok err = rw ok (indexed_changed find child es index room i f keeps)
+indexed_tried (Err x) find child es new index room i f keeps ok err = rw err index

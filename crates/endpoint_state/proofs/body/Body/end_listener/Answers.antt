@@ -1,0 +1,14 @@
+use Rattle.std.proofs.Common.{◌∙◌, false, map, sym, ap}
+use Rattle.streams.specs.Lists.{modify}
+use Rattle.machine.specs.declared.endpoint.Listener.{Listener}
+use Rattle.machine.specs.Records.{Body}
+use Rattle.machine.specs.CallEffects.{orphaned, dead}
+use Rattle.endpoint_state.proofs.BodyLemmas.{body_is}
+use Rattle.endpoint_state.proofs.OrphanLemmas.{orphans_forgotten}
+use Rattle.endpoint_state.proofs.body.Body.end_listener.Goals as goal
+
+pub returns : goal.returns
+returns c = body_is c.orphan.new.self _ c.close.new.self _ c.retire.new.sockets.entries _
+    (c.orphan.ensures ∙ (ap (λ (b : Body). map (orphaned c.args.place) b.endpoints) c.self.view_is ∙ sym (orphans_forgotten c.args.place c.args.self.now.endpoints c.requires)))
+    (c.close.ensures ∙ ap (λ (b : Body). modify b.listeners c.args.place (λ x. let y : Listener = record x { is_open = false } in y)) c.self.view_is)
+    (c.retire.ensures ∙ ap (λ (b : Body). dead b.sockets c.args.number) c.self.view_is)

@@ -1,0 +1,182 @@
+//! What one host has, and how it is found.
+
+ghost use Rattle.std.specs.Prelude.{◌≡◌, slice_get};
+ghost use Rattle.std.specs.Option.{option_copied};
+ghost use Rattle.machine.specs.Records.{empty};
+ghost use Rattle.machine.specs.Lookups.{endpoint_of, given, is_closed, is_connected, if_live, is_listening, listener_on, place_of, thing_of};
+ghost use Rattle.machine.specs.Meeting.{endpoint_taker, listener_taker, taker};
+ghost use Rattle.endpoint_state.specs.Takers.{taker_found, IsOpen};
+
+use crate::endpoints::Endpoints;
+use crate::listeners::Listeners;
+use case_forms::State;
+use indexmap::IndexMap;
+use machine::{Emission, Endpoint, Listener, Socket, Thing};
+use std::alloc::Global;
+use std::marker::Model;
+
+/// What one host has. Contracts see it as the record `Body` of the definitions.
+#[derive(Drop)]
+pub struct Body {
+    pub(crate) endpoints: Endpoints,
+    pub(crate) listeners: Listeners,
+    /// What each socket number names that was given. None is ever taken out.
+    pub(crate) sockets: IndexMap<u32, Socket>,
+}
+
+impl Model for Body {
+    ghost use Rattle.machine.specs.Records.{Body};
+
+    ghost Value = { Body };
+
+    ghost view = { λ a. record { endpoints = a.endpoints; listeners = a.listeners; sockets = a.sockets.entries } };
+}
+
+/// Whom a segment finds (RFC 9293, 3.10.7).
+#[derive(Clone, Copy, Debug, PartialEq, Eq)]
+pub enum Found {
+    /// No endpoint of its ports that is not CLOSED, and no open listener on its destination port.
+    Nobody,
+    /// The listener at this place.
+    Listener(u32),
+    /// The endpoint at this place, which is not CLOSED.
+    Endpoint(u32),
+}
+
+impl Body {
+    /// A host at its start, which has nothing.
+    pub fn new(alloc: Global) -> Body
+        ensures { result ≡ empty }
+    {
+        Body {
+            endpoints: Endpoints::new(alloc),
+            listeners: Listeners::new(alloc),
+            sockets: IndexMap::new(alloc),
+        }
+    }
+
+    /// Whether the socket number was given at this host.
+    pub fn is_given(&self, number: u32) -> bool
+        ensures { result ≡ given self.now number }
+    {
+        self.sockets.contains_key(&number)
+    }
+
+    /// What a socket number names. None: it is not live.
+    pub fn thing(&self, number: u32) -> Option<Thing>
+        ensures { result ≡ thing_of self.now number }
+    {
+        match self.sockets.get(&number) {
+            Some(socket) => if_live(*socket),
+            None => None,
+        }
+    }
+
+    /// The place of the endpoint created last with these ports, its own and the peer's. None: there was none.
+    pub fn place_of(&self, lport: u16, rport: u16) -> Option<u32>
+        ensures { result ≡ place_of self.now lport rport }
+    {
+        self.endpoints.place_of(lport, rport)
+    }
+
+    /// The endpoint at a place. None: there are no more than that.
+    pub fn endpoint_at(&self, place: u32) -> Option<&Endpoint>
+        ensures { option_copied result ≡ slice_get self.now.endpoints place }
+    {
+        self.endpoints.get(place)
+    }
+
+    /// The listener at a place. None: there are no more than that.
+    pub fn listener_at(&self, place: u32) -> Option<&Listener>
+        ensures { option_copied result ≡ slice_get self.now.listeners place }
+    {
+        self.listeners.get(place)
+    }
+
+    /// The endpoint created last with these ports, closed or not. None: there was none.
+    pub fn endpoint_of(&self, lport: u16, rport: u16) -> Option<&Endpoint>
+        ensures { option_copied result ≡ endpoint_of self.now lport rport }
+    {
+        match self.place_of(lport, rport) {
+            Some(place) => self.endpoint_at(place),
+            None => None,
+        }
+    }
+
+    /// Whether there is an endpoint of these ports that is not CLOSED.
+    pub fn is_connected(&self, lport: u16, rport: u16) -> bool
+        ensures { result ≡ is_connected self.now lport rport }
+    {
+        match self.endpoint_of(lport, rport) {
+            Some(endpoint) => !is_closed(endpoint.state),
+            None => false,
+        }
+    }
+
+    /// The place of the open listener on a port. None: nobody listens there.
+    pub fn listener_on(&self, port: u16) -> Option<u32>
+        ensures { result ≡ listener_on self.now port }
+    {
+        self.listeners.listener_on(port)
+    }
+
+    /// Whether a listener is open on a port.
+    pub fn is_listening(&self, port: u16) -> bool
+        ensures { result ≡ is_listening self.now port }
+    {
+        self.listener_on(port).is_some()
+    }
+
+    /// Whom a segment finds that comes in.
+    pub fn taker(&self, m: &Emission) -> Found
+        ensures taker { taker_found self.now result ≡ taker self.now m.now }
+        ensures open { IsOpen self.now result }
+    {
+        match self.place_of(m.rport, m.lport) {
+            Some(place) => self.endpoint_taker(m, place),
+            None => self.listener_taker(m),
+        }
+    }
+
+    fn endpoint_taker(&self, m: &Emission, place: u32) -> Found
+        ensures taker { taker_found self.now result ≡ endpoint_taker self.now m.now place }
+        ensures open { IsOpen self.now result }
+    {
+        match self.endpoint_at(place) {
+            Some(endpoint) => {
+                if is_closed(endpoint.state) {
+                    self.listener_taker(m)
+                } else {
+                    Found::Endpoint(place)
+                }
+            }
+            None => self.listener_taker(m),
+        }
+    }
+
+    fn listener_taker(&self, m: &Emission) -> Found
+        ensures taker { taker_found self.now result ≡ listener_taker self.now m.now }
+        ensures open { IsOpen self.now result }
+    {
+        match self.listener_on(m.rport) {
+            Some(place) => Found::Listener(place),
+            None => Found::Nobody,
+        }
+    }
+}
+
+fn if_live(socket: Socket) -> Option<Thing>
+    ensures { result ≡ if_live socket }
+{
+    if socket.live {
+        Some(socket.thing)
+    } else {
+        None
+    }
+}
+
+fn is_closed(state: State) -> bool
+    ensures { result ≡ is_closed state }
+{
+    matches!(state, State::Closed)
+}
