@@ -29,7 +29,7 @@ use segment::OutOfMemory;
 use std::alloc::Global;
 use std::marker::Model;
 use verdict::Rule;
-use wires::reset_of;
+use endpoint::reset_of;
 
 /// What one host has: its endpoints, listeners and sockets, the segments that it made by their numbers, those that it
 /// put on the wire by their lines, and its inbox by the lines that came in, with None for one that waits no longer.
