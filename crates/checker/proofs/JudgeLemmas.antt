@@ -1,5 +1,5 @@
 -- What the verdict says of the whole lists.
-use Rattle.std.proofs.Common.{◌≡◌, ℕ, ◌+◌, ◌<◌, zero, suc, List, [], ◌∷◌, ◌++◌, length, take, refl, sym, ap, ◌∙◌, subst, arith, Option, Some, None, inl, inr, ◌⊎◌, append_assoc, append-nil, length-append, Result, Ok, Err}
+use Rattle.std.proofs.Common.{◌≡◌, ℕ, ◌+◌, ◌<◌, zero, suc, Bool, true, List, [], ◌∷◌, ◌++◌, length, take, refl, sym, ap, ◌∙◌, subst, arith, Option, Some, None, inl, inr, ◌⊎◌, append_assoc, append-nil, length-append, Result, Ok, Err}
 use Rattle.std.specs.Prelude.{not, count_by, slice_get, IfOk, ◌↔◌}
 use Rattle.std.specs.List.{cons_option}
 use Rattle.std.specs.Option.{option_map_or}
@@ -12,14 +12,18 @@ use Rattle.verdict.specs.declared.rule.Rule.{Rule}
 use Rattle.verdict.specs.declared.rule.Rule.TheVariants.{Unplaced}
 use Rattle.verdict.specs.declared.report.Verdict.{Verdict}
 use Rattle.verdict.specs.declared.report.Verdict.TheVariants.{Yes, No}
-use Rattle.interval_order.specs.Orders.{unplaced}
+use Rattle.interval_order.specs.Orders.{unplaced, order_of}
+use Rattle.interval_order.specs.OrderRules.{order_rules}
 use Rattle.hosts.specs.Hosts.{World, Stamped}
 use Rattle.hosts.specs.HostSteps.{start, after_all}
 use Rattle.machine.specs.Machine.{tcp, tcp_shape}
-use Rattle.checker.specs.Seen.{moves, act_of, stamped}
-use Rattle.checker.specs.Verdicts.{act_after, broken, next_world, takes_line, line_named, verdict, verdict_from, verdict_left, refused_or}
+use Rattle.machine_laws.specs.Runs.{world_at_end}
+use Rattle.machine_laws.specs.Ascending.{ascend, IsLeastBroken}
+use Rattle.machine_laws.proofs.Ascending.{first_is_least, rules_ascend}
+use Rattle.checker.specs.Seen.{move_of, moves, act_of, stamped}
+use Rattle.checker.specs.Verdicts.{act_after, act_rules, all_rules, broken, next_world, takes_line, line_named, verdict, verdict_from, verdict_left, refused_or}
 use Rattle.checker.specs.Explains.{Explains, IsYes}
-use Rattle.checker.specs.Judges.{Says}
+use Rattle.checker.specs.Judges.{broken_at, rules_at, Says}
 use Rattle.checker.proofs.YesLemmas.{yes_explains, explains_yes}
 
 after_more : (header : Header) (w : World tcp_shape) (act : Option (Stamped tcp_shape)) (rest : List (Stamped tcp_shape))
@@ -94,6 +98,14 @@ module _ (t : Trace) where
           subst (λ (r : Option Rule). SaysLeft earlier (s ∷ steps) (refused_or r earlier s (verdict_from t.header t.lines (earlier ++ s ∷ []) (next_world t.header t.lines (world_of earlier) s) steps))) (sym is)
           (inr (0, omega arith, (s, refl, subst (λ (xs : List Step). breaks xs s ≡ Some rule) (sym (append-nil earlier)) is, refl), λ i u lt here. absurd (omega arith)))
 
+-- all rules of a step ascend: those of order, then those of the machine
+all_ascend : (header : Header) (lines : List Line) (earlier : List Step) (w : World tcp_shape) (s : Step) → ascend 1 (all_rules header lines earlier w s) ≡ true
+all_ascend header lines earlier w s = go (act_of header lines s)
+  where
+    go : (act : Option (Stamped tcp_shape)) → ascend 1 (order_rules (order_of header lines (moves earlier)) (move_of s) ++ option_map_or (act_rules header w) act []) ≡ true
+    go None = refl
+    go (Some act) = rules_ascend header act.moment w act.step
+
 -- each verdict says what holds
 pub verdict_says : (t : Trace) (w : Witness) (v : Verdict) → verdict t w ≡ v → Says t w v
 verdict_says t w (Yes lines hidden) is =
@@ -102,8 +114,12 @@ verdict_says t w (Yes lines hidden) is =
 verdict_says t w (No witness_line trace_line rule) is =
     elim (subst (λ (v : Verdict). SaysLeft t [] w.steps v) is (from_says t [] w.steps)) [
       | inl said ↦ inl (said.0, said.1, record { line = said.2.0; left = said.2.1; before = said.3 })
-      | inr said ↦ inr (said.0, omega (arith, said.1), record { step = said.2.0; here = said.2.1; breaks = said.2.2; names = said.2.3; before = said.3 })
+      | inr said ↦ inr (said.0, omega (arith, said.1), record { step = said.2.0; here = said.2.1; breaks = said.2.2; least = least_at said.0 said.2.0 said.2.2; names = said.2.3; before = said.3 })
     ]
+  where
+    least_at : (place : ℕ) (s : Step) → broken_at t w place s ≡ Some rule → IsLeastBroken (rules_at t w place s) rule
+    least_at place s broken = first_is_least 1 (rules_at t w place s) rule
+        (all_ascend t.header t.lines (take place w.steps) (world_at_end t.header (stamped t.header t.lines (take place w.steps))) s) broken
 
 -- the same of what a function answers
 pub answer_says : {E : Type 0} (t : Trace) (w : Witness) (r : Result Verdict E) → IfOk r (λ v. v ≡ verdict t w) → IfOk r (Says t w)

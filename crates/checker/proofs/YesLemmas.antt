@@ -17,7 +17,7 @@ use Rattle.interval_order.proofs.PlacedFrom.{IsOrderly, placed_from_orderly}
 use Rattle.interval_order.proofs.PlacedTo.{orderly_from_placed}
 use Rattle.hosts.specs.Hosts.{World, Stamped}
 use Rattle.hosts.specs.HostSteps.{start, Lawful}
-use Rattle.hosts.proofs.Placed.{turns}
+use Rattle.hosts.proofs.Turns.{turns}
 use Rattle.machine.specs.Machine.{tcp, tcp_shape}
 use Rattle.checker.specs.Seen.{move_of, moves, act_of, stamped}
 use Rattle.checker.specs.Verdicts.{act_rules, act_after, broken, next_world, verdict, verdict_from, verdict_left, refused_or}

@@ -7,7 +7,7 @@ use Rattle.verdict.specs.declared.report.Verdict.TheVariants.{Yes, No}
 use Rattle.interval_order.specs.Placed.{Placed}
 use Rattle.hosts.specs.Hosts.{Idle}
 use Rattle.hosts.specs.HostSteps.{start, Lawful}
-use Rattle.hosts.specs.Placing.{Turns}
+use Rattle.hosts.specs.Turns.{Turns}
 use Rattle.machine.specs.Machine.{tcp}
 use Rattle.checker.specs.Seen.{moves, stamped}
 

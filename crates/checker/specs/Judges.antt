@@ -1,5 +1,5 @@
 -- What each verdict says of the whole lists: yes, that the steps explain the trace; no, which rule is broken first.
-use Rattle.std.specs.Prelude.{◌≡◌, ℕ, ◌+◌, ◌<◌, ◌⊎◌, Option, None, Some, slice_get, take, not, count_by}
+use Rattle.std.specs.Prelude.{◌≡◌, ℕ, ◌+◌, ◌<◌, ◌⊎◌, Bool, List, Option, None, Some, slice_get, take, not, count_by}
 use Rattle.case_forms.specs.declared.trace.Line.{Line}
 use Rattle.case_forms.specs.declared.trace.Trace.{Trace}
 use Rattle.case_forms.specs.declared.steps.Step.{Step}
@@ -9,20 +9,27 @@ use Rattle.verdict.specs.declared.rule.Rule.TheVariants.{Unplaced}
 use Rattle.verdict.specs.declared.report.Verdict.{Verdict}
 use Rattle.verdict.specs.declared.report.Verdict.TheVariants.{Yes, No}
 use Rattle.interval_order.specs.Orders.{unplaced}
+use Rattle.verdict.specs.Rules.{first_broken}
 use Rattle.machine_laws.specs.Runs.{world_at_end}
+use Rattle.machine_laws.specs.Ascending.{IsLeastBroken}
 use Rattle.checker.specs.Seen.{moves, stamped}
-use Rattle.checker.specs.Verdicts.{broken, takes_line, line_named}
+use Rattle.checker.specs.Verdicts.{all_rules, takes_line, line_named}
 use Rattle.checker.specs.Explains.{Explains}
 
--- the least rule that the step at a place breaks, after the steps before it and in the world that they leave
+-- the rules that are asked of the step at a place, after the steps before it and in the world that they leave
+abbrev pub rules_at : Trace → Witness → ℕ → Step → List (Rule × Bool)
+rules_at t w place s = all_rules t.header t.lines (take place w.steps) (world_at_end t.header (stamped t.header t.lines (take place w.steps))) s
+
+-- the first of them that it breaks
 abbrev pub broken_at : Trace → Witness → ℕ → Step → Option Rule
-broken_at t w place s = broken t.header t.lines (take place w.steps) (world_at_end t.header (stamped t.header t.lines (take place w.steps))) s
+broken_at t w place s = first_broken (rules_at t w place s)
 
 -- the step at that place is the first that breaks a rule; it breaks this one and no lesser one, and names this line
 pub record BreaksFirst (t : Trace) (w : Witness) (place line : ℕ) (rule : Rule) : Type 0 where
   pub step : Step
   pub here : slice_get w.steps place ≡ Some step
   pub breaks : broken_at t w place step ≡ Some rule
+  pub least : IsLeastBroken (rules_at t w place step) rule
   pub names : line ≡ line_named step.label
   pub before : (i : ℕ) (s : Step) → i < place → slice_get w.steps i ≡ Some s → broken_at t w i s ≡ None
 

@@ -7,7 +7,9 @@
 //!
 //! - `replay`: the replay of a witness, and the verdict
 //! - `case`: a case in one text, cut, read and judged
-//! - `laws`: what follows for every trace and witness
+//! - `laws`: what follows for every trace and witness; each law is the contract of a call that does nothing. When a witness
+//!   explains a trace, which line is taken first, who the peer of an endpoint is, what was received, at the end and at each
+//!   moment; what a yes counts, that it stays when the trace is printed and read again, and that it is not the only one
 #![tactic(auto)]
 
 mod case;
@@ -15,5 +17,9 @@ mod laws;
 mod replay;
 
 pub use case::{CaseFault, check_case};
-pub use laws::{earlier_lines_are_taken_first, explained_follows, explained_is_yes};
+pub use laws::{
+    earlier_lines_are_taken_first, explained_follows, explained_is_yes, peers_are_met,
+    streams_at_each_moment, two_witnesses_of_one_trace, verdict_when_read_again,
+    yes_counts_all_lines,
+};
 pub use replay::check;

@@ -1,12 +1,2 @@
-pub mod Turns
-pub mod Joint
 pub mod Entries
-pub mod Rename
-pub mod Halves
-pub mod Stepped
-pub mod Law
-pub mod Order
-pub mod Placed
-pub mod Merged
-pub mod Growing
-pub mod Example
+pub mod Turns

@@ -1,48 +1,61 @@
--- Counting anew: the numbers stay apart, and rise by one.
-use Rattle.std.proofs.Common.{◌≡◌, ℕ, zero, suc, ◌+◌, Bool, true, false, List, [], ◌∷◌, Option, refl, ap, sym, subst, ◌∙◌, arith}
-use Rattle.case_forms.specs.declared.calls.Host.{Host}
-use Rattle.hosts.specs.Merging.{heads, mine, nth, pass}
+-- In a run the calls of each thread take turns.
+use Rattle.std.proofs.Common.{◌≡◌, ℕ, false, List, [], ◌∷◌, None, refl, ap, sym, subst, ◌∙◌}
+use Rattle.std.specs.Prelude.{if◌then◌else◌, nat_eq}
+use Rattle.std.proofs.lemmas.Option.{none-some}
+use Rattle.verdict.specs.declared.rule.Rule.TheVariants as rules
+use Rattle.verdict.specs.Rules.{first_broken}
+use Rattle.verdict.proofs.RuleLemmas.{none_all}
+use Rattle.hosts.specs.Tables.{Both}
+use Rattle.hosts.specs.Hosts.{HostState, Answered, At, Begin, Called, Effect, Finish, Idle, Kernel, Stamped, Step, Turn, World, turn_of}
+use Rattle.hosts.specs.HostRules.{Permitted, aim_of, begin_rules, call_rules, effect_rules, end_rules, just}
+use Rattle.hosts.specs.HostSteps.{Lawful, after, effect_after}
+use Rattle.hosts.specs.Turns.{TakesTurn, Turns}
+use Rattle.hosts.proofs.Entries.{turn_insert}
 
--- different numbers lead to different numbers
-abbrev pub Apart : (ℕ → ℕ) → Type 0
-Apart f = (x y : ℕ) → f x ≡ f y → x ≡ y
+-- what it takes that an effect is permitted: the call is open, and its own rules pass
+pub effect_passes : (k : Kernel) (s : ℕ) (hosts : Both (HostState k.shape)) (u : Turn k.shape) (answer : k.shape.Answer) → first_broken (effect_rules k s hosts u answer) ≡ None
+    → (call : k.shape.Call) × (u ≡ Called call) × (first_broken (call_rules k s hosts call answer (aim_of k hosts (k.aim call))) ≡ None)
+effect_passes k s hosts Idle answer p = absurd (none-some rules.NoCall (sym p))
+effect_passes k s hosts (Called call) answer p = (call, refl, p)
+effect_passes k s hosts (Answered given) answer p = absurd (none-some rules.DoneTwice (sym p))
 
-pass_apart : (b : Bool) (f : ℕ → ℕ) → Apart f → Apart (pass b f)
-pass_apart true f h zero zero e = refl
-pass_apart true f h zero (suc y) e = absurd (omega arith)
-pass_apart true f h (suc x) zero e = absurd (omega arith)
-pass_apart true f h (suc x) (suc y) e = ap suc (h x y (omega arith))
-pass_apart false f h x y e = h x y (omega arith)
+-- turns go on from a turn that is the same
+turns_as : (k : Kernel) (t : ℕ) (xs : List (Stamped k.shape)) (u v : Turn k.shape) → u ≡ v → Turns k t u xs → Turns k t v xs
+turns_as k t xs u v e = subst (λ (u : Turn k.shape). Turns k t u xs) e
 
--- the places of turns are apart
-pub nth_apart : (h : Host) (ms : List (Option Host)) → Apart (nth h ms)
-nth_apart h [] x y e = e
-nth_apart h (m ∷ ms) x y e = pass_apart (mine h m) (nth h ms) (nth_apart h ms) x y e
+-- a call begins in no other
+begins : (k : Kernel) (u : Turn k.shape) → first_broken (begin_rules k u) ≡ None → u ≡ Idle
+begins k Idle p = refl
+begins k (Called c) p = absurd (none-some rules.ThreadBusy (sym p))
+begins k (Answered a) p = absurd (none-some rules.ThreadBusy (sym p))
 
--- from a on, f counts this host's turns, of which the first has the number b
-abbrev pub Counts : (ℕ → ℕ) → ℕ → ℕ → Host → List (Option Host) → Type 0
-Counts f a b h ms = (j : ℕ) → f (a + j) ≡ b + nth h ms j
+-- it ends with the answer of its effect
+ends : (k : Kernel) (u : Turn k.shape) (a : k.shape.Answer) → first_broken (end_rules k u a) ≡ None → (b : k.shape.Answer) × (u ≡ Answered b) × (k.differs b a ≡ false)
+ends k Idle a p = absurd (none-some rules.NoCall (sym p))
+ends k (Called c) a p = absurd (none-some rules.AnswerDiffers (sym p))
+ends k (Answered b) a p = (b, refl, (none_all (just rules.AnswerDiffers (k.differs b a)) p).0)
 
--- a turn of this host's has the number that is counted
-pub counts_mine : (f : ℕ → ℕ) (a b : ℕ) (h : Host) (m : Option Host) (ms : List (Option Host)) → mine h m ≡ true → Counts f a b h (m ∷ ms) → (f a ≡ b) × Counts f (suc a) (suc b) h ms
-counts_mine f a b h m ms is c = go (mine h m) is c
+-- an effect leaves its thread answered, and the others as they were
+turn_effect : (k : Kernel) (t : ℕ) (w : World k.shape) (s n : ℕ) (a : k.shape.Answer) → Permitted k s w (Effect n a) → turn_of k t (after k s w (Effect n a)).threads ≡ (if nat_eq t n then Answered a else turn_of k t w.threads)
+turn_effect k t w s n a p = let o = effect_passes k s w.hosts (turn_of k n w.threads) a p in
+    ap (λ (u : Turn k.shape). turn_of k t (effect_after k s w n a u).threads) o.1 ∙ turn_insert k t n (Answered a) w.threads
+
+-- in a run the calls of each thread take turns
+pub turns : (k : Kernel) (t : ℕ) (w : World k.shape) (xs : List (Stamped k.shape)) → Lawful k w xs → Turns k t (turn_of k t w.threads) xs
+turns k t w [] may = tt
+turns k t w (x ∷ xs) may = go x.moment x.step may.0 (turns k t (after k x.moment w x.step) xs may.1)
   where
-    go : (t : Bool) → t ≡ true → ((j : ℕ) → f (a + j) ≡ b + pass t (nth h ms) j) → (f a ≡ b) × Counts f (suc a) (suc b) h ms
-    go true is c = (
-      let e = c 0 in let z : a + 0 ≡ a = omega arith in subst (λ x. f x ≡ b) z (let w : b + 0 ≡ b = omega arith in e ∙ w),
-      λ j. let z : a + suc j ≡ suc a + j = omega arith in subst (λ x. f x ≡ suc b + nth h ms j) z (let w : b + suc (nth h ms j) ≡ suc b + nth h ms j = omega arith in c (suc j) ∙ w),
+    go : (s : ℕ) (step : Step k.shape) → Permitted k s w step → Turns k t (turn_of k t (after k s w step).threads) xs → TakesTurn k t (turn_of k t w.threads) step (λ u. Turns k t u xs)
+    go s (Begin line n c) p rest = (
+      λ is. begins k (turn_of k t w.threads) (subst (λ (v : ℕ). first_broken (begin_rules k (turn_of k v w.threads)) ≡ None) (sym is) p),
+      turns_as k t xs _ _ (turn_insert k t n (Called c) w.threads) rest,
     )
-    go false is c = absurd (cc)
-
--- a turn that is not this host's moves the count on
-pub counts_other : (f : ℕ → ℕ) (a b : ℕ) (h : Host) (m : Option Host) (ms : List (Option Host)) → mine h m ≡ false → Counts f a b h (m ∷ ms) → Counts f a (suc b) h ms
-counts_other f a b h m ms is c = go (mine h m) is c
-  where
-    go : (t : Bool) → t ≡ false → ((j : ℕ) → f (a + j) ≡ b + pass t (nth h ms) j) → Counts f a (suc b) h ms
-    go true is c = absurd (cc)
-    go false is c = λ j. let e = c j in omega arith
-
--- behind n turns of everybody, turns are counted from n on
-pub nth_heads : (h : Host) (n : ℕ) (ms : List (Option Host)) → Counts (nth h (heads n ms)) n n h ms
-nth_heads h zero ms j = let z : zero + j ≡ j = omega arith in subst (λ x. nth h ms x ≡ zero + nth h ms j) (sym z) (omega arith)
-nth_heads h (suc n) ms j = let z : suc n + j ≡ suc (n + j) = omega arith in subst (λ x. pass true (nth h (heads n ms)) x ≡ suc n + nth h ms j) (sym z) (let e = nth_heads h n ms j in omega arith)
+    go s (Finish line n a) p rest = (
+      λ is. ends k (turn_of k t w.threads) a (subst (λ (v : ℕ). first_broken (end_rules k (turn_of k v w.threads) a) ≡ None) (sym is) p),
+      turns_as k t xs _ _ (turn_insert k t n Idle w.threads) rest,
+    )
+    go s (Effect n a) p rest = (
+      λ is. let o = effect_passes k s w.hosts (turn_of k n w.threads) a p in (o.0, ap (λ (v : ℕ). turn_of k v w.threads) is ∙ o.1),
+      turns_as k t xs _ _ (turn_effect k t w s n a p) rest,
+    )
+    go s (At side d) p rest = rest

@@ -8,11 +8,6 @@
 //!
 //! - `specs/Tables`, `specs/Hosts`: tables of entries by number; what a kernel gives, hosts, threads, worlds and steps
 //! - `specs/HostRules`, `specs/HostSteps`: which rules a step breaks, and the world after it
-//! - `specs/Books`: what one host's recorder keeps, a run of that host with the segments that the other host brought
-//! - `specs/Merging`, `specs/Keys`: two books told in the order of their keys, with lines and made segments counted anew
-//! - `specs/Placing`: a trace's lines, and when steps explain them
-//!
-//! The law, that two books merged are a run of both hosts and explain the lines that they take, holds for every kernel.
-//! A clause can't range over kernels, so it stands as the lemma `explains` in `proofs/Merged`; a crate above says it of its
-//! kernel in a contract. `proofs/Example` has two books of a small kernel, and their merge.
+//! - `specs/Turns`: in each thread the beginning of a call, one effect and the end take turns; `proofs/Turns` has that they do
+//!   in every run
 #![tactic(auto)]

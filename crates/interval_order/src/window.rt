@@ -73,7 +73,9 @@ impl Window {
         }
     }
 
-    /// One more line of the trace. Where memory runs out the window is as it was.
+    /// One more line of the trace, at its end: its number is the next one, `first_event_line` of the header for the first line
+    /// and one more for each after it, up to 2^64 - 2, and its moment is not below that of any line that waits. Where memory
+    /// runs out the window is as it was.
     pub fn offer(&mut self, line: Line) -> Result<(), OutOfMemory>
         requires number { line.number ≡ self.old.next }
         requires room { self.old.next + 1 < 2 ^ 64 }

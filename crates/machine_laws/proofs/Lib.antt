@@ -22,3 +22,5 @@ pub mod ForgetCalls
 pub mod ForgetActs
 pub mod ForgetWorlds
 pub mod ForgetRuns
+pub mod Ascending
+pub mod Old

@@ -6,6 +6,7 @@ use Rattle.std.specs.Map.{lookup}
 use Rattle.std.proofs.lemmas.Option.{none-some, same_Some}
 use Rattle.case_forms.specs.declared.trace.Header.{Header}
 use Rattle.case_forms.specs.declared.calls.Host.{Host}
+use Rattle.case_forms.specs.declared.calls.Host.TheVariants as hosts
 use Rattle.case_forms.specs.declared.calls.Call.{Call}
 use Rattle.case_forms.specs.declared.calls.Call.TheVariants as calls
 use Rattle.case_forms.specs.declared.calls.Answer.{Answer}
@@ -21,7 +22,7 @@ use Rattle.window_rules.specs.Windows.{greatest_window as greatest_value}
 use Rattle.window_rules.specs.Losses.{halved, recovery_window}
 use Rattle.streams.specs.Lists.{modify}
 use Rattle.streams.proofs.Places.{get_append, all_push, all_modify}
-use Rattle.hosts.specs.Tables.{pick, other, with_host, waiting}
+use Rattle.hosts.specs.Tables.{pick, other, with_host, waiting, on, settled}
 use Rattle.hosts.specs.Hosts.{HostState, Turn, Idle, Called, Answered, World, Deed, Does, Expires, Makes, Sends, Gets, Takes, Drops, Answers, Step, Begin, Finish, Effect, At, turn_of}
 use Rattle.hosts.specs.HostRules.{aim_of, Permitted}
 use Rattle.hosts.specs.HostSteps.{deed_after, call_after, effect_after, after}
@@ -41,15 +42,23 @@ use Rattle.machine.specs.Meeting.{Taker, Nobody, AtListener, AtEndpoint, taker, 
 use Rattle.machine.specs.Timing.{Expiry, Growth, Recovery, greatest_values, expiry_rules, after_expiry, recovery_rules, after_recovery}
 use Rattle.machine.specs.Machine.{Calls, rules_at, tcp, tcp_shape, aim}
 use Rattle.machine_laws.specs.Consequences.{find}
-use Rattle.machine_laws.specs.Bounds.{greatest_taking, WindowsMove, stayed, taken, expired, recovers, WindowsFollow}
+use Rattle.machine_laws.specs.Bounds.{greatest_taking, TakesThere, TimesOut, Recovers, Leaves, WindowsFollow}
 use Rattle.machine_laws.proofs.Rules.{on_passes, on_cases, map_or_cases, neither, at_most_from}
 use Rattle.machine_laws.proofs.Later.{Hosts, name}
 use Rattle.machine_laws.proofs.Moves.{with_cases, modify_each, map_onward, map_back}
 use Rattle.machine_laws.proofs.Takes.{taker_there}
+use Rattle.machine_laws.proofs.Sound.{modify_here}
 
 -- an endpoint begins so
 abbrev Begins : Endpoint → Type 0
 Begins f = (f.congestion.cwnd ≡ 0) × (f.congestion.ssthresh ≡ greatest_value)
+
+-- both windows stay, or the step is of a kind that may change them
+data WindowsMove (w : World tcp_shape) (step : Step tcp_shape) (me : Name) (e f : Endpoint) : Type 0 where
+  stayed : f.congestion.cwnd ≡ e.congestion.cwnd → f.congestion.ssthresh ≡ e.congestion.ssthresh → WindowsMove w step me e f
+  taken : (m : Emission) → TakesThere w step me e m → WindowsMove w step me e f
+  expired : TimesOut w step me → WindowsMove w step me e f
+  recovered : Recovers w step me → WindowsMove w step me e f
 
 -- the endpoints of a host after a step
 record Follows (w : World tcp_shape) (step : Step tcp_shape) (host : Host) (es fs : List Endpoint) : Type 0 where
@@ -99,26 +108,15 @@ unmoved w step me e f same = stayed (ap (λ c. c.cwnd) same) (ap (λ c. c.ssthre
 
 -- 1. what hosts do
 
-expiry_moves : (h : Header) (s : ℕ) (w : World tcp_shape) (host : Host) (line : ℕ) (x : Expiry) (growth : Growth) (i : ℕ) (e : Endpoint) → place_of (pick w.hosts host).body x.lport x.rport ≡ Some i → first_broken (expiry_rules h s e x.timer growth) ≡ None
+expiry_moves : (w : World tcp_shape) (s : ℕ) (host : Host) (line : ℕ) (x : Expiry) (growth : Growth) (i : ℕ) (e : Endpoint) → place_of (pick w.hosts host).body x.lport x.rport ≡ Some i
     → WindowsMove w (At host (Expires line x growth)) (name host i) e (after_expiry e x.timer growth s)
-expiry_moves h s w host line x growth i e at may = go x.timer refl may
+expiry_moves w s host line x growth i e at = go x.timer refl
   where
-    go : (timer : Timer) → x.timer ≡ timer → first_broken (expiry_rules h s e timer growth) ≡ None → WindowsMove w (At host (Expires line x growth)) (name host i) e (after_expiry e timer growth s)
-    go Rto is may =
-        let t = none_all (expiry_rules h s e Rto growth) may in
-        let parts = neither (nat_lt ((greatest_values e).0) growth.cwnd) (nat_lt ((greatest_values e).1) growth.ssthresh) t.1.0 in
-        expired line x growth refl is at (at_most_from ((greatest_values e).0) growth.cwnd parts.0) (at_most_from ((greatest_values e).1) growth.ssthresh parts.1)
-    go Persist is may = stayed refl refl
-    go Msl2 is may = stayed refl refl
-    go Giveup is may = stayed refl refl
-
-recovery_moves : (w : World tcp_shape) (host : Host) (x : Recovery) (i : ℕ) (e : Endpoint) → place_of (pick w.hosts host).body x.lport x.rport ≡ Some i → first_broken (recovery_rules e x.cwnd x.ssthresh) ≡ None
-    → WindowsMove w (At host (Does x)) (name host i) e (after_recovery e x.cwnd x.ssthresh)
-recovery_moves w host x i e at may =
-    let t = none_all (recovery_rules e x.cwnd x.ssthresh) may in
-    let last = neither (nat_lt e.congestion.dup 3 || e.congestion.fast || e.stream.una == max_made e || nat_lt (halved e.congestion (flight e)) x.ssthresh) (nat_lt (recovery_window e.congestion x.ssthresh) x.cwnd) t.1.1.0 in
-    let threshold = neither (nat_lt e.congestion.dup 3 || e.congestion.fast || e.stream.una == max_made e) (nat_lt (halved e.congestion (flight e)) x.ssthresh) last.0 in
-    recovers x refl at (at_most_from (halved e.congestion (flight e)) x.ssthresh threshold.1) (at_most_from (recovery_window e.congestion x.ssthresh) x.cwnd last.1)
+    go : (timer : Timer) → x.timer ≡ timer → WindowsMove w (At host (Expires line x growth)) (name host i) e (after_expiry e timer growth s)
+    go Rto is = expired (line, x, growth, refl, is, at)
+    go Persist is = stayed refl refl
+    go Msl2 is = stayed refl refl
+    go Giveup is = stayed refl refl
 
 -- the windows of who took a segment are those chosen
 chosen : (h : Header) (e : Endpoint) (how : How) (m : Emission) (moment : ℕ) → ((endpoint_taken h e how m moment).congestion.cwnd ≡ how.cwnd) × ((endpoint_taken h e how m moment).congestion.ssthresh ≡ e.congestion.ssthresh)
@@ -152,19 +150,16 @@ follows_taking h s w host line how m waits may = go (taker (pick w.hosts host).b
     go (AtEndpoint i e) is may = follows_one w (At host (Takes line how)) host b.endpoints i (λ x. endpoint_taken h x how m s)
         (λ x there.
         let one : e ≡ x = same_Some e x (sym (taker_there b m i e is) ∙ there) in
-        let greatest = allowed h b (name host i) e how m may in
-        let value = chosen h x how m s in
-        taken line how m refl waits (is ∙ ap (λ (y : Endpoint). AtEndpoint i y) one)
-        (subst (λ k. k ≤ greatest_taking x m) (sym value.0) (subst (λ (y : Endpoint). how.cwnd ≤ greatest_taking y m) one greatest)) value.1)
+        taken m (line, how, refl, waits, is ∙ ap (λ (y : Endpoint). AtEndpoint i y) one))
 
 follows_deed : (h : Header) (s : ℕ) (w : World tcp_shape) (host : Host) (d : Deed tcp_shape) → Permitted (tcp h) s w (At host d)
     → Follows w (At host d) host (pick w.hosts host).body.endpoints (deed_after (tcp h) host s (suc w.count) (pick w.hosts (other host)).wire (pick w.hosts host) d).body.endpoints
 follows_deed h s w host (Does x) may = let b = (pick w.hosts host).body in
     follows_at_ports w (At host (Does x)) host b x.lport x.rport (λ e. after_recovery e x.cwnd x.ssthresh)
-    (λ i e at there. recovery_moves w host x i e at (rules_there b x.lport x.rport i e (λ e. recovery_rules e x.cwnd x.ssthresh) at there may))
+    (λ i e at there. recovered (x, refl, at))
 follows_deed h s w host (Expires line x growth) may = let b = (pick w.hosts host).body in
     follows_at_ports w (At host (Expires line x growth)) host b x.lport x.rport (λ e. after_expiry e x.timer growth s)
-    (λ i e at there. expiry_moves h s w host line x growth i e at (rules_there b x.lport x.rport i e (λ e. expiry_rules h s e x.timer growth) at there may))
+    (λ i e at there. expiry_moves w s host line x growth i e at)
 follows_deed h s w host (Makes m) may = let b = (pick w.hosts host).body in
     follows_at_ports w (At host (Makes m)) host b m.lport m.rport (λ e. after_making e m s)
     (λ i e at there. unmoved w (At host (Makes m)) (name host i) e (after_making e m s) (either_windows m.flags.rst (record (shut_down (endpoint_made e m s)) { reset_due = false }) (endpoint_made e m s) e refl refl))
@@ -246,8 +241,116 @@ both_step h s w (Effect t answer) may = go (turn_of (tcp h) t w.threads)
     go (Answered x) = both_not w (Effect t answer)
 both_step h s w (At host d) may = both_host w (At host d) host (deed_after (tcp h) host s (suc w.count) (pick w.hosts (other host)).wire (pick w.hosts host) d) (follows_deed h s w host d may)
 
+-- 4. what the steps that may change windows leave
+
+pick_with : (both : Hosts) (host : Host) (k : HostState tcp_shape) → pick (with_host both host k) host ≡ k
+pick_with both hosts.Zero k = refl
+pick_with both hosts.One k = refl
+
+-- where the endpoint of some ports changes, it is there then
+at_ports_there : (w : World tcp_shape) (host : Host) (lport rport i : ℕ) (e : Endpoint) (step : Endpoint → Endpoint)
+    → place_of (pick w.hosts host).body lport rport ≡ Some i → slice_get (pick w.hosts host).body.endpoints i ≡ Some e
+    → find (with_host w.hosts host (record (pick w.hosts host) { body = at_ports (pick w.hosts host).body lport rport step })) (name host i) ≡ Some (step e)
+at_ports_there w host lport rport i e step at there =
+    let b = (pick w.hosts host).body in
+    ap (λ (k : HostState tcp_shape). slice_get k.body.endpoints i) (pick_with w.hosts host (record (pick w.hosts host) { body = at_ports b lport rport step }))
+    ∙ (ap (λ (o : Option ℕ). slice_get (option_map_or (λ j. with_endpoint b j step) o b).endpoints i) at ∙ modify_here step b.endpoints i e there)
+
+timeout_leaves : (h : Header) (s : ℕ) (w : World tcp_shape) (host : Host) (line : ℕ) (x : Expiry) (growth : Growth) (i : ℕ) (e : Endpoint)
+    → Permitted (tcp h) s w (At host (Expires line x growth)) → x.timer ≡ Rto
+    → place_of (pick w.hosts host).body x.lport x.rport ≡ Some i → slice_get (pick w.hosts host).body.endpoints i ≡ Some e
+    → Leaves h s w (At host (Expires line x growth)) (name host i) (λ c. (c.cwnd ≤ (greatest_values e).0) × (c.ssthresh ≤ (greatest_values e).1))
+timeout_leaves h s w host line x growth i e may is at there = subst Bound (sym is) (after_expiry e Rto growth s, at_ports_there w host x.lport x.rport i e (λ e. after_expiry e Rto growth s) at there, bound)
+  where
+    b : Body
+    b = (pick w.hosts host).body
+
+    Bound : Timer → Type 0
+    Bound t = (f : Endpoint)
+        × (find (with_host w.hosts host (record (pick w.hosts host) { body = at_ports b x.lport x.rport (λ e. after_expiry e t growth s) })) (name host i) ≡ Some f)
+        × ((f.congestion.cwnd ≤ (greatest_values e).0) × (f.congestion.ssthresh ≤ (greatest_values e).1))
+
+    mine : first_broken (expiry_rules h s e Rto growth) ≡ None
+    mine = subst (λ (t : Timer). first_broken (expiry_rules h s e t growth) ≡ None) is (rules_there b x.lport x.rport i e (λ e. expiry_rules h s e x.timer growth) at there may)
+
+    bound : (growth.cwnd ≤ (greatest_values e).0) × (growth.ssthresh ≤ (greatest_values e).1)
+    bound =
+        let t = none_all (expiry_rules h s e Rto growth) mine in
+        let parts = neither (nat_lt ((greatest_values e).0) growth.cwnd) (nat_lt ((greatest_values e).1) growth.ssthresh) t.1.0 in
+        (at_most_from ((greatest_values e).0) growth.cwnd parts.0, at_most_from ((greatest_values e).1) growth.ssthresh parts.1)
+
+taking_leaves : (h : Header) (s : ℕ) (w : World tcp_shape) (host : Host) (line : ℕ) (how : How) (m : Emission) (i : ℕ) (e : Endpoint)
+    → Permitted (tcp h) s w (At host (Takes line how))
+    → waiting line (pick w.hosts host).inbox ≡ Some m → taker (pick w.hosts host).body m ≡ AtEndpoint i e
+    → Leaves h s w (At host (Takes line how)) (name host i) (λ c. (c.cwnd ≤ greatest_taking e m) × (c.ssthresh ≡ e.congestion.ssthresh))
+taking_leaves h s w host line how m i e may waits is = (endpoint_taken h e how m s, left, (subst (λ k. k ≤ greatest_taking e m) (sym value.0) (allowed h b (name host i) e how m mine), value.1))
+  where
+    k : HostState tcp_shape
+    k = pick w.hosts host
+
+    b : Body
+    b = k.body
+
+    value : ((endpoint_taken h e how m s).congestion.cwnd ≡ how.cwnd) × ((endpoint_taken h e how m s).congestion.ssthresh ≡ e.congestion.ssthresh)
+    value = chosen h e how m s
+
+    passed : first_broken (taker_rules h host b how m (taker b m)) ≡ None
+    passed =
+        let t = on_passes (waiting line k.inbox) rules.Inbox (λ x. taker_rules h host b how x (taker b x)) may in
+        let one : t.0 ≡ m = same_Some t.0 m (sym t.1 ∙ waits) in
+        subst (λ (x : Emission). first_broken (taker_rules h host b how x (taker b x)) ≡ None) one t.2
+
+    mine : first_broken (if is_syn_sent e.state then syn_sent_rules e how m else connected_rules h b (name host i) e how m) ≡ None
+    mine = subst (λ (t : Taker). first_broken (taker_rules h host b how m t) ≡ None) is passed
+
+    here : slice_get (after_taking h b how m s (taker b m)).endpoints i ≡ Some (endpoint_taken h e how m s)
+    here = ap (λ (t : Taker). slice_get (after_taking h b how m s t).endpoints i) is
+        ∙ modify_here (λ x. endpoint_taken h x how m s) b.endpoints i e (taker_there b m i e is)
+
+    left : find (after (tcp h) s w (At host (Takes line how))).hosts (name host i) ≡ Some (endpoint_taken h e how m s)
+    left = ap (λ (x : HostState tcp_shape). slice_get x.body.endpoints i) (pick_with w.hosts host (deed_after (tcp h) host s (suc w.count) (pick w.hosts (other host)).wire k (Takes line how)))
+        ∙ (ap (λ (o : Option Emission). slice_get (on o k (λ y. record k { body = after_taking h b how y s (taker b y); inbox = settled line k.inbox })).body.endpoints i) waits ∙ here)
+
+recovery_leaves : (h : Header) (s : ℕ) (w : World tcp_shape) (host : Host) (x : Recovery) (i : ℕ) (e : Endpoint) → Permitted (tcp h) s w (At host (Does x))
+    → place_of (pick w.hosts host).body x.lport x.rport ≡ Some i → slice_get (pick w.hosts host).body.endpoints i ≡ Some e
+    → Leaves h s w (At host (Does x)) (name host i) (λ c. (c.ssthresh ≤ halved e.congestion (flight e)) × (c.cwnd ≤ recovery_window e.congestion c.ssthresh))
+recovery_leaves h s w host x i e may at there = (after_recovery e x.cwnd x.ssthresh, at_ports_there w host x.lport x.rport i e (λ e. after_recovery e x.cwnd x.ssthresh) at there, bound)
+  where
+    bound : (x.ssthresh ≤ halved e.congestion (flight e)) × (x.cwnd ≤ recovery_window e.congestion x.ssthresh)
+    bound =
+        let mine = rules_there (pick w.hosts host).body x.lport x.rport i e (λ e. recovery_rules e x.cwnd x.ssthresh) at there may in
+        let t = none_all (recovery_rules e x.cwnd x.ssthresh) mine in
+        let last = neither (nat_lt e.congestion.dup 3 || e.congestion.fast || e.stream.una == max_made e || nat_lt (halved e.congestion (flight e)) x.ssthresh) (nat_lt (recovery_window e.congestion x.ssthresh) x.cwnd) t.1.1.0 in
+        let threshold = neither (nat_lt e.congestion.dup 3 || e.congestion.fast || e.stream.una == max_made e) (nat_lt (halved e.congestion (flight e)) x.ssthresh) last.0 in
+        (at_most_from (halved e.congestion (flight e)) x.ssthresh threshold.1, at_most_from (recovery_window e.congestion x.ssthresh) x.cwnd last.1)
+
+-- a step of no such kind leaves both as they are
+others_stay : (h : Header) (s : ℕ) (w : World tcp_shape) (step : Step tcp_shape) (me : Name) (e : Endpoint) → (f : Endpoint)
+    × (find (after (tcp h) s w step).hosts me ≡ Some f) × WindowsMove w step me e f
+    → ((m : Emission) → TakesThere w step me e m → ⊥) → (TimesOut w step me → ⊥) → (Recovers w step me → ⊥)
+    → Leaves h s w step me (λ c. (c.cwnd ≡ e.congestion.cwnd) × (c.ssthresh ≡ e.congestion.ssthresh))
+others_stay h s w step me e x no_taking no_timeout no_recovery = (x.0, x.1, go x.2)
+  where
+    go : WindowsMove w step me e x.0 → (x.0.congestion.cwnd ≡ e.congestion.cwnd) × (x.0.congestion.ssthresh ≡ e.congestion.ssthresh)
+    go (stayed c t) = (c, t)
+    go (taken m a) = absurd (no_taking m a)
+    go (expired a) = absurd (no_timeout a)
+    go (recovered a) = absurd (no_recovery a)
+
 pub follow : (h : Header) (s : ℕ) (w : World tcp_shape) (step : Step tcp_shape) → Permitted (tcp h) s w step → WindowsFollow h s w step
-follow h s w step may = record { moves = λ me e at. (all me.host).onward me.number e at; begins = λ me f none at. from me f none ((all me.host).back me.number f at) }
+follow h s w step may = record {
+  takes =
+      λ me e m there a. subst (λ (y : Step tcp_shape). Leaves h s w y me (λ c. (c.cwnd ≤ greatest_taking e m) × (c.ssthresh ≡ e.congestion.ssthresh))) (sym a.2)
+      (taking_leaves h s w me.host a.0 a.1 m me.number e (subst (λ (y : Step tcp_shape). Permitted (tcp h) s w y) a.2 may) a.3 a.4);
+  times_out =
+      λ me e there a. subst (λ (y : Step tcp_shape). Leaves h s w y me (λ c. (c.cwnd ≤ (greatest_values e).0) × (c.ssthresh ≤ (greatest_values e).1))) (sym a.3)
+      (timeout_leaves h s w me.host a.0 a.1 a.2 me.number e (subst (λ (y : Step tcp_shape). Permitted (tcp h) s w y) a.3 may) a.4 a.5 there);
+  recovers =
+      λ me e there a. subst (λ (y : Step tcp_shape). Leaves h s w y me (λ c. (c.ssthresh ≤ halved e.congestion (flight e)) × (c.cwnd ≤ recovery_window e.congestion c.ssthresh))) (sym a.1)
+      (recovery_leaves h s w me.host a.0 me.number e (subst (λ (y : Step tcp_shape). Permitted (tcp h) s w y) a.1 may) a.2 there);
+  stays = λ me e there no_taking no_timeout no_recovery. others_stay h s w step me e ((all me.host).onward me.number e there) no_taking no_timeout no_recovery;
+  begins = λ me f none at. from me f none ((all me.host).back me.number f at);
+}
   where
     all : (x : Host) → Follows w step x (pick w.hosts x).body.endpoints (pick (after (tcp h) s w step).hosts x).body.endpoints
     all = (both_step h s w step may).all

@@ -3,6 +3,7 @@ use Rattle.std.specs.Prelude.{◌≡◌, ◌<◌, ◌≤◌, ℕ, ◌+◌, if◌
 use Rattle.case_forms.specs.declared.trace.Header.{Header}
 use Rattle.case_forms.specs.declared.calls.Host.{Host}
 use Rattle.case_forms.specs.declared.timer.Timer.TheVariants.{Rto}
+use Rattle.window_rules.specs.declared.congestion.Congestion.{Congestion}
 use Rattle.window_rules.specs.Windows.{greatest_window as greatest_value, offered_edge, congestion_edge}
 use Rattle.window_rules.specs.Losses.{halved, recovery_window}
 use Rattle.hosts.specs.Tables.{pick, waiting}
@@ -36,17 +37,39 @@ NewDataFits w host m = (e : Endpoint) × (endpoint_of (pick w.hosts host).body m
 abbrev pub greatest_taking : Endpoint → Emission → ℕ
 greatest_taking e m = if is_syn_sent e.state then greatest_at_syn e m else greatest_window e m
 
--- what a step makes of an endpoint's windows: nothing; or it takes a segment at the endpoint; or it is an expiry of its retransmission timer; or its fast recovery begins
-pub data WindowsMove (w : World tcp_shape) (step : Step tcp_shape) (me : Name) (e f : Endpoint) : Type 0 where
-  stayed : f.congestion.cwnd ≡ e.congestion.cwnd → f.congestion.ssthresh ≡ e.congestion.ssthresh → WindowsMove w step me e f
-  taken : (line : ℕ) (how : How) (m : Emission) → step ≡ At me.host (Takes line how) → waiting line (pick w.hosts me.host).inbox ≡ Some m → taker (pick w.hosts me.host).body m ≡ AtEndpoint me.number e
-      → f.congestion.cwnd ≤ greatest_taking e m → f.congestion.ssthresh ≡ e.congestion.ssthresh → WindowsMove w step me e f
-  expired : (line : ℕ) (x : Expiry) (growth : Growth) → step ≡ At me.host (Expires line x growth) → x.timer ≡ Rto → place_of (pick w.hosts me.host).body x.lport x.rport ≡ Some me.number
-      → f.congestion.cwnd ≤ (greatest_values e).0 → f.congestion.ssthresh ≤ (greatest_values e).1 → WindowsMove w step me e f
-  recovers : (x : Recovery) → step ≡ At me.host (Does x) → place_of (pick w.hosts me.host).body x.lport x.rport ≡ Some me.number
-      → f.congestion.ssthresh ≤ halved e.congestion (flight e) → f.congestion.cwnd ≤ recovery_window e.congestion f.congestion.ssthresh → WindowsMove w step me e f
+-- the step takes this segment, which waits for it, at the endpoint
+abbrev pub TakesThere : World tcp_shape → Step tcp_shape → Name → Endpoint → Emission → Type 0
+TakesThere w step me e m = (line : ℕ) × (how : How) × (step ≡ At me.host (Takes line how))
+    × (waiting line (pick w.hosts me.host).inbox ≡ Some m) × (taker (pick w.hosts me.host).body m ≡ AtEndpoint me.number e)
 
--- a step moves the windows of endpoints that were there so, and a new endpoint begins with no congestion window and the greatest threshold
+-- the step is an expiry of the retransmission timer of the endpoint's ports
+abbrev pub TimesOut : World tcp_shape → Step tcp_shape → Name → Type 0
+TimesOut w step me = (line : ℕ) × (x : Expiry) × (growth : Growth) × (step ≡ At me.host (Expires line x growth)) × (x.timer ≡ Rto)
+    × (place_of (pick w.hosts me.host).body x.lport x.rport ≡ Some me.number)
+
+-- the step begins fast recovery at the endpoint of these ports
+abbrev pub Recovers : World tcp_shape → Step tcp_shape → Name → Type 0
+Recovers w step me = (x : Recovery) × (step ≡ At me.host (Does x)) × (place_of (pick w.hosts me.host).body x.lport x.rport ≡ Some me.number)
+
+-- after the step the endpoint is there, and this holds of its congestion window and slow start threshold
+abbrev pub Leaves : Header → ℕ → World tcp_shape → Step tcp_shape → Name → (Congestion → Type 0) → Type 0
+Leaves h moment w step me P = (f : Endpoint) × (find (after (tcp h) moment w step).hosts me ≡ Some f) × P f.congestion
+
+-- what a step makes of the windows of the endpoints that are there, and with which windows a new one begins
 pub record WindowsFollow (h : Header) (moment : ℕ) (w : World tcp_shape) (step : Step tcp_shape) : Type 0 where
-  pub moves : (me : Name) (e : Endpoint) → find w.hosts me ≡ Some e → (f : Endpoint) × (find (after (tcp h) moment w step).hosts me ≡ Some f) × WindowsMove w step me e f
-  pub begins : (me : Name) (f : Endpoint) → find w.hosts me ≡ None → find (after (tcp h) moment w step).hosts me ≡ Some f → (f.congestion.cwnd ≡ 0) × (f.congestion.ssthresh ≡ greatest_value)
+  -- where a segment is taken, cwnd is at most the greatest that this allows, and ssthresh stays
+  pub takes : (me : Name) (e : Endpoint) (m : Emission) → find w.hosts me ≡ Some e → TakesThere w step me e m
+      → Leaves h moment w step me (λ c. (c.cwnd ≤ greatest_taking e m) × (c.ssthresh ≡ e.congestion.ssthresh))
+  -- where the retransmission timer expires, both are at most the greatest that a timeout allows
+  pub times_out : (me : Name) (e : Endpoint) → find w.hosts me ≡ Some e → TimesOut w step me
+      → Leaves h moment w step me (λ c. (c.cwnd ≤ (greatest_values e).0) × (c.ssthresh ≤ (greatest_values e).1))
+  -- where fast recovery begins, ssthresh is at most half the flight, or two segments, and cwnd at most that with a segment more for each duplicate
+  pub recovers : (me : Name) (e : Endpoint) → find w.hosts me ≡ Some e → Recovers w step me
+      → Leaves h moment w step me (λ c. (c.ssthresh ≤ halved e.congestion (flight e)) × (c.cwnd ≤ recovery_window e.congestion c.ssthresh))
+  -- every other step leaves both as they are
+  pub stays : (me : Name) (e : Endpoint) → find w.hosts me ≡ Some e
+      → ((m : Emission) → TakesThere w step me e m → ⊥) → (TimesOut w step me → ⊥) → (Recovers w step me → ⊥)
+      → Leaves h moment w step me (λ c. (c.cwnd ≡ e.congestion.cwnd) × (c.ssthresh ≡ e.congestion.ssthresh))
+  -- a new endpoint begins with no congestion window and the greatest threshold
+  pub begins : (me : Name) (f : Endpoint) → find w.hosts me ≡ None → find (after (tcp h) moment w step).hosts me ≡ Some f
+      → (f.congestion.cwnd ≡ 0) × (f.congestion.ssthresh ≡ greatest_value)

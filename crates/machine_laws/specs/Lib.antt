@@ -2,3 +2,4 @@ pub mod Runs
 pub mod Consequences
 pub mod Bounds
 pub mod ForgettingLaws
+pub mod Ascending

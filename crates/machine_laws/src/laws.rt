@@ -1,15 +1,20 @@
 //! The consequences of every run, for callers that prove more.
 
-ghost use Rattle.std.specs.Prelude.{List, ℕ, ◌≡◌};
+ghost use Rattle.std.specs.Prelude.{List, ℕ, ◌+◌, ◌^◌, ◌<◌, ◌≡◌, false, true};
 ghost use Rattle.case_forms.specs.declared.trace.Header.{Header};
 ghost use Rattle.case_forms.specs.declared.calls.Host.{Host};
 ghost use Rattle.hosts.specs.Hosts.{At, Makes, Stamped, Step, World};
 ghost use Rattle.hosts.specs.HostRules.{Permitted};
 ghost use Rattle.hosts.specs.HostSteps.{Lawful, start};
+ghost use Rattle.machine.specs.declared.endpoint.Emission.{Emission};
+ghost use Rattle.machine.specs.declared.endpoint.Endpoint.{Endpoint};
+ghost use Rattle.machine.specs.Endpoints.{next};
+ghost use Rattle.machine.specs.TakingRules.{is_bad_number};
 ghost use Rattle.machine.specs.declared.making.Making.{Making};
 ghost use Rattle.machine.specs.Machine.{tcp, tcp_shape};
 ghost use Rattle.machine_laws.specs.Runs.{world_at_end};
 ghost use Rattle.machine_laws.specs.Bounds.{NewDataFits, WindowsFollow};
+ghost use Rattle.machine_laws.specs.Ascending.{RulesAscend};
 ghost use Rattle.machine_laws.specs.Consequences.{ReceivedIsAPrefix, EndIsWhole, AcknowledgedWasTaken};
 
 /// What the reads on a socket number were told is how the bytes that its peer's sends accepted begin.
@@ -33,8 +38,20 @@ pub fn new_data_fits()
     ensures { (h : Header) (moment : ℕ) (w : World tcp_shape) (host : Host) (m : Making) → Permitted (tcp h) moment w (At host (Makes m)) → NewDataFits w host m }
 {}
 
-/// The congestion window and the slow start threshold change by taking a segment, by an expiry of the retransmission
-/// timer and by the beginning of fast recovery alone, and stay at or below what these allow.
+/// Taking a segment, an expiry of the retransmission timer and the beginning of fast recovery leave the congestion window and
+/// the slow start threshold at or below what they allow, also where a loss lowers it; every other step leaves both as they are.
 pub fn windows_follow()
     ensures { (h : Header) (moment : ℕ) (w : World tcp_shape) (step : Step tcp_shape) → Permitted (tcp h) moment w step → WindowsFollow h moment w step }
+{}
+
+/// The machine's rules of each step stand in the order of their numbers, behind the six of order, so the first that is broken
+/// is the least.
+pub fn rules_ascend()
+    ensures { RulesAscend }
+{}
+
+/// A copy of a segment that begins more than half the number space below the next position expected is refused: its sequence
+/// number doesn't read as its position any more (RFC 9293, 3.4).
+pub fn old_copies_are_refused()
+    ensures { (e : Endpoint) (m : Emission) → m.answers ≡ false → m.pos + 2 ^ 31 < next e → is_bad_number e m ≡ true }
 {}

@@ -13,8 +13,8 @@ use Rattle.verdict.specs.Rules.{first_broken}
 use Rattle.hosts.specs.Tables.{host_is, lane, on, pick}
 use Rattle.hosts.specs.Hosts.{Aim, ThatHost, ThatSocket, Turn, Idle, Called, Answered, World, Step, Begin, Finish, Effect, At, turn_of}
 use Rattle.hosts.specs.HostRules.{step_rules}
-use Rattle.hosts.specs.Books.{Aims, FitsItem, HostRun, Item, Do, Bring, Key, OwnStep, item_line, next}
-use Rattle.hosts.specs.Keys.{EachEntry, KeysRise, before}
+use Rattle.recordings.specs.Books.{Aims, FitsItem, HostRun, Item, Do, Bring, Key, OwnStep, item_line, next}
+use Rattle.recordings.specs.Keys.{EachEntry, KeysRise, before}
 use Rattle.machine.specs.declared.endpoint.Socket.{Socket}
 use Rattle.machine.specs.Machine.{aim, gives, tcp, tcp_shape}
 use Rattle.recordings.specs.Recordings.{TcpEntry}

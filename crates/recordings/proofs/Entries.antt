@@ -7,7 +7,7 @@ use Rattle.case_forms.specs.declared.trace.Header.{Header}
 use Rattle.case_forms.specs.declared.trace.Wire.{Wire}
 use Rattle.machine.proofs.Telling as telling
 use Rattle.hosts.specs.Hosts.{Stamped, Step}
-use Rattle.hosts.specs.Books.{Bring, Do, Key}
+use Rattle.recordings.specs.Books.{Bring, Do, Key}
 use Rattle.machine.specs.declared.endpoint.Emission.{Emission}
 use Rattle.machine.specs.declared.endpoint.Name.{Name}
 use Rattle.machine.specs.Machine.{tcp_shape}

@@ -4,7 +4,7 @@ use Rattle.case_forms.specs.declared.trace.Header.{Header}
 use Rattle.hosts.specs.Hosts.{Stamped, World}
 use Rattle.hosts.specs.HostRules.{Permitted}
 use Rattle.hosts.specs.HostSteps.{Lawful, after, after_all, start}
-use Rattle.hosts.specs.Placing.{Explains}
+use Rattle.recordings.specs.Placing.{IsPlacedRun}
 use Rattle.machine.specs.Machine.{tcp, tcp_shape}
 use Rattle.machine_laws.specs.Runs.{world_at_end}
 use Rattle.recordings.specs.Recordings.{AreFirstSteps, TcpEntry, merged, merged_lines}
@@ -17,9 +17,9 @@ lawful_parts h w (x ∷ xs) ys may =
 
 -- the first steps of what is merged, which are a run where all of it is
 pub run_begins : (h : Header) (first : ℕ) (zeros ones : List TcpEntry) (steps : List (Stamped tcp_shape)) → AreFirstSteps h first zeros ones steps
-    → Explains (tcp h) h.skew first (merged_lines h first zeros ones) (merged h first zeros ones) → Lawful (tcp h) (start (tcp h)) steps
-run_begins h first zeros ones steps begin explained =
-    (lawful_parts h (start (tcp h)) steps begin.1.0 (subst (λ (l : List (Stamped tcp_shape)). Lawful (tcp h) (start (tcp h)) l) (sym begin.1.1) explained.1)).0
+    → IsPlacedRun (tcp h) h.skew first (merged_lines h first zeros ones) (merged h first zeros ones) → Lawful (tcp h) (start (tcp h)) steps
+run_begins h first zeros ones steps begin placed_run =
+    (lawful_parts h (start (tcp h)) steps begin.1.0 (subst (λ (l : List (Stamped tcp_shape)). Lawful (tcp h) (start (tcp h)) l) (sym begin.1.1) placed_run.1)).0
 
 -- the last of them is permitted where those before it end
 pub last_fits : (h : Header) (steps : List (Stamped tcp_shape)) (x : Stamped tcp_shape) → Lawful (tcp h) (start (tcp h)) (steps ++ x ∷ [])

@@ -1,3 +1,15 @@
+pub mod Counting
+pub mod Joint
+pub mod Retag
+pub mod Rename
+pub mod Halves
+pub mod Stepped
+pub mod Law
+pub mod Order
+pub mod Placed
+pub mod Merged
+pub mod Growing
+pub mod Example
 pub mod Lines
 pub mod FirstSteps
 pub mod BookTests

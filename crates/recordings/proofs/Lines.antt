@@ -2,9 +2,9 @@
 use Rattle.std.proofs.Common.{◌≡◌, ℕ, suc, List, [], ◌∷◌, ◌++◌, refl}
 use Rattle.case_forms.specs.declared.trace.Header.{Header}
 use Rattle.hosts.specs.Tables.{on}
-use Rattle.hosts.specs.Books.{item_line}
+use Rattle.recordings.specs.Books.{item_line}
 use Rattle.machine.specs.Machine.{tcp}
-use Rattle.hosts.proofs.Growing.{line_after}
+use Rattle.recordings.proofs.Growing.{line_after}
 use Rattle.recordings.specs.Recordings.{TcpEntry, next_line}
 
 -- the line behind is the line to come

@@ -10,9 +10,9 @@ use Rattle.hosts.specs.Tables.{on}
 use Rattle.hosts.specs.Hosts.{World, Begin, Effect, Finish, At, Gets, Stamped}
 use Rattle.hosts.specs.HostRules.{step_rules}
 use Rattle.hosts.specs.HostSteps.{after, start}
-use Rattle.hosts.specs.Books.{step_line}
-use Rattle.hosts.specs.Keys.{merge}
-use Rattle.hosts.specs.Merging.{Names, names_of, steps_of}
+use Rattle.recordings.specs.Books.{step_line}
+use Rattle.recordings.specs.Keys.{merge}
+use Rattle.recordings.specs.Merging.{Names, names_of, steps_of}
 use Rattle.machine.specs.Machine.{tcp, tcp_shape}
 use Rattle.recordings.specs.Recordings.{TcpEntry, merged, world_of}
 use Rattle.recordings.proofs.BookTests.{is_rising}

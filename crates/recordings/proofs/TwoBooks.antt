@@ -7,10 +7,10 @@ use Rattle.case_forms.specs.declared.timer.Timer.TheVariants.{Rto}
 use Rattle.case_forms.specs.declared.trace.Wire.{Wire}
 use Rattle.hosts.specs.Hosts.{Begin, Finish, Effect, At, Makes, Sends, Gets, Takes, Expires, Stamped}
 use Rattle.hosts.specs.HostSteps.{start}
-use Rattle.hosts.specs.Keys.{Books}
+use Rattle.recordings.specs.Keys.{Books}
 use Rattle.machine.specs.Machine.{tcp, tcp_shape}
-use Rattle.hosts.specs.Placing.{Came, CallBegin, CallEnd, Event, Expired, Explains, Line, Sent}
-use Rattle.hosts.proofs.Merged.{explains}
+use Rattle.recordings.specs.Placing.{Came, CallBegin, CallEnd, Event, Expired, IsPlacedRun, Line, Sent}
+use Rattle.recordings.proofs.Merged.{is_placed_run}
 use Rattle.machine.proofs.Telling as telling
 use Rattle.machine_laws.specs.Runs.{accepted_by, told_to}
 use Rattle.recordings.specs.Recordings.{IsKept, MayJoin, NamesSent, TcpEntry, merged, merged_lines, world_of}
@@ -163,9 +163,9 @@ are_books = (
   record { runs = ones_are_kept.runs; numbered = ones_are_kept.numbered; keys = ones_are_kept.keys; arrivals = ones_name_zeros },
 )
 
--- so their merge explains the lines that it takes
-explained : Explains (tcp header) 0 7 (merged_lines header 7 zeros ones) (merged header 7 zeros ones)
-explained = explains (tcp header) (λ n. refl) 0 7 zeros ones are_books
+-- so their merge is_placed_run the lines that it takes
+placed_run : IsPlacedRun (tcp header) 0 7 (merged_lines header 7 zeros ones) (merged header 7 zeros ones)
+placed_run = is_placed_run (tcp header) (λ n. refl) 0 7 zeros ones are_books
 
 -- what host 1's read was told is what the sends of host 0's endpoint accepted
 told_is_accepted : (told_to header 7 told ≡ hello) × (accepted_by header (first_of Zero) told ≡ hello)

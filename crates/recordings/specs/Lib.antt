@@ -1,1 +1,5 @@
+pub mod Books
+pub mod Merging
+pub mod Keys
+pub mod Placing
 pub mod Recordings

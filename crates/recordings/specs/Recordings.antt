@@ -6,9 +6,9 @@ use Rattle.streams.specs.Lists.{IsPrefixOf}
 use Rattle.hosts.specs.Tables.{on}
 use Rattle.hosts.specs.Hosts.{World, Stamped}
 use Rattle.hosts.specs.HostSteps.{start}
-use Rattle.hosts.specs.Books.{Entry, HostRun, end, item_line}
-use Rattle.hosts.specs.Keys.{Books, Numbered, EachEntry, KeysRise, NamesOne, before}
-use Rattle.hosts.specs.Placing.{Line, lines_of, merged_steps}
+use Rattle.recordings.specs.Books.{Entry, HostRun, end, item_line}
+use Rattle.recordings.specs.Keys.{Books, Numbered, EachEntry, KeysRise, NamesOne, before}
+use Rattle.recordings.specs.Placing.{Line, lines_of, merged_steps}
 use Rattle.machine.specs.Machine.{tcp, tcp_shape}
 
 -- an entry of a recording: a step of the host, or a segment that the other host brings, under its key

@@ -5,9 +5,9 @@ ghost use Rattle.case_forms.specs.declared.trace.Header.{Header};
 ghost use Rattle.case_forms.specs.declared.calls.Host.{Host};
 ghost use Rattle.case_forms.specs.declared.calls.Host.TheVariants.{Zero, One};
 ghost use Rattle.hosts.specs.Hosts.{At, Makes, Stamped};
-ghost use Rattle.hosts.specs.Books.{end};
-ghost use Rattle.hosts.specs.Keys.{Books};
-ghost use Rattle.hosts.specs.Placing.{Explains};
+ghost use Rattle.recordings.specs.Books.{end};
+ghost use Rattle.recordings.specs.Keys.{Books};
+ghost use Rattle.recordings.specs.Placing.{IsPlacedRun};
 ghost use Rattle.machine.specs.Machine.{tcp, tcp_shape};
 ghost use Rattle.machine.specs.declared.making.Making.{Making};
 ghost use Rattle.machine_laws.specs.Bounds.{NewDataFits, WindowsFollow};
@@ -19,10 +19,10 @@ use machine_laws::{
     acknowledged_was_taken, end_is_whole, new_data_fits, received_is_a_prefix, windows_follow,
 };
 
-/// Two books beside each other, merged in the order of their keys with lines and made segments counted anew, explain the
-/// lines that they take: the merged steps are a placement of these lines, and a run.
-pub fn merged_books_explain()
-    ensures { (h : Header) (first : ℕ) (zeros ones : List TcpEntry) → Books (tcp h) first zeros ones → Explains (tcp h) h.skew first (merged_lines h first zeros ones) (merged h first zeros ones) }
+/// Two books beside each other, merged in the order of their keys with lines and made segments counted anew, are a run, and a
+/// placement of the lines that they take: each line once, in their order, at its own moment.
+pub fn merged_books_are_a_run()
+    ensures { (h : Header) (first : ℕ) (zeros ones : List TcpEntry) → Books (tcp h) first zeros ones → IsPlacedRun (tcp h) h.skew first (merged_lines h first zeros ones) (merged h first zeros ones) }
 {}
 
 /// A host's recording grows at its end. What may join leaves it kept; its world and the number of its next line go on from
@@ -45,7 +45,7 @@ pub fn merged_books_have_the_consequences()
     ensures edges { (h : Header) (first : ℕ) (zeros ones : List TcpEntry) (steps : List (Stamped tcp_shape)) (moment : ℕ) (host : Host) (m : Making) → AreFirstSteps h first zeros ones (steps ++ record { moment = moment; step = At host (Makes m) } ∷ []) → NewDataFits (world_at_end h steps) host m }
     ensures windows { (h : Header) (first : ℕ) (zeros ones : List TcpEntry) (steps : List (Stamped tcp_shape)) (x : Stamped tcp_shape) → AreFirstSteps h first zeros ones (steps ++ x ∷ []) → WindowsFollow h x.moment (world_at_end h steps) x.step }
 {
-    merged_books_explain();
+    merged_books_are_a_run();
     received_is_a_prefix();
     end_is_whole();
     acknowledged_was_taken();

@@ -13,6 +13,9 @@ use case_forms::{Header, Timer};
 pub const LONGEST_RTO: u64 = 60_000_000;
 
 /// The timers of an endpoint. All times and moments are microseconds.
+///
+/// These are the retransmission timer, the persist timer and the wait in TIME-WAIT. `Timer::Giveup` is no timer that is armed,
+/// so the calls that name a timer take each but that one.
 #[derive(Clone, Copy, Debug, PartialEq, Eq)]
 pub struct Timers {
     /// The smoothed round trip time; None before the first sample.
@@ -56,7 +59,7 @@ impl Timers {
         self.rto = timeout(header, srtt, rttvar);
     }
 
-    /// Arms a timer at a moment in microseconds, anew where it is armed.
+    /// Arms a timer, any but `Giveup`, at a moment in microseconds, anew where it is armed.
     pub fn arm(&mut self, timer: Timer, moment: u64)
         requires { timer ≢ Giveup }
         ensures { self.new ≡ armed self.old timer moment }
@@ -64,7 +67,7 @@ impl Timers {
         self.set(timer, Some(moment));
     }
 
-    /// Turns a timer off.
+    /// Turns a timer off, any but `Giveup`.
     pub fn stop(&mut self, timer: Timer)
         requires { timer ≢ Giveup }
         ensures { self.new ≡ stopped self.old timer }
@@ -97,8 +100,9 @@ impl Timers {
         self.rto = self.rto.max(3_000_000);
     }
 
-    /// Lets a timer expire at a moment in microseconds. An expiry of the retransmission timer doubles the timeout and arms the timer
-    /// anew (RFC 6298, 5.5 and 5.6), one of the persist timer arms it anew, and the wait in TIME-WAIT is then over.
+    /// Lets a timer, any but `Giveup`, expire at a moment in microseconds. An expiry of the retransmission timer doubles the
+    /// timeout and arms the timer anew (RFC 6298, 5.5 and 5.6), one of the persist timer arms it anew, and the wait in TIME-WAIT
+    /// is then over.
     /// `Off` where the timer is not armed, else `Early` where the moment is before the earliest.
     pub fn expire(&mut self, timer: Timer, moment: u64, header: &Header) -> Result<(), TimerFault>
         requires { timer ≢ Giveup }
@@ -119,7 +123,7 @@ impl Timers {
         Ok(())
     }
 
-    /// Whether a timer may expire at a moment in microseconds: the refusals of `expire`, with nothing changed.
+    /// Whether a timer, any but `Giveup`, may expire at a moment in microseconds: the refusals of `expire`, with nothing changed.
     pub fn may_expire(&self, timer: Timer, moment: u64, header: &Header) -> Result<(), TimerFault>
         requires { timer ≢ Giveup }
         ensures { result_err result ≡ refusal self.now timer moment header.now }
@@ -135,7 +139,7 @@ impl Timers {
         }
     }
 
-    /// Since when a timer is armed, in microseconds; None where it is off.
+    /// Since when a timer, any but `Giveup`, is armed, in microseconds; None where it is off.
     pub fn armed_since(&self, timer: Timer) -> Option<u64>
         requires { timer ≢ Giveup }
         ensures { result ≡ armed_since self.now timer }

@@ -9,7 +9,7 @@ use crate::congestion::Congestion;
 pub const GREATEST_WINDOW: u64 = 4_294_967_295;
 
 /// The position at which new data ends at most by the window of `wnd` bytes that the peer offers from position `una`
-/// on; a byte later where that window is 0 and a probe is due (RFC 9293, 3.8.6 and 3.8.6.1).
+/// on, which is below 2^63; a byte later where that window is 0 and a probe is due (RFC 9293, 3.8.6 and 3.8.6.1).
 pub fn offered_edge(una: u64, wnd: u32, probe: bool) -> u64
     requires { una < 2 ^ 63 }
     ensures { result ≡ offered_edge una wnd probe }
@@ -18,8 +18,8 @@ pub fn offered_edge(una: u64, wnd: u32, probe: bool) -> u64
     una + wnd as u64 + probed
 }
 
-/// The position at which new data ends at most by the congestion window from position `una` on; two segments later at
-/// the first and the second duplicate acknowledgment, outside fast recovery (RFC 5681, 3.1 and 3.2).
+/// The position at which new data ends at most by the congestion window from position `una` on, which is below 2^63; two
+/// segments later at the first and the second duplicate acknowledgment, outside fast recovery (RFC 5681, 3.1 and 3.2).
 pub fn congestion_edge(una: u64, congestion: &Congestion) -> u64
     requires { una < 2 ^ 63 }
     ensures { result ≡ congestion_edge una congestion.now }

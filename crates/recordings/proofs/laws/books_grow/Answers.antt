@@ -1,7 +1,7 @@
 use Rattle.std.proofs.Common.{ℕ, subst}
 use Rattle.hosts.specs.HostSteps.{start}
-use Rattle.hosts.specs.Keys.{Numbered}
-use Rattle.hosts.proofs.Growing.{end_more, keys_more, numbered_more, run_more}
+use Rattle.recordings.specs.Keys.{Numbered}
+use Rattle.recordings.proofs.Growing.{end_more, keys_more, numbered_more, run_more}
 use Rattle.machine.specs.Machine.{tcp}
 use Rattle.recordings.proofs.Lines.{next_is_after, next_more}
 use Rattle.recordings.proofs.laws.books_grow.Goals as goal

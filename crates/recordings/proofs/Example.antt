@@ -12,10 +12,10 @@ use Rattle.hosts.specs.Tables.{gone_out, lane, unsent}
 use Rattle.hosts.specs.Hosts.{Shape, Kernel, World, ThatHost, Idle, Called, Answered, Makes, Sends, Gets, Takes, Drops, Deed, Step, Begin, Finish, Effect, At, Stamped}
 use Rattle.hosts.specs.HostRules.{just, step_rules}
 use Rattle.hosts.specs.HostSteps.{start, after, after_all}
-use Rattle.hosts.specs.Books.{Key, Item, Do, Bring, Entry}
-use Rattle.hosts.specs.Keys.{Books}
-use Rattle.hosts.specs.Placing.{Explains, lines_of, merged_steps}
-use Rattle.hosts.proofs.Merged.{explains}
+use Rattle.recordings.specs.Books.{Key, Item, Do, Bring, Entry}
+use Rattle.recordings.specs.Keys.{Books}
+use Rattle.recordings.specs.Placing.{IsPlacedRun, lines_of, merged_steps}
+use Rattle.recordings.proofs.Merged.{is_placed_run}
 
 -- a host makes a number, or adds one that came in to what it has
 data Act : Type 0 where
@@ -115,9 +115,9 @@ are_books = (
   },
 )
 
--- so their merge explains itself, with no skew
-explained : Explains sums 0 7 (lines_of sums (merged_steps sums 7 zeros ones)) (merged_steps sums 7 zeros ones)
-explained = explains sums (λ n. refl) 0 7 zeros ones are_books
+-- so their merge is_placed_run itself, with no skew
+placed_run : IsPlacedRun sums 0 7 (lines_of sums (merged_steps sums 7 zeros ones)) (merged_steps sums 7 zeros ones)
+placed_run = is_placed_run sums (λ n. refl) 0 7 zeros ones are_books
 
 -- what is left: each host has what the other sent; what went out is marked, and what was taken left None in its place
 abbrev last : World shape

@@ -1,25 +1,20 @@
 -- Steps whose lines rise are a placement of the lines that they take.
 use Rattle.std.proofs.Common.{◌≡◌, ℕ, zero, suc, ◌+◌, ◌<◌, ◌≤◌, Bool, true, false, List, [], ◌∷◌, Option, Some, None, refl, ap, sym, subst, ◌∙◌, inl, inr, ◌⊎◌, arith}
-use Rattle.std.specs.Prelude.{if◌then◌else◌, nat_eq}
+use Rattle.std.specs.Prelude.{if◌then◌else◌}
 use Rattle.std.specs.List.{slice_get}
 use Rattle.std.proofs.lemmas.Bool.Decides.{nat_tests}
 use Rattle.std.proofs.lemmas.Bool.{cases_order}
 use Rattle.std.proofs.lemmas.Option.{none-some, same_Some}
 use Rattle.case_forms.specs.declared.calls.Host.TheVariants.{One, Zero}
-use Rattle.verdict.specs.declared.rule.Rule.TheVariants as rules
-use Rattle.verdict.specs.Rules.{first_broken}
 use Rattle.hosts.specs.Tables.{on}
-use Rattle.hosts.specs.Hosts.{Answered, Answers, At, Begin, Called, Deed, Does, Drops, Effect, Expires, Finish, Gets, Idle, Kernel, Makes, Sends, Stamped, Step, Takes, Turn, World, turn_of}
-use Rattle.hosts.specs.HostRules.{Permitted, begin_rules, end_rules, just}
-use Rattle.hosts.specs.HostSteps.{Lawful, after, effect_after, start}
-use Rattle.hosts.specs.Books.{Bring, Do, Entry, Item, Key, deed_line, step_line}
-use Rattle.hosts.specs.Merging.{Names, steps_of, with_step}
-use Rattle.hosts.specs.Keys.{EachEntry, If, KeysRise, before, lesser, merge, merge_with, rank}
-use Rattle.hosts.specs.Placing.{CallBegin, CallEnd, Event, Line, MomentsRise, NamesAt, Placement, TakesTurn, Turns, deed_event, event_of, lines_of}
-use Rattle.hosts.proofs.Joint.{LinesRise}
-use Rattle.verdict.proofs.RuleLemmas.{none_all}
-use Rattle.hosts.proofs.Entries.{turn_insert}
-use Rattle.hosts.proofs.Stepped.{effect_passes}
+use Rattle.hosts.specs.Hosts.{Answers, At, Begin, Deed, Does, Drops, Effect, Expires, Finish, Gets, Kernel, Makes, Sends, Stamped, Step, Takes}
+use Rattle.hosts.specs.HostSteps.{Lawful, start}
+use Rattle.recordings.specs.Books.{Bring, Do, Entry, Item, Key, deed_line, step_line}
+use Rattle.recordings.specs.Merging.{Names, steps_of, with_step}
+use Rattle.recordings.specs.Keys.{EachEntry, If, KeysRise, before, lesser, merge, merge_with, rank}
+use Rattle.recordings.specs.Placing.{CallBegin, CallEnd, Event, Line, MomentsRise, NamesAt, Placement, deed_event, event_of, lines_of}
+use Rattle.recordings.proofs.Joint.{LinesRise}
+use Rattle.hosts.proofs.Turns.{turns}
 
 -- 1. lines
 
@@ -123,50 +118,7 @@ only k n (x ∷ xs) r (suc p) m at = go (head_line k n x xs r) (λ n r. only k n
     go (inl g) rest = let h = rest n g.2 in (h.0, h.1, h.2, ap (λ (ls : List (Line k.shape)). slice_get ls h.0) g.1 ∙ h.3)
     go (inr g) rest = let h = rest (suc n) g.4 in let e = h.2 in (suc h.0, h.1, omega arith, ap (λ (ls : List (Line k.shape)). slice_get ls (suc h.0)) g.3 ∙ h.3)
 
--- 2. turns
-
--- turns go on from a turn that is the same
-turns_as : (k : Kernel) (t : ℕ) (xs : List (Stamped k.shape)) (u v : Turn k.shape) → u ≡ v → Turns k t u xs → Turns k t v xs
-turns_as k t xs u v e = subst (λ (u : Turn k.shape). Turns k t u xs) e
-
--- a call begins in no other
-begins : (k : Kernel) (u : Turn k.shape) → first_broken (begin_rules k u) ≡ None → u ≡ Idle
-begins k Idle p = refl
-begins k (Called c) p = absurd (none-some rules.ThreadBusy (sym p))
-begins k (Answered a) p = absurd (none-some rules.ThreadBusy (sym p))
-
--- it ends with the answer of its effect
-ends : (k : Kernel) (u : Turn k.shape) (a : k.shape.Answer) → first_broken (end_rules k u a) ≡ None → (b : k.shape.Answer) × (u ≡ Answered b) × (k.differs b a ≡ false)
-ends k Idle a p = absurd (none-some rules.NoCall (sym p))
-ends k (Called c) a p = absurd (none-some rules.AnswerDiffers (sym p))
-ends k (Answered b) a p = (b, refl, (none_all (just rules.AnswerDiffers (k.differs b a)) p).0)
-
--- an effect leaves its thread answered, and the others as they were
-turn_effect : (k : Kernel) (t : ℕ) (w : World k.shape) (s n : ℕ) (a : k.shape.Answer) → Permitted k s w (Effect n a) → turn_of k t (after k s w (Effect n a)).threads ≡ (if nat_eq t n then Answered a else turn_of k t w.threads)
-turn_effect k t w s n a p = let o = effect_passes k s w.hosts (turn_of k n w.threads) a p in
-    ap (λ (u : Turn k.shape). turn_of k t (effect_after k s w n a u).threads) o.1 ∙ turn_insert k t n (Answered a) w.threads
-
--- in a run the calls of each thread take turns
-pub turns : (k : Kernel) (t : ℕ) (w : World k.shape) (xs : List (Stamped k.shape)) → Lawful k w xs → Turns k t (turn_of k t w.threads) xs
-turns k t w [] may = tt
-turns k t w (x ∷ xs) may = go x.moment x.step may.0 (turns k t (after k x.moment w x.step) xs may.1)
-  where
-    go : (s : ℕ) (step : Step k.shape) → Permitted k s w step → Turns k t (turn_of k t (after k s w step).threads) xs → TakesTurn k t (turn_of k t w.threads) step (λ u. Turns k t u xs)
-    go s (Begin line n c) p rest = (
-      λ is. begins k (turn_of k t w.threads) (subst (λ (v : ℕ). first_broken (begin_rules k (turn_of k v w.threads)) ≡ None) (sym is) p),
-      turns_as k t xs _ _ (turn_insert k t n (Called c) w.threads) rest,
-    )
-    go s (Finish line n a) p rest = (
-      λ is. ends k (turn_of k t w.threads) a (subst (λ (v : ℕ). first_broken (end_rules k (turn_of k v w.threads) a) ≡ None) (sym is) p),
-      turns_as k t xs _ _ (turn_insert k t n Idle w.threads) rest,
-    )
-    go s (Effect n a) p rest = (
-      λ is. let o = effect_passes k s w.hosts (turn_of k n w.threads) a p in (o.0, ap (λ (v : ℕ). turn_of k v w.threads) is ∙ o.1),
-      turns_as k t xs _ _ (turn_effect k t w s n a p) rest,
-    )
-    go s (At side d) p rest = rest
-
--- 3. moments
+-- 2. moments
 
 each_merge : (k : Kernel) (P : Entry k.shape → Type 0) (xs ys : List (Entry k.shape)) → EachEntry k P xs → EachEntry k P ys → EachEntry k P (merge k xs ys)
 each_merge k P [] ys p q = q

@@ -11,11 +11,11 @@ use Rattle.hosts.specs.Tables.{Both, on, other, pick, with_host}
 use Rattle.hosts.specs.Hosts.{Answered, At, Begin, Called, Effect, Finish, HostState, Idle, Kernel, Turn, World, turn_of}
 use Rattle.hosts.specs.HostRules.{aim_of}
 use Rattle.hosts.specs.HostSteps.{call_after, deed_after, effect_after}
-use Rattle.hosts.specs.Books.{Bring, Do, Entry, FitsItem, HostRun, InLane, Item, Key, deed_line, end, item_line, next, next_item}
-use Rattle.hosts.specs.Keys.{Book, EachEntry, If, NamesOne, Numbered, before, lesser, merge, merge_with, rank}
+use Rattle.recordings.specs.Books.{Bring, Do, Entry, FitsItem, HostRun, InLane, Item, Key, deed_line, end, item_line, next, next_item}
+use Rattle.recordings.specs.Keys.{Book, EachEntry, If, NamesOne, Numbered, before, lesser, merge, merge_with, rank}
 use Rattle.hosts.proofs.Entries.{lookup_insert}
-use Rattle.hosts.proofs.Joint.{Joint, NamedItem, NumberedItem, count_on}
-use Rattle.hosts.proofs.Halves.{pick_same, pick_far, deed_wire}
+use Rattle.recordings.proofs.Joint.{Joint, NamedItem, NumberedItem, count_on}
+use Rattle.recordings.proofs.Halves.{pick_same, pick_far, deed_wire}
 
 -- 1. the order of keys
 

@@ -4,7 +4,7 @@ use Rattle.case_forms.specs.declared.calls.Host.{Host}
 use Rattle.hosts.specs.Tables.{other, host_is, on}
 use Rattle.hosts.specs.Hosts.{Kernel, Deed, Does, Expires, Makes, Sends, Gets, Takes, Drops, Answers, Step, Begin, Finish, Effect, At, Stamped}
 use Rattle.hosts.specs.HostSteps.{makes}
-use Rattle.hosts.specs.Books.{Key, Item, Do, Bring, Entry, item_line}
+use Rattle.recordings.specs.Books.{Key, Item, Do, Bring, Entry, item_line}
 
 -- whether a step takes a number for a made segment
 abbrev pub step_makes : (k : Kernel) → Step k.shape → Bool

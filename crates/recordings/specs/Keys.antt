@@ -6,7 +6,7 @@ use Rattle.case_forms.specs.declared.calls.Host.TheVariants.{Zero, One}
 use Rattle.hosts.specs.Tables.{pick}
 use Rattle.hosts.specs.Hosts.{Kernel, World}
 use Rattle.hosts.specs.HostSteps.{start}
-use Rattle.hosts.specs.Books.{Key, Item, Do, Bring, Entry, HostRun, item_line, end}
+use Rattle.recordings.specs.Books.{Key, Item, Do, Bring, Entry, HostRun, item_line, end}
 
 -- hosts in their order
 abbrev pub rank : Host → ℕ

@@ -3,9 +3,9 @@ use Rattle.std.proofs.Common.{◌≡◌, ℕ, suc, false, List, [], ◌∷◌, �
 use Rattle.case_forms.specs.declared.calls.Host.{Host}
 use Rattle.hosts.specs.Tables.{on}
 use Rattle.hosts.specs.Hosts.{Kernel, World}
-use Rattle.hosts.specs.Books.{Entry, HostRun, end, item_line, next}
-use Rattle.hosts.specs.Keys.{EachEntry, If, KeysRise, Numbered, before}
-use Rattle.hosts.proofs.Joint.{count_on}
+use Rattle.recordings.specs.Books.{Entry, HostRun, end, item_line, next}
+use Rattle.recordings.specs.Keys.{EachEntry, If, KeysRise, Numbered, before}
+use Rattle.recordings.proofs.Joint.{count_on}
 
 -- a run goes on where it ended
 pub run_more : (k : Kernel) (h : Host) (w : World k.shape) (xs ys : List (Entry k.shape)) → HostRun k h w xs → HostRun k h (end k h w xs) ys → HostRun k h w (xs ++ ys)

@@ -4,8 +4,8 @@ use Rattle.std.specs.Map.{lookup}
 use Rattle.case_forms.specs.declared.calls.Host.{Host}
 use Rattle.hosts.specs.Tables.{Both, pick, other, with_host, on}
 use Rattle.hosts.specs.Hosts.{Kernel, World, Stamped}
-use Rattle.hosts.specs.Books.{Item, Do, Bring, Entry, FitsItem, InLane, next, item_line, step_line}
-use Rattle.hosts.specs.Keys.{If}
+use Rattle.recordings.specs.Books.{Item, Do, Bring, Entry, FitsItem, InLane, next, item_line, step_line}
+use Rattle.recordings.specs.Keys.{If}
 
 -- each host's own world after an entry
 abbrev pub advance : (k : Kernel) → Both (World k.shape) → Entry k.shape → Both (World k.shape)

@@ -14,12 +14,14 @@ use Rattle.hosts.specs.Tables.{Both, lane, on, other, pick}
 use Rattle.hosts.specs.Hosts.{Aim, Answered, Answers, At, Begin, Called, Deed, Does, Drops, Effect, Expires, Finish, Gets, HostState, Idle, Kernel, Makes, Sends, Step, Takes, ThatHost, ThatSocket, Turn, World, turn_of}
 use Rattle.hosts.specs.HostRules.{Permitted, aim_of, begin_rules, call_rules, deed_rules, effect_rules, end_rules, fresh_rules, just}
 use Rattle.hosts.specs.HostSteps.{after, call_after, deed_after, effect_after, makes}
-use Rattle.hosts.specs.Books.{Aims, InLane, OwnStep, deed_line, step_line}
-use Rattle.hosts.specs.Merging.{Names, redeed, restep, step_makes}
-use Rattle.hosts.proofs.Turns.{Counts, counts_mine, counts_other}
-use Rattle.hosts.proofs.Entries.{lookup_retag, turn_insert}
-use Rattle.hosts.proofs.Rename.{rehost, Apt, SameFar, deed_may, deed_does}
-use Rattle.hosts.proofs.Halves.{pick_same, host_self, host_other, hosts_apart, HostHalf, hosts_mine, hosts_theirs, deed_wire, wire_grows}
+use Rattle.recordings.specs.Books.{Aims, InLane, OwnStep, deed_line, step_line}
+use Rattle.recordings.specs.Merging.{Names, redeed, restep, step_makes}
+use Rattle.hosts.proofs.Turns.{effect_passes}
+use Rattle.recordings.proofs.Counting.{Counts, counts_mine, counts_other}
+use Rattle.hosts.proofs.Entries.{turn_insert}
+use Rattle.recordings.proofs.Retag.{lookup_retag}
+use Rattle.recordings.proofs.Rename.{rehost, Apt, SameFar, deed_may, deed_does}
+use Rattle.recordings.proofs.Halves.{pick_same, host_self, host_other, hosts_apart, HostHalf, hosts_mine, hosts_theirs, deed_wire, wire_grows}
 
 -- 1. threads
 
@@ -214,13 +216,6 @@ call_may k h s lw gw call answer o (inl e) body fresh = subst (λ (o : Option Ho
 call_may k h s lw gw call answer o (inr e) body fresh = subst (λ (o : Option Host). first_broken (call_rules k s lw call answer o) ≡ None → first_broken (call_rules k s gw call answer o) ≡ None) (sym e)
     (λ p. ap (λ (b : k.shape.Body). first_broken ((fresh_rules k gw (k.gives call answer)) ++ (k.act_rules h s b (k.calls call answer)))) body
     ∙ (ap (λ (f : List (Rule × Bool)). first_broken (f ++ (k.act_rules h s (pick lw h).body (k.calls call answer)))) fresh ∙ p))
-
--- what it takes that an effect is permitted: the call is open, and its own rules pass
-pub effect_passes : (k : Kernel) (s : ℕ) (hosts : Both (HostState k.shape)) (u : Turn k.shape) (answer : k.shape.Answer) → first_broken (effect_rules k s hosts u answer) ≡ None
-    → (call : k.shape.Call) × (u ≡ Called call) × (first_broken (call_rules k s hosts call answer (aim_of k hosts (k.aim call))) ≡ None)
-effect_passes k s hosts Idle answer p = absurd (none-some rules.NoCall (sym p))
-effect_passes k s hosts (Called call) answer p = (call, refl, p)
-effect_passes k s hosts (Answered given) answer p = absurd (none-some rules.DoneTwice (sym p))
 
 -- the world after an effect, where the host that the call means is known
 abbrev effected : (k : Kernel) → ℕ → World k.shape → ℕ → k.shape.Answer → k.shape.Call → Option Host → World k.shape

@@ -1,13 +1,14 @@
--- A trace's lines, and when steps are a placement of them and explain them.
-use Rattle.std.specs.Prelude.{◌≡◌, ℕ, ◌+◌, ◌<◌, ◌≤◌, ◌==◌, false, if◌then◌else◌, List, [], ◌∷◌, Option, None, Some}
+-- The lines that steps of both hosts take, in one order, and when steps are a placement of lines and a run.
+use Rattle.std.specs.Prelude.{◌≡◌, ℕ, ◌+◌, ◌<◌, ◌≤◌, List, [], ◌∷◌, Option, None, Some}
 use Rattle.std.specs.List.{slice_get}
 use Rattle.case_forms.specs.declared.calls.Host.{Host}
 use Rattle.hosts.specs.Tables.{on}
-use Rattle.hosts.specs.Hosts.{Shape, Kernel, Turn, Idle, Called, Answered, Deed, Expires, Sends, Gets, Step, Begin, Finish, Effect, At, Stamped}
+use Rattle.hosts.specs.Hosts.{Shape, Kernel, Idle, Deed, Expires, Sends, Gets, Step, Begin, Finish, Effect, At, Stamped}
 use Rattle.hosts.specs.HostSteps.{start, Lawful}
-use Rattle.hosts.specs.Books.{Entry, step_line}
-use Rattle.hosts.specs.Merging.{steps_of, names_of}
-use Rattle.hosts.specs.Keys.{merge}
+use Rattle.hosts.specs.Turns.{Turns}
+use Rattle.recordings.specs.Books.{Entry, step_line}
+use Rattle.recordings.specs.Merging.{steps_of, names_of}
+use Rattle.recordings.specs.Keys.{merge}
 
 -- what a line says
 pub data Event (s : Shape) : Type 0 where
@@ -46,18 +47,6 @@ abbrev pub MomentsRise : (k : Kernel) → ℕ → List (Stamped k.shape) → Typ
 MomentsRise k m [] = Unit {0}
 MomentsRise k m (x ∷ xs) = (m ≤ x.moment) × MomentsRise k x.moment xs
 
--- in thread t, which is at this turn, a step begins no second call, is the first effect of an open call, or ends a call with its effect's answer; `rest` is asked of the turn after it
-abbrev pub TakesTurn : (k : Kernel) → ℕ → Turn k.shape → Step k.shape → (Turn k.shape → Type 0) → Type 0
-TakesTurn k t turn (Begin line u c) rest = (t ≡ u → turn ≡ Idle) × rest (if t == u then Called c else turn)
-TakesTurn k t turn (Finish line u a) rest = (t ≡ u → (b : k.shape.Answer) × (turn ≡ Answered b) × (k.differs b a ≡ false)) × rest (if t == u then Idle else turn)
-TakesTurn k t turn (Effect u a) rest = (t ≡ u → (c : k.shape.Call) × (turn ≡ Called c)) × rest (if t == u then Answered a else turn)
-TakesTurn k t turn (At host d) rest = rest turn
-
--- in thread t calls begin, have one effect and end, in turns, from this turn on
-abbrev pub Turns : (k : Kernel) → ℕ → Turn k.shape → List (Stamped k.shape) → Type 0
-Turns k t turn [] = Unit {0}
-Turns k t turn (x ∷ xs) = TakesTurn k t turn x.step (λ u. Turns k t u xs)
-
 -- the step at this place takes this line, at its moment or later by the skew at most
 abbrev pub TakesLine : (k : Kernel) → ℕ → ℕ → Line k.shape → List (Stamped k.shape) → ℕ → Type 0
 TakesLine k skew number line steps p = (x : Stamped k.shape) × (slice_get steps p ≡ Some x) × (step_line k x.step ≡ Some number) × (event_of k x.step ≡ Some line.event) × (line.moment ≤ x.moment) × (x.moment ≤ line.moment + skew)
@@ -79,6 +68,6 @@ pub record Placement (k : Kernel) (skew first : ℕ) (lines : List (Line k.shape
 abbrev pub merged_steps : (k : Kernel) → ℕ → List (Entry k.shape) → List (Entry k.shape) → List (Stamped k.shape)
 merged_steps k first xs ys = steps_of k (names_of k first (merge k xs ys)) (merge k xs ys)
 
--- steps explain lines: they are a placement of them, and a run
-abbrev pub Explains : (k : Kernel) → ℕ → ℕ → List (Line k.shape) → List (Stamped k.shape) → Type 0
-Explains k skew first lines steps = Placement k skew first lines steps × Lawful k (start k) steps
+-- steps are a run, and a placement of these lines
+abbrev pub IsPlacedRun : (k : Kernel) → ℕ → ℕ → List (Line k.shape) → List (Stamped k.shape) → Type 0
+IsPlacedRun k skew first lines steps = Placement k skew first lines steps × Lawful k (start k) steps

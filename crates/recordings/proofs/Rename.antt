@@ -12,9 +12,9 @@ use Rattle.hosts.specs.Tables.{Made, gone_out, on, other, settled, unsent, waiti
 use Rattle.hosts.specs.Hosts.{Answers, Deed, Does, Drops, Expires, Gets, HostState, Kernel, Makes, Sends, Takes}
 use Rattle.hosts.specs.HostRules.{deed_rules, just}
 use Rattle.hosts.specs.HostSteps.{act_made, deed_after, makes}
-use Rattle.hosts.specs.Merging.{Names, redeed}
-use Rattle.hosts.proofs.Turns.{Apart}
-use Rattle.hosts.proofs.Entries.{insert_retag, lookup_retag, retag, waiting_retag}
+use Rattle.recordings.specs.Merging.{Names, redeed}
+use Rattle.recordings.proofs.Counting.{Apart}
+use Rattle.recordings.proofs.Retag.{insert_retag, lookup_retag, retag, waiting_retag}
 
 -- a host under new numbers: its tables alone change
 abbrev pub rehost : (k : Kernel) → Names → Host → HostState k.shape → HostState k.shape

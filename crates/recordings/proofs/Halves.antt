@@ -9,10 +9,10 @@ use Rattle.case_forms.specs.declared.calls.Host.TheVariants.{One, Zero}
 use Rattle.hosts.specs.Tables.{Both, Made, gone_out, host_is, lane, on, other, pick, settled, waiting, with_host}
 use Rattle.hosts.specs.Hosts.{Answers, Deed, Does, Drops, Expires, Gets, HostState, Kernel, Makes, Sends, Takes}
 use Rattle.hosts.specs.HostSteps.{act_made, deed_after}
-use Rattle.hosts.specs.Books.{Flying, deed_line}
-use Rattle.hosts.specs.Merging.{Names}
+use Rattle.recordings.specs.Books.{Flying, deed_line}
+use Rattle.recordings.specs.Merging.{Names}
 use Rattle.hosts.proofs.Entries.{lookup_insert}
-use Rattle.hosts.proofs.Rename.{rehost}
+use Rattle.recordings.proofs.Rename.{rehost}
 
 pub pick_same : {X : Type 0} (b : Both X) (h : Host) (x : X) → pick (with_host b h x) h ≡ x
 pick_same b Zero x = refl

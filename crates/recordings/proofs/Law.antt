@@ -6,14 +6,14 @@ use Rattle.case_forms.specs.declared.calls.Host.TheVariants.{One, Zero}
 use Rattle.hosts.specs.Tables.{Both, lane, on, other, pick, with_host}
 use Rattle.hosts.specs.Hosts.{Answers, At, Begin, Deed, Does, Drops, Effect, Expires, Finish, Gets, Kernel, Makes, Sends, Step, Takes, World}
 use Rattle.hosts.specs.HostSteps.{Lawful, after, start}
-use Rattle.hosts.specs.Books.{Bring, Do, Entry, Item, Key, deed_line, next, step_line}
-use Rattle.hosts.specs.Merging.{Names, heads, line_turns, make_turns, names_of, redeed, restep, steps_of, with_step}
-use Rattle.hosts.specs.Keys.{If}
-use Rattle.hosts.proofs.Joint.{Joint, LinesRise, count_on}
-use Rattle.hosts.proofs.Turns.{nth_apart, nth_heads}
-use Rattle.hosts.proofs.Rename.{Apt}
-use Rattle.hosts.proofs.Halves.{HostHalf, hosts_bring, hosts_brought}
-use Rattle.hosts.proofs.Stepped.{Half, idle_uncalled, stepped}
+use Rattle.recordings.specs.Books.{Bring, Do, Entry, Item, Key, deed_line, next, step_line}
+use Rattle.recordings.specs.Merging.{Names, heads, line_turns, make_turns, names_of, redeed, restep, steps_of, with_step}
+use Rattle.recordings.specs.Keys.{If}
+use Rattle.recordings.proofs.Joint.{Joint, LinesRise, count_on}
+use Rattle.recordings.proofs.Counting.{nth_apart, nth_heads}
+use Rattle.recordings.proofs.Rename.{Apt}
+use Rattle.recordings.proofs.Halves.{HostHalf, hosts_bring, hosts_brought}
+use Rattle.recordings.proofs.Stepped.{Half, idle_uncalled, stepped}
 
 -- each host has its half
 abbrev pub Halves : (k : Kernel) → Names → Both (World k.shape) → World k.shape → Both ℕ → ℕ → List (Option Host) → List (Option Host) → Type 0
