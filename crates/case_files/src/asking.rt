@@ -20,25 +20,10 @@ pub fn ask_each(
     differing: &mut Vec<String>,
 ) -> Result<(), AllocError> {
     for case in cases {
-        let wanted = format!(in alloc; "{}\n{}", case.wanted, case.status())?;
         let found = by_check_case(alloc, case.text.as_slice())?;
-        compare(
-            alloc,
-            case.name.as_str(),
-            "check_case",
-            wanted.as_str(),
-            found.as_str(),
-            differing,
-        )?;
+        compare(alloc, case, "check_case", found.as_str(), differing)?;
         let found = by_check(alloc, case.text.as_slice())?;
-        compare(
-            alloc,
-            case.name.as_str(),
-            "check",
-            wanted.as_str(),
-            found.as_str(),
-            differing,
-        )?;
+        compare(alloc, case, "check", found.as_str(), differing)?;
     }
     Ok(())
 }
@@ -53,16 +38,8 @@ pub fn ask_many<H: Threads + Wait + Sync>(
 ) -> Result<(), AllocError> {
     ask_together(rt, alloc, cases, differing)?;
     for case in cases.iter().filter(|case| !case.is_ended()) {
-        let wanted = format!(in alloc; "{}\n{}", case.wanted, case.status())?;
         let found = by_many(rt, alloc, case.text.as_slice())?;
-        compare(
-            alloc,
-            case.name.as_str(),
-            "many, alone",
-            wanted.as_str(),
-            found.as_str(),
-            differing,
-        )?;
+        compare(alloc, case, "many, alone", found.as_str(), differing)?;
     }
     Ok(())
 }
@@ -79,27 +56,18 @@ fn ask_together<H: Threads + Wait + Sync>(
     let mut lines = answer.as_str().lines();
     let mut greatest = 0;
     for case in cases.iter().filter(|case| case.is_ended()) {
-        let found = lines.next().unwrap_or("");
-        compare(
-            alloc,
-            case.name.as_str(),
-            "many",
-            case.wanted.as_str(),
-            found,
-            differing,
-        )?;
-        greatest = case.status().max(greatest);
+        let line = lines.next().unwrap_or("");
+        let status = case.status();
+        let found = format!(in alloc; "{line}\n{status}")?;
+        compare(alloc, case, "many", found.as_str(), differing)?;
+        greatest = status.max(greatest);
     }
     let wanted = format!(in alloc; "{greatest}")?;
     let found = lines.next().unwrap_or("");
-    compare(
-        alloc,
-        "the status of all cases",
-        "many",
-        wanted.as_str(),
-        found,
-        differing,
-    )
+    if found != wanted.as_str() {
+        differing.push(format!(in alloc; "many ends with {found:?}, not with status {wanted}")?)?;
+    }
+    Ok(())
 }
 
 // One input with these cases, each before a line `end`.
@@ -112,21 +80,21 @@ fn join(alloc: Global, cases: &[Case]) -> Result<Vec<u8>, AllocError> {
     Ok(input)
 }
 
-// Adds a line about an answer that is not the one that is wanted. Both are given as what is printed, then the status.
+// Adds a line where a case is not answered as wanted. Both answers are what is printed, then the status.
 fn compare(
     alloc: Global,
-    name: &str,
+    case: &Case,
     way: &str,
-    wanted: &str,
     found: &str,
     differing: &mut Vec<String>,
 ) -> Result<(), AllocError> {
-    if found == wanted {
-        return Ok(());
+    let wanted = format!(in alloc; "{}\n{}", case.wanted, case.status())?;
+    if found != wanted.as_str() {
+        let name = &case.name;
+        differing.push(format!(in alloc;
+            "{name}, asked for by {way}: wanted {wanted:?}, found {found:?}"
+        )?)?;
     }
-    differing.push(format!(in alloc;
-        "{name}, asked by {way}: wanted {wanted:?}, found {found:?}"
-    )?)?;
     Ok(())
 }
 
