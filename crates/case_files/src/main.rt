@@ -1,55 +1,47 @@
-//! Counts the case files that the program answers as it must.
+//! Asks for the answer to every case file, in three ways, and holds each answer to the line that is wanted.
 //!
-//! The case of each name is `data/NAME.case`, and `data/expected.txt` has the line that `tcpwit check` must print for
-//! it (`data/README.md`). The file `stdout` has the count that is wanted.
+//! The case of each name is `data/NAME.case`, and `data/expected.txt` has the line that `tcpwit check` must print for it
+//! (`data/README.md`). Beside the files, each beginning of two of them is asked for, and lines of the greatest length.
+//! Where all is answered as wanted, one line with the counts is printed. Else each answer that differs has a line on
+//! standard error, with the name of the case, how it was asked, what was wanted and what was found, and the program ends
+//! with status 1.
+//!
+//! - `table`: cases, and those of the files
+//! - `beginnings`: each beginning of a case
+//! - `long_lines`: lines of the greatest length, and one byte longer
+//! - `asking`: by `check_case`, by the word `check`, and by the words of `many`
 #![tactic(auto)]
 
-use cli::run;
-use counted::Counted;
-use std::alloc::Global;
-use std::{fs, io};
+mod asking;
+mod beginnings;
+mod long_lines;
+mod table;
 
-// What `check` prints for a case, and the status with which it ends.
-fn answer(alloc: Global, text: &[u8]) -> (Vec<u8>, u8) {
-    let mut output = Vec::new(alloc);
-    let mut reader = Counted::new(text);
-    let mut writer = Counted::new(&mut output);
-    let status = run(alloc, &["check"], &mut reader, &mut writer);
-    (output, status)
-}
+use std::io;
+use std::process::ExitCode;
 
-// The status that belongs to a line of output.
-fn status_of(line: &str) -> u8 {
-    if line.starts_with("yes ") {
-        0
-    } else if line.starts_with("no ") {
-        1
-    } else {
-        2
-    }
-}
-
-// Whether the case of that name is answered by this line alone, and by its status.
-fn is_answered(rt: &HostRuntime, name: &str, line: &str) -> io::Result<bool> {
+fn main(rt: HostRuntime) -> io::Result<ExitCode> {
     let alloc = rt.alloc();
-    let path = format!(in alloc; "{name}.case")?;
-    let text = fs::read(rt, path.as_str())?;
-    let wanted = format!(in alloc; "{line}\n")?;
-    let (output, status) = answer(alloc, text.as_slice());
-    Ok(output.as_slice() == wanted.as_bytes() && status == status_of(line))
-}
-
-fn main(rt: HostRuntime) -> io::Result<()> {
-    let expected = fs::read_to_string(&rt, "expected.txt")?;
-    let mut cases = 0u64;
-    let mut answered = 0u64;
-    for line in expected.as_str().lines() {
-        if let Some((name, wanted)) = line.split_once('\t') {
-            cases = cases.saturating_add(1);
-            if is_answered(&rt, name, wanted)? {
-                answered = answered.saturating_add(1);
-            }
-        }
+    let mut differing = Vec::new(alloc);
+    let mut cases = table::read_table(&rt)?;
+    table::push_untold(&rt, cases.as_slice(), &mut differing)?;
+    let files = cases.len();
+    for name in ["two_threads", "handshake_and_five_bytes"] {
+        beginnings::push_beginnings(&rt, name, &mut cases)?;
     }
-    println!(rt; "{answered} of {cases} cases are answered as expected")
+    let others = cases.len().saturating_sub(files);
+    long_lines::push_long_lines(alloc, &mut cases)?;
+    asking::ask_each(alloc, cases.as_slice(), &mut differing)?;
+    asking::ask_many(&rt, alloc, cases.as_slice(), &mut differing)?;
+    for line in &differing {
+        eprintln!(rt; "{line}")?;
+    }
+    if !differing.is_empty() {
+        return Ok(ExitCode::FAILURE);
+    }
+    let long = cases.len().saturating_sub(files).saturating_sub(others);
+    println!(rt;
+        "{files} case files, {others} beginnings of two of them and {long} long lines are answered as wanted"
+    )?;
+    Ok(ExitCode::SUCCESS)
 }

@@ -1,0 +1,146 @@
+//! The three ways in which a case is asked for.
+
+use crate::table::Case;
+use checker::{CaseFault, check_case};
+use cli::{run, run_all};
+use counted::Counted;
+use line_fields::TextFault;
+use std::alloc::{AllocError, Global};
+use std::sync::Wait;
+use std::thread::Threads;
+use verdict::Verdict;
+
+// How many threads check the cases of one input.
+const WORKERS: &str = "4";
+
+/// Asks for each case by itself, by `check_case` and by the word `check`.
+pub fn ask_each(
+    alloc: Global,
+    cases: &[Case],
+    differing: &mut Vec<String>,
+) -> Result<(), AllocError> {
+    for case in cases {
+        let found = by_check_case(alloc, case.text.as_slice())?;
+        compare(alloc, case, "check_case", found.as_str(), differing)?;
+        let found = by_check(alloc, case.text.as_slice())?;
+        compare(alloc, case, "check", found.as_str(), differing)?;
+    }
+    Ok(())
+}
+
+/// Asks for all cases in one input of `many`, but for those whose text is cut: behind them no line `end` can stand, so
+/// each is asked for as the only case of an input.
+pub fn ask_many<H: Threads + Wait + Sync>(
+    rt: &H,
+    alloc: Global,
+    cases: &[Case],
+    differing: &mut Vec<String>,
+) -> Result<(), AllocError> {
+    ask_together(rt, alloc, cases, differing)?;
+    for case in cases.iter().filter(|case| !case.is_ended()) {
+        let found = by_many(rt, alloc, case.text.as_slice())?;
+        compare(alloc, case, "many, alone", found.as_str(), differing)?;
+    }
+    Ok(())
+}
+
+// Asks for all cases that a line `end` can follow, in one input. The status is the greatest of theirs.
+fn ask_together<H: Threads + Wait + Sync>(
+    rt: &H,
+    alloc: Global,
+    cases: &[Case],
+    differing: &mut Vec<String>,
+) -> Result<(), AllocError> {
+    let input = join(alloc, cases)?;
+    let answer = by_many(rt, alloc, input.as_slice())?;
+    let mut lines = answer.as_str().lines();
+    let mut greatest = 0;
+    for case in cases.iter().filter(|case| case.is_ended()) {
+        let line = lines.next().unwrap_or("");
+        let status = case.status();
+        let found = format!(in alloc; "{line}\n{status}")?;
+        compare(alloc, case, "many", found.as_str(), differing)?;
+        greatest = status.max(greatest);
+    }
+    let wanted = format!(in alloc; "{greatest}")?;
+    let found = lines.next().unwrap_or("");
+    if found != wanted.as_str() {
+        differing.push(format!(in alloc; "many ends with {found:?}, not with status {wanted}")?)?;
+    }
+    Ok(())
+}
+
+// One input with these cases, each before a line `end`.
+fn join(alloc: Global, cases: &[Case]) -> Result<Vec<u8>, AllocError> {
+    let mut input = Vec::new(alloc);
+    for case in cases.iter().filter(|case| case.is_ended()) {
+        input.extend_from_slice(case.text.as_slice())?;
+        input.extend_from_slice(b"end\n")?;
+    }
+    Ok(input)
+}
+
+// Adds a line where a case is not answered as wanted. Both answers are what is printed, then the status.
+fn compare(
+    alloc: Global,
+    case: &Case,
+    way: &str,
+    found: &str,
+    differing: &mut Vec<String>,
+) -> Result<(), AllocError> {
+    let wanted = format!(in alloc; "{}\n{}", case.wanted, case.status())?;
+    if found != wanted.as_str() {
+        let name = &case.name;
+        differing.push(format!(in alloc;
+            "{name}, asked for by {way}: wanted {wanted:?}, found {found:?}"
+        )?)?;
+    }
+    Ok(())
+}
+
+// What the checker answers, as it would be printed, then the status that belongs to it.
+fn by_check_case(alloc: Global, text: &[u8]) -> Result<String, AllocError> {
+    match check_case(alloc, text) {
+        Ok(verdict @ Verdict::Yes { .. }) => format!(in alloc; "{verdict}\n0"),
+        Ok(verdict @ Verdict::No { .. }) => format!(in alloc; "{verdict}\n1"),
+        Err(CaseFault::Trace(fault)) => shown(alloc, "trace", &fault),
+        Err(CaseFault::Witness(fault)) => shown(alloc, "witness", &fault),
+        Err(CaseFault::Read) => format!(in alloc; "bad device\n5"),
+        Err(CaseFault::OutOfMemory) => format!(in alloc; "bad memory\n4"),
+    }
+}
+
+// A fault of a text, as it would be printed, then its status.
+fn shown(alloc: Global, text: &str, fault: &TextFault) -> Result<String, AllocError> {
+    let span = fault.span;
+    let kind = fault.kind.name();
+    format!(in alloc;
+        "bad {text} {} {} {} {kind}\n2",
+        span.line, span.start, span.stop
+    )
+}
+
+// What the word `check` prints, then the status.
+fn by_check(alloc: Global, text: &[u8]) -> Result<String, AllocError> {
+    let mut output = Vec::new(alloc);
+    let mut reader = Counted::new(text);
+    let mut writer = Counted::new(&mut output);
+    let status = run(alloc, &["check"], &mut reader, &mut writer);
+    let printed = String::from_utf8_lossy(alloc, output.as_slice())?;
+    format!(in alloc; "{printed}{status}")
+}
+
+// What the words of `many` print for an input, then the status.
+fn by_many<H: Threads + Wait + Sync>(
+    rt: &H,
+    alloc: Global,
+    input: &[u8],
+) -> Result<String, AllocError> {
+    let mut output = Vec::new(alloc);
+    let mut reader = Counted::new(input);
+    let mut writer = Counted::new(&mut output);
+    let words = ["many", "--workers", WORKERS];
+    let status = run_all(rt, alloc, &words, &mut reader, &mut writer);
+    let printed = String::from_utf8_lossy(alloc, output.as_slice())?;
+    format!(in alloc; "{printed}{status}")
+}
