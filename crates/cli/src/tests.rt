@@ -1,5 +1,6 @@
 //! Runs with other words, and at ends that fail.
 
+mod given;
 mod many;
 mod segments;
 
