@@ -5,4 +5,5 @@ pub mod FirstWord
 pub mod ManyAnswers
 pub mod ManyLaw
 pub mod ManyWords
+pub mod PlainHex
 pub mod SegmentWords

@@ -1,4 +1,5 @@
 pub mod CommandLine
+pub mod GivenWords
 pub mod HexText
 pub mod Many
 pub mod ManyLaw

@@ -3,6 +3,7 @@
 //! `main` hands in the words behind the program's name and both ends, and `run` answers the status with which the
 //! process ends. Each answer is one line of output.
 //!
+//! - `given`: the words of the command line, as text (`specs/GivenWords`)
 //! - `words`: what the words ask for, read by `clap` (`specs/CommandLine`)
 //! - `lines`: the line and the status of a case's answer (`specs/Output`)
 //! - `argument`: the segment that a hex text stands for (`specs/HexText`)
@@ -16,6 +17,7 @@
 #![tactic(auto)]
 
 mod argument;
+mod given;
 mod lines;
 mod many;
 mod many_laws;
@@ -26,6 +28,7 @@ mod segment_line;
 mod tests;
 mod words;
 
+pub use given::given_words;
 pub use many::run_all;
 pub use many_laws::cases_are_cut_back;
 pub use running::{answer_bad_memory, answer_bad_usage, run};

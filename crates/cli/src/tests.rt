@@ -1,5 +1,6 @@
 //! Runs with other words, and at ends that fail.
 
+mod given;
 mod joined_cases;
 mod many;
 mod segments;

@@ -48,6 +48,17 @@ pub mark-none : (xs : List Made) → mark 0 0 xs ≡ xs
 mark-none [] = refl
 mark-none (x ∷ xs) = refl
 
+-- marking changes nothing behind all that is there, and none of it where nothing is to be marked
+pub mark-behind : (p n : ℕ) (xs : List Made) → length xs ≤ p → mark p n xs ≡ xs
+mark-behind p n [] h = refl
+mark-behind zero n (x ∷ xs) h = absurd (omega arith)
+mark-behind (suc p) n (x ∷ xs) h = ap (λ (ys : List Made). x ∷ ys) (mark-behind p n xs (omega arith))
+
+pub mark-nothing : (p : ℕ) (xs : List Made) → mark p 0 xs ≡ xs
+mark-nothing p [] = refl
+mark-nothing zero (x ∷ xs) = refl
+mark-nothing (suc p) (x ∷ xs) = ap (λ (ys : List Made). x ∷ ys) (mark-nothing p xs)
+
 pub mark-front : (n c : ℕ) (x : Made) (xs : List Made) → n ≤ c → mark 0 n (replicate c x ++ xs) ≡ replicate n (remade x) ++ (replicate (c - n) x ++ xs)
 mark-front zero c x xs h = let same : c - 0 ≡ c = omega arith in rw same (mark-none (replicate c x ++ xs))
 mark-front (suc n) zero x xs h = absurd (omega arith)
@@ -90,6 +101,12 @@ after_run xs ys rest i skip left f h e =
     let long : length (take i xs) ≡ i = length-take-le i xs (omega arith) in
     rw (e, take_at_front (take i xs) rest f i long, drop_at_front (take i xs) rest f i long, expand-push (take i xs) f)
     (append_assoc (expand (take i xs)) (replicate f.count f.made) (mark skip left (expand rest)))
+
+-- nothing is left to be marked
+pub marked_all : (xs : List Run) (i skip left : ℕ) → left ≡ 0 → expand xs ≡ so_far xs i skip left
+marked_all xs i skip left e =
+    rw (e, mark-nothing skip (expand (drop i xs)))
+    (ap expand (sym (take-append-drop i xs)) ∙ expand-append (take i xs) (drop i xs))
 
 -- a run in front of the marking is passed
 pub pass_run : (xs : List Run) (i skip left : ℕ) (r : Run) → i < length xs → r ≡ get_or xs i r → r.count ≤ skip → so_far xs (i + 1) (skip - r.count) left ≡ so_far xs i skip left
@@ -206,6 +223,16 @@ again_gone gone from upto first all e = elim (cases_lt from gone) [
       let same : first ≡ from = omega arith in
       rw (drop-past from gone (once 0) all ge, same) refl)
 ]
+
+-- how many positions the runs have, once some that were let go were brought back
+pub known_long : (gone opened end : ℕ) (runs now : List Run) → replicate opened (once 0) ++ expand now ≡ replicate gone (once 0) ++ expand runs → end ≡ gone + length (expand runs) → end ≡ opened + length (expand now)
+known_long gone opened end runs now same e =
+    let whole = ap length same in
+    let both = length-append (replicate opened (once 0)) (expand now) in
+    let one = length-replicate opened (once 0) in
+    let all = length-append (replicate gone (once 0)) (expand runs) in
+    let first = length-replicate gone (once 0) in
+    omega arith
 
 length-mark : (position count : ℕ) (all : List Made) → length (mark position count all) ≡ length all
 length-mark position count [] = refl

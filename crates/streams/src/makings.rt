@@ -64,7 +64,8 @@ impl Makings {
     {
         self.runs.reserve(4)?;
         self.gone = reopen(&mut self.runs, self.gone, position);
-        remake(&mut self.runs, position - self.gone, count);
+        let known = self.end - self.gone;
+        remake(&mut self.runs, position - self.gone, count, known);
         let fresh = (position + count).saturating_sub(self.end);
         grow(&mut self.runs, fresh, moment);
         self.end += fresh;

@@ -1,7 +1,7 @@
 //! Runs of positions of one making, and what is done with a queue of them.
 //!
 //! A segment makes one run, however long it is, so that a queue is as long as there are segments in flight. Marking and
-//! asking walk over the runs up to the last position that is meant, which are those that wait longest.
+//! asking walk over the runs up to the last position that is meant and was made; new positions are marked without a walk.
 
 ghost use Rattle.std.specs.Prelude.{◌≡◌, ◌+◌, ◌-◌, ◌<◌, ◌≤◌, ◌++◌, ◌∷◌, drop, length, replicate, slice_get, take};
 ghost use Rattle.std.specs.Option.{option_map};
@@ -92,17 +92,22 @@ pub(crate) fn reopen(runs: &mut VecDeque<Run>, gone: u64, position: u64) -> u64
     0
 }
 
-/// Marks so many positions from this one on as made again, where there is room for two runs.
-pub(crate) fn remake(runs: &mut VecDeque<Run>, position: u64, count: u64)
-    requires { deque_len runs.old + 2 ≤ deque_capacity runs.old }
+/// Marks so many positions from this one on as made again, where `known` positions were made, and there is room for two
+/// runs. New positions cost no walk, and a walk ends with the last position that is marked.
+pub(crate) fn remake(runs: &mut VecDeque<Run>, position: u64, count: u64, known: u64)
+    requires room { deque_len runs.old + 2 ≤ deque_capacity runs.old }
+    requires known { known ≡ length (expand runs.old.items) }
     ensures marked { expand runs.new.items ≡ mark position count (expand runs.old.items) }
     ensures len { deque_len runs.new ≤ deque_len runs.old + 2 }
     ensures capacity { deque_capacity runs.old ≤ deque_capacity runs.new }
 {
+    if known <= position {
+        return;
+    }
     let mut place = 0usize;
     let mut skip = position;
     let mut left = count;
-    while place < runs.len() {
+    while place < runs.len() && 0 < left {
         let run = runs[place];
         let made = run.made;
         if run.count <= skip {

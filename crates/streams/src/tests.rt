@@ -192,6 +192,24 @@ fn what_is_made_again_is_marked(rt: HostRuntime) -> Result<(), AllocError> {
     Ok(())
 }
 
+// No making takes time that grows with those before it.
+#[test]
+fn segments_are_made_over_and_over(rt: HostRuntime) -> Result<(), AllocError> {
+    let mut makings = Makings::new(rt.alloc());
+    for moment in 0..200_000u64 {
+        makings.make(moment, 1, moment)?;
+    }
+    for moment in 200_000..400_000u64 {
+        makings.make(0, 2, moment)?;
+    }
+    assert_eq!(rt; makings.end(), 200_000);
+    assert_eq!(rt; makings.moment(1), Some(1));
+    assert_eq!(rt; makings.moment(199_999), Some(199_999));
+    assert!(rt; makings.is_made_again(0, 2));
+    assert!(rt; !makings.is_made_again(2, 200_000));
+    Ok(())
+}
+
 #[test]
 fn laws_can_be_called(_rt: HostRuntime) {
     forgetting_streams();

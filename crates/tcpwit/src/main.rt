@@ -4,26 +4,30 @@
 ghost use Rattle.std.specs.Prelude.{◌≡◌, ◌<◌, ◌^◌, OnErr};
 ghost use Rattle.counted.specs.Counting.{failures_of};
 
-use cli::{answer_bad_memory, answer_bad_usage, run_all};
+use cli::{answer_bad_memory, given_words, run_all};
 use counted::Counted;
 use std::alloc::{AllocError, Global};
 use std::env::Args;
-use std::io::{BufRead, ErrorKind, Input, Write};
+use std::io::{BufRead, BufReader, Input, Write};
 use std::process::ExitCode;
 use std::sync::Wait;
 use std::thread::Threads;
 
+// How many bytes of standard input are asked for at once; a pipe would else be read byte by byte.
+const INPUT_BYTES: usize = 64 * 1024;
+
 fn main(rt: HostRuntime) -> ExitCode {
-    let mut reader = Counted::new(rt.reader());
     let mut writer = Counted::new(rt.stdout());
-    let status = match std::env::args(&rt) {
+    let Ok(input) = BufReader::with_capacity(rt.alloc(), INPUT_BYTES, rt.reader()) else {
+        return ExitCode::from(answer_bad_memory(&mut writer));
+    };
+    let mut reader = Counted::new(input);
+    let status = match given_words(&rt, rt.alloc()) {
         Ok(given) => match run_given(&rt, rt.alloc(), given, &mut reader, &mut writer) {
             Ok(status) => status,
             Err(AllocError) => answer_bad_memory(&mut writer),
         },
-        Err(error) if error.kind() == ErrorKind::OutOfMemory => answer_bad_memory(&mut writer),
-        // A word is no UTF-8.
-        Err(_) => answer_bad_usage(&mut writer),
+        Err(_) => answer_bad_memory(&mut writer),
     };
     ExitCode::from(status)
 }

@@ -1,6 +1,7 @@
 use Rattle.std.proofs.Common.{◌≡◌, ◌+◌, ◌-◌, set, arith, ap, sym, ◌∙◌}
 use Rattle.streams.specs.declared.making.Made.{Made}
-use Rattle.streams.proofs.RunLemmas.{so_far, pass_run, cut_begin, cut_end, mark_whole}
+use Rattle.streams.specs.Views.{expand}
+use Rattle.streams.proofs.RunLemmas.{so_far, pass_run, cut_begin, cut_end, mark_whole, mark-behind, marked_all}
 use Rattle.streams.proofs.runs.remake.Goals as goal
 
 pub loop-place-preserved-then-run-skip : goal.loop-place-preserved-then-run-skip
@@ -35,3 +36,15 @@ loop-place-preserved c =
       long = let r = c.loop-place.invariant.long in omega arith;
       room = let r = c.loop-place.invariant.room in omega arith;
     }
+
+-- no made position is at or behind this one
+pub returns-then-known-position-clause-marked : goal.returns-then-known-position-clause-marked
+returns-then-known-position-clause-marked c =
+    let known = c.requires.known in
+    let behind = c.if-known-position.true in
+    sym (mark-behind c.args.position c.args.count (expand c.args.runs.now.items) (omega arith))
+
+pub returns-else-left-gt0-clause-marked : goal.returns-else-left-gt0-clause-marked
+returns-else-left-gt0-clause-marked c =
+    marked_all c.loop-place.runs.items c.loop-place.place c.loop-place.skip c.loop-place.left (let none = c.if-left-gt0.false in omega arith)
+    ∙ c.loop-place.invariant.told

@@ -4,7 +4,7 @@ use Rattle.streams.specs.declared.making.Made.{Made}
 use Rattle.streams.specs.declared.runs.Run.{Run}
 use Rattle.streams.specs.Makings.{once}
 use Rattle.streams.specs.Views.{expand}
-use Rattle.streams.proofs.RunLemmas.{make_long, make_shown}
+use Rattle.streams.proofs.RunLemmas.{known_long, make_long, make_shown}
 use Rattle.streams.proofs.makings.Makings.make.Goals as goal
 
 -- what is shown once runs that were let go are brought back is what was shown before
@@ -35,3 +35,15 @@ returns-clause-ok c =
     let fresh : c.saturating_sub-fresh.result ≡ c.args.position + c.args.count - length c.args.self.now = omega arith in
     make_shown c.reopen-self-inside.result c.args.position c.args.count c.args.moment c.saturating_sub-fresh.result c.args.self.now c.reopen-self-inside.new.runs.items c.remake.new.runs.items c.grow.new.runs.items
     (same c) c.reopen-self-inside.ensures.within c.remake.ensures.marked fresh c.grow.ensures
+
+pub overflow_sub-known : goal.overflow_sub-known
+overflow_sub-known c =
+    let known = known_long c.self.inside.gone c.reopen-self-inside.result c.self.inside.end c.self.inside.runs.items c.reopen-self-inside.new.runs.items
+        (c.reopen-self-inside.ensures.same ∙ ap (λ (runs : List Run). replicate c.self.inside.gone (once 0) ++ expand runs) c.reserve.ensures.items) c.self.invariant.0 in
+    omega arith
+
+pub remake-requires-clause-known : goal.remake-requires-clause-known
+remake-requires-clause-known c =
+    let known = known_long c.self.inside.gone c.reopen-self-inside.result c.self.inside.end c.self.inside.runs.items c.reopen-self-inside.new.runs.items
+        (c.reopen-self-inside.ensures.same ∙ ap (λ (runs : List Run). replicate c.self.inside.gone (once 0) ++ expand runs) c.reserve.ensures.items) c.self.invariant.0 in
+    omega arith

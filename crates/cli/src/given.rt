@@ -1,0 +1,55 @@
+//! The words that the program is given, as text.
+
+ghost use Rattle.std.specs.Prelude.{◌≡◌, map};
+ghost use Rattle.cli.specs.GivenWords.{plain};
+ghost use Rattle.cli.specs.HexText.{segment_in};
+
+use std::alloc::Global;
+use std::env::{Args, Env, FillError};
+use std::io;
+
+/// The words of the command line, the program's name first. Each byte of a word that is not ASCII becomes a `?`, so that a
+/// word is text also where it was no UTF-8. Nothing that the program knows is spelled with either, so the answer to the
+/// words stays the same: `segment` with such a word is `bad segment hex`, and other words are `bad usage`. An error means
+/// that memory ran out.
+pub fn given_words<E: Env>(env: &E, alloc: Global) -> io::Result<Args> {
+    std::env::args(&(PlainWords { env }, alloc))
+}
+
+// Words of ASCII alone.
+#[derive(Drop)]
+struct PlainWords<'a, E> {
+    env: &'a E,
+}
+
+impl<E: Env> Env for PlainWords<'_, E> {
+    fn arg(&self, i: usize, buf: &mut [u8]) -> Result<usize, FillError> {
+        let length = self.env.arg(i, buf)?;
+        make_plain(&mut buf[..length]);
+        Ok(length)
+    }
+
+    fn var(&self, name: &str, buf: &mut [u8]) -> Result<usize, FillError> {
+        self.env.var(name, buf)
+    }
+
+    fn var_at(&self, i: usize, buf: &mut [u8]) -> Result<usize, FillError> {
+        self.env.var_at(i, buf)
+    }
+}
+
+// Each byte of a word that is not ASCII becomes a `?`. The word stands for the same segment, or has the same fault.
+fn make_plain(word: &mut [u8])
+    ensures plain { word.new ≡ map plain word.old }
+    ensures segment { segment_in word.new ≡ segment_in word.old }
+{
+    for byte in word.iter_mut() {
+        *byte = plain(*byte);
+    }
+}
+
+fn plain(byte: u8) -> u8
+    ensures { result ≡ plain byte }
+{
+    if byte < 128 { byte } else { b'?' }
+}
