@@ -35,28 +35,15 @@ parts b made wire inbox = record { body = b; made = made; wire = wire; inbox = i
 
 pub dropped : (hd : Header) (me : Host) (moment line : ℕ) (h : Host_) (b : Body) (made : List (ℕ × Made Emission)) (wire : List (ℕ × Emission)) (inbox : List (ℕ × Option Emission))
     → IsReady h → parts b made wire inbox ≡ h → parts b made wire (inbox_settled line inbox) ≡ forget_host (deed_after (tcp hd) me moment 0 [] h (Drops line))
-dropped hd me moment line h b made wire inbox ready is = subst (λ (h : Host_). IsReady h → parts b made wire (inbox_settled line inbox) ≡ forget_host (deed_after (tcp hd) me moment 0 [] h (Drops line))) is (λ ready. by ready.room (waiting line inbox)) ready
-  where
-    by : All HasRoom b.endpoints → (o : Option Emission) → parts b made wire (on o inbox (λ e. settled line inbox)) ≡ forget_host (on o (parts b made wire inbox) (λ e. parts b made wire (settled line inbox)))
-    by room None = rw (still_body b room) refl
-    by room (Some e) = rw (still_body b room) refl
+dropped hd me moment line h b made wire inbox ready is = subst (λ (h : Host_). IsReady h → parts b made wire (inbox_settled line inbox) ≡ forget_host (deed_after (tcp hd) me moment 0 [] h (Drops line))) is (λ ready. rw (still_body b ready.room) refl) ready
 
 pub got : (hd : Header) (me : Host) (moment line copied : ℕ) (w : Wire) (far : List (ℕ × Emission)) (h : Host_) (b : Body) (made : List (ℕ × Made Emission)) (wire : List (ℕ × Emission)) (inbox : List (ℕ × Option Emission))
     → IsReady h → parts b made wire inbox ≡ h → parts b made wire (inbox_after far line copied inbox) ≡ forget_host (deed_after (tcp hd) me moment 0 far h (Gets line copied w))
-got hd me moment line copied w far h b made wire inbox ready is = subst (λ (h : Host_). IsReady h → parts b made wire (inbox_after far line copied inbox) ≡ forget_host (deed_after (tcp hd) me moment 0 far h (Gets line copied w))) is (λ ready. by ready.room (lookup (nat_eq copied) far)) ready
-  where
-    by : All HasRoom b.endpoints → (o : Option Emission) → parts b made wire (on o inbox (λ e. insert_entry nat_eq inbox line (Some e))) ≡ forget_host (on o (parts b made wire inbox) (λ e. parts b made wire (insert_entry nat_eq inbox line (Some e))))
-    by room None = rw (still_body b room) refl
-    by room (Some e) = rw (still_body b room) refl
+got hd me moment line copied w far h b made wire inbox ready is = subst (λ (h : Host_). IsReady h → parts b made wire (inbox_after far line copied inbox) ≡ forget_host (deed_after (tcp hd) me moment 0 far h (Gets line copied w))) is (λ ready. rw (still_body b ready.room) refl) ready
 
 pub went_out : (hd : Header) (me : Host) (moment line number : ℕ) (w : Wire) (h : Host_) (b : Body) (made : List (ℕ × Made Emission)) (wire : List (ℕ × Emission)) (inbox : List (ℕ × Option Emission))
     → IsReady h → parts b made wire inbox ≡ h → parts b (made_after number made) (wire_after made line number w moment wire) inbox ≡ forget_host (deed_after (tcp hd) me moment 0 [] h (Sends line number w))
-went_out hd me moment line number w h b made wire inbox ready is = subst (λ (h : Host_). IsReady h → parts b (made_after number made) (wire_after made line number w moment wire) inbox ≡ forget_host (deed_after (tcp hd) me moment 0 [] h (Sends line number w))) is (λ ready. by ready.room (lookup (nat_eq number) made)) ready
-  where
-    by : All HasRoom b.endpoints → (o : Option (Made Emission)) → parts b (on o made (λ m. insert_entry nat_eq made number (gone_out m))) (on o wire (λ m. insert_entry nat_eq wire line (sent moment w m.emission))) inbox
-        ≡ forget_host (on o (parts b made wire inbox) (λ m. parts b (insert_entry nat_eq made number (gone_out m)) (insert_entry nat_eq wire line (sent moment w m.emission)) inbox))
-    by room None = rw (still_body b room) refl
-    by room (Some m) = rw (still_body b room) refl
+went_out hd me moment line number w h b made wire inbox ready is = subst (λ (h : Host_). IsReady h → parts b (made_after number made) (wire_after made line number w moment wire) inbox ≡ forget_host (deed_after (tcp hd) me moment 0 [] h (Sends line number w))) is (λ ready. rw (still_body b ready.room) refl) ready
 
 pub took_nothing : (hd : Header) (me : Host) (moment line : ℕ) (how : How) (h : Host_) → IsReady h → waiting line h.inbox ≡ None → h ≡ forget_host (deed_after (tcp hd) me moment 0 [] h (Takes line how))
 took_nothing hd me moment line how h ready none = rw (none, still_host h ready) refl

@@ -93,7 +93,7 @@ module _ (hd : Header) (me : Host) (moment steps : ℕ) (h : HostState tcp_shape
   }
 
   sends_kept : (line number : ℕ) (wire : Wire) (o : Option (Made Emission)) → IfSome o (λ m. IsSmallEmission m.emission)
-      → IsKeptHost (suc steps) (forget_host (on o h (λ m. record h { made = insert_entry nat_eq h.made number (gone_out m); wire = insert_entry nat_eq h.wire line (sent moment wire m.emission) })))
+      → IsKeptHost (suc steps) (forget_host (record h { made = on o h.made (λ m. insert_entry nat_eq h.made number (gone_out m)); wire = on o h.wire (λ m. insert_entry nat_eq h.wire line (sent moment wire m.emission)) }))
   sends_kept line number wire None small = idle_host steps h k
   sends_kept line number wire (Some m) small = record {
     body = idle_body steps h.body k.body;
@@ -104,14 +104,14 @@ module _ (hd : Header) (me : Host) (moment steps : ℕ) (h : HostState tcp_shape
     };
   }
 
-  gets_kept : (line : ℕ) (o : Option Emission) → IfSome o IsSmallEmission → IsKeptHost (suc steps) (forget_host (on o h (λ e. record h { inbox = insert_entry nat_eq h.inbox line (Some e) })))
+  gets_kept : (line : ℕ) (o : Option Emission) → IfSome o IsSmallEmission → IsKeptHost (suc steps) (forget_host (record h { inbox = on o h.inbox (λ e. insert_entry nat_eq h.inbox line (Some e)) }))
   gets_kept line None small = idle_host steps h k
   gets_kept line (Some m) small = record {
     body = idle_body steps h.body k.body;
     tables = record { made = k.tables.made; wire = k.tables.wire; inbox = all_insert IsSmallArrival h.inbox line (Some m) small k.tables.inbox };
   }
 
-  drops_kept : (line : ℕ) (o : Option Emission) → IsKeptHost (suc steps) (forget_host (on o h (λ e. record h { inbox = settled line h.inbox })))
+  drops_kept : (line : ℕ) (o : Option Emission) → IsKeptHost (suc steps) (forget_host (record h { inbox = on o h.inbox (λ e. settled line h.inbox) }))
   drops_kept line None = idle_host steps h k
   drops_kept line (Some m) = record {
     body = idle_body steps h.body k.body;
@@ -119,7 +119,7 @@ module _ (hd : Header) (me : Host) (moment steps : ℕ) (h : HostState tcp_shape
   }
 
   takes_kept : (line : ℕ) (how : How) (o : Option Emission) → waiting line h.inbox ≡ o → first_broken (on o (just rules.Inbox true) (λ m. act_rules hd me moment h.body (acts.Takes how m))) ≡ None
-      → IsKeptHost (suc steps) (forget_host (on o h (λ m. record h { body = act_after hd me moment h.body (acts.Takes how m); inbox = settled line h.inbox })))
+      → IsKeptHost (suc steps) (forget_host (record h { body = on o h.body (λ m. act_after hd me moment h.body (acts.Takes how m)); inbox = on o h.inbox (λ m. settled line h.inbox) }))
   takes_kept line how None waits permitted = idle_host steps h k
   takes_kept line how (Some m) waits permitted = record {
     body = act_kept (acts.Takes how m) (waiting_small h line m k.tables waits) permitted;
@@ -127,7 +127,7 @@ module _ (hd : Header) (me : Host) (moment steps : ℕ) (h : HostState tcp_shape
   }
 
   answers_kept : (fresh line : ℕ) (o : Option Emission) → first_broken (on o (just rules.Inbox true) (λ m. act_rules hd me moment h.body (acts.Resets m))) ≡ None
-      → IsKeptHost (suc steps) (forget_host (on o h (λ m. record h { body = act_after hd me moment h.body (acts.Resets m); made = act_made (tcp hd) me moment fresh h (acts.Resets m); inbox = settled line h.inbox })))
+      → IsKeptHost (suc steps) (forget_host (record h { body = on o h.body (λ m. act_after hd me moment h.body (acts.Resets m)); made = on o h.made (λ m. act_made (tcp hd) me moment fresh h (acts.Resets m)); inbox = on o h.inbox (λ m. settled line h.inbox) }))
   answers_kept fresh line None permitted = idle_host steps h k
   answers_kept fresh line (Some m) permitted = record {
     body = act_kept (acts.Resets m) tt permitted;
