@@ -223,7 +223,7 @@ both_host w step host k f = record { all = with_cases w.hosts host k (λ x y. Mo
 both_step : (h : Header) (s : ℕ) (w : World tcp_shape) (step : Step tcp_shape) → Good w.hosts → Permitted (tcp h) s w step → BothMove w step (after (tcp h) s w step).hosts
 both_step h s w (Begin line t call) good may = both_not w (Begin line t call)
 both_step h s w (Finish line t answer) good may = both_not w (Finish line t answer)
-both_step h s w (Effect t answer) good may = go (turn_of (tcp h) t w.threads)
+both_step h s w (Effect t answer) good may = go (turn_of t w.threads)
   where
     by : (call : Call) (o : Option Host) → BothMove w (Effect t answer) (call_after (tcp h) s w.hosts (Calls call answer) o)
     by call None = both_not w (Effect t answer)

@@ -22,7 +22,6 @@ use Rattle.machine.specs.Forgetting.{forget}
 use Rattle.endpoint_state.specs.Worlds.{Progress, after}
 use Rattle.endpoint_state.specs.Calls.{meant, rules_of_call, gives_again, allowed_at}
 use Rattle.endpoint_state.specs.Sides.{AreReady, forget_hosts}
-use Rattle.endpoint_state.specs.Turns.{turn_in}
 use Rattle.endpoint_state.proofs.Progresses.{Hosts_, Threads_, shown, still_hosts, plus_one}
 
 -- the least rule that is broken, by two questions
@@ -70,12 +69,12 @@ call_is_allowed h moment hosts call answer host none = by (call_allows (pick hos
 
 -- a permitted effect is that of an open call which has no broken rule
 pub open_is_permitted : (h : Header) (w : World tcp_shape) (t : ℕ) (call : Call) (answer : Answer)
-    → turn_in t w.threads ≡ Called call → Permitted (tcp h) 0 w (Effect t answer) → first_broken (open_rules (tcp h) 0 w.hosts (Called call) answer) ≡ None
+    → turn_of t w.threads ≡ Called call → Permitted (tcp h) 0 w (Effect t answer) → first_broken (open_rules (tcp h) 0 w.hosts (Called call) answer) ≡ None
 open_is_permitted h w t call answer is permitted = subst (λ (u : Turn tcp_shape). first_broken (effect_rules (tcp h) 0 w.hosts u answer) ≡ None) is permitted
 
 -- the case after an effect
 pub had_effect : (p : Progress) (h : Header) (hosts hosts2 : Hosts_) (threads threads2 : Threads_) (count steps t : ℕ) (call : Call) (answer : Answer) (host : Option Host) → AreReady hosts
-    → shown h hosts threads count steps ≡ p → turn_in t threads ≡ Called call → meant (shown h hosts threads count steps) call ≡ host
+    → shown h hosts threads count steps ≡ p → turn_of t threads ≡ Called call → meant (shown h hosts threads count steps) call ≡ host
     → hosts2 ≡ forget_hosts (call_after (tcp h) 0 hosts (acts.Calls call answer) host) → threads2 ≡ insert_entry nat_eq threads t (Answered answer)
     → shown h hosts2 threads2 count (steps + 1) ≡ after p 0 (Effect t answer)
 had_effect p h hosts hosts2 threads threads2 count steps t call answer host are is opened to_host same turns =
@@ -86,7 +85,7 @@ had_effect p h hosts hosts2 threads threads2 count steps t call answer host are 
 
 -- no rule of a call and no effect of one reads the moment
 pub effect_at_any_moment : (h : Header) (moment : ℕ) (w : World tcp_shape) (t : ℕ) (answer : Answer) → first_broken (step_rules (tcp h) moment w (Effect t answer)) ≡ first_broken (step_rules (tcp h) 0 w (Effect t answer))
-effect_at_any_moment h moment w t answer = by (turn_of (tcp h) t w.threads)
+effect_at_any_moment h moment w t answer = by (turn_of t w.threads)
   where
     by : (u : Turn tcp_shape) → first_broken (effect_rules (tcp h) moment w.hosts u answer) ≡ first_broken (effect_rules (tcp h) 0 w.hosts u answer)
     by Idle = refl
@@ -94,7 +93,7 @@ effect_at_any_moment h moment w t answer = by (turn_of (tcp h) t w.threads)
     by (Answered given) = refl
 
 pub after_at_any_moment : (p : Progress) (moment t : ℕ) (answer : Answer) → after p moment (Effect t answer) ≡ after p 0 (Effect t answer)
-after_at_any_moment p moment t answer = ap (λ (w : World tcp_shape). record p { world = forget w; steps = suc p.steps }) (by (turn_of (tcp p.header) t p.world.threads))
+after_at_any_moment p moment t answer = ap (λ (w : World tcp_shape). record p { world = forget w; steps = suc p.steps }) (by (turn_of t p.world.threads))
   where
     at : (call : Call) (host : Option Host) → call_after (tcp p.header) moment p.world.hosts (acts.Calls call answer) host ≡ call_after (tcp p.header) 0 p.world.hosts (acts.Calls call answer) host
     at call None = refl

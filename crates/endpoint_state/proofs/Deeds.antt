@@ -8,7 +8,7 @@ use Rattle.case_forms.specs.declared.trace.Wire.{Wire}
 use Rattle.case_forms.specs.declared.calls.Host.{Host}
 use Rattle.hosts.specs.Tables.{Made, on, waiting, settled, unsent, gone_out}
 use Rattle.hosts.specs.Hosts.{HostState, Answers, Drops, Gets, Makes, Sends, Takes}
-use Rattle.hosts.specs.HostSteps.{deed_after}
+use Rattle.hosts.specs.HostSteps.{deed_after, inbox_after, inbox_settled, made_gone_out, wire_after}
 use Rattle.machine.specs.declared.endpoint.Emission.{Emission}
 use Rattle.machine.specs.declared.how.How.{How}
 use Rattle.machine.specs.declared.making.Making.{Making}
@@ -23,7 +23,6 @@ use Rattle.machine.specs.Machine as acts
 use Rattle.machine.specs.Forgetting.{forget_body, forget_host}
 use Rattle.machine.specs.Bounds.{HasRoom}
 use Rattle.endpoint_state.specs.Kept.{IsReady}
-use Rattle.endpoint_state.specs.Passages.{inbox_after, inbox_settled, made_after, wire_after}
 use Rattle.endpoint_state.proofs.Still.{still_body, still_host}
 
 abbrev pub Host_ : Type 0
@@ -42,8 +41,8 @@ pub got : (hd : Header) (me : Host) (moment line copied : ℕ) (w : Wire) (far :
 got hd me moment line copied w far h b made wire inbox ready is = subst (λ (h : Host_). IsReady h → parts b made wire (inbox_after far line copied inbox) ≡ forget_host (deed_after (tcp hd) me moment 0 far h (Gets line copied w))) is (λ ready. rw (still_body b ready.room) refl) ready
 
 pub went_out : (hd : Header) (me : Host) (moment line number : ℕ) (w : Wire) (h : Host_) (b : Body) (made : List (ℕ × Made Emission)) (wire : List (ℕ × Emission)) (inbox : List (ℕ × Option Emission))
-    → IsReady h → parts b made wire inbox ≡ h → parts b (made_after number made) (wire_after made line number w moment wire) inbox ≡ forget_host (deed_after (tcp hd) me moment 0 [] h (Sends line number w))
-went_out hd me moment line number w h b made wire inbox ready is = subst (λ (h : Host_). IsReady h → parts b (made_after number made) (wire_after made line number w moment wire) inbox ≡ forget_host (deed_after (tcp hd) me moment 0 [] h (Sends line number w))) is (λ ready. rw (still_body b ready.room) refl) ready
+    → IsReady h → parts b made wire inbox ≡ h → parts b (made_gone_out number made) (wire_after sent made line number w moment wire) inbox ≡ forget_host (deed_after (tcp hd) me moment 0 [] h (Sends line number w))
+went_out hd me moment line number w h b made wire inbox ready is = subst (λ (h : Host_). IsReady h → parts b (made_gone_out number made) (wire_after sent made line number w moment wire) inbox ≡ forget_host (deed_after (tcp hd) me moment 0 [] h (Sends line number w))) is (λ ready. rw (still_body b ready.room) refl) ready
 
 pub took_nothing : (hd : Header) (me : Host) (moment line : ℕ) (how : How) (h : Host_) → IsReady h → waiting line h.inbox ≡ None → h ≡ forget_host (deed_after (tcp hd) me moment 0 [] h (Takes line how))
 took_nothing hd me moment line how h ready none = rw (none, still_host h ready) refl

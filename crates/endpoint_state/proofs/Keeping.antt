@@ -200,7 +200,7 @@ pub kept_after : (h : Header) (moment steps : ℕ) (w : World tcp_shape) (step :
     → IsKeptWorld (suc steps) (forget (after (tcp h) moment w step))
 kept_after h moment steps w (Begin line t call) small permitted k = turn_kept h moment steps w k (insert_entry nat_eq w.threads t (Called call))
 kept_after h moment steps w (Finish line t answer) small permitted k = turn_kept h moment steps w k (insert_entry nat_eq w.threads t Idle)
-kept_after h moment steps w (Effect t answer) small permitted k = effect_at h moment steps w k t answer (turn_of (tcp h) t w.threads) small permitted
+kept_after h moment steps w (Effect t answer) small permitted k = effect_at h moment steps w k t answer (turn_of t w.threads) small permitted
 kept_after h moment steps w (At host d) small permitted k = deed_at h moment steps w k host d small permitted
 
 pub ready : (steps : ℕ) (h : HostState tcp_shape) → steps < most_steps → IsKeptHost steps h → IsReady h

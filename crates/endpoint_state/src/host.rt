@@ -6,9 +6,9 @@ ghost use Rattle.hosts.specs.Hosts.{Answers, Does, Drops, Expires, Gets, Makes, 
 ghost use Rattle.std.specs.Option.{IfSome};
 ghost use Rattle.std.specs.Result.{result_err};
 ghost use Rattle.verdict.specs.Rules.{first_broken};
-ghost use Rattle.hosts.specs.HostRules.{deed_rules};
 ghost use Rattle.hosts.specs.HostSteps.{deed_after, empty_host};
-ghost use Rattle.endpoint_state.specs.Passages.{arrival_rules, sending_rules};
+ghost use Rattle.hosts.specs.HostRules.{arrival_rules, deed_rules, sending_rules};
+ghost use Rattle.machine.specs.Wires.{in_rules, out_rules};
 ghost use Rattle.machine.specs.Lookups.{given};
 ghost use Rattle.machine.specs.CallRules.{call_allows};
 ghost use Rattle.machine.specs.CallEffects.{after_call};
@@ -246,7 +246,7 @@ impl HostState {
 
     /// Whether what goes out is the segment that was made under this number. An error is the first rule that is broken.
     pub(crate) fn admits_sending(&self, number: u32, wire: &Wire) -> Result<(), Rule>
-        ensures { result_err result ≡ first_broken (sending_rules self.now.made number wire.now) }
+        ensures { result_err result ≡ first_broken (sending_rules out_rules self.now.made number wire.now) }
     {
         admits_sending(&self.made, number, wire)
     }
@@ -260,7 +260,7 @@ impl HostState {
         copied: u64,
         wire: &Wire,
     ) -> Result<(), Rule>
-        ensures { result_err result ≡ first_broken (arrival_rules header.now moment self.now.wire copied wire.now) }
+        ensures { result_err result ≡ first_broken (arrival_rules (in_rules header.now moment) self.now.wire copied wire.now) }
     {
         admits_arrival(header, moment, &self.wire, copied, wire)
     }

@@ -10,13 +10,18 @@
 //! - `host_pair`: the two hosts, and what one of them does
 //! - `host`: what one host has, and what it does
 //!
-//! The tables of a host and of the threads, and what lines do to them; `specs/Turns.antt` and `specs/Passages.antt` say it table
-//! by table:
+//! The tables of a host and of the threads, and what lines do to them:
 //!
 //! - `turn`, `threads`: where each thread is, and the lines that begin and end a call
 //! - `made`, `sending`: segments that were made, and the lines that go out
 //! - `arriving`: the lines that come in, and what waits in an inbox
-//! - `laws`: that these are the rules and effects of the machine
+//!
+//! What one host has below its tables:
+//!
+//! - `body`: endpoints, listeners and sockets, and how they are found; `endpoints`, `listeners`: each with its index
+//! - `rules`, `acts`: what the host may do, and what it does; `sockets`: what a call does there
+//! - `changes`, `orphans`: one endpoint changes in its place; the children of a listener that is gone
+//! - `laws`: what counts and positions may become
 #![tactic(auto)]
 
 mod acts;
@@ -41,6 +46,6 @@ mod turn;
 mod world;
 
 pub use calls::{admits_effect, call_allowed, do_call};
-pub use laws::{acts_keep, emissions_are_small, have_room, kept_longer, tables_are_the_machines};
+pub use laws::{acts_keep, emissions_are_small, have_room, kept_longer};
 pub use machine::{Endpoint, Listener};
 pub use world::World;

@@ -1,30 +1,24 @@
 //! Where each thread is, and the lines that begin and end a call.
 
-ghost use Rattle.std.specs.Prelude.{◌≡◌, nat_eq, is_some, false, IfOk, OnOk, OnErr};
+ghost use Rattle.std.specs.Prelude.{◌≡◌, nat_eq, is_some, false, not, IfOk, OnOk, OnErr};
 ghost use Rattle.std.specs.Map.{lookup};
-ghost use Rattle.std.specs.Option.{option_copied, option_map};
+ghost use Rattle.std.specs.Option.{option_map};
 ghost use Rattle.std.specs.Result.{result_err};
 ghost use Rattle.indexmap.specs.IndexMap.{insert_entry};
 ghost use Rattle.verdict.specs.Rules.{first_broken};
-ghost use Rattle.hosts.specs.Hosts.{Answered, Called, Idle};
+ghost use Rattle.hosts.specs.HostRules.{begin_rules, end_rules, pending_rules};
+ghost use Rattle.hosts.specs.Hosts.{Answered, Called, Idle, turn_of};
 ghost use Rattle.machine.specs.Same.{same_answer};
-ghost use Rattle.endpoint_state.specs.Turns.{begin_rules, end_rules, open_rules, turn_in, turn_shown};
+ghost use Rattle.endpoint_state.specs.Turns.{turn_shown};
 
 use crate::turn::{Place, Turn};
 use case_forms::{Answer, Call, OutOfMemory};
 use indexmap::IndexMap;
 use verdict::Rule;
 
-/// Where a thread is. None: it never called, so it is in no call.
-pub fn turn_of(threads: &IndexMap<u32, Turn>, thread: u32) -> Option<&Turn>
-    ensures { option_copied result ≡ lookup (nat_eq thread) threads.now.entries }
-{
-    threads.get(&thread)
-}
-
 /// Whether a thread may begin a call: it is in no other. An error is the rule that is broken.
 pub fn admits_begin(threads: &IndexMap<u32, Turn>, thread: u32) -> Result<(), Rule>
-    ensures { result_err result ≡ first_broken (begin_rules (turn_in thread threads.now.entries)) }
+    ensures { result_err result ≡ first_broken (begin_rules (turn_of thread threads.now.entries)) }
 {
     match place_in(threads, thread) {
         Some(Place::Called(_)) | Some(Place::Answered(_)) => Err(Rule::ThreadBusy),
@@ -35,7 +29,7 @@ pub fn admits_begin(threads: &IndexMap<u32, Turn>, thread: u32) -> Result<(), Ru
 /// Whether a thread's call may end with this answer: one is open, and had its effect with it. An error is the first rule
 /// that is broken.
 pub fn admits_end(threads: &IndexMap<u32, Turn>, thread: u32, answer: &Answer) -> Result<(), Rule>
-    ensures { result_err result ≡ first_broken (end_rules (turn_in thread threads.now.entries) answer.now) }
+    ensures { result_err result ≡ first_broken (end_rules (λ given answer. not (same_answer given answer)) (turn_of thread threads.now.entries) answer.now) }
 {
     match place_in(threads, thread) {
         Some(Place::Answered(given)) => {
@@ -53,8 +47,8 @@ pub fn admits_end(threads: &IndexMap<u32, Turn>, thread: u32, answer: &Answer) -
 /// The call of a thread that is open and had no effect yet. An error is the first rule that is broken: there is none, or
 /// it had its effect.
 pub fn open_call(threads: &IndexMap<u32, Turn>, thread: u32) -> Result<&Call, Rule>
-    ensures call { IfOk result (λ call. turn_in thread threads.now.entries ≡ Called call.now) }
-    ensures rule { result_err result ≡ first_broken (open_rules (turn_in thread threads.now.entries)) }
+    ensures call { IfOk result (λ call. turn_of thread threads.now.entries ≡ Called call.now) }
+    ensures rule { result_err result ≡ first_broken (pending_rules (turn_of thread threads.now.entries)) }
 {
     match place_in(threads, thread) {
         Some(Place::Called(call)) => Ok(call),

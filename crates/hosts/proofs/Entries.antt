@@ -26,9 +26,9 @@ lookup_insert {X} q n v (e ∷ es) = by_test (nat_eq n e.0) refl (nat_eq q e.0) 
     by_test false is false at rest = simp (is, at) rest
 
 -- a thread's turn after a write
-pub turn_insert : (k : Kernel) (q t : ℕ) (u : Turn k.shape) (es : List (ℕ × Turn k.shape)) → turn_of k q (insert_entry nat_eq es t u) ≡ (if nat_eq q t then u else turn_of k q es)
+pub turn_insert : (k : Kernel) (q t : ℕ) (u : Turn k.shape) (es : List (ℕ × Turn k.shape)) → turn_of q (insert_entry nat_eq es t u) ≡ (if nat_eq q t then u else turn_of q es)
 turn_insert k q t u es = ap (λ (o : Option (Turn k.shape)). unwrap_or o Idle) (lookup_insert q t u es) ∙ go (nat_eq q t)
   where
-    go : (b : Bool) → unwrap_or (cond b (Some u) (lookup (nat_eq q) es)) Idle ≡ (if b then u else turn_of k q es)
+    go : (b : Bool) → unwrap_or (cond b (Some u) (lookup (nat_eq q) es)) Idle ≡ (if b then u else turn_of q es)
     go true = refl
     go false = refl

@@ -24,38 +24,38 @@ turns_as : (k : Kernel) (t : ℕ) (xs : List (Stamped k.shape)) (u v : Turn k.sh
 turns_as k t xs u v e = subst (λ (u : Turn k.shape). Turns k t u xs) e
 
 -- a call begins in no other
-begins : (k : Kernel) (u : Turn k.shape) → first_broken (begin_rules k u) ≡ None → u ≡ Idle
+begins : (k : Kernel) (u : Turn k.shape) → first_broken (begin_rules u) ≡ None → u ≡ Idle
 begins k Idle p = refl
 begins k (Called c) p = absurd (none-some rules.ThreadBusy (sym p))
 begins k (Answered a) p = absurd (none-some rules.ThreadBusy (sym p))
 
 -- it ends with the answer of its effect
-ends : (k : Kernel) (u : Turn k.shape) (a : k.shape.Answer) → first_broken (end_rules k u a) ≡ None → (b : k.shape.Answer) × (u ≡ Answered b) × (k.differs b a ≡ false)
+ends : (k : Kernel) (u : Turn k.shape) (a : k.shape.Answer) → first_broken (end_rules k.differs u a) ≡ None → (b : k.shape.Answer) × (u ≡ Answered b) × (k.differs b a ≡ false)
 ends k Idle a p = absurd (none-some rules.NoCall (sym p))
 ends k (Called c) a p = absurd (none-some rules.AnswerDiffers (sym p))
 ends k (Answered b) a p = (b, refl, (none_all (just rules.AnswerDiffers (k.differs b a)) p).0)
 
 -- an effect leaves its thread answered, and the others as they were
-turn_effect : (k : Kernel) (t : ℕ) (w : World k.shape) (s n : ℕ) (a : k.shape.Answer) → Permitted k s w (Effect n a) → turn_of k t (after k s w (Effect n a)).threads ≡ (if nat_eq t n then Answered a else turn_of k t w.threads)
-turn_effect k t w s n a p = let o = effect_passes k s w.hosts (turn_of k n w.threads) a p in
-    ap (λ (u : Turn k.shape). turn_of k t (effect_after k s w n a u).threads) o.1 ∙ turn_insert k t n (Answered a) w.threads
+turn_effect : (k : Kernel) (t : ℕ) (w : World k.shape) (s n : ℕ) (a : k.shape.Answer) → Permitted k s w (Effect n a) → turn_of t (after k s w (Effect n a)).threads ≡ (if nat_eq t n then Answered a else turn_of t w.threads)
+turn_effect k t w s n a p = let o = effect_passes k s w.hosts (turn_of n w.threads) a p in
+    ap (λ (u : Turn k.shape). turn_of t (effect_after k s w n a u).threads) o.1 ∙ turn_insert k t n (Answered a) w.threads
 
 -- in a run the calls of each thread take turns
-pub turns : (k : Kernel) (t : ℕ) (w : World k.shape) (xs : List (Stamped k.shape)) → Lawful k w xs → Turns k t (turn_of k t w.threads) xs
+pub turns : (k : Kernel) (t : ℕ) (w : World k.shape) (xs : List (Stamped k.shape)) → Lawful k w xs → Turns k t (turn_of t w.threads) xs
 turns k t w [] may = tt
 turns k t w (x ∷ xs) may = go x.moment x.step may.0 (turns k t (after k x.moment w x.step) xs may.1)
   where
-    go : (s : ℕ) (step : Step k.shape) → Permitted k s w step → Turns k t (turn_of k t (after k s w step).threads) xs → TakesTurn k t (turn_of k t w.threads) step (λ u. Turns k t u xs)
+    go : (s : ℕ) (step : Step k.shape) → Permitted k s w step → Turns k t (turn_of t (after k s w step).threads) xs → TakesTurn k t (turn_of t w.threads) step (λ u. Turns k t u xs)
     go s (Begin line n c) p rest = (
-      λ is. begins k (turn_of k t w.threads) (subst (λ (v : ℕ). first_broken (begin_rules k (turn_of k v w.threads)) ≡ None) (sym is) p),
+      λ is. begins k (turn_of t w.threads) (subst (λ (v : ℕ). first_broken (begin_rules (turn_of v w.threads)) ≡ None) (sym is) p),
       turns_as k t xs _ _ (turn_insert k t n (Called c) w.threads) rest,
     )
     go s (Finish line n a) p rest = (
-      λ is. ends k (turn_of k t w.threads) a (subst (λ (v : ℕ). first_broken (end_rules k (turn_of k v w.threads) a) ≡ None) (sym is) p),
+      λ is. ends k (turn_of t w.threads) a (subst (λ (v : ℕ). first_broken (end_rules k.differs (turn_of v w.threads) a) ≡ None) (sym is) p),
       turns_as k t xs _ _ (turn_insert k t n Idle w.threads) rest,
     )
     go s (Effect n a) p rest = (
-      λ is. let o = effect_passes k s w.hosts (turn_of k n w.threads) a p in (o.0, ap (λ (v : ℕ). turn_of k v w.threads) is ∙ o.1),
+      λ is. let o = effect_passes k s w.hosts (turn_of n w.threads) a p in (o.0, ap (λ (v : ℕ). turn_of v w.threads) is ∙ o.1),
       turns_as k t xs _ _ (turn_effect k t w s n a p) rest,
     )
     go s (At side d) p rest = rest

@@ -16,8 +16,8 @@ abbrev pub made_gone_out : {E : Type 0} → ℕ → List (ℕ × Made E) → Lis
 made_gone_out number made = on (lookup (nat_eq number) made) made (λ m. insert_entry nat_eq made number (gone_out m))
 
 -- what stands on the wire, once the segment of that number went out with this line
-abbrev pub wire_after : (k : Kernel) → List (ℕ × Made k.shape.Emission) → (line number : ℕ) → k.shape.Wire → ℕ → List (ℕ × k.shape.Emission) → List (ℕ × k.shape.Emission)
-wire_after k made line number wire moment out = on (lookup (nat_eq number) made) out (λ m. insert_entry nat_eq out line (k.sent moment wire m.emission))
+abbrev pub wire_after : {E W : Type 0} → (ℕ → W → E → E) → List (ℕ × Made E) → (line number : ℕ) → W → ℕ → List (ℕ × E) → List (ℕ × E)
+wire_after sent made line number wire moment out = on (lookup (nat_eq number) made) out (λ m. insert_entry nat_eq out line (sent moment wire m.emission))
 
 -- the inbox, once a copy of that line of the other host came in with this one
 abbrev pub inbox_after : {E : Type 0} → List (ℕ × E) → (line copied : ℕ) → List (ℕ × Option E) → List (ℕ × Option E)
@@ -32,7 +32,7 @@ abbrev pub deed_after : (k : Kernel) → Host → ℕ → ℕ → List (ℕ × k
 deed_after k me moment fresh far h (Does x) = record h { body = k.act_after me moment h.body (k.does x) }
 deed_after k me moment fresh far h (Expires line x growth) = record h { body = k.act_after me moment h.body (k.expires x growth) }
 deed_after k me moment fresh far h (Makes x) = record h { body = k.act_after me moment h.body (k.making x); made = act_made k me moment fresh h (k.making x) }
-deed_after k me moment fresh far h (Sends line number wire) = record h { made = made_gone_out number h.made; wire = wire_after k h.made line number wire moment h.wire }
+deed_after k me moment fresh far h (Sends line number wire) = record h { made = made_gone_out number h.made; wire = wire_after k.sent h.made line number wire moment h.wire }
 deed_after k me moment fresh far h (Gets line copied wire) = record h { inbox = inbox_after far line copied h.inbox }
 deed_after k me moment fresh far h (Takes line how) = record h { body = on (waiting line h.inbox) h.body (λ e. k.act_after me moment h.body (k.takes how e)); inbox = inbox_settled line h.inbox }
 deed_after k me moment fresh far h (Drops line) = record h { inbox = inbox_settled line h.inbox }
@@ -71,7 +71,7 @@ effect_after k moment w t answer (Answered given) = w
 abbrev pub after : (k : Kernel) → ℕ → World k.shape → Step k.shape → World k.shape
 after k moment w (Begin line t call) = with_turn k w t (Called call)
 after k moment w (Finish line t answer) = with_turn k w t Idle
-after k moment w (Effect t answer) = effect_after k moment w t answer (turn_of k t w.threads)
+after k moment w (Effect t answer) = effect_after k moment w t answer (turn_of t w.threads)
 after k moment w (At host d) = record w {
   hosts = with_host w.hosts host (deed_after k host moment (suc w.count) (pick w.hosts (other host)).wire (pick w.hosts host) d);
   count = if makes k d then suc w.count else w.count;

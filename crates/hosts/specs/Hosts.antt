@@ -100,5 +100,5 @@ pub record Stamped (s : Shape) : Type 0 where
   pub step : Step s
 
 -- where that thread is: in no call, if it never called
-abbrev pub turn_of : (k : Kernel) → ℕ → List (ℕ × Turn k.shape) → Turn k.shape
-turn_of k t threads = unwrap_or (lookup (nat_eq t) threads) Idle
+abbrev pub turn_of : {s : Shape} → ℕ → List (ℕ × Turn s) → Turn s
+turn_of t threads = unwrap_or (lookup (nat_eq t) threads) Idle

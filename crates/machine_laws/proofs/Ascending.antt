@@ -85,7 +85,7 @@ ascend_deed h host moment far k (Answers line) = ascend_on _ ((rules.Inbox, true
 pub rules_ascend : RulesAscend
 rules_ascend h moment w (Begin line t call) = refl
 rules_ascend h moment w (Finish line t answer) = refl
-rules_ascend h moment w (Effect t answer) = go (turn_of (tcp h) t w.threads)
+rules_ascend h moment w (Effect t answer) = go (turn_of t w.threads)
   where
     go : (u : Turn tcp_shape) → ascend 6 (effect_rules (tcp h) moment w.hosts u answer) ≡ true
     go Idle = refl

@@ -73,7 +73,7 @@ effect_rules-forget h moment hosts (Answered given) answer = refl
 pub step_rules-forget : (h : Header) (moment : ℕ) (w : World tcp_shape) (step : Step tcp_shape) → step_rules (tcp h) moment (forget w) step ≡ step_rules (tcp h) moment w step
 step_rules-forget h moment w (Begin line t call) = refl
 step_rules-forget h moment w (Finish line t answer) = refl
-step_rules-forget h moment w (Effect t answer) = effect_rules-forget h moment w.hosts (turn_of (tcp h) t w.threads) answer
+step_rules-forget h moment w (Effect t answer) = effect_rules-forget h moment w.hosts (turn_of t w.threads) answer
 step_rules-forget h moment w (At Zero d) = deed_rules-forget h Zero moment w.hosts.one.wire w.hosts.zero d
 step_rules-forget h moment w (At One d) = deed_rules-forget h One moment w.hosts.zero.wire w.hosts.one d
 
@@ -91,7 +91,7 @@ deed-forgets : (h : Header) (me : Host) (moment fresh : ℕ) (far : List (ℕ ×
 deed-forgets h me moment fresh far s (Does x) ok = rw (act-forgets h me moment s.body (acts.Recovers x)) refl
 deed-forgets h me moment fresh far s (Expires line x growth) ok = rw (act-forgets h me moment s.body (acts.Expires x growth)) refl
 deed-forgets h me moment fresh far s (Makes x) ok = rw (act-forgets h me moment s.body (acts.Makes x), makes-forget h me moment s.body x ok) refl
-deed-forgets h me moment fresh far s (Sends line number wire) ok = tables-forgets s (made_gone_out number s.made) (wire_after (tcp h) s.made line number wire moment s.wire) s.inbox
+deed-forgets h me moment fresh far s (Sends line number wire) ok = tables-forgets s (made_gone_out number s.made) (wire_after wires.sent s.made line number wire moment s.wire) s.inbox
 deed-forgets h me moment fresh far s (Gets line copied wire) ok = tables-forgets s s.made s.wire (inbox_after far line copied s.inbox)
 deed-forgets h me moment fresh far s (Takes line how) ok = by (waiting line s.inbox)
   where
@@ -132,7 +132,7 @@ turn-forgets w threads = rw (body-forget w.hosts.zero.body, body-forget w.hosts.
 pub after-forgets : (h : Header) (moment : ℕ) (w : World tcp_shape) (step : Step tcp_shape) → MakesPermitted h moment w step → forget (after (tcp h) moment (forget w) step) ≡ forget (after (tcp h) moment w step)
 after-forgets h moment w (Begin line t call) ok = turn-forgets w (insert_entry nat_eq w.threads t (Called call))
 after-forgets h moment w (Finish line t answer) ok = turn-forgets w (insert_entry nat_eq w.threads t Idle)
-after-forgets h moment w (Effect t answer) ok = effect-forgets h moment w t answer (turn_of (tcp h) t w.threads)
+after-forgets h moment w (Effect t answer) ok = effect-forgets h moment w t answer (turn_of t w.threads)
 after-forgets h moment w (At Zero d) ok = rw (deed-forgets h Zero moment (suc w.count) w.hosts.one.wire w.hosts.zero d ok, host-forget w.hosts.one) refl
 after-forgets h moment w (At One d) ok = rw (deed-forgets h One moment (suc w.count) w.hosts.zero.wire w.hosts.one d ok, host-forget w.hosts.zero) refl
 

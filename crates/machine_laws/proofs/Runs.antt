@@ -134,7 +134,7 @@ step_adds_none : (h : Header) (w : World tcp_shape) (step : Step tcp_shape) (me 
 step_adds_none h w (Begin line t call) me g is = refl
 step_adds_none h w (Finish line t answer) me g is = refl
 step_adds_none h w (At host d) me g is = refl
-step_adds_none h w (Effect t answer) me g is = go (turn_of (tcp h) t w.threads)
+step_adds_none h w (Effect t answer) me g is = go (turn_of t w.threads)
   where
     go : (u : Turn tcp_shape) → record { told = of_turn u [] (λ call. name_told w.hosts call answer me); accepted = of_turn u [] (λ call. call_accepted w.hosts call answer me); ended = of_turn u false (λ call. call_ended w.hosts call answer me) } ≡ nothing
     go Idle = refl
@@ -238,7 +238,7 @@ told_step : (h : Header) (s : ℕ) (w : World tcp_shape) (z : Hosts) (socket : �
 told_step h s w z socket me g stays own (Begin line t call) may = refl
 told_step h s w z socket me g stays own (Finish line t answer) may = refl
 told_step h s w z socket me g stays own (At host d) may = refl
-told_step h s w z socket me g stays own (Effect t answer) may = go (turn_of (tcp h) t w.threads) may
+told_step h s w z socket me g stays own (Effect t answer) may = go (turn_of t w.threads) may
   where
     go : (u : Turn tcp_shape) → first_broken (effect_rules (tcp h) s w.hosts u answer) ≡ None → of_turn u [] (λ call. call_told call answer socket) ≡ of_turn u [] (λ call. name_told w.hosts call answer me)
     go Idle may = refl
@@ -279,7 +279,7 @@ whole_step : (h : Header) (s : ℕ) (w : World tcp_shape) (socket : ℕ) → Goo
 whole_step h s w socket g (Begin line t call) may e = absurd cc
 whole_step h s w socket g (Finish line t answer) may e = absurd cc
 whole_step h s w socket g (At host d) may e = absurd cc
-whole_step h s w socket g (Effect t answer) may e = go (turn_of (tcp h) t w.threads) may e
+whole_step h s w socket g (Effect t answer) may e = go (turn_of t w.threads) may e
   where
     go : (u : Turn tcp_shape) → first_broken (effect_rules (tcp h) s w.hosts u answer) ≡ None → of_turn u false (λ call. call_told_end call answer socket) ≡ true → Whole w.hosts socket
     go Idle may e = absurd cc

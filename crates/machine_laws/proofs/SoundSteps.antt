@@ -289,7 +289,7 @@ fresh_from h a (Some m) may n e =
     subst (λ k. (given a.zero.body k ≡ false) × (given a.one.body k ≡ false)) (same_Some m n e) (t.0, t.1.0)
 
 sound_effect : (h : Header) (s : ℕ) (w : World tcp_shape) (t : ℕ) (answer : Answer) → ((x : Host) → Sound (pick w.hosts x).body) → Apart w.hosts → Permitted (tcp h) s w (Effect t answer) → SoundStep w.hosts (after (tcp h) s w (Effect t answer)).hosts
-sound_effect h s w t answer g apart may = go (turn_of (tcp h) t w.threads) may
+sound_effect h s w t answer g apart may = go (turn_of t w.threads) may
   where
     a : Hosts
     a = w.hosts

@@ -204,7 +204,7 @@ effect_allowed h s hosts call answer (Some host) may = let x = none_both (fresh_
     (x.0, not_false (call_allows (pick hosts host).body call answer) (none_all ((rules.CallAnswer, not (call_allows (pick hosts host).body call answer)) ∷ []) x.1).0)
 
 kept_effect : (h : Header) (s : ℕ) (w : World tcp_shape) (t : ℕ) (answer : Answer) → Good w.hosts → Apart w.hosts → Permitted (tcp h) s w (Effect t answer) → Kept (step_adds h w (Effect t answer)) w.hosts (after (tcp h) s w (Effect t answer)).hosts
-kept_effect h s w t answer g apart may = go (turn_of (tcp h) t w.threads) may
+kept_effect h s w t answer g apart may = go (turn_of t w.threads) may
   where
     by : (call : Call) (o : Option Host) → option_map_or (λ host. call_allows (pick w.hosts host).body call answer) o (is_bad_socket answer) ≡ true → Kept (call_adds w.hosts call answer) w.hosts (call_after (tcp h) s w.hosts (Calls call answer) o)
     by call None may = kept_quiet w.hosts w.hosts (call_adds w.hosts call answer) (λ me. stray_adds w.hosts call answer me may) (kept_not w.hosts g)

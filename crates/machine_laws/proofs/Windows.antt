@@ -229,7 +229,7 @@ both_host w step host k f = record { all = with_cases w.hosts host k (λ x y. Fo
 both_step : (h : Header) (s : ℕ) (w : World tcp_shape) (step : Step tcp_shape) → Permitted (tcp h) s w step → BothFollow w step (after (tcp h) s w step).hosts
 both_step h s w (Begin line t call) may = both_not w (Begin line t call)
 both_step h s w (Finish line t answer) may = both_not w (Finish line t answer)
-both_step h s w (Effect t answer) may = go (turn_of (tcp h) t w.threads)
+both_step h s w (Effect t answer) may = go (turn_of t w.threads)
   where
     by : (call : Call) (o : Option Host) → BothFollow w (Effect t answer) (call_after (tcp h) s w.hosts (Calls call answer) o)
     by call None = both_not w (Effect t answer)
@@ -309,7 +309,7 @@ taking_leaves h s w host line how m i e may waits is = (endpoint_taken h e how m
 
     left : find (after (tcp h) s w (At host (Takes line how))).hosts (name host i) ≡ Some (endpoint_taken h e how m s)
     left = ap (λ (x : HostState tcp_shape). slice_get x.body.endpoints i) (pick_with w.hosts host (deed_after (tcp h) host s (suc w.count) (pick w.hosts (other host)).wire k (Takes line how)))
-        ∙ (ap (λ (o : Option Emission). slice_get (on o k (λ y. record k { body = after_taking h b how y s (taker b y); inbox = settled line k.inbox })).body.endpoints i) waits ∙ here)
+        ∙ (ap (λ (o : Option Emission). slice_get (on o b (λ y. after_taking h b how y s (taker b y))).endpoints i) waits ∙ here)
 
 recovery_leaves : (h : Header) (s : ℕ) (w : World tcp_shape) (host : Host) (x : Recovery) (i : ℕ) (e : Endpoint) → Permitted (tcp h) s w (At host (Does x))
     → place_of (pick w.hosts host).body x.lport x.rport ≡ Some i → slice_get (pick w.hosts host).body.endpoints i ≡ Some e

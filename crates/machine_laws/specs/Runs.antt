@@ -64,7 +64,7 @@ of_turn (Answered answer) none f = none
 abbrev pub of_effect : {X : Type 0} → Header → World tcp_shape → Step tcp_shape → X → (Call → Answer → X) → X
 of_effect h w (Begin line t call) none f = none
 of_effect h w (Finish line t answer) none f = none
-of_effect h w (Effect t answer) none f = of_turn (turn_of (tcp h) t w.threads) none (λ call. f call answer)
+of_effect h w (Effect t answer) none f = of_turn (turn_of t w.threads) none (λ call. f call answer)
 of_effect h w (At host deed) none f = none
 
 -- the bytes that the steps from this world on told the reads on a socket number, in their order

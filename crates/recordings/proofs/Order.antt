@@ -55,7 +55,7 @@ wire_step : (k : Kernel) (h : Host) (s : ℕ) (w : World k.shape) (item : Item k
 wire_step k h s w (Bring f) fits tag free = ap (λ (x : HostState k.shape). lookup (nat_eq tag) x.wire) (pick_far w.hosts h _)
 wire_step k h s w (Do (Begin line t call)) fits tag free = refl
 wire_step k h s w (Do (Finish line t answer)) fits tag free = refl
-wire_step k h s w (Do (Effect t answer)) fits tag free = go (turn_of k t w.threads)
+wire_step k h s w (Do (Effect t answer)) fits tag free = go (turn_of t w.threads)
   where
     go : (u : Turn k.shape) → lookup (nat_eq tag) (pick (effect_after k s w t answer u).hosts h).wire ≡ lookup (nat_eq tag) (pick w.hosts h).wire
     go Idle = refl

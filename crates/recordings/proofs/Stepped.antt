@@ -27,8 +27,8 @@ use Rattle.recordings.proofs.Halves.{pick_same, host_self, host_other, hosts_apa
 
 -- the turns of the threads of this host's lane are the same in both worlds, and their open calls mean this host
 pub record ThreadHalf (k : Kernel) (h : Host) (lt gt : List (ℕ × Turn k.shape)) : Type 0 where
-  pub same : (t : ℕ) → lane t ≡ h → turn_of k t gt ≡ turn_of k t lt
-  pub aims : (t : ℕ) (call : k.shape.Call) → lane t ≡ h → turn_of k t lt ≡ Called call → Aims h (k.aim call)
+  pub same : (t : ℕ) → lane t ≡ h → turn_of t gt ≡ turn_of t lt
+  pub aims : (t : ℕ) (call : k.shape.Call) → lane t ≡ h → turn_of t lt ≡ Called call → Aims h (k.aim call)
 
 pub threads_mine : (k : Kernel) (h : Host) (lt gt : List (ℕ × Turn k.shape)) → ThreadHalf k h lt gt → (n : ℕ) (u : Turn k.shape) → ((call : k.shape.Call) → u ≡ Called call → Aims h (k.aim call)) → ThreadHalf k h (insert_entry nat_eq lt n u) (insert_entry nat_eq gt n u)
 threads_mine k h lt gt was n u aim = record {
@@ -36,7 +36,7 @@ threads_mine k h lt gt was n u aim = record {
   aims = λ t call is at. go t call is (nat_eq t n) (sym (turn_insert k t n u lt) ∙ at);
 }
   where
-    go : (t : ℕ) (call : k.shape.Call) → lane t ≡ h → (b : Bool) → (if b then u else turn_of k t lt) ≡ Called call → Aims h (k.aim call)
+    go : (t : ℕ) (call : k.shape.Call) → lane t ≡ h → (b : Bool) → (if b then u else turn_of t lt) ≡ Called call → Aims h (k.aim call)
     go t call is true at = aim call at
     go t call is false at = was.aims t call is at
 
@@ -49,7 +49,7 @@ lanes_differ h t u p q = go (nat_eq u t) refl
 
 pub threads_theirs : (k : Kernel) (h : Host) (ft gt : List (ℕ × Turn k.shape)) → ThreadHalf k (other h) ft gt → (n : ℕ) (u : Turn k.shape) → lane n ≡ h → ThreadHalf k (other h) ft (insert_entry nat_eq gt n u)
 threads_theirs k h ft gt was n u is = record {
-  same = λ t at. turn_insert k t n u gt ∙ (ap (λ (b : Bool). if b then u else turn_of k t gt) (lanes_differ h n t is at) ∙ was.same t at);
+  same = λ t at. turn_insert k t n u gt ∙ (ap (λ (b : Bool). if b then u else turn_of t gt) (lanes_differ h n t is at) ∙ was.same t at);
   aims = was.aims;
 }
 
@@ -243,9 +243,9 @@ pub stepped_effect : (k : Kernel) → ((n : ℕ) → k.given k.empty n ≡ false
     → Permitted k s lw (Effect t answer) → OwnStep k h lw (Effect t answer) → InLane k h (after k s lw (Effect t answer))
     → Stepped k names h s lw fw gw ln fn n lt mt (Effect t answer)
 stepped_effect k none names h s lw fw gw ln fn n lt mt t answer m f p own lanes =
-    let opened = effect_passes k s lw.hosts (turn_of k t lw.threads) answer p in
+    let opened = effect_passes k s lw.hosts (turn_of t lw.threads) answer p in
     let call = opened.0 in
-    let gopen : turn_of k t gw.threads ≡ Called call = m.threads.same t own.0 ∙ opened.1 in
+    let gopen : turn_of t gw.threads ≡ Called call = m.threads.same t own.0 ∙ opened.1 in
     let aimed = m.threads.aims t call own.0 opened.1 in
     let given = given_same k none names h lw.hosts fw.hosts gw.hosts ln fn m.hosts f.hosts in
     let o = aim_of k lw.hosts (k.aim call) in
@@ -277,7 +277,7 @@ pub stepped : (k : Kernel) → ((n : ℕ) → k.given k.empty n ≡ false) → (
 stepped k none names apt h s lw fw gw ln fn n lt mt (Begin line t call) m f fits lanes numbered =
     let lined = lines_mine (names.line h) ln n h (Some line) lt m.lines numbered in
     record {
-      may = ap (λ (u : Turn k.shape). first_broken (begin_rules k u)) (m.threads.same t fits.1.0) ∙ fits.0;
+      may = ap (λ (u : Turn k.shape). first_broken (begin_rules u)) (m.threads.same t fits.1.0) ∙ fits.0;
       line = lined.0;
       mine = record {
         hosts = record { host = m.hosts.host; heard = m.hosts.heard; below = λ tag e at. let b = m.hosts.below tag e at in omega arith; lanes = m.hosts.lanes; bare = m.hosts.bare };
@@ -290,7 +290,7 @@ stepped k none names apt h s lw fw gw ln fn n lt mt (Begin line t call) m f fits
 stepped k none names apt h s lw fw gw ln fn n lt mt (Finish line t answer) m f fits lanes numbered =
     let lined = lines_mine (names.line h) ln n h (Some line) lt m.lines numbered in
     record {
-      may = ap (λ (u : Turn k.shape). first_broken (end_rules k u answer)) (m.threads.same t fits.1) ∙ fits.0;
+      may = ap (λ (u : Turn k.shape). first_broken (end_rules k.differs u answer)) (m.threads.same t fits.1) ∙ fits.0;
       line = lined.0;
       mine = record {
         hosts = record { host = m.hosts.host; heard = m.hosts.heard; below = λ tag e at. let b = m.hosts.below tag e at in omega arith; lanes = m.hosts.lanes; bare = m.hosts.bare };

@@ -56,7 +56,7 @@ Aims h (ThatSocket n) = lane n ≡ h
 abbrev pub OwnStep : (k : Kernel) → Host → World k.shape → Step k.shape → Type 0
 OwnStep k h w (Begin line t call) = (lane t ≡ h) × Aims h (k.aim call)
 OwnStep k h w (Finish line t answer) = lane t ≡ h
-OwnStep k h w (Effect t answer) = (lane t ≡ h) × ((call : k.shape.Call) → turn_of k t w.threads ≡ Called call → (n : ℕ) → k.gives call answer ≡ Some n → lane n ≡ h)
+OwnStep k h w (Effect t answer) = (lane t ≡ h) × ((call : k.shape.Call) → turn_of t w.threads ≡ Called call → (n : ℕ) → k.gives call answer ≡ Some n → lane n ≡ h)
 OwnStep k h w (At host d) = host ≡ h
 
 -- a step is permitted and this host's own; any segment may be brought

@@ -1,5 +1,5 @@
 use Rattle.std.proofs.Common.{ap, ◌∙◌, ◌≡◌, OnOk}
-use Rattle.endpoint_state.specs.Passages.{inbox_after}
+use Rattle.hosts.specs.HostSteps.{inbox_after}
 use Rattle.endpoint_state.proofs.Deeds.{Host_, on_ok, got}
 use Rattle.endpoint_state.proofs.host.get.Goals as goal
 
