@@ -8,7 +8,7 @@
 //! - `lines`: the line and the status of a case's answer (`specs/Output`)
 //! - `argument`: the segment that a hex text stands for (`specs/HexText`)
 //! - `segment_line`: the line and the status of a segment (`specs/SegmentText`)
-//! - `running`: the whole run, and the answers where the words can't be had
+//! - `running`: the whole run, and the answer where memory ran out before it
 //! - `many_words`, `many`: the words that ask for many cases, and the run that serves them too (`specs/ManyWords`,
 //!   `specs/Many`); it alone starts threads
 //! - `many_laws`: what the cutting of an input into cases means (`specs/ManyLaw`)
@@ -31,4 +31,4 @@ mod words;
 pub use given::given_words;
 pub use many::run_all;
 pub use many_laws::cases_are_cut_back;
-pub use running::{answer_bad_memory, answer_bad_usage, run};
+pub use running::{answer_bad_memory, run};

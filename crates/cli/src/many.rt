@@ -27,7 +27,7 @@ use std::thread::Threads;
 
 /// Does what the words behind the program's name ask for: where they ask for many cases, those of the input are checked by
 /// so many threads, a line is written for each in their order, and the greatest of their statuses is answered, 0 for none.
-/// For all other words it is `run`.
+/// For all other words it is `run`. Both counts of failures have to be below 2^50 before, as those of new ends are.
 pub fn run_all<R: BufRead, W: Write, H: Threads + Wait + Sync>(
     rt: &H,
     alloc: Global,
@@ -42,7 +42,7 @@ pub fn run_all<R: BufRead, W: Write, H: Threads + Wait + Sync>(
     ensures usage { AsksNothing (map (λ word. word.now) words.now) → ((n : ℕ) → ¬ AsksMany (map (λ word. word.now) words.now) n) → result ≢ 5 → Ends 3 (codes "bad usage\n") result (left_of W.contents w.old) (left_of W.contents w.new) }
     ensures unread { ¬ AsksCheck (map (λ word. word.now) words.now) → ((n : ℕ) → ¬ AsksMany (map (λ word. word.now) words.now) n) → r.new ≡ r.old }
 
-    // A device is at fault only where one failed, and then is said to be, where it can be.
+    // The status is 5 only where a count of failures grew. That is said where no write failed.
     ensures device { result ≡ 5 → (failures_of r.old < failures_of r.new) ⊎ (failures_of w.old < failures_of w.new) }
     ensures told { result ≡ 5 → failures_of w.new ≡ failures_of w.old → Appends (left_of W.contents w.old) (left_of W.contents w.new) (codes "bad device\n") }
     ensures quiet { result ≢ 5 → (failures_of r.new ≡ failures_of r.old) × (failures_of w.new ≡ failures_of w.old) }

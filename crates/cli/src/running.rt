@@ -21,8 +21,8 @@ use std::io::{BufRead, Write};
 /// Does what the words behind the program's name ask for, and answers the status: 0 where the case is explained or the
 /// segment is printed, 1 where the case is not explained, 2 where its text or the segment is refused, 3 where the words
 /// are neither `check` alone nor `segment` with one word that begins with no dash, 4 where memory ran out, and 5 where
-/// a read or a write failed. One line is written, which says the same; only `check` reads. To write `bad memory` takes
-/// no memory.
+/// a read or a write failed, or `Counted` refused it. One line is written, which says the same; only `check` reads. To
+/// write `bad memory` takes no memory. Both counts of failures have to be below 2^50 before, as those of new ends are.
 pub fn run<R: BufRead, W: Write>(
     alloc: Global,
     words: &[&str],
@@ -35,7 +35,7 @@ pub fn run<R: BufRead, W: Write>(
     ensures usage { AsksNothing (map (λ word. word.now) words.now) → result ≢ 5 → Ends 3 (codes "bad usage\n") result (left_of W.contents w.old) (left_of W.contents w.new) }
     ensures unread { ¬ AsksCheck (map (λ word. word.now) words.now) → r.new ≡ r.old }
 
-    // A device is at fault only where one failed, and then is said to be, where it can be.
+    // The status is 5 only where a count of failures grew. That is said where no write failed.
     ensures device { result ≡ 5 → (failures_of r.old < failures_of r.new) ⊎ (failures_of w.old < failures_of w.new) }
     ensures told { result ≡ 5 → failures_of w.new ≡ failures_of w.old → Appends (left_of W.contents w.old) (left_of W.contents w.new) (codes "bad device\n") }
     ensures quiet { result ≢ 5 → (failures_of r.new ≡ failures_of r.old) × (failures_of w.new ≡ failures_of w.old) }
@@ -48,9 +48,8 @@ pub fn run<R: BufRead, W: Write>(
     }
 }
 
-/// Answers words that ask for nothing that the program does, or that can't be read: one line, and the status 3, or 5
-/// where the writer failed.
-pub fn answer_bad_usage<W: Write>(w: &mut Counted<W>) -> u8
+// Answers words that ask for nothing that the program does.
+fn answer_bad_usage<W: Write>(w: &mut Counted<W>) -> u8
     requires { failures_of w.old < 2 ^ 50 }
     ensures said { result ≢ 5 → (result ≡ 3) × Appends (left_of W.contents w.old) (left_of W.contents w.new) (codes "bad usage\n") × (failures_of w.new ≡ failures_of w.old) }
     ensures device { result ≡ 5 → failures_of w.old < failures_of w.new }
@@ -58,7 +57,8 @@ pub fn answer_bad_usage<W: Write>(w: &mut Counted<W>) -> u8
     say(w, b"bad usage\n", USAGE)
 }
 
-/// Answers that memory ran out, and takes none: one line, and the status 4, or 5 where the writer failed.
+/// Answers that memory ran out, and takes none: one line, and the status 4, or 5 where a write failed. The count of
+/// failures has to be below 2^50 before.
 pub fn answer_bad_memory<W: Write>(w: &mut Counted<W>) -> u8
     requires { failures_of w.old < 2 ^ 50 }
     ensures said { result ≢ 5 → (result ≡ 4) × Appends (left_of W.contents w.old) (left_of W.contents w.new) (codes "bad memory\n") × (failures_of w.new ≡ failures_of w.old) }

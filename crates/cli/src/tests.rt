@@ -48,6 +48,27 @@ impl Write for Full {
     }
 }
 
+// A writer that takes all bytes, and counts the times that it is flushed.
+#[derive(Drop)]
+struct Flushed {
+    flushes: u8,
+    fails: bool,
+}
+
+impl Write for Flushed {
+    fn write(&mut self, buf: &[u8]) -> io::Result<usize> {
+        Ok(buf.len())
+    }
+
+    fn flush(&mut self) -> io::Result<()> {
+        self.flushes = self.flushes.saturating_add(1);
+        if self.fails {
+            return Err(io::Error::new(ErrorKind::Other, "unplugged"));
+        }
+        Ok(())
+    }
+}
+
 #[test]
 fn refuses_other_words(rt: HostRuntime) -> Result<(), Fail> {
     let table: [&[&str]; 15] = [
@@ -106,5 +127,30 @@ fn tells_of_a_failed_write(rt: HostRuntime) {
         assert_eq!(rt; run(rt.alloc(), &words, &mut reader, &mut writer), 5);
         assert_eq!(rt; reader.failures(), 0);
         assert_eq!(rt; writer.failures(), 1);
+    }
+}
+
+#[test]
+fn flushes_each_line(rt: HostRuntime) {
+    for fails in [false, true] {
+        let table: [(&[&str], u8); 3] = [(&["check"], 2), (&["segment", "0"], 2), (&["many"], 3)];
+        for (words, status) in table {
+            let input: &[u8] = b"trace 2\n";
+            let mut reader = Counted::new(input);
+            let mut end = Flushed { flushes: 0, fails };
+            let mut writer = Counted::new(&mut end);
+            let answered = run(rt.alloc(), words, &mut reader, &mut writer);
+            assert_eq!(rt;
+                answered,
+                if fails { 5 } else { status },
+                "{words:?}, fails: {fails}"
+            );
+            assert_eq!(rt;
+                writer.failures(),
+                if fails { 1 } else { 0 },
+                "{words:?}, fails: {fails}"
+            );
+            assert_eq!(rt; end.flushes, 1, "{words:?}, fails: {fails}");
+        }
     }
 }

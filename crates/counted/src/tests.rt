@@ -1,4 +1,6 @@
-//! Ends that fail in mid-stream.
+//! Ends that fail in mid-stream, and ends that count their calls.
+
+mod calls;
 
 use crate::{Counted, ReadFault};
 use std::io;

@@ -1,5 +1,7 @@
 //! Command lines with words that are no UTF-8.
 
+ghost use Rattle.std.specs.Io.{WritesAtMost};
+
 use crate::{given_words, run_all};
 use counted::Counted;
 use std::alloc::Global;
@@ -36,7 +38,9 @@ impl Env for Words<'_> {
     }
 }
 
-fn fill(word: &[u8], buf: &mut [u8]) -> Result<usize, FillError> {
+fn fill(word: &[u8], buf: &mut [u8]) -> Result<usize, FillError>
+    ensures { WritesAtMost result buf.new }
+{
     if buf.len() < word.len() {
         return Err(FillError::TooLong);
     }

@@ -39,11 +39,11 @@ returns-clause-ok c =
 pub overflow_sub-known : goal.overflow_sub-known
 overflow_sub-known c =
     let known = known_long c.self.inside.gone c.reopen-self-inside.result c.self.inside.end c.self.inside.runs.items c.reopen-self-inside.new.runs.items
-        (c.reopen-self-inside.ensures.same ∙ ap (λ (runs : List Run). replicate c.self.inside.gone (once 0) ++ expand runs) c.reserve.ensures.items) c.self.invariant.0 in
+    (c.reopen-self-inside.ensures.same ∙ ap (λ (runs : List Run). replicate c.self.inside.gone (once 0) ++ expand runs) c.reserve.ensures.items) c.self.invariant.0 in
     omega arith
 
 pub remake-requires-clause-known : goal.remake-requires-clause-known
 remake-requires-clause-known c =
     let known = known_long c.self.inside.gone c.reopen-self-inside.result c.self.inside.end c.self.inside.runs.items c.reopen-self-inside.new.runs.items
-        (c.reopen-self-inside.ensures.same ∙ ap (λ (runs : List Run). replicate c.self.inside.gone (once 0) ++ expand runs) c.reserve.ensures.items) c.self.invariant.0 in
+    (c.reopen-self-inside.ensures.same ∙ ap (λ (runs : List Run). replicate c.self.inside.gone (once 0) ++ expand runs) c.reserve.ensures.items) c.self.invariant.0 in
     omega arith
