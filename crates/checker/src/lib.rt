@@ -7,9 +7,9 @@
 //!
 //! - `replay`: the replay of a witness, and the verdict
 //! - `case`: a case in one text, cut, read and judged
-//! - `laws`: what follows for every trace and witness; each law is the contract of a call that does nothing. When a witness
-//!   explains a trace, which line is taken first, who the peer of an endpoint is, what was received, at the end and at each
-//!   moment; what a yes counts, that it stays when the trace is printed and read again, and that it is not the only one
+//! - `laws`: what holds for every trace and witness; each law is the contract of a call that does nothing. They say when the
+//!   verdict is yes and what it counts, which line is taken first, what follows for streams, windows and peers, also after the
+//!   first n steps, that the verdict stays where the trace is printed and read again, and that a trace may have two witnesses
 #![tactic(auto)]
 
 mod case;
