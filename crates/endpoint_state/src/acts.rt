@@ -17,10 +17,10 @@ ghost use Rattle.endpoint_state.specs.Takers.{IsOpen, joins_at, taker_found};
 
 use crate::body::{Body, Found};
 use case_forms::{Header, Host, Timer};
+use endpoint::joins;
 use machine::{Emission, How, Making, Name};
 use segment::OutOfMemory;
 use std::alloc::Global;
-use endpoint::joins;
 
 impl Body {
     /// The endpoint of its ports makes a segment, at a moment in microseconds. None: there is no such endpoint. Where

@@ -15,10 +15,10 @@ ghost use Rattle.endpoint_state.specs.Changes.{changed};
 
 use crate::endpoints::Endpoints;
 use case_forms::{Header, Timer};
+use endpoint::take_segment;
 use machine::{Emission, Endpoint, How, Making, Name};
 use segment::OutOfMemory;
 use std::alloc::Global;
-use endpoint::take_segment;
 
 impl Endpoints {
     /// The endpoint of this name makes a segment, at a moment in microseconds. None: there is none at its place. Where

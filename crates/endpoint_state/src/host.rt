@@ -19,17 +19,17 @@ ghost use Rattle.machine.specs.Bounds.{greatest_position, IsSmallEmission};
 ghost use Rattle.endpoint_state.specs.Kept.{IsReady};
 
 use crate::arriving::{admits_arrival, arrive, settle, waiting};
+use crate::body::Body;
 use crate::made::Made;
 use crate::sending::{admits_sending, send};
-use crate::body::Body;
 use case_forms::{Answer, Call, Header, Host, Timer, Wire};
+use endpoint::reset_of;
 use indexmap::IndexMap;
 use machine::{Emission, How, Making};
 use segment::OutOfMemory;
 use std::alloc::Global;
 use std::marker::Model;
 use verdict::Rule;
-use endpoint::reset_of;
 
 /// What one host has: its endpoints, listeners and sockets, the segments that it made by their numbers, those that it
 /// put on the wire by their lines, and its inbox by the lines that came in, with None for one that waits no longer.

@@ -1,6 +1,7 @@
 //! The two hosts, and what one of them does.
 
 ghost use Rattle.std.specs.Prelude.{◌≡◌, ◌≤◌, true, OnOk, OnErr};
+ghost use Rattle.std.specs.Borrow.{sem};
 ghost use Rattle.std.specs.Option.{IfSome};
 ghost use Rattle.hosts.specs.Tables.{Both, pick, other, with_host};
 ghost use Rattle.hosts.specs.Hosts.{Answers, Does, Drops, Expires, Gets, Makes, Sends, Takes};
@@ -10,6 +11,7 @@ ghost use Rattle.machine.specs.Machine.{act_makes, tcp};
 ghost use Rattle.machine.specs.Machine as acts;
 ghost use Rattle.machine.specs.CallRules.{call_allows};
 ghost use Rattle.machine.specs.CallEffects.{after_call};
+ghost use Rattle.endpoint_state.specs.Lending.{LendsSide};
 ghost use Rattle.endpoint_state.specs.Sides.{AreReady, forget_hosts, hosts_after};
 
 use crate::host::{self, HostState};
@@ -58,6 +60,17 @@ impl Hosts {
         }
     }
 
+    // The host that acts; what is written there is the only change.
+    fn side(&mut self, host: Host) -> &mut HostState
+        ensures* writes_back { sem 𝓛 (LendsSide self.entry host result) }
+        ensures value { result.now ≡ pick self.old host }
+    {
+        match host {
+            Host::Zero => &mut self.zero,
+            Host::One => &mut self.one,
+        }
+    }
+
     /// A host makes a segment under this number.
     #[tactic(auto, using(crate::proofs::Still::still_host))]
     pub(crate) fn make(
@@ -75,10 +88,7 @@ impl Hosts {
         ensures small { OnOk result (IfSome (act_makes host (pick self.old host).body (acts.Makes making.now)) IsSmallEmission) }
         ensures err { OnErr result (self.new ≡ self.old) }
     {
-        match host {
-            Host::Zero => host::make(alloc, header, host, &mut self.zero, making, moment, fresh),
-            Host::One => host::make(alloc, header, host, &mut self.one, making, moment, fresh),
-        }
+        host::make(alloc, header, host, self.side(host), making, moment, fresh)
     }
 
     /// The segment of this number goes out with this line.
@@ -96,10 +106,7 @@ impl Hosts {
         ensures ok { OnOk result (self.new ≡ hosts_after header.now moment 0 self.old host (Sends line number wire.now)) }
         ensures err { OnErr result (self.new ≡ self.old) }
     {
-        match host {
-            Host::Zero => host::send_made(header, host, &mut self.zero, line, number, wire, moment),
-            Host::One => host::send_made(header, host, &mut self.one, line, number, wire, moment),
-        }
+        host::send_made(header, host, self.side(host), line, number, wire, moment)
     }
 
     /// The segment that waits under this line is taken.
@@ -117,10 +124,7 @@ impl Hosts {
         ensures ok { OnOk result (self.new ≡ hosts_after header.now moment 0 self.old host (Takes line how)) }
         ensures err { OnErr result (self.new ≡ self.old) }
     {
-        match host {
-            Host::Zero => host::take(alloc, header, host, &mut self.zero, line, how, moment),
-            Host::One => host::take(alloc, header, host, &mut self.one, line, how, moment),
-        }
+        host::take(alloc, header, host, self.side(host), line, how, moment)
     }
 
     /// The segment that waits under this line is dropped.
@@ -129,10 +133,7 @@ impl Hosts {
         requires ready { AreReady self.old }
         ensures { self.new ≡ hosts_after header.now moment 0 self.old host (Drops line) }
     {
-        match host {
-            Host::Zero => host::drop_waiting(header, host, &mut self.zero, line, moment),
-            Host::One => host::drop_waiting(header, host, &mut self.one, line, moment),
-        }
+        host::drop_waiting(header, host, self.side(host), line, moment);
     }
 
     /// The segment that waits under this line is answered by a reset, which gets this number.
@@ -150,10 +151,7 @@ impl Hosts {
         ensures ok { OnOk result (self.new ≡ hosts_after header.now moment fresh self.old host (Answers line)) }
         ensures err { OnErr result (self.new ≡ self.old) }
     {
-        match host {
-            Host::Zero => host::answer(alloc, header, host, &mut self.zero, line, moment, fresh),
-            Host::One => host::answer(alloc, header, host, &mut self.one, line, moment, fresh),
-        }
+        host::answer(alloc, header, host, self.side(host), line, moment, fresh)
     }
 
     /// A timer of the endpoint of these ports expires: then its congestion window and slow start threshold, in bytes.
@@ -173,32 +171,18 @@ impl Hosts {
         requires ready { AreReady self.old }
         ensures { self.new ≡ hosts_after header.now moment 0 self.old host (Expires line (record { lport = lport; rport = rport; timer = timer }) (record { cwnd = cwnd; ssthresh = ssthresh })) }
     {
-        match host {
-            Host::Zero => host::expire(
-                header,
-                host,
-                &mut self.zero,
-                line,
-                lport,
-                rport,
-                timer,
-                cwnd,
-                ssthresh,
-                moment,
-            ),
-            Host::One => host::expire(
-                header,
-                host,
-                &mut self.one,
-                line,
-                lport,
-                rport,
-                timer,
-                cwnd,
-                ssthresh,
-                moment,
-            ),
-        }
+        host::expire(
+            header,
+            host,
+            self.side(host),
+            line,
+            lport,
+            rport,
+            timer,
+            cwnd,
+            ssthresh,
+            moment,
+        );
     }
 
     /// Fast recovery begins at the endpoint of these ports, with this congestion window and slow start threshold in bytes.
@@ -216,28 +200,16 @@ impl Hosts {
         requires ready { AreReady self.old }
         ensures { self.new ≡ hosts_after header.now moment 0 self.old host (Does (record { lport = lport; rport = rport; cwnd = cwnd; ssthresh = ssthresh })) }
     {
-        match host {
-            Host::Zero => host::recover(
-                header,
-                host,
-                &mut self.zero,
-                lport,
-                rport,
-                cwnd,
-                ssthresh,
-                moment,
-            ),
-            Host::One => host::recover(
-                header,
-                host,
-                &mut self.one,
-                lport,
-                rport,
-                cwnd,
-                ssthresh,
-                moment,
-            ),
-        }
+        host::recover(
+            header,
+            host,
+            self.side(host),
+            lport,
+            rport,
+            cwnd,
+            ssthresh,
+            moment,
+        );
     }
 
     /// A copy of what the other host put on its wire comes in with this line.
@@ -293,10 +265,7 @@ impl Hosts {
         ensures ok { OnOk result (self.new ≡ forget_hosts (with_host self.old host (record (pick self.old host) { body = after_call (pick self.old host).body call.now answer.now }))) }
         ensures err { OnErr result (self.new ≡ self.old) }
     {
-        match host {
-            Host::Zero => host::do_call(alloc, &mut self.zero, call, answer),
-            Host::One => host::do_call(alloc, &mut self.one, call, answer),
-        }
+        host::do_call(alloc, self.side(host), call, answer)
     }
 
     /// Both hosts at the start.
