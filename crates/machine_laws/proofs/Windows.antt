@@ -309,7 +309,7 @@ taking_leaves h s w host line how m i e may waits is = (endpoint_taken h e how m
 
     left : find (after (tcp h) s w (At host (Takes line how))).hosts (name host i) ≡ Some (endpoint_taken h e how m s)
     left = ap (λ (x : HostState tcp_shape). slice_get x.body.endpoints i) (pick_with w.hosts host (deed_after (tcp h) host s (suc w.count) (pick w.hosts (other host)).wire k (Takes line how)))
-        ∙ (ap (λ (o : Option Emission). slice_get (on o k (λ y. record k { body = after_taking h b how y s (taker b y); inbox = settled line k.inbox })).body.endpoints i) waits ∙ here)
+        ∙ (ap (λ (o : Option Emission). slice_get (on o b (λ y. after_taking h b how y s (taker b y))).endpoints i) waits ∙ here)
 
 recovery_leaves : (h : Header) (s : ℕ) (w : World tcp_shape) (host : Host) (x : Recovery) (i : ℕ) (e : Endpoint) → Permitted (tcp h) s w (At host (Does x))
     → place_of (pick w.hosts host).body x.lport x.rport ≡ Some i → slice_get (pick w.hosts host).body.endpoints i ≡ Some e
