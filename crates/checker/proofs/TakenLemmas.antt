@@ -19,7 +19,8 @@ use Rattle.interval_order.specs.OrderRules.{extras_of, order_rules}
 use Rattle.machine_laws.proofs.Rules.{not_false, neither}
 
 -- a line with as many numbers as its kind has is taken
-taken_by_count : (line thread : ℕ) (event : Event) (extras : Extras) → extras_count extras ≡ extras_of event → IsSome (event_taken line thread event extras)
+taken_by_count : (line thread : ℕ) (event : Event) (extras : Extras)
+    → extras_count extras ≡ extras_of event → IsSome (event_taken line thread event extras)
 taken_by_count line thread (CallBegin call) Bare same = tt
 taken_by_count line thread (CallBegin call) (One x) same = absurd cc
 taken_by_count line thread (CallBegin call) (Two x y) same = absurd cc
@@ -45,7 +46,8 @@ taken_by_count line thread (Expired host lport rport Giveup) Bare same = tt
 taken_by_count line thread (Expired host lport rport Giveup) (One x) same = absurd cc
 taken_by_count line thread (Expired host lport rport Giveup) (Two x y) same = absurd cc
 
-pub line_taken : (o : Order) (moment : ℕ) (named : NamedLine) (line : Line) → first_broken (order_rules o (taking moment named.number (extras_count named.extras))) ≡ None → held_line o named.number ≡ Some line
+pub line_taken : (o : Order) (moment : ℕ) (named : NamedLine) (line : Line)
+    → first_broken (order_rules o (taking moment named.number (extras_count named.extras))) ≡ None → held_line o named.number ≡ Some line
     → IsSome (taken_of named.extras line)
 line_taken o moment named line none held =
     let rules = none_all (order_rules o (taking moment named.number (extras_count named.extras))) none in

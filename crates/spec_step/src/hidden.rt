@@ -5,13 +5,11 @@ ghost use Rattle.std.specs.Result.{result_err};
 ghost use Rattle.case_forms.specs.Witnesses.{IsWithinLimits};
 ghost use Rattle.verdict.specs.Rules.{first_broken};
 ghost use Rattle.hosts.specs.Hosts.{Effect};
-ghost use Rattle.hosts.specs.HostRules.{Permitted, step_rules};
 ghost use Rattle.machine.specs.Bounds.{most_steps};
-ghost use Rattle.machine.specs.Machine.{tcp};
 ghost use Rattle.machine.specs.Steps.{hidden_step};
 ghost use Rattle.endpoint_state.specs.Worlds.{after};
 ghost use Rattle.spec_step.specs.Faults.{IfBroken};
-ghost use Rattle.spec_step.specs.Asked.{asked_rules, asked_after, IsPermitted};
+ghost use Rattle.spec_step.specs.Asked.{broken_by, asked_rules, asked_after, IsPermitted};
 
 use crate::step::StepFault;
 use case_forms::{Answer, Label, OutOfMemory};
@@ -71,7 +69,7 @@ pub(crate) fn admits_hidden<Taken>(
 // The same of the effect of a call, whose rules read no moment.
 #[tactic(auto, using(endpoint_state::proofs::CallLemmas::effect_at_any_moment))]
 fn admits_effect(world: &World, moment: u64, thread: u32, answer: &Answer) -> Result<(), Rule>
-    ensures { result_err result ≡ first_broken (step_rules (tcp world.now.header) moment world.now.world (Effect thread answer.now)) }
+    ensures { result_err result ≡ broken_by world.now moment (Effect thread answer.now) }
 {
     endpoint_state::admits_effect(world, thread, answer)
 }
@@ -117,7 +115,7 @@ fn have_effect(
     answer: &Answer,
 ) -> Result<(), OutOfMemory>
     requires steps { world.old.steps < most_steps }
-    requires permitted { Permitted (tcp world.old.header) moment world.old.world (Effect thread answer.now) }
+    requires permitted { broken_by world.old moment (Effect thread answer.now) ≡ None }
     ensures ok { OnOk result (world.new ≡ after world.old moment (Effect thread answer.now)) }
     ensures err { OnErr result (world.new ≡ world.old) }
 {

@@ -2,12 +2,10 @@
 
 ghost use Rattle.std.specs.Prelude.{◌≡◌, ◌<◌, None, Some, Err, IfErr, OnOk, OnErr};
 ghost use Rattle.std.specs.Result.{result_err};
-ghost use Rattle.verdict.specs.Rules.{first_broken};
-ghost use Rattle.hosts.specs.HostRules.{Permitted, step_rules};
 ghost use Rattle.machine.specs.Bounds.{most_steps};
-ghost use Rattle.machine.specs.Machine.{tcp};
 ghost use Rattle.machine.specs.Steps.{line_step};
 ghost use Rattle.endpoint_state.specs.Worlds.{after};
+ghost use Rattle.spec_step.specs.Asked.{broken_by};
 ghost use Rattle.spec_step.specs.Faults.{IfBroken};
 
 use crate::expired::{growth_of, timer_of};
@@ -20,9 +18,9 @@ use verdict::Rule;
 pub fn apply_line(world: &mut World, moment: u64, line: &TakenLine) -> Result<(), StepFault>
     requires { world.old.steps < most_steps }
     ensures ok { OnOk result (world.new ≡ after world.old moment (line_step line.now)) }
-    ensures admitted { OnOk result (first_broken (step_rules (tcp world.old.header) moment world.old.world (line_step line.now)) ≡ None) }
-    ensures broken { IfErr result (λ fault. IfBroken fault (λ rule. first_broken (step_rules (tcp world.old.header) moment world.old.world (line_step line.now)) ≡ Some rule)) }
-    ensures memory { result ≡ Err StepFault.OutOfMemory → first_broken (step_rules (tcp world.old.header) moment world.old.world (line_step line.now)) ≡ None }
+    ensures admitted { OnOk result (broken_by world.old moment (line_step line.now) ≡ None) }
+    ensures broken { IfErr result (λ fault. IfBroken fault (λ rule. broken_by world.old moment (line_step line.now) ≡ Some rule)) }
+    ensures memory { result ≡ Err StepFault.OutOfMemory → broken_by world.old moment (line_step line.now) ≡ None }
     ensures err { OnErr result (world.new ≡ world.old) }
 {
     if let Err(rule) = admits_line(world, moment, line) {
@@ -36,7 +34,7 @@ pub fn apply_line(world: &mut World, moment: u64, line: &TakenLine) -> Result<()
 
 /// The least rule that a step breaks which takes a line.
 pub(crate) fn admits_line(world: &World, moment: u64, line: &TakenLine) -> Result<(), Rule>
-    ensures { result_err result ≡ first_broken (step_rules (tcp world.now.header) moment world.now.world (line_step line.now)) }
+    ensures { result_err result ≡ broken_by world.now moment (line_step line.now) }
 {
     match line {
         TakenLine::CallBegin { thread, call, .. } => world.admits_begin(*thread, call),
@@ -77,7 +75,7 @@ pub(crate) fn admits_line(world: &World, moment: u64, line: &TakenLine) -> Resul
 // Does a step that is admitted.
 fn take_line(world: &mut World, moment: u64, line: &TakenLine) -> Result<(), OutOfMemory>
     requires steps { world.old.steps < most_steps }
-    requires permitted { Permitted (tcp world.old.header) moment world.old.world (line_step line.now) }
+    requires permitted { broken_by world.old moment (line_step line.now) ≡ None }
     ensures ok { OnOk result (world.new ≡ after world.old moment (line_step line.now)) }
     ensures err { OnErr result (world.new ≡ world.old) }
 {

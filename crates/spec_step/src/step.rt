@@ -3,12 +3,10 @@
 ghost use Rattle.std.specs.Prelude.{◌≡◌, ◌<◌, None, Some, Err, IfErr, OnOk, OnErr};
 ghost use Rattle.std.specs.Result.{result_err};
 ghost use Rattle.case_forms.specs.Witnesses.{IsWithinLimits};
-ghost use Rattle.verdict.specs.Rules.{first_broken};
-ghost use Rattle.hosts.specs.HostRules.{step_rules};
 ghost use Rattle.machine.specs.Bounds.{most_steps};
-ghost use Rattle.machine.specs.Machine.{tcp};
 ghost use Rattle.machine.specs.Steps.{step_of};
 ghost use Rattle.endpoint_state.specs.Worlds.{after};
+ghost use Rattle.spec_step.specs.Asked.{broken_by};
 ghost use Rattle.spec_step.specs.Faults.{IfBroken};
 
 use crate::hidden::{admits_hidden, apply_hidden};
@@ -36,7 +34,7 @@ pub enum StepFault {
 pub fn admits(world: &World, moment: u64, label: &Label) -> Result<(), Rule>
     requires steps { world.now.steps < most_steps }
     requires label { IsWithinLimits label.now }
-    ensures { result_err result ≡ first_broken (step_rules (tcp world.now.header) moment world.now.world (step_of label.now)) }
+    ensures { result_err result ≡ broken_by world.now moment (step_of label.now) }
 {
     match label {
         Label::L(line) => admits_line(world, moment, line),
@@ -55,9 +53,9 @@ pub fn apply(world: &mut World, moment: u64, label: &Label) -> Result<(), StepFa
     requires steps { world.old.steps < most_steps }
     requires label { IsWithinLimits label.now }
     ensures ok { OnOk result (world.new ≡ after world.old moment (step_of label.now)) }
-    ensures admitted { OnOk result (first_broken (step_rules (tcp world.old.header) moment world.old.world (step_of label.now)) ≡ None) }
-    ensures broken { IfErr result (λ fault. IfBroken fault (λ rule. first_broken (step_rules (tcp world.old.header) moment world.old.world (step_of label.now)) ≡ Some rule)) }
-    ensures memory { result ≡ Err StepFault.OutOfMemory → first_broken (step_rules (tcp world.old.header) moment world.old.world (step_of label.now)) ≡ None }
+    ensures admitted { OnOk result (broken_by world.old moment (step_of label.now) ≡ None) }
+    ensures broken { IfErr result (λ fault. IfBroken fault (λ rule. broken_by world.old moment (step_of label.now) ≡ Some rule)) }
+    ensures memory { result ≡ Err StepFault.OutOfMemory → broken_by world.old moment (step_of label.now) ≡ None }
     ensures err { OnErr result (world.new ≡ world.old) }
 {
     match label {
