@@ -1,4 +1,6 @@
 pub mod States
 pub mod Traces
 pub mod Steps
+pub mod TakenLines
+pub mod Naming
 pub mod Witnesses

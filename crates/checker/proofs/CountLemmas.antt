@@ -10,6 +10,7 @@ use Rattle.std.proofs.lemmas.List.Sums.{sum_by-cons}
 use Rattle.case_forms.specs.declared.trace.Header.{Header}
 use Rattle.case_forms.specs.declared.trace.Line.{Line}
 use Rattle.case_forms.specs.declared.trace.Trace.{Trace}
+use Rattle.case_forms.specs.declared.named_line.NamedLine.{NamedLine}
 use Rattle.case_forms.specs.declared.steps.Label.{Label}
 use Rattle.case_forms.specs.declared.steps.Label.TheVariants.{L, D, M, T, K, R, F}
 use Rattle.case_forms.specs.declared.steps.Step.{Step}
@@ -72,19 +73,19 @@ one_removed n k (e ∷ es) r found = by_test (n == e.0) refl (one_removed n (suc
     by_test false is rest = rw is (ap suc (rest (rw is at found)))
 
 -- a step that breaks no rule of order takes one line from those that are left, or none
-taken_by : (o : Order) (moment k : ℕ) (label : Label) → Rises k o.held → first_broken (order_rules o (record { moment = moment; take = take_of label })) ≡ None
+taken_by : (o : Order) (moment k : ℕ) (label : Label NamedLine) → Rises k o.held → first_broken (order_rules o (record { moment = moment; take = take_of label })) ≡ None
     → length o.held ≡ cond (takes_line label) 1 0 + length (held_after o.held (take_of label))
-taken_by o moment k (L n extras) r none =
-    let t = none_all (order_rules o (record { moment = moment; take = take_of (L n extras) })) none in
-    let there = not_false (is_offered o n) (neither (not (is_offered o n)) _ t.0).0 in
-    let one = one_removed n k o.held r (and_false (is_offered o n) (is_none (held_line o n)) t.1.0 there) in
+taken_by o moment k (L line) r none =
+    let t = none_all (order_rules o (record { moment = moment; take = take_of (L line) })) none in
+    let there = not_false (is_offered o line.number) (neither (not (is_offered o line.number)) _ t.0).0 in
+    let one = one_removed line.number k o.held r (and_false (is_offered o line.number) (is_none (held_line o line.number)) t.1.0 there) in
     omega (arith, one)
 taken_by o moment k (D t answer) r none = omega arith
-taken_by o moment k (M host local remote position len flags window iss) r none = omega arith
-taken_by o moment k (T host line cwnd keep sample) r none = omega arith
+taken_by o moment k (M host plan) r none = omega arith
+taken_by o moment k (T host line choice) r none = omega arith
 taken_by o moment k (K host line) r none = omega arith
 taken_by o moment k (R host line) r none = omega arith
-taken_by o moment k (F host local remote cwnd ssthresh) r none = omega arith
+taken_by o moment k (F host recovery) r none = omega arith
 
 module _ (header : Header) (lines : List Line) where
   left_rise : (done : List Move) → Rises (first_event_line header) (unplaced header lines done)

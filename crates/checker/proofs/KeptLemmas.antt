@@ -3,10 +3,10 @@ use Rattle.std.proofs.Common.{◌≡◌, ℕ, Bool, true, false, cond, not, List
 use Rattle.std.specs.Option.{option_map, option_map_or}
 use Rattle.case_forms.specs.declared.trace.Header.{Header}
 use Rattle.case_forms.specs.declared.trace.Line.{Line}
+use Rattle.case_forms.specs.declared.named_line.NamedLine.{NamedLine}
 use Rattle.case_forms.specs.declared.steps.Label.{Label}
 use Rattle.case_forms.specs.declared.steps.Label.TheVariants.{L, D, M, T, K, R, F}
 use Rattle.case_forms.specs.declared.steps.Step.{Step}
-use Rattle.case_forms.specs.declared.steps.Extras.{Extras}
 use Rattle.case_forms.specs.declared.trace.Span.{Span}
 use Rattle.case_forms.specs.Steps.{extras_count}
 use Rattle.case_forms.specs.Traces.{line_at}
@@ -19,12 +19,10 @@ use Rattle.interval_order.specs.OrderRules.{order_rules}
 use Rattle.interval_order.proofs.OrderLemmas.{held_is}
 use Rattle.hosts.specs.Hosts.{World, Stamped}
 use Rattle.machine.specs.Machine.{tcp_shape}
-use Rattle.machine.specs.Steps.{line_step}
+use Rattle.machine.specs.Steps.{label_step}
 use Rattle.machine.specs.Forgetting.{forget}
 use Rattle.machine_laws.proofs.ForgetWorlds.{step_rules-forget, after-forgets, makes_permitted}
 use Rattle.endpoint_state.specs.Worlds.{Progress, after}
-use Rattle.spec_step.specs.declared.label.Label.TheVariants as deeds
-use Rattle.spec_step.specs.Steps.{step_of}
 use Rattle.checker.specs.Seen.{moves, move_of, act_of}
 use Rattle.checker.specs.Verdicts.{act_rules, act_after, broken}
 use Rattle.checker.specs.Kept.{held_act, kept_broken}
@@ -37,17 +35,9 @@ gone o moment n extras none = by_test (is_offered o n) refl
     by_test true is = (rules.LineAgain, λ rest. simp (none, is) refl)
     by_test false is = (rules.LineRange, λ rest. simp (none, is) refl)
 
--- what the machine is asked to do with a line
-abbrev line_act : ℕ → Extras → Option Line → Option (Stamped tcp_shape)
-line_act moment extras found = option_map (λ step. record { moment = moment; step = step }) (option_map (λ line. line_step line extras) found)
-
--- the same by what the label does with the line
-abbrev deed_act : ℕ → Extras → Option Line → Option (Stamped tcp_shape)
-deed_act moment extras found = option_map (λ deed. record { moment = moment; step = step_of deed }) (option_map (λ line. deeds.L line extras) found)
-
-same_act : (moment : ℕ) (extras : Extras) (found : Option Line) → deed_act moment extras found ≡ line_act moment extras found
-same_act moment extras None = refl
-same_act moment extras (Some line) = refl
+-- what the machine is asked to do, where that is found for the line
+abbrev line_act : ℕ → NamedLine → Option Line → Option (Stamped tcp_shape)
+line_act moment named found = option_map (λ step. record { moment = moment; step = step }) (label_step (λ n. found) (L named))
 
 module _ (header : Header) (lines : List Line) (earlier : List Step) where
   held_not_placed : (n : ℕ) → is_placed (moves earlier) n ≡ false → held_line (order_of header lines (moves earlier)) n ≡ line_at header lines n
@@ -59,47 +49,47 @@ module _ (header : Header) (lines : List Line) (earlier : List Step) where
   abbrev machine_part : World tcp_shape → Option (Stamped tcp_shape) → List (Rule × Bool)
   machine_part w act = option_map_or (act_rules header w) act []
 
-  broken_at : (w : World tcp_shape) (moment : ℕ) (label : Label) (span : Span)
+  broken_at : (w : World tcp_shape) (moment : ℕ) (label : Label NamedLine) (span : Span)
       → broken header lines earlier w (record { moment = moment; label = label; span = span }) ≡ kept_broken header (order_of header lines (moves earlier)) w (record { moment = moment; label = label; span = span })
-  broken_at w moment (L n extras) span = by_test (is_placed (moves earlier) n) refl
+  broken_at w moment (L named) span = by_test (is_placed (moves earlier) named.number) refl
     where
-      by_test : (b : Bool) → is_placed (moves earlier) n ≡ b
-          → broken header lines earlier w (record { moment = moment; label = L n extras; span = span }) ≡ kept_broken header (order_of header lines (moves earlier)) w (record { moment = moment; label = L n extras; span = span })
-      by_test false is =
-          ap (λ (found : Option Line). first_broken (order_rules (order_of header lines (moves earlier)) (taking moment n (extras_count extras)) ++ machine_part w (line_act moment extras found))) (sym (held_not_placed n is))
-          ∙ ap (λ (act : Option (Stamped tcp_shape)). first_broken (order_rules (order_of header lines (moves earlier)) (taking moment n (extras_count extras)) ++ machine_part w act))
-          (sym (same_act moment extras (held_line (order_of header lines (moves earlier)) n)))
+      rules_of_order : List (Rule × Bool)
+      rules_of_order = order_rules (order_of header lines (moves earlier)) (taking moment named.number (extras_count named.extras))
+
+      by_test : (b : Bool) → is_placed (moves earlier) named.number ≡ b
+          → broken header lines earlier w (record { moment = moment; label = L named; span = span }) ≡ kept_broken header (order_of header lines (moves earlier)) w (record { moment = moment; label = L named; span = span })
+      by_test false is = ap (λ (found : Option Line). first_broken (rules_of_order ++ machine_part w (line_act moment named found))) (sym (held_not_placed named.number is))
       by_test true is =
-          let none = gone (order_of header lines (moves earlier)) moment n (extras_count extras) (held_placed n is) in
-          none.1 (machine_part w (line_act moment extras (line_at header lines n))) ∙ sym (none.1 (machine_part w (deed_act moment extras (held_line (order_of header lines (moves earlier)) n))))
+          let none = gone (order_of header lines (moves earlier)) moment named.number (extras_count named.extras) (held_placed named.number is) in
+          none.1 (machine_part w (line_act moment named (line_at header lines named.number))) ∙ sym (none.1 (machine_part w (line_act moment named (held_line (order_of header lines (moves earlier)) named.number))))
   broken_at w moment (D t answer) span = refl
-  broken_at w moment (M host local remote position len flags window iss) span = refl
-  broken_at w moment (T host line cwnd keep sample) span = refl
+  broken_at w moment (M host plan) span = refl
+  broken_at w moment (T host line choice) span = refl
   broken_at w moment (K host line) span = refl
   broken_at w moment (R host line) span = refl
-  broken_at w moment (F host local remote cwnd ssthresh) span = refl
+  broken_at w moment (F host recovery) span = refl
 
   -- the rules may be asked of the line that is held
   pub broken_is : (w : World tcp_shape) (s : Step) → broken header lines earlier w s ≡ kept_broken header (order_of header lines (moves earlier)) w s
   broken_is w s = broken_at w s.moment s.label s.span
 
-  act_at : (w : World tcp_shape) (moment : ℕ) (label : Label) (span : Span)
+  act_at : (w : World tcp_shape) (moment : ℕ) (label : Label NamedLine) (span : Span)
       → kept_broken header (order_of header lines (moves earlier)) w (record { moment = moment; label = label; span = span }) ≡ None
       → held_act (order_of header lines (moves earlier)) (record { moment = moment; label = label; span = span }) ≡ act_of header lines (record { moment = moment; label = label; span = span })
-  act_at w moment (L n extras) span ok = by_test (is_placed (moves earlier) n) refl
+  act_at w moment (L named) span ok = by_test (is_placed (moves earlier) named.number) refl
     where
-      by_test : (b : Bool) → is_placed (moves earlier) n ≡ b
-          → held_act (order_of header lines (moves earlier)) (record { moment = moment; label = L n extras; span = span }) ≡ act_of header lines (record { moment = moment; label = L n extras; span = span })
-      by_test false is = same_act moment extras (held_line (order_of header lines (moves earlier)) n) ∙ ap (line_act moment extras) (held_not_placed n is)
+      by_test : (b : Bool) → is_placed (moves earlier) named.number ≡ b
+          → held_act (order_of header lines (moves earlier)) (record { moment = moment; label = L named; span = span }) ≡ act_of header lines (record { moment = moment; label = L named; span = span })
+      by_test false is = ap (line_act moment named) (held_not_placed named.number is)
       by_test true is =
-          let none = gone (order_of header lines (moves earlier)) moment n (extras_count extras) (held_placed n is) in
-          let h : Some none.0 ≡ None = sym (none.1 (machine_part w (deed_act moment extras (held_line (order_of header lines (moves earlier)) n)))) ∙ ok in absurd cc
+          let none = gone (order_of header lines (moves earlier)) moment named.number (extras_count named.extras) (held_placed named.number is) in
+          let h : Some none.0 ≡ None = sym (none.1 (machine_part w (line_act moment named (held_line (order_of header lines (moves earlier)) named.number)))) ∙ ok in absurd cc
   act_at w moment (D t answer) span ok = refl
-  act_at w moment (M host local remote position len flags window iss) span ok = refl
-  act_at w moment (T host line cwnd keep sample) span ok = refl
+  act_at w moment (M host plan) span ok = refl
+  act_at w moment (T host line choice) span ok = refl
   act_at w moment (K host line) span ok = refl
   act_at w moment (R host line) span ok = refl
-  act_at w moment (F host local remote cwnd ssthresh) span ok = refl
+  act_at w moment (F host recovery) span ok = refl
 
   -- and the act is that of the line that is held, where no rule is broken
   pub act_is : (w : World tcp_shape) (s : Step) → kept_broken header (order_of header lines (moves earlier)) w s ≡ None → held_act (order_of header lines (moves earlier)) s ≡ act_of header lines s
@@ -130,8 +120,8 @@ next_steps p None = omega arith
 next_steps p (Some act) = omega arith
 
 -- the rule of order that a step breaks which takes a line is the least that it breaks
-pub refused_line : (header : Header) (o : Order) (w : World tcp_shape) (s : Step) (n : ℕ) (extras : Extras) (rule : Rule)
-    → s.label ≡ L n extras → Some rule ≡ first_broken (order_rules o (taking s.moment n (extras_count extras))) → Some rule ≡ kept_broken header o w s
-refused_line header o w s n extras rule is broken =
-    subst (λ (label : Label). Some rule ≡ kept_broken header o w (record s { label = label })) (sym is)
-    (sym (first_broken-append_some (order_rules o (taking s.moment n (extras_count extras))) (option_map_or (act_rules header w) (held_act o (record s { label = L n extras })) []) rule (sym broken)))
+pub refused_line : (header : Header) (o : Order) (w : World tcp_shape) (s : Step) (named : NamedLine) (rule : Rule)
+    → s.label ≡ L named → Some rule ≡ first_broken (order_rules o (taking s.moment named.number (extras_count named.extras))) → Some rule ≡ kept_broken header o w s
+refused_line header o w s named rule is broken =
+    subst (λ (label : Label NamedLine). Some rule ≡ kept_broken header o w (record s { label = label })) (sym is)
+    (sym (first_broken-append_some (order_rules o (taking s.moment named.number (extras_count named.extras))) (option_map_or (act_rules header w) (held_act o (record s { label = L named })) []) rule (sym broken)))

@@ -33,7 +33,7 @@ use Rattle.machine.specs.Endpoints.{Body, new_endpoint}
 use Rattle.machine.specs.Lookups.{is_syn_sent, place_of, at_ports, with_endpoint, thing_of, queue_of}
 use Rattle.machine.specs.CallEffects.{shut_down, after_shut, after_close, after_abort, orphaned, thing_gone, dead, accepted_from, after_accept, change_thing, after_send, after_recv, after_call}
 use Rattle.machine.specs.MakingEffects.{endpoint_made, after_making}
-use Rattle.machine.specs.declared.how.How.{How}
+use Rattle.case_forms.specs.declared.steps.TakeChoice.{TakeChoice}
 use Rattle.machine.specs.TakingRules.{syn_sent_rules, connected_rules, listener_rules}
 use Rattle.machine.specs.TakingEffects.{taken as segment_taken}
 use Rattle.machine.specs.Meeting.{Taker, Nobody, AtListener, AtEndpoint, taker, taker_rules, child, met_peer, was_reset, endpoint_taken, after_taking}
@@ -101,7 +101,7 @@ syn_or_reset true rst either not_reset = refl
 syn_or_reset false true either not_reset = absurd cc
 syn_or_reset false false either not_reset = absurd cc
 
-meets_taking : (h : Header) (s : ℕ) (w : World tcp_shape) (host : Host) (line : ℕ) (how : How) (m : Emission) (i : ℕ) (e : Endpoint) → waiting line (pick w.hosts host).inbox ≡ Some m
+meets_taking : (h : Header) (s : ℕ) (w : World tcp_shape) (host : Host) (line : ℕ) (how : TakeChoice) (m : Emission) (i : ℕ) (e : Endpoint) → waiting line (pick w.hosts host).inbox ≡ Some m
     → slice_get (pick w.hosts host).body.endpoints i ≡ Some e → taker (pick w.hosts host).body m ≡ AtEndpoint i e → Waits e → first_broken (if is_syn_sent e.state then syn_sent_rules e how m else connected_rules h (pick w.hosts host).body (name host i) e how m) ≡ None
     → Meets w (At host (Takes line how)) (name host i) e.stream.peer (endpoint_taken h e how m s).stream.peer
 meets_taking h s w host line how m i e waits there is calm may = go m.flags.rst (is_syn_sent e.state) refl refl may
@@ -126,7 +126,7 @@ meets_taking h s w host line how m i e waits there is calm may = go m.flags.rst 
     )
     go false false reset sent may = inl refl
 
-moves_taking : (h : Header) (s : ℕ) (w : World tcp_shape) (host : Host) (line : ℕ) (how : How) (m : Emission) → Good w.hosts → waiting line (pick w.hosts host).inbox ≡ Some m
+moves_taking : (h : Header) (s : ℕ) (w : World tcp_shape) (host : Host) (line : ℕ) (how : TakeChoice) (m : Emission) → Good w.hosts → waiting line (pick w.hosts host).inbox ≡ Some m
     → first_broken (taker_rules h host (pick w.hosts host).body how m (taker (pick w.hosts host).body m)) ≡ None
     → Moves w (At host (Takes line how)) host (pick w.hosts host).body.endpoints (after_taking h (pick w.hosts host).body how m s (taker (pick w.hosts host).body m)).endpoints
 moves_taking h s w host line how m good waits may = go (taker (pick w.hosts host).body m) refl may

@@ -10,6 +10,7 @@ use Rattle.case_forms.specs.declared.trace.Header.{Header}
 use Rattle.case_forms.specs.declared.trace.Line.{Line}
 use Rattle.case_forms.specs.declared.trace.Span.{Span}
 use Rattle.case_forms.specs.declared.trace.Trace.{Trace}
+use Rattle.case_forms.specs.declared.named_line.NamedLine.{NamedLine}
 use Rattle.case_forms.specs.declared.steps.Label.{Label}
 use Rattle.case_forms.specs.declared.steps.Label.TheVariants.{L, D, M, T, K, R, F}
 use Rattle.case_forms.specs.declared.steps.Step.{Step}
@@ -24,7 +25,7 @@ use Rattle.interval_order.specs.OrderRules.{extras_of, order_rules, has_earlier,
 use Rattle.hosts.specs.Hosts.{World, Stamped}
 use Rattle.hosts.specs.HostSteps.{start}
 use Rattle.machine.specs.Machine.{tcp, tcp_shape}
-use Rattle.machine.specs.Steps.{line_step}
+use Rattle.machine.specs.Steps.{label_step}
 use Rattle.checker.specs.Seen.{move_of, moves, act_of}
 use Rattle.checker.specs.Verdicts.{act_rules, act_after, broken, next_world, verdict, verdict_from, verdict_left, refused_or}
 use Rattle.checker.specs.Again.{placeless, without_spans}
@@ -96,22 +97,22 @@ line_bare header lines n =
     ∙ lookup-map_values placeless (nat_eq n) (numbered header lines)
 
 -- what a step does in the machine
-act_bare : (header : Header) (lines : List Line) (moment : ℕ) (label : Label) (span : Span)
+act_bare : (header : Header) (lines : List Line) (moment : ℕ) (label : Label NamedLine) (span : Span)
     → act_of header (map placeless lines) (record { moment = moment; label = label; span = span }) ≡ act_of header lines (record { moment = moment; label = label; span = span })
-act_bare header lines moment (L n extras) span = ap (line_act) (line_bare header lines n) ∙ by_line (line_at header lines n)
+act_bare header lines moment (L named) span = ap (line_act) (line_bare header lines named.number) ∙ by_line (line_at header lines named.number)
   where
     line_act : Option Line → Option (Stamped tcp_shape)
-    line_act found = option_map (λ step. record { moment = moment; step = step }) (option_map (λ line. line_step line extras) found)
+    line_act found = option_map (λ step. record { moment = moment; step = step }) (label_step (λ n. found) (L named))
 
     by_line : (found : Option Line) → line_act (option_map placeless found) ≡ line_act found
     by_line None = refl
     by_line (Some line) = refl
 act_bare header lines moment (D t answer) span = refl
-act_bare header lines moment (M host local remote position len flags window iss) span = refl
-act_bare header lines moment (T host line cwnd keep sample) span = refl
+act_bare header lines moment (M host plan) span = refl
+act_bare header lines moment (T host line choice) span = refl
 act_bare header lines moment (K host line) span = refl
 act_bare header lines moment (R host line) span = refl
-act_bare header lines moment (F host local remote cwnd ssthresh) span = refl
+act_bare header lines moment (F host recovery) span = refl
 
 broken_bare : (header : Header) (lines : List Line) (earlier : List Step) (w : World tcp_shape) (s : Step) → broken header (map placeless lines) earlier w s ≡ broken header lines earlier w s
 broken_bare header lines earlier w s =

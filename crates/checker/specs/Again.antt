@@ -7,7 +7,8 @@ use Rattle.case_forms.specs.declared.trace.Span.{Span}
 use Rattle.case_forms.specs.declared.trace.Event.TheVariants as events
 use Rattle.case_forms.specs.declared.trace.Line.{Line}
 use Rattle.case_forms.specs.declared.trace.Trace.{Trace}
-use Rattle.case_forms.specs.declared.steps.Extras.TheVariants as extras
+use Rattle.case_forms.specs.declared.named_line.Extras.TheVariants as extras
+use Rattle.case_forms.specs.declared.named_line.NamedLine.{NamedLine}
 use Rattle.case_forms.specs.declared.steps.Label.{Label}
 use Rattle.case_forms.specs.declared.steps.Label.TheVariants as labels
 use Rattle.case_forms.specs.declared.steps.Step.{Step}
@@ -29,7 +30,7 @@ abbrev pub without_spans : Trace → Trace
 without_spans t = record t { lines = map placeless t.lines }
 
 -- what the steps of a witness do, in their order
-abbrev pub labels_of : Witness → List Label
+abbrev pub labels_of : Witness → List (Label NamedLine)
 labels_of w = map (λ s. s.label) w.steps
 
 -- a trace and two witnesses that do something else, or the same in another order, and are both answered yes
@@ -57,12 +58,12 @@ two_listen = record {
 abbrev pub effects_in_order : Step → Step → Witness
 effects_in_order first second = record {
   steps =
-      record { moment = 10; label = labels.L 7 extras.Bare; span = nowhere }
-      ∷ record { moment = 10; label = labels.L 8 extras.Bare; span = nowhere }
+      record { moment = 10; label = labels.L (record { number = 7; extras = extras.Bare }); span = nowhere }
+      ∷ record { moment = 10; label = labels.L (record { number = 8; extras = extras.Bare }); span = nowhere }
       ∷ first
       ∷ second
-      ∷ record { moment = 20; label = labels.L 9 extras.Bare; span = nowhere }
-      ∷ record { moment = 20; label = labels.L 10 extras.Bare; span = nowhere }
+      ∷ record { moment = 20; label = labels.L (record { number = 9; extras = extras.Bare }); span = nowhere }
+      ∷ record { moment = 20; label = labels.L (record { number = 10; extras = extras.Bare }); span = nowhere }
       ∷ [];
 }
 

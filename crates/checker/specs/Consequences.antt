@@ -5,7 +5,7 @@ use Rattle.case_forms.specs.declared.trace.Trace.{Trace}
 use Rattle.case_forms.specs.declared.calls.Host.{Host}
 use Rattle.case_forms.specs.declared.steps.Witness.{Witness}
 use Rattle.hosts.specs.Hosts.{At, Makes, Stamped}
-use Rattle.machine.specs.declared.making.Making.{Making}
+use Rattle.case_forms.specs.declared.steps.SegmentPlan.{SegmentPlan}
 use Rattle.machine.specs.Machine.{tcp_shape}
 use Rattle.machine_laws.specs.Runs.{world_at_end}
 use Rattle.machine_laws.specs.Consequences.{ReceivedIsAPrefix, EndIsWhole, AcknowledgedWasTaken}
@@ -37,7 +37,7 @@ pub record KeepsWindows (h : Header) (before : List (Stamped tcp_shape)) (x : St
   -- the congestion window and the slow start threshold change where a segment is taken, where a retransmission timer expires and where fast recovery begins alone, and stay at or below what these allow
   pub follow : WindowsFollow h x.moment (world_at_end h before) x.step
   -- bytes that are made for the first time end in the window that the peer offers and in the congestion window
-  pub fits : (host : Host) (m : Making) → x.step ≡ At host (Makes m) → NewDataFits (world_at_end h before) host m
+  pub fits : (host : Host) (m : SegmentPlan) → x.step ≡ At host (Makes m) → NewDataFits (world_at_end h before) host m
 
 abbrev pub AllKeepWindows : Trace → Witness → Type 0
 AllKeepWindows t w = EachStep (steps_of t w) (λ before x. KeepsWindows t.header before x)

@@ -10,7 +10,7 @@ use Rattle.hosts.specs.HostSteps.{after}
 use Rattle.machine.specs.declared.endpoint.Name.{Name}
 use Rattle.machine.specs.declared.endpoint.Endpoint.{Endpoint}
 use Rattle.machine.specs.declared.endpoint.Emission.{Emission}
-use Rattle.machine.specs.declared.how.How.{How}
+use Rattle.case_forms.specs.declared.steps.TakeChoice.{TakeChoice}
 use Rattle.machine.specs.Meeting.{taker, AtListener, AtEndpoint}
 use Rattle.machine.specs.Machine.{tcp, tcp_shape}
 use Rattle.machine_laws.specs.Runs.{world_at_end}
@@ -30,7 +30,7 @@ GoesTo hosts me m =
 -- the step takes a segment with SYN for that endpoint, which this other endpoint made
 pub record TakesSynOf (w : World tcp_shape) (step : Step tcp_shape) (me maker : Name) : Type 0 where
   pub line : ℕ
-  pub how : How
+  pub how : TakeChoice
   pub segment : Emission
   pub takes : step ≡ At me.host (Takes line how)
   pub waits : waiting line (pick w.hosts me.host).inbox ≡ Some segment

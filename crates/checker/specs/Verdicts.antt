@@ -4,6 +4,7 @@ use Rattle.std.specs.Option.{option_map_or}
 use Rattle.case_forms.specs.declared.trace.Header.{Header}
 use Rattle.case_forms.specs.declared.trace.Line.{Line}
 use Rattle.case_forms.specs.declared.trace.Trace.{Trace}
+use Rattle.case_forms.specs.declared.named_line.NamedLine.{NamedLine}
 use Rattle.case_forms.specs.declared.steps.Label.{Label}
 use Rattle.case_forms.specs.declared.steps.Label.TheVariants as labels
 use Rattle.case_forms.specs.declared.steps.Step.{Step}
@@ -40,13 +41,13 @@ abbrev pub next_world : Header → List Line → World tcp_shape → Step → Wo
 next_world header lines w s = option_map_or (act_after header w) (act_of header lines s) w
 
 -- whether a step takes a line; else it is hidden
-abbrev pub takes_line : Label → Bool
-takes_line (labels.L n extras) = true
+abbrev pub takes_line : Label NamedLine → Bool
+takes_line (labels.L line) = true
 takes_line _ = false
 
 -- the line that a label names, 0 for a hidden step
-abbrev pub line_named : Label → ℕ
-line_named (labels.L n extras) = n
+abbrev pub line_named : Label NamedLine → ℕ
+line_named (labels.L line) = line.number
 line_named _ = 0
 
 -- no step broke a rule: the least line that is not placed, or yes with both counts

@@ -3,21 +3,22 @@
 //! Memory grows with the trace, since all its lines are offered at the start; a step costs the logarithm of the number
 //! of lines that wait.
 
-ghost use Rattle.std.specs.Prelude.{◌≡◌, ◌↔◌, ◌<◌, ◌++◌, List, [], length, IfOk, IfNone};
+ghost use Rattle.std.specs.Prelude.{◌≡◌, ◌↔◌, ◌<◌, ◌++◌, List, [], length, IfOk, IfNone, IsSome};
+ghost use Rattle.std.specs.Option.{option_map};
 ghost use Rattle.case_forms.specs.declared.trace.Line.{Line};
 ghost use Rattle.std.specs.List.{All};
 ghost use Rattle.case_forms.specs.Traces.{first_event_line, IsRecorded, IsTrace};
+ghost use Rattle.case_forms.specs.TakenLines.{taken_of};
 ghost use Rattle.case_forms.specs.Witnesses.{IsWithinLimits, IsWitness};
 ghost use Rattle.interval_order.specs.Orders.{passing, order_of, order_after};
 ghost use Rattle.interval_order.specs.OrderRules.{order_rules};
 ghost use Rattle.verdict.specs.Rules.{first_broken};
-ghost use Rattle.hosts.specs.HostRules.{step_rules};
 ghost use Rattle.hosts.specs.HostSteps as hosts;
 ghost use Rattle.machine.specs.Bounds.{most_steps};
 ghost use Rattle.machine.specs.Machine.{tcp};
-ghost use Rattle.endpoint_state.specs.Worlds.{start, after};
-ghost use Rattle.spec_step.specs.Steps as deeds;
-ghost use Rattle.spec_step.specs.Steps.{step_of};
+ghost use Rattle.machine.specs.Steps.{line_step, hidden_step};
+ghost use Rattle.endpoint_state.specs.Worlds.{start};
+ghost use Rattle.spec_step.specs.Asked.{asked_rules, asked_after};
 ghost use Rattle.checker.specs.Seen.{move_of};
 ghost use Rattle.checker.specs.Verdicts.{verdict, verdict_from, verdict_left, takes_line, line_named};
 ghost use Rattle.checker.specs.Kept.{kept_broken, kept_progress};
@@ -26,10 +27,10 @@ ghost use Rattle.checker.specs.Judges.{Says};
 ghost use Rattle.checker.specs.Consequences.{ReadsBeginWhatWasSent, EndsAreWhole, AllAcknowledgedWasTaken, AllKeepWindows};
 
 use crate::laws::explained_follows;
-use case_forms::{Header, Label, Line, OutOfMemory, Step, Trace, Witness};
+use case_forms::{Extras, Header, Label, Line, NamedLine, OutOfMemory, Step, Trace, Witness};
 use endpoint_state::World;
 use interval_order::Window;
-use spec_step::{Label as Deed, StepFault, apply};
+use spec_step::{StepFault, apply_hidden, apply_line};
 use std::alloc::{AllocError, Global};
 use verdict::{Rule, Verdict};
 
@@ -131,28 +132,38 @@ fn replay(window: &mut Window, world: &mut World, step: &Step) -> Result<Option<
     ensures world { IfOk result (λ r. IfNone r (world.new ≡ kept_progress window.old world.old step.now)) }
 {
     match &step.label {
-        Label::L(number, extras) => match window.place(*number, extras.count(), step.moment) {
-            Ok(line) => act(world, step.moment, &Deed::L(line, *extras)),
+        Label::L(named) => match window.place(named.number, named.extras.count(), step.moment) {
+            Ok(line) => take(world, step.moment, line, named.extras),
             Err(rule) => Ok(Some(rule)),
         },
-        Label::D(thread, answer) => {
-            let deed = Deed::D(*thread, answer.copy()?);
-            pass(window, world, step.moment, &deed)
-        }
-        Label::M(host, local, remote, position, len, flags, wnd, iss) => {
-            let deed = Deed::M(*host, *local, *remote, *position, *len, *flags, *wnd, *iss);
-            pass(window, world, step.moment, &deed)
-        }
-        Label::T(host, line, cwnd, keep, sample) => {
-            let deed = Deed::T(*host, *line, *cwnd, *keep, *sample);
-            pass(window, world, step.moment, &deed)
-        }
-        Label::K(host, line) => pass(window, world, step.moment, &Deed::K(*host, *line)),
-        Label::R(host, line) => pass(window, world, step.moment, &Deed::R(*host, *line)),
-        Label::F(host, local, remote, cwnd, ssthresh) => {
-            let deed = Deed::F(*host, *local, *remote, *cwnd, *ssthresh);
-            pass(window, world, step.moment, &deed)
-        }
+        Label::D { .. }
+        | Label::M { .. }
+        | Label::T { .. }
+        | Label::K { .. }
+        | Label::R { .. }
+        | Label::F { .. } => pass(window, world, step.moment, &step.label),
+    }
+}
+
+// Takes a line that breaks no rule of order, or says which rule of the machine is broken.
+fn take(
+    world: &mut World,
+    moment: u64,
+    line: Line,
+    extras: Extras,
+) -> Result<Option<Rule>, OutOfMemory>
+    requires steps { world.old.steps < most_steps }
+    requires counted { IsSome (taken_of extras line) }
+    ensures rule { IfOk result (λ r. r ≡ first_broken (asked_rules world.old moment (option_map line_step (taken_of extras line)))) }
+    ensures after { IfOk result (λ r. IfNone r (world.new ≡ asked_after world.old moment (option_map line_step (taken_of extras line)))) }
+{
+    let Some(taken) = line.taken(extras) else {
+        unreachable!();
+    };
+    match apply_line(world, moment, &taken) {
+        Ok(()) => Ok(None),
+        Err(StepFault::Broken(rule)) => Ok(Some(rule)),
+        Err(StepFault::OutOfMemory) => Err(AllocError),
     }
 }
 
@@ -161,28 +172,18 @@ fn pass(
     window: &mut Window,
     world: &mut World,
     moment: u64,
-    deed: &Deed,
+    label: &Label<NamedLine>,
 ) -> Result<Option<Rule>, OutOfMemory>
     requires steps { world.old.steps < most_steps }
-    requires label { deeds.IsWithinLimits deed.now }
-    ensures rule { IfOk result (λ r. r ≡ first_broken (order_rules window.old (passing moment) ++ step_rules (tcp world.old.header) moment world.old.world (step_of deed.now))) }
+    requires label { IsWithinLimits label.now }
+    ensures rule { IfOk result (λ r. r ≡ first_broken (order_rules window.old (passing moment) ++ asked_rules world.old moment (hidden_step label.now))) }
     ensures order { IfOk result (λ r. IfNone r (window.new ≡ order_after window.old (passing moment))) }
-    ensures world { IfOk result (λ r. IfNone r (world.new ≡ after world.old moment (step_of deed.now))) }
+    ensures world { IfOk result (λ r. IfNone r (world.new ≡ asked_after world.old moment (hidden_step label.now))) }
 {
-    match window.pass(moment) {
-        Ok(()) => act(world, moment, deed),
-        Err(rule) => Ok(Some(rule)),
+    if let Err(rule) = window.pass(moment) {
+        return Ok(Some(rule));
     }
-}
-
-// Does what a step does in the machine, or says which of its rules the step breaks.
-fn act(world: &mut World, moment: u64, deed: &Deed) -> Result<Option<Rule>, OutOfMemory>
-    requires steps { world.old.steps < most_steps }
-    requires label { deeds.IsWithinLimits deed.now }
-    ensures rule { IfOk result (λ r. r ≡ first_broken (step_rules (tcp world.old.header) moment world.old.world (step_of deed.now))) }
-    ensures after { IfOk result (λ r. IfNone r (world.new ≡ after world.old moment (step_of deed.now))) }
-{
-    match apply(world, moment, deed) {
+    match apply_hidden(world, moment, label) {
         Ok(()) => Ok(None),
         Err(StepFault::Broken(rule)) => Ok(Some(rule)),
         Err(StepFault::OutOfMemory) => Err(AllocError),
@@ -201,19 +202,23 @@ fn counted(steps: &[Step]) -> Verdict
     }
 }
 
-fn takes_line(label: &Label) -> bool
+fn takes_line(label: &Label<NamedLine>) -> bool
     ensures { result ≡ takes_line label.now }
 {
-    matches!(label, Label::L(..))
+    matches!(label, Label::L(_))
 }
 
 // The line that a label names, 0 for a hidden step.
-fn line_named(label: &Label) -> u64
+fn line_named(label: &Label<NamedLine>) -> u64
     ensures { result ≡ line_named label.now }
 {
     match label {
-        Label::L(number, _) => *number,
-        Label::D(..) | Label::M(..) | Label::T(..) | Label::K(..) | Label::R(..) | Label::F(..) =>
-            0,
+        Label::L(named) => named.number,
+        Label::D { .. }
+        | Label::M { .. }
+        | Label::T { .. }
+        | Label::K { .. }
+        | Label::R { .. }
+        | Label::F { .. } => 0,
     }
 }

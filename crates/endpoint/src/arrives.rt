@@ -13,8 +13,8 @@ pub(crate) mod syn_sent;
 use crate::arrives::otherwise::reset::was_reset;
 use crate::arrives::otherwise::taken;
 use crate::arrives::syn_sent::met_peer;
-use case_forms::Header;
-use machine::{Emission, Endpoint, How};
+use case_forms::{Header, TakeChoice};
+use machine::{Emission, Endpoint};
 use segment::OutOfMemory;
 
 /// An endpoint takes a segment at a moment in microseconds, in every state but CLOSED (RFC 9293, 3.10.7). Where memory
@@ -22,7 +22,7 @@ use segment::OutOfMemory;
 pub fn take_segment(
     header: &Header,
     endpoint: &mut Endpoint,
-    how: How,
+    how: TakeChoice,
     m: &Emission,
     moment: u64,
 ) -> Result<(), OutOfMemory>

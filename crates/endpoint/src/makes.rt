@@ -15,15 +15,15 @@ pub(crate) mod payload;
 use crate::makes::edges::{acknowledgment, is_bad_ack, is_beyond_offer, is_congesting, own_edge};
 use crate::makes::kind::{close_after_reset, is_bad_iss, makes_nothing, may_make, numbered};
 use crate::makes::payload::{has_new_bytes, is_bad_payload, is_bad_place, making_length};
-use case_forms::{State, Timer};
-use machine::{Emission, Endpoint, Making, Name};
+use case_forms::{SegmentPlan, State, Timer};
+use machine::{Emission, Endpoint, Name};
 use segment::{Bytes, OutOfMemory};
 use std::alloc::Global;
 use timer_rules::Timers;
 use verdict::Rule;
 
 /// Whether an endpoint may make a segment; else the first rule that it breaks, in the order of `Rule`.
-pub fn admits_making(endpoint: &Endpoint, making: &Making) -> Result<(), Rule>
+pub fn admits_making(endpoint: &Endpoint, making: &SegmentPlan) -> Result<(), Rule>
     requires { IsSmall endpoint.now making.now }
     ensures { result_err result ≡ first_broken (making_rules endpoint.now making.now) }
 {
@@ -63,7 +63,7 @@ pub fn make(
     alloc: Global,
     endpoint: &mut Endpoint,
     me: Name,
-    making: &Making,
+    making: &SegmentPlan,
     moment: u64,
 ) -> Result<Emission, OutOfMemory>
     requires { IsSmall endpoint.old making.now }
@@ -84,7 +84,7 @@ pub(crate) fn emission_of(
     alloc: Global,
     endpoint: &Endpoint,
     me: Name,
-    making: &Making,
+    making: &SegmentPlan,
 ) -> Result<Emission, OutOfMemory>
     requires { making.now.pos ≤ greatest_position }
     ensures made { IfOk result (λ m. m ≡ emission_of me endpoint.now making.now) }
@@ -117,7 +117,7 @@ pub(crate) fn emission_of(
 // What the endpoint has then, but for a reset.
 pub(crate) fn change(
     endpoint: &mut Endpoint,
-    making: &Making,
+    making: &SegmentPlan,
     moment: u64,
 ) -> Result<(), OutOfMemory>
     requires { IsSmall endpoint.old making.now }
@@ -137,7 +137,7 @@ pub(crate) fn change(
     Ok(())
 }
 
-pub(crate) fn timed(timers: Timers, making: &Making, moment: u64) -> Timers
+pub(crate) fn timed(timers: Timers, making: &SegmentPlan, moment: u64) -> Timers
     ensures { result ≡ timed timers making.now moment }
 {
     let mut timers = timers;

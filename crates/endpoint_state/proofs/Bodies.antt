@@ -20,7 +20,7 @@ use Rattle.machine.specs.declared.endpoint.Emission.{Emission}
 use Rattle.machine.specs.declared.endpoint.Listener.{Listener}
 use Rattle.machine.specs.declared.endpoint.Thing.{Thing}
 use Rattle.machine.specs.declared.endpoint.Thing.TheVariants.{Listens, Ends}
-use Rattle.machine.specs.declared.how.How.{How}
+use Rattle.case_forms.specs.declared.steps.TakeChoice.{TakeChoice}
 use Rattle.machine.specs.Endpoints.{Body, empty, new_endpoint}
 use Rattle.machine.specs.Lookups.{is_syn_received, place_of, queue_of, thing_of, with_endpoint, at_ports}
 use Rattle.machine.specs.CallRules.{call_allows, endpoint_allows, is_bad_socket, thing_allows}
@@ -210,7 +210,7 @@ length_joined b i e m = by (is_syn_received e.state && acknowledges_syn e m) e.l
     by true (Some l) = length_modify (λ (x : Listener). record x { queue = x.queue ++ i ∷ [] }) b.listeners l
     by false o = refl
 
-taking_bounded : (h : Header) (how : How) (m : Emission) (moment steps : ℕ) (b : Body) (t : Taker) → m.ack < 2 ^ 63 → IsBoundedBody steps b → IsBoundedBody (suc steps) (after_taking h b how m moment t)
+taking_bounded : (h : Header) (how : TakeChoice) (m : Emission) (moment steps : ℕ) (b : Body) (t : Taker) → m.ack < 2 ^ 63 → IsBoundedBody steps b → IsBoundedBody (suc steps) (after_taking h b how m moment t)
 taking_bounded h how m moment steps b Nobody small k = body_later steps b k
 taking_bounded h how m moment steps b (AtListener l) small k = joins_bounded steps b (child l how m moment) (child_bounded l how m moment (suc steps)) k
 taking_bounded h how m moment steps b (AtEndpoint i e) small k =

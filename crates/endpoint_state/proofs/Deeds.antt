@@ -10,8 +10,8 @@ use Rattle.hosts.specs.Tables.{Made, on, waiting, settled, unsent, gone_out}
 use Rattle.hosts.specs.Hosts.{HostState, Answers, Drops, Gets, Makes, Sends, Takes}
 use Rattle.hosts.specs.HostSteps.{deed_after, inbox_after, inbox_settled, made_gone_out, wire_after}
 use Rattle.machine.specs.declared.endpoint.Emission.{Emission}
-use Rattle.machine.specs.declared.how.How.{How}
-use Rattle.machine.specs.declared.making.Making.{Making}
+use Rattle.case_forms.specs.declared.steps.TakeChoice.{TakeChoice}
+use Rattle.case_forms.specs.declared.steps.SegmentPlan.{SegmentPlan}
 use Rattle.machine.specs.Records.{Body}
 use Rattle.machine.specs.Lookups.{at_ports}
 use Rattle.machine.specs.MakingEffects.{after_making}
@@ -44,13 +44,13 @@ pub went_out : (hd : Header) (me : Host) (moment line number : ℕ) (w : Wire) (
     → IsReady h → parts b made wire inbox ≡ h → parts b (made_gone_out number made) (wire_after sent made line number w moment wire) inbox ≡ forget_host (deed_after (tcp hd) me moment 0 [] h (Sends line number w))
 went_out hd me moment line number w h b made wire inbox ready is = subst (λ (h : Host_). IsReady h → parts b (made_gone_out number made) (wire_after sent made line number w moment wire) inbox ≡ forget_host (deed_after (tcp hd) me moment 0 [] h (Sends line number w))) is (λ ready. rw (still_body b ready.room) refl) ready
 
-pub took_nothing : (hd : Header) (me : Host) (moment line : ℕ) (how : How) (h : Host_) → IsReady h → waiting line h.inbox ≡ None → h ≡ forget_host (deed_after (tcp hd) me moment 0 [] h (Takes line how))
+pub took_nothing : (hd : Header) (me : Host) (moment line : ℕ) (how : TakeChoice) (h : Host_) → IsReady h → waiting line h.inbox ≡ None → h ≡ forget_host (deed_after (tcp hd) me moment 0 [] h (Takes line how))
 took_nothing hd me moment line how h ready none = rw (none, still_host h ready) refl
 
 pub answered_nothing : (hd : Header) (me : Host) (moment line fresh : ℕ) (h : Host_) → IsReady h → waiting line h.inbox ≡ None → h ≡ forget_host (deed_after (tcp hd) me moment fresh [] h (Answers line))
 answered_nothing hd me moment line fresh h ready none = rw (none, still_host h ready) refl
 
-pub took : (hd : Header) (me : Host) (moment line : ℕ) (how : How) (m : Emission) (h : Host_) (b new : Body) (made : List (ℕ × Made Emission)) (wire : List (ℕ × Emission)) (inbox : List (ℕ × Option Emission))
+pub took : (hd : Header) (me : Host) (moment line : ℕ) (how : TakeChoice) (m : Emission) (h : Host_) (b new : Body) (made : List (ℕ × Made Emission)) (wire : List (ℕ × Emission)) (inbox : List (ℕ × Option Emission))
     → parts b made wire inbox ≡ h → waiting line h.inbox ≡ Some m → new ≡ forget_body (after_taking hd b how m moment (taker b m))
     → parts new made wire (inbox_settled line inbox) ≡ forget_host (deed_after (tcp hd) me moment 0 [] h (Takes line how))
 took hd me moment line how m h b new made wire inbox is waits new_is =
@@ -64,7 +64,7 @@ answered hd me moment line fresh m h b made wire inbox ready is waits =
     (λ ready waits. rw (waits, still_body b ready.room) refl) ready waits
 
 -- a segment is made, or none where no endpoint has these ports
-pub made_one : (hd : Header) (me : Host) (moment fresh : ℕ) (making : Making) (o : Option Emission) (h : Host_) (b new : Body) (made after : List (ℕ × Made Emission)) (wire : List (ℕ × Emission)) (inbox : List (ℕ × Option Emission))
+pub made_one : (hd : Header) (me : Host) (moment fresh : ℕ) (making : SegmentPlan) (o : Option Emission) (h : Host_) (b new : Body) (made after : List (ℕ × Made Emission)) (wire : List (ℕ × Emission)) (inbox : List (ℕ × Option Emission))
     → parts b made wire inbox ≡ h → o ≡ act_makes me b (acts.Makes making) → new ≡ forget_body (at_ports b making.lport making.rport (λ e. after_making e making moment))
     → after ≡ on o made (λ e. insert_entry nat_eq made fresh (unsent e))
     → parts new after wire inbox ≡ forget_host (deed_after (tcp hd) me moment fresh [] h (Makes making))

@@ -13,7 +13,7 @@ use Rattle.machine.specs.declared.endpoint.Endpoint.{Endpoint}
 use Rattle.machine.specs.Lookups.{is_closed, is_syn_sent}
 use Rattle.machine.specs.CallRules.{recv_allows}
 use Rattle.machine.specs.CallEffects.{shut_down, ended_state, after_shut, after_close, after_abort, orphaned, after_send, after_recv}
-use Rattle.machine.specs.declared.making.Making.{Making}
+use Rattle.case_forms.specs.declared.steps.SegmentPlan.{SegmentPlan}
 use Rattle.machine.specs.MakingEffects.{endpoint_made, after_making}
 use Rattle.machine.specs.Timing.{Growth, after_expiry, after_recovery}
 use Rattle.endpoint_state.proofs.Forgets.{IsBounded, bounded_later}
@@ -127,10 +127,10 @@ after_recv_bounded most bytes steps e allowed b =
 
 -- 2. making, timers, recovery
 
-made_bounded : (m : Making) (moment steps : ℕ) (e : Endpoint) → IsBounded steps e → IsBounded steps (endpoint_made e m moment)
+made_bounded : (m : SegmentPlan) (moment steps : ℕ) (e : Endpoint) → IsBounded steps e → IsBounded steps (endpoint_made e m moment)
 made_bounded m moment steps e b = record { una = b.una; counted = b.counted; dup = b.dup; tries = b.tries; backs = b.backs; accepted = b.accepted; met = b.met; unmet = b.unmet }
 
-pub after_making_bounded : (m : Making) (moment steps : ℕ) (e : Endpoint) → IsBounded steps e → IsBounded (suc steps) (after_making e m moment)
+pub after_making_bounded : (m : SegmentPlan) (moment steps : ℕ) (e : Endpoint) → IsBounded steps e → IsBounded (suc steps) (after_making e m moment)
 after_making_bounded m moment steps e b =
     let made = made_bounded m moment steps e b in
     let gone : Endpoint = record (shut_down (endpoint_made e m moment)) { reset_due = false } in

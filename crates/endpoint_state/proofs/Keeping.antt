@@ -25,8 +25,8 @@ use Rattle.machine.specs.declared.endpoint.Emission.{Emission}
 use Rattle.machine.specs.Endpoints.{Body}
 use Rattle.machine.specs.Resets.{reset_of}
 use Rattle.machine.specs.Wires.{sent}
-use Rattle.machine.specs.declared.how.How.{How}
-use Rattle.machine.specs.declared.making.Making.{Making}
+use Rattle.case_forms.specs.declared.steps.TakeChoice.{TakeChoice}
+use Rattle.case_forms.specs.declared.steps.SegmentPlan.{SegmentPlan}
 use Rattle.machine.specs.Machine.{tcp, tcp_shape, Act, act_after, act_makes, act_rules, aim, gives}
 use Rattle.machine.specs.Machine as acts
 use Rattle.machine.specs.Forgetting.{forget, forget_body, forget_endpoint, forget_host}
@@ -85,7 +85,7 @@ module _ (hd : Header) (me : Host) (moment steps : ℕ) (h : HostState tcp_shape
   body_kept : (act : Act) → IsSmallAct act → first_broken (act_rules hd me moment h.body act) ≡ None → IsKeptHost (suc steps) (forget_host (record h { body = act_after hd me moment h.body act }))
   body_kept act small permitted = record { body = act_kept act small permitted; tables = record { made = k.tables.made; wire = k.tables.wire; inbox = k.tables.inbox } }
 
-  makes_kept : (fresh : ℕ) (making : Making) → IsSmallDeed me h (Makes making) → first_broken (act_rules hd me moment h.body (acts.Makes making)) ≡ None
+  makes_kept : (fresh : ℕ) (making : SegmentPlan) → IsSmallDeed me h (Makes making) → first_broken (act_rules hd me moment h.body (acts.Makes making)) ≡ None
       → IsKeptHost (suc steps) (forget_host (deed_after (tcp hd) me moment fresh [] h (Makes making)))
   makes_kept fresh making small permitted = record {
     body = act_kept (acts.Makes making) tt permitted;
@@ -118,7 +118,7 @@ module _ (hd : Header) (me : Host) (moment steps : ℕ) (h : HostState tcp_shape
     tables = record { made = k.tables.made; wire = k.tables.wire; inbox = settled_small line h.inbox k.tables.inbox };
   }
 
-  takes_kept : (line : ℕ) (how : How) (o : Option Emission) → waiting line h.inbox ≡ o → first_broken (on o (just rules.Inbox true) (λ m. act_rules hd me moment h.body (acts.Takes how m))) ≡ None
+  takes_kept : (line : ℕ) (how : TakeChoice) (o : Option Emission) → waiting line h.inbox ≡ o → first_broken (on o (just rules.Inbox true) (λ m. act_rules hd me moment h.body (acts.Takes how m))) ≡ None
       → IsKeptHost (suc steps) (forget_host (record h { body = on o h.body (λ m. act_after hd me moment h.body (acts.Takes how m)); inbox = on o h.inbox (λ m. settled line h.inbox) }))
   takes_kept line how None waits permitted = idle_host steps h k
   takes_kept line how (Some m) waits permitted = record {

@@ -8,8 +8,8 @@ use Rattle.case_forms.specs.declared.timer.Timer.{Timer}
 use Rattle.case_forms.specs.declared.timer.Timer.TheVariants.{Rto, Persist, Msl2, Giveup}
 use Rattle.machine.specs.declared.endpoint.Endpoint.{Endpoint}
 use Rattle.machine.specs.declared.endpoint.Emission.{Emission}
-use Rattle.machine.specs.declared.making.Making.{Making}
-use Rattle.machine.specs.declared.how.How.{How}
+use Rattle.case_forms.specs.declared.steps.SegmentPlan.{SegmentPlan}
+use Rattle.case_forms.specs.declared.steps.TakeChoice.{TakeChoice}
 use Rattle.machine.specs.Lookups.{is_syn_sent}
 use Rattle.machine.specs.Bounds.{HasRoom}
 use Rattle.machine.specs.CallEffects.{shut_down, after_shut, after_close, after_abort, after_send, after_recv}
@@ -31,7 +31,7 @@ pub indexed_changed : (find : ℕ → ℕ → Option ℕ) (child : ℕ → ℕ �
 indexed_changed find child es index room i f keeps = rw (modify_forgets es i f room)
     (indexed_modify find child es index i (λ e. forget_endpoint (f e)) (λ l r e. ap (λ (p : ℕ). nat_eq p l && nat_eq (f e).rport r) (keeps e).lport ∙ ap (λ (p : ℕ). nat_eq e.lport l && nat_eq p r) (keeps e).rport) (λ l e is. (keeps e).listener l is))
 
-pub keeps_made : (e : Endpoint) (m : Making) (moment : ℕ) → Keeps e (after_making e m moment)
+pub keeps_made : (e : Endpoint) (m : SegmentPlan) (moment : ℕ) → Keeps e (after_making e m moment)
 keeps_made e m moment = by m.flags.rst
   where
     by : (b : Bool) → Keeps e (if b then record (shut_down (endpoint_made e m moment)) { reset_due = false } else endpoint_made e m moment)
@@ -47,7 +47,7 @@ keeps_expired e Giveup growth moment = record { lport = refl; rport = refl; list
 pub keeps_recovered : (e : Endpoint) (cwnd ssthresh : ℕ) → Keeps e (after_recovery e cwnd ssthresh)
 keeps_recovered e cwnd ssthresh = record { lport = refl; rport = refl; listener = λ l is. is }
 
-pub keeps_taken : (h : Header) (e : Endpoint) (how : How) (m : Emission) (moment : ℕ) → Keeps e (endpoint_taken h e how m moment)
+pub keeps_taken : (h : Header) (e : Endpoint) (how : TakeChoice) (m : Emission) (moment : ℕ) → Keeps e (endpoint_taken h e how m moment)
 keeps_taken h e how m moment = by m.flags.rst (is_syn_sent e.state)
   where
     by : (b c : Bool) → Keeps e (if b then was_reset e how else if c then met_peer h e how m moment else taken h e how m moment)

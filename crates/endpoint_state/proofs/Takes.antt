@@ -12,7 +12,7 @@ use Rattle.streams.proofs.Fronts.{next_put_all}
 use Rattle.machine.specs.declared.endpoint.Endpoint.{Endpoint}
 use Rattle.machine.specs.declared.endpoint.Emission.{Emission}
 use Rattle.machine.specs.Lookups.{is_closed, is_syn_sent}
-use Rattle.machine.specs.declared.how.How.{How}
+use Rattle.case_forms.specs.declared.steps.TakeChoice.{TakeChoice}
 use Rattle.machine.specs.TakingRules.{is_new_ack, acknowledges_syn, acked, is_duplicate}
 use Rattle.machine.specs.TakingEffects.{fin_acknowledged, acknowledged, finished, kept_start, kept_bytes, keeps_fin, state_taken, taken}
 use Rattle.machine.specs.Meeting.{child, met_peer, was_reset, endpoint_taken}
@@ -64,7 +64,7 @@ finished_stays states.Closing passed = stays states.Closing
 finished_stays states.LastAck passed = stays states.LastAck
 finished_stays states.TimeWait passed = stays states.TimeWait
 
-taken_stays : (e : Endpoint) (how : How) (m : Emission) → Stays e.state (state_taken e how m)
+taken_stays : (e : Endpoint) (how : TakeChoice) (m : Emission) → Stays e.state (state_taken e how m)
 taken_stays e how m =
     let first = acknowledged_stays e.state e m in
     let second = finished_stays (acknowledged e.state e m) _ in
@@ -100,7 +100,7 @@ zero_or false n steps h = omega arith
 
 -- 3. segments
 
-taken_bounded : (h : Header) (how : How) (m : Emission) (moment steps : ℕ) (e : Endpoint) → m.ack < 2 ^ 63 → is_syn_sent e.state ≡ false → IsBounded steps e → IsBounded (suc steps) (taken h e how m moment)
+taken_bounded : (h : Header) (how : TakeChoice) (m : Emission) (moment steps : ℕ) (e : Endpoint) → m.ack < 2 ^ 63 → is_syn_sent e.state ≡ false → IsBounded steps e → IsBounded (suc steps) (taken h e how m moment)
 taken_bounded h how m moment steps e small unsent b =
     let later = bounded_later steps e b in
     let una = b.una in
@@ -117,7 +117,7 @@ taken_bounded h how m moment steps e small unsent b =
       unmet = λ sent. let no = sym unsent ∙ (sym state.sent ∙ sent) in absurd cc;
     }
 
-met_bounded : (h : Header) (how : How) (m : Emission) (moment steps : ℕ) (e : Endpoint) → IsBounded steps e → IsBounded (suc steps) (met_peer h e how m moment)
+met_bounded : (h : Header) (how : TakeChoice) (m : Emission) (moment steps : ℕ) (e : Endpoint) → IsBounded steps e → IsBounded (suc steps) (met_peer h e how m moment)
 met_bounded h how m moment steps e b =
     let later = bounded_later steps e b in
     record {
@@ -143,12 +143,12 @@ met_bounded h how m moment steps e b =
     state true sent = absurd cc
     state false sent = absurd cc
 
-reset_bounded : (how : How) (steps : ℕ) (e : Endpoint) → IsBounded steps e → IsBounded (suc steps) (was_reset e how)
+reset_bounded : (how : TakeChoice) (steps : ℕ) (e : Endpoint) → IsBounded steps e → IsBounded (suc steps) (was_reset e how)
 reset_bounded how steps e b =
     let later = bounded_later steps e b in
     record { una = b.una; counted = b.counted; dup = later.dup; tries = omega arith; backs = later.backs; accepted = later.accepted; met = λ sent closed. absurd cc; unmet = λ sent. absurd cc }
 
-pub endpoint_taken_bounded : (h : Header) (how : How) (m : Emission) (moment steps : ℕ) (e : Endpoint) → m.ack < 2 ^ 63 → IsBounded steps e → IsBounded (suc steps) (endpoint_taken h e how m moment)
+pub endpoint_taken_bounded : (h : Header) (how : TakeChoice) (m : Emission) (moment steps : ℕ) (e : Endpoint) → m.ack < 2 ^ 63 → IsBounded steps e → IsBounded (suc steps) (endpoint_taken h e how m moment)
 endpoint_taken_bounded h how m moment steps e small b = by m.flags.rst (is_syn_sent e.state) refl
   where
     by : (r s : Bool) → is_syn_sent e.state ≡ s → IsBounded (suc steps) (if r then was_reset e how else if s then met_peer h e how m moment else taken h e how m moment)
@@ -156,7 +156,7 @@ endpoint_taken_bounded h how m moment steps e small b = by m.flags.rst (is_syn_s
     by false true is = met_bounded h how m moment steps e b
     by false false is = taken_bounded h how m moment steps e small is b
 
-pub child_bounded : (l : ℕ) (how : How) (m : Emission) (moment steps : ℕ) → IsBounded steps (child l how m moment)
+pub child_bounded : (l : ℕ) (how : TakeChoice) (m : Emission) (moment steps : ℕ) → IsBounded steps (child l how m moment)
 child_bounded l how m moment steps = record {
   una = omega arith;
   counted = omega arith;

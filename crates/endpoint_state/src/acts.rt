@@ -16,9 +16,9 @@ ghost use Rattle.endpoint_state.specs.Changes.{changed};
 ghost use Rattle.endpoint_state.specs.Takers.{IsOpen, joins_at, taker_found};
 
 use crate::body::{Body, Found};
-use case_forms::{Header, Host, Timer};
+use case_forms::{Header, Host, SegmentPlan, TakeChoice, Timer};
 use endpoint::joins;
-use machine::{Emission, How, Making, Name};
+use machine::{Emission, Name};
 use segment::OutOfMemory;
 use std::alloc::Global;
 
@@ -30,7 +30,7 @@ impl Body {
         &mut self,
         alloc: Global,
         host: Host,
-        making: &Making,
+        making: &SegmentPlan,
         moment: u64,
     ) -> Result<Option<Emission>, OutOfMemory>
         requires kept { All HasRoom self.old.endpoints }
@@ -87,7 +87,7 @@ impl Body {
         &mut self,
         alloc: Global,
         header: &Header,
-        how: How,
+        how: TakeChoice,
         m: &Emission,
         moment: u64,
     ) -> Result<(), OutOfMemory>
@@ -109,7 +109,7 @@ impl Body {
         &mut self,
         alloc: Global,
         place: u32,
-        how: How,
+        how: TakeChoice,
         m: &Emission,
         moment: u64,
     ) -> Result<(), OutOfMemory>
@@ -127,7 +127,7 @@ impl Body {
         &mut self,
         header: &Header,
         place: u32,
-        how: How,
+        how: TakeChoice,
         m: &Emission,
         moment: u64,
     ) -> Result<(), OutOfMemory>
@@ -149,7 +149,7 @@ impl Body {
         header: &Header,
         place: u32,
         listener: u32,
-        how: How,
+        how: TakeChoice,
         m: &Emission,
         moment: u64,
     ) -> Result<(), OutOfMemory>

@@ -14,9 +14,9 @@ ghost use Rattle.streams.specs.Received.{waiting};
 ghost use Rattle.endpoint_state.specs.Changes.{changed};
 
 use crate::endpoints::Endpoints;
-use case_forms::{Header, Timer};
+use case_forms::{Header, SegmentPlan, TakeChoice, Timer};
 use endpoint::take_segment;
-use machine::{Emission, Endpoint, How, Making, Name};
+use machine::{Emission, Endpoint, Name};
 use segment::OutOfMemory;
 use std::alloc::Global;
 
@@ -27,7 +27,7 @@ impl Endpoints {
         &mut self,
         alloc: Global,
         me: Name,
-        making: &Making,
+        making: &SegmentPlan,
         moment: u64,
     ) -> Result<Option<Emission>, OutOfMemory>
         requires kept { All HasRoom self.old }
@@ -95,7 +95,7 @@ impl Endpoints {
         &mut self,
         header: &Header,
         place: u32,
-        how: How,
+        how: TakeChoice,
         m: &Emission,
         moment: u64,
     ) -> Result<(), OutOfMemory>
@@ -161,7 +161,7 @@ fn take_at(
     endpoints: &mut Vec<Endpoint>,
     header: &Header,
     place: usize,
-    how: How,
+    how: TakeChoice,
     m: &Emission,
     moment: u64,
 ) -> Result<(), OutOfMemory>
@@ -183,7 +183,7 @@ fn make_at(
     endpoints: &mut Vec<Endpoint>,
     alloc: Global,
     me: Name,
-    making: &Making,
+    making: &SegmentPlan,
     moment: u64,
 ) -> Result<Option<Emission>, OutOfMemory>
     requires kept { All HasRoom endpoints.old.items }
@@ -206,7 +206,7 @@ fn make_one(
     alloc: Global,
     endpoint: &mut Endpoint,
     me: Name,
-    making: &Making,
+    making: &SegmentPlan,
     moment: u64,
 ) -> Result<Emission, OutOfMemory>
     requires room { HasRoom endpoint.old }

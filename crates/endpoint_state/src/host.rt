@@ -22,10 +22,10 @@ use crate::arriving::{admits_arrival, arrive, settle, waiting};
 use crate::body::Body;
 use crate::made::Made;
 use crate::sending::{admits_sending, send};
-use case_forms::{Answer, Call, Header, Host, Timer, Wire};
+use case_forms::{Answer, Call, Header, Host, SegmentPlan, TakeChoice, Timer, Wire};
 use endpoint::reset_of;
 use indexmap::IndexMap;
-use machine::{Emission, How, Making};
+use machine::Emission;
 use segment::OutOfMemory;
 use std::alloc::Global;
 use std::marker::Model;
@@ -56,7 +56,7 @@ pub(crate) fn make(
     header: &Header,
     me: Host,
     host: &mut HostState,
-    making: &Making,
+    making: &SegmentPlan,
     moment: u64,
     fresh: u32,
 ) -> Result<(), OutOfMemory>
@@ -119,7 +119,7 @@ pub(crate) fn take(
     me: Host,
     host: &mut HostState,
     line: u64,
-    how: How,
+    how: TakeChoice,
     moment: u64,
 ) -> Result<(), OutOfMemory>
     requires ready { IsReady host.old }
@@ -271,7 +271,7 @@ impl HostState {
         header: &Header,
         me: Host,
         moment: u64,
-        making: &Making,
+        making: &SegmentPlan,
     ) -> Result<(), Rule>
         requires ready { IsReady self.now }
         requires small { making.now.pos ≤ greatest_position }
@@ -287,7 +287,7 @@ impl HostState {
         me: Host,
         moment: u64,
         line: u64,
-        how: How,
+        how: TakeChoice,
     ) -> Result<(), Rule>
         ensures { result_err result ≡ first_broken (deed_rules (tcp header.now) me moment [] self.now (Takes line how)) }
     {

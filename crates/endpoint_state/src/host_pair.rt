@@ -15,8 +15,7 @@ ghost use Rattle.endpoint_state.specs.Lending.{LendsSide};
 ghost use Rattle.endpoint_state.specs.Sides.{AreReady, forget_hosts, hosts_after};
 
 use crate::host::{self, HostState};
-use case_forms::{Answer, Call, Header, Host, Timer, Wire};
-use machine::{How, Making};
+use case_forms::{Answer, Call, Header, Host, SegmentPlan, TakeChoice, Timer, Wire};
 use segment::OutOfMemory;
 use std::alloc::Global;
 use std::marker::Model;
@@ -78,7 +77,7 @@ impl Hosts {
         alloc: Global,
         header: &Header,
         host: Host,
-        making: &Making,
+        making: &SegmentPlan,
         moment: u64,
         fresh: u32,
     ) -> Result<(), OutOfMemory>
@@ -117,7 +116,7 @@ impl Hosts {
         header: &Header,
         host: Host,
         line: u64,
-        how: How,
+        how: TakeChoice,
         moment: u64,
     ) -> Result<(), OutOfMemory>
         requires ready { AreReady self.old }

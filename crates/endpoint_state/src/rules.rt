@@ -16,9 +16,9 @@ ghost use Rattle.endpoint_state.specs.declared.body.Found.TheVariants as found;
 ghost use Rattle.endpoint_state.specs.Takers.{taker_found};
 
 use crate::body::{Body, Found};
-use case_forms::{Answer, Call, Header, Host, State, Timer};
+use case_forms::{Answer, Call, Header, Host, SegmentPlan, State, TakeChoice, Timer};
 use endpoint::{endpoint_allows, listener_allows};
-use machine::{Emission, Endpoint, How, Making, Name, Thing};
+use machine::{Emission, Endpoint, Name, Thing};
 use seqno::number;
 use verdict::Rule;
 
@@ -68,7 +68,7 @@ impl Body {
     }
 
     /// Whether a segment may be made (RFC 9293, 3.8 and 3.10). An error is the first rule that is broken.
-    pub fn admits_making(&self, making: &Making) -> Result<(), Rule>
+    pub fn admits_making(&self, making: &SegmentPlan) -> Result<(), Rule>
         requires kept { All HasRoom self.now.endpoints }
         requires small { making.now.pos ≤ greatest_position }
         ensures { result_err result ≡ first_broken (rules_at self.now making.now.lport making.now.rport (λ e. making_rules e making.now)) }
@@ -123,7 +123,7 @@ impl Body {
         &self,
         header: &Header,
         host: Host,
-        how: How,
+        how: TakeChoice,
         m: &Emission,
     ) -> Result<(), Rule>
         ensures { result_err result ≡ first_broken (taker_rules header.now host self.now how m.now (taker self.now m.now)) }
@@ -140,7 +140,7 @@ impl Body {
         header: &Header,
         host: Host,
         place: u32,
-        how: How,
+        how: TakeChoice,
         m: &Emission,
     ) -> Result<(), Rule>
         ensures { result_err result ≡ first_broken (taker_rules header.now host self.now how m.now (taker_found self.now (found.Endpoint place))) }

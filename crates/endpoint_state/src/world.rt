@@ -13,9 +13,8 @@ ghost use Rattle.endpoint_state.specs.Sides.{AreReady};
 use crate::host_pair::Hosts;
 use crate::threads::{admits_begin, admits_end, begin, finish};
 use crate::turn::Turn;
-use case_forms::{Answer, Call, Header, Host, Timer, Wire};
+use case_forms::{Answer, Call, Header, Host, SegmentPlan, TakeChoice, Timer, Wire};
 use indexmap::IndexMap;
-use machine::{How, Making};
 use segment::OutOfMemory;
 use std::alloc::Global;
 use std::marker::Model;
@@ -124,7 +123,7 @@ impl World {
     }
 
     /// Whether a host may make a segment, at a position up to the greatest. An error is the first rule that is broken.
-    pub fn admits_making(&self, host: Host, making: &Making) -> Result<(), Rule>
+    pub fn admits_making(&self, host: Host, making: &SegmentPlan) -> Result<(), Rule>
         requires steps { self.now.steps < most_steps }
         requires small { making.now.pos ≤ greatest_position }
         ensures { result_err result ≡ first_broken (step_rules (tcp self.now.header) 0 self.now.world (At host (Makes making.now))) }
@@ -136,7 +135,13 @@ impl World {
 
     /// Whether a host may take the segment that came in with this line, at a moment in microseconds. An error is the first rule
     /// that is broken: nothing waits under this line (`Inbox`), or a later one.
-    pub fn admits_taking(&self, host: Host, moment: u64, line: u64, how: How) -> Result<(), Rule>
+    pub fn admits_taking(
+        &self,
+        host: Host,
+        moment: u64,
+        line: u64,
+        how: TakeChoice,
+    ) -> Result<(), Rule>
         ensures { result_err result ≡ first_broken (step_rules (tcp self.now.header) moment self.now.world (At host (Takes line how))) }
     {
         self.hosts
@@ -234,7 +239,7 @@ impl World {
 
     /// A host makes a segment, at a moment in microseconds; it gets the next number. The error is that memory ran out, and then
     /// nothing is changed.
-    pub fn make(&mut self, host: Host, making: &Making, moment: u64) -> Result<(), OutOfMemory>
+    pub fn make(&mut self, host: Host, making: &SegmentPlan, moment: u64) -> Result<(), OutOfMemory>
         requires steps { self.old.steps < most_steps }
         requires small { making.now.pos ≤ greatest_position }
         requires permitted { Permitted (tcp self.old.header) moment self.old.world (At host (Makes making.now)) }
@@ -293,7 +298,13 @@ impl World {
 
     /// A host takes what came in with this line, at a moment in microseconds. The error is that memory ran out, and then nothing
     /// is changed.
-    pub fn take(&mut self, host: Host, line: u64, how: How, moment: u64) -> Result<(), OutOfMemory>
+    pub fn take(
+        &mut self,
+        host: Host,
+        line: u64,
+        how: TakeChoice,
+        moment: u64,
+    ) -> Result<(), OutOfMemory>
         requires steps { self.old.steps < most_steps }
         requires permitted { Permitted (tcp self.old.header) moment self.old.world (At host (Takes line how)) }
         ensures ok { OnOk result (self.new ≡ after self.old moment (At host (Takes line how))) }

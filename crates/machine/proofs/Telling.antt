@@ -1,5 +1,6 @@
 -- Cases written out, for facts that are computed: the lines and steps of both texts as words.
 use Rattle.std.proofs.Common.{ℕ, Bool, true, false, List, [], Option}
+use Rattle.std.specs.Option.{option_map}
 use Rattle.case_forms.specs.declared.calls.Host.{Host}
 use Rattle.case_forms.specs.declared.calls.Call.{Call}
 use Rattle.case_forms.specs.declared.calls.Answer.{Answer}
@@ -10,7 +11,8 @@ use Rattle.case_forms.specs.declared.trace.Event.TheVariants as events
 use Rattle.case_forms.specs.declared.trace.Line as lines
 use Rattle.case_forms.specs.declared.trace.Span.{Span}
 use Rattle.case_forms.specs.declared.timer.Timer.{Timer}
-use Rattle.case_forms.specs.declared.steps.Extras.TheVariants as extras
+use Rattle.case_forms.specs.declared.named_line.Extras.TheVariants as extras
+use Rattle.case_forms.specs.declared.named_line.NamedLine.{NamedLine}
 use Rattle.case_forms.specs.declared.steps.Label.{Label}
 use Rattle.case_forms.specs.declared.steps.Label.TheVariants as labels
 use Rattle.case_forms.specs.declared.steps.Flags.{Flags}
@@ -51,28 +53,29 @@ gets number moment thread host wire = line number moment thread (events.Came hos
 abbrev pub expires : (number moment thread : ℕ) → Host → (lport rport : ℕ) → Timer → lines.Line
 expires number moment thread host lport rport timer = line number moment thread (events.Expired host lport rport timer)
 
-abbrev pub step : ℕ → Label → witness.Step
+abbrev pub step : ℕ → Label NamedLine → witness.Step
 step moment label = record { moment = moment; label = label; span = nowhere }
 
 -- L steps, with no number more, one or two
 abbrev pub takes : (moment number : ℕ) → witness.Step
-takes moment number = step moment (labels.L number extras.Bare)
+takes moment number = step moment (labels.L (record { number = number; extras = extras.Bare }))
 
 abbrev pub takes_of : (moment number x : ℕ) → witness.Step
-takes_of moment number x = step moment (labels.L number (extras.One x))
+takes_of moment number x = step moment (labels.L (record { number = number; extras = extras.One x }))
 
 abbrev pub takes_with : (moment number cwnd ssthresh : ℕ) → witness.Step
-takes_with moment number cwnd ssthresh = step moment (labels.L number (extras.Two cwnd ssthresh))
+takes_with moment number cwnd ssthresh = step moment (labels.L (record { number = number; extras = extras.Two cwnd ssthresh }))
 
 -- D, M, T, K, R and F steps
 abbrev pub effects : (moment thread : ℕ) → Answer → witness.Step
 effects moment thread answer = step moment (labels.D thread answer)
 
 abbrev pub makes : ℕ → Host → (lport rport pos len : ℕ) → Flags → ℕ → Option ℕ → witness.Step
-makes moment host lport rport pos len flags window iss = step moment (labels.M host lport rport pos len flags window iss)
+makes moment host lport rport pos len flags window iss =
+    step moment (labels.M host (record { lport = lport; rport = rport; pos = pos; len = len; flags = flags; window = window; iss = option_map (λ n. record { 0 = n }) iss }))
 
 abbrev pub consumes : ℕ → Host → (number cwnd : ℕ) → (keep sample : Bool) → witness.Step
-consumes moment host number cwnd keep sample = step moment (labels.T host number cwnd keep sample)
+consumes moment host number cwnd keep sample = step moment (labels.T host number (record { cwnd = cwnd; keep = keep; sample = sample }))
 
 abbrev pub drops : ℕ → Host → ℕ → witness.Step
 drops moment host number = step moment (labels.K host number)
@@ -81,7 +84,7 @@ abbrev pub resets : ℕ → Host → ℕ → witness.Step
 resets moment host number = step moment (labels.R host number)
 
 abbrev pub recovers : ℕ → Host → (lport rport cwnd ssthresh : ℕ) → witness.Step
-recovers moment host lport rport cwnd ssthresh = step moment (labels.F host lport rport cwnd ssthresh)
+recovers moment host lport rport cwnd ssthresh = step moment (labels.F host (record { lport = lport; rport = rport; cwnd = cwnd; ssthresh = ssthresh }))
 
 -- the flags of made segments
 abbrev pub flags : Bool → Bool → Bool → Bool → Flags

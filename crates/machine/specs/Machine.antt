@@ -16,11 +16,11 @@ use Rattle.machine.specs.Lookups.{place_of, endpoint_of, at_ports, given}
 use Rattle.machine.specs.Same.{same_answer}
 use Rattle.machine.specs.CallRules.{call_allows, is_bad_socket}
 use Rattle.machine.specs.CallEffects.{after_call}
-use Rattle.machine.specs.declared.making.Making.{Making}
+use Rattle.case_forms.specs.declared.steps.SegmentPlan.{SegmentPlan}
 use Rattle.machine.specs.Making.{making_rules}
 use Rattle.machine.specs.MakingEffects.{emission_of, after_making}
 use Rattle.machine.specs.Wires.{out_rules, sent, in_rules}
-use Rattle.machine.specs.declared.how.How.{How}
+use Rattle.case_forms.specs.declared.steps.TakeChoice.{TakeChoice}
 use Rattle.machine.specs.Meeting.{taker, taker_rules, after_taking}
 use Rattle.machine.specs.Resets.{reset_rules, reset_of}
 use Rattle.machine.specs.Timing.{Expiry, Growth, Recovery, expiry_rules, after_expiry, recovery_rules, after_recovery}
@@ -28,8 +28,8 @@ use Rattle.machine.specs.Timing.{Expiry, Growth, Recovery, expiry_rules, after_e
 -- what a host does
 pub data Act : Type 0 where
   Calls : (call : Call) (answer : Answer) → Act
-  Makes : (making : Making) → Act
-  Takes : (how : How) (emission : Emission) → Act
+  Makes : (making : SegmentPlan) → Act
+  Takes : (how : TakeChoice) (emission : Emission) → Act
   Resets : (emission : Emission) → Act
   Expires : (expiry : Expiry) (growth : Growth) → Act
   Recovers : (recovery : Recovery) → Act
@@ -57,7 +57,7 @@ act_after h me moment b (Expires x growth) = at_ports b x.lport x.rport (λ e. a
 act_after h me moment b (Recovers x) = at_ports b x.lport x.rport (λ e. after_recovery e x.cwnd x.ssthresh)
 
 -- the segment made by the endpoint at a place
-abbrev pub made_at : Host → Body → Making → ℕ → Option Emission
+abbrev pub made_at : Host → Body → SegmentPlan → ℕ → Option Emission
 made_at me b m i = option_map (λ e. emission_of (record { host = me; number = i }) e m) (slice_get b.endpoints i)
 
 -- the segment that it makes
@@ -94,8 +94,8 @@ tcp_shape = record {
   Plain = Recovery;
   Expiry = Expiry;
   Growth = Growth;
-  Making = Making;
-  How = How;
+  Making = SegmentPlan;
+  How = TakeChoice;
   Emission = Emission;
   Wire = Wire;
   Call = Call;

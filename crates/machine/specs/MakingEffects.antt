@@ -10,7 +10,7 @@ use Rattle.timer_rules.specs.declared.timers.Timers.{Timers}
 use Rattle.timer_rules.specs.Timers.{armed}
 use Rattle.machine.specs.Endpoints.{Name, Endpoint, Emission, next}
 use Rattle.machine.specs.CallEffects.{shut_down}
-use Rattle.machine.specs.declared.making.Making.{Making}
+use Rattle.case_forms.specs.declared.steps.SegmentPlan.{SegmentPlan}
 use Rattle.machine.specs.Making.{making_length, has_new_bytes}
 
 abbrev pub word_zero : Word
@@ -21,7 +21,7 @@ abbrev pub numbered : Option Word → ℕ → Word
 numbered base pos = option_map_or (λ b. number_of b pos) base word_zero
 
 -- the segment: the accepted bytes at its position, the next position expected as its acknowledgment, both also as numbers
-abbrev pub emission_of : Name → Endpoint → Making → Emission
+abbrev pub emission_of : Name → Endpoint → SegmentPlan → Emission
 emission_of me e m = record {
   maker = me;
   knew = e.stream.peer;
@@ -41,11 +41,11 @@ emission_of me e m = record {
 }
 
 -- the retransmission timer is armed with what takes positions, where it isn't armed (RFC 6298, 5.1)
-abbrev pub timed : Timers → Making → ℕ → Timers
+abbrev pub timed : Timers → SegmentPlan → ℕ → Timers
 timed t m moment = if nat_lt 0 (making_length m) && not (is_some t.rto_armed) then armed t Rto moment else t
 
 -- what the endpoint has then
-abbrev pub endpoint_made : Endpoint → Making → ℕ → Endpoint
+abbrev pub endpoint_made : Endpoint → SegmentPlan → ℕ → Endpoint
 endpoint_made e m moment = record e {
   iss = option_or e.iss m.iss;
   makings = made e.makings m.pos (making_length m) moment;
@@ -55,5 +55,5 @@ endpoint_made e m moment = record e {
 }
 
 -- a reset closes the endpoint, and is no longer due
-abbrev pub after_making : Endpoint → Making → ℕ → Endpoint
+abbrev pub after_making : Endpoint → SegmentPlan → ℕ → Endpoint
 after_making e m moment = if m.flags.rst then record (shut_down (endpoint_made e m moment)) { reset_due = false } else endpoint_made e m moment

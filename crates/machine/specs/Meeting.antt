@@ -13,7 +13,7 @@ use Rattle.timer_rules.specs.declared.timers.Timers.{Timers}
 use Rattle.machine.specs.Endpoints.{Fault, Refused, Reset, Endpoint, Emission, Listener, Body, new_endpoint, max_made}
 use Rattle.machine.specs.Lookups.{is_closed, is_syn_sent, is_syn_received, place_of, listener_on}
 use Rattle.machine.specs.CallEffects.{shut_down}
-use Rattle.machine.specs.declared.how.How.{How}
+use Rattle.case_forms.specs.declared.steps.TakeChoice.{TakeChoice}
 use Rattle.machine.specs.TakingRules.{told_smss, acknowledges_syn, listener_rules, syn_sent_rules, connected_rules}
 use Rattle.machine.specs.TakingEffects.{timeout_taken, rto_taken, persist_taken, taken}
 
@@ -33,13 +33,13 @@ abbrev pub taker : Body → Emission → Taker
 taker b m = option_map_or (endpoint_taker b m) (place_of b m.rport m.lport) (listener_taker b m)
 
 -- the rules of taking
-abbrev pub taker_rules : Header → Host → Body → How → Emission → Taker → List (Rule × Bool)
+abbrev pub taker_rules : Header → Host → Body → TakeChoice → Emission → Taker → List (Rule × Bool)
 taker_rules h me b how m Nobody = (rules.NoEndpoint, true) ∷ []
 taker_rules h me b how m (AtListener l) = listener_rules how m
 taker_rules h me b how m (AtEndpoint i e) = if is_syn_sent e.state then syn_sent_rules e how m else connected_rules h b (record { host = me; number = i }) e how m
 
 -- a child of a listener: it knows the peer, and took its SYN
-abbrev pub child : ℕ → How → Emission → ℕ → Endpoint
+abbrev pub child : ℕ → TakeChoice → Emission → ℕ → Endpoint
 child l how m moment =
     let fresh : Endpoint = new_endpoint m.rport m.lport (Some l) states.SynReceived in
     record fresh {
@@ -55,12 +55,12 @@ abbrev pub una_met : Endpoint → Emission → ℕ
 una_met e m = if m.flags.ack then max e.stream.una 1 else e.stream.una
 
 -- the timers then; a round trip is that of the own SYN, while it is not acknowledged
-abbrev pub timers_met : Header → Endpoint → How → Emission → ℕ → Timers
+abbrev pub timers_met : Header → Endpoint → TakeChoice → Emission → ℕ → Timers
 timers_met h e how m moment =
     persist_taken (rto_taken (timeout_taken h e (how.sample && m.flags.ack && e.stream.una == 0) 1 m.flags.ack moment) (una_met e m == max_made e) false moment) m.window moment
 
 -- in SYN-SENT the peer's SYN is taken: ESTABLISHED with an acknowledgment, else SYN-RECEIVED
-abbrev pub met_peer : Header → Endpoint → How → Emission → ℕ → Endpoint
+abbrev pub met_peer : Header → Endpoint → TakeChoice → Emission → ℕ → Endpoint
 met_peer h e how m moment = record e {
   state = if m.flags.ack then states.Established else states.SynReceived;
   irs = Some m.seq;
@@ -83,10 +83,10 @@ reset_fault states.CloseWait e = Some Reset
 reset_fault _ e = e.fault
 
 -- a reset is taken
-abbrev pub was_reset : Endpoint → How → Endpoint
+abbrev pub was_reset : Endpoint → TakeChoice → Endpoint
 was_reset e how = record (shut_down e) { fault = reset_fault e.state e; congestion = record e.congestion { cwnd = how.cwnd }; tries = 0 }
 
-abbrev pub endpoint_taken : Header → Endpoint → How → Emission → ℕ → Endpoint
+abbrev pub endpoint_taken : Header → Endpoint → TakeChoice → Emission → ℕ → Endpoint
 endpoint_taken h e how m moment = if m.flags.rst then was_reset e how else if is_syn_sent e.state then met_peer h e how m moment else taken h e how m moment
 
 -- a child whose SYN is acknowledged joins its listener's queue
@@ -96,7 +96,7 @@ joined b i e m =
     else b.listeners
 
 -- what the host has then
-abbrev pub after_taking : Header → Body → How → Emission → ℕ → Taker → Body
+abbrev pub after_taking : Header → Body → TakeChoice → Emission → ℕ → Taker → Body
 after_taking h b how m moment Nobody = b
 after_taking h b how m moment (AtListener l) = record b { endpoints = b.endpoints ++ child l how m moment ∷ [] }
 after_taking h b how m moment (AtEndpoint i e) = record b { endpoints = modify b.endpoints i (λ x. endpoint_taken h x how m moment); listeners = joined b i e m }

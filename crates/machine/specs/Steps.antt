@@ -2,15 +2,21 @@
 use Rattle.std.specs.Prelude.{ℕ, suc, List, [], ◌∷◌, Option, None, Some}
 use Rattle.std.specs.Option.{option_map, option_map_or}
 use Rattle.case_forms.specs.declared.trace.Header.{Header}
-use Rattle.case_forms.specs.declared.trace.Event.{Event}
-use Rattle.case_forms.specs.declared.trace.Event.TheVariants as events
 use Rattle.case_forms.specs.declared.trace.Line as lines
-use Rattle.case_forms.specs.declared.steps.Extras.{Extras}
-use Rattle.case_forms.specs.declared.steps.Extras.TheVariants as extras
+use Rattle.case_forms.specs.declared.timer.Timer.{Timer}
+use Rattle.case_forms.specs.declared.timer.Timer.TheVariants.{Rto, Persist, Msl2, Giveup}
+use Rattle.case_forms.specs.declared.timer.Growth.{Growth}
+use Rattle.case_forms.specs.declared.named_line.NamedLine.{NamedLine}
+use Rattle.case_forms.specs.declared.taken_line.Expired.{Expired}
+use Rattle.case_forms.specs.declared.taken_line.Expired.TheVariants as expired
+use Rattle.case_forms.specs.declared.taken_line.TakenLine.{TakenLine}
+use Rattle.case_forms.specs.declared.taken_line.TakenLine.TheVariants as taken
 use Rattle.case_forms.specs.declared.steps.Label.{Label}
 use Rattle.case_forms.specs.declared.steps.Label.TheVariants as labels
 use Rattle.case_forms.specs.declared.steps.Step as witness
 use Rattle.case_forms.specs.Traces.{line_at}
+use Rattle.case_forms.specs.TakenLines.{taken_of}
+use Rattle.case_forms.specs.Naming.{with_line}
 use Rattle.verdict.specs.declared.rule.Rule.{Rule}
 use Rattle.verdict.specs.Rules.{first_broken}
 use Rattle.hosts.specs.Hosts.{World, Step, Begin, Finish, Effect, At, Does, Expires, Makes, Sends, Gets, Takes, Drops, Answers}
@@ -18,46 +24,55 @@ use Rattle.hosts.specs.HostRules.{step_rules}
 use Rattle.hosts.specs.HostSteps.{after, start}
 use Rattle.machine.specs.Machine.{tcp, tcp_shape}
 
-abbrev pub first_extra : Extras → ℕ
-first_extra extras.Bare = 0
-first_extra (extras.One x) = x
-first_extra (extras.Two x y) = x
+-- the timer that expired
+abbrev pub timer_of : Expired → Timer
+timer_of (expired.Rto growth) = Rto
+timer_of expired.Persist = Persist
+timer_of expired.Msl2 = Msl2
+timer_of expired.Giveup = Giveup
 
-abbrev pub second_extra : Extras → ℕ
-second_extra extras.Bare = 0
-second_extra (extras.One x) = 0
-second_extra (extras.Two x y) = y
+-- what is chosen where it is the retransmission timer; nothing is read of it at another
+abbrev pub growth_of : Expired → Growth
+growth_of (expired.Rto growth) = growth
+growth_of e = record { cwnd = 0; ssthresh = 0 }
 
--- a line's step: the number of the made segment or of the line copied, or cwnd and ssthresh, come from the label
-abbrev pub event_step : ℕ → ℕ → Event → Extras → Step tcp_shape
-event_step number thread (events.CallBegin call) x = Begin number thread call
-event_step number thread (events.CallEnd answer) x = Finish number thread answer
-event_step number thread (events.Sent host wire) x = At host (Sends number (first_extra x) wire)
-event_step number thread (events.Came host wire) x = At host (Gets number (first_extra x) wire)
-event_step number thread (events.Expired host lport rport timer) x =
-    At host (Expires number (record { lport = lport; rport = rport; timer = timer }) (record { cwnd = first_extra x; ssthresh = second_extra x }))
+-- a line's step
+abbrev pub line_step : TakenLine → Step tcp_shape
+line_step (taken.CallBegin line thread call) = Begin line thread call
+line_step (taken.CallEnd line thread answer) = Finish line thread answer
+line_step (taken.Sent line host made wire) = At host (Sends line made wire)
+line_step (taken.Came line host copied wire) = At host (Gets line copied wire)
+line_step (taken.Expired line host ports e) = At host (Expires line (record { lport = ports.lport; rport = ports.rport; timer = timer_of e }) (growth_of e))
 
-abbrev pub line_step : lines.Line → Extras → Step tcp_shape
-line_step line x = event_step line.number line.thread line.event x
+-- a label's step
+abbrev pub step_of : Label TakenLine → Step tcp_shape
+step_of (labels.L line) = line_step line
+step_of (labels.D thread answer) = Effect thread answer
+step_of (labels.M host plan) = At host (Makes plan)
+step_of (labels.T host line choice) = At host (Takes line choice)
+step_of (labels.K host line) = At host (Drops line)
+step_of (labels.R host line) = At host (Answers line)
+step_of (labels.F host recovery) = At host (Does recovery)
 
--- a label's step; a label that names no line asks for none
-abbrev pub label_step : Header → List lines.Line → Label → Option (Step tcp_shape)
-label_step h all (labels.L n x) = option_map (λ line. line_step line x) (line_at h all n)
-label_step h all (labels.D t answer) = Some (Effect t answer)
-label_step h all (labels.M host lport rport pos len flags window iss) =
-    Some (At host (Makes (record { lport = lport; rport = rport; pos = pos; len = len; flags = flags; window = window; iss = option_map (λ n. record { 0 = n }) iss })))
-label_step h all (labels.T host line cwnd keep sample) = Some (At host (Takes line (record { cwnd = cwnd; keep = keep; sample = sample })))
-label_step h all (labels.K host line) = Some (At host (Drops line))
-label_step h all (labels.R host line) = Some (At host (Answers line))
-label_step h all (labels.F host lport rport cwnd ssthresh) = Some (At host (Does (record { lport = lport; rport = rport; cwnd = cwnd; ssthresh = ssthresh })))
+-- the line that is found under a number, with the numbers that a step adds: nothing where a line of its kind has another count of them
+abbrev pub line_found : (ℕ → Option lines.Line) → NamedLine → Option TakenLine
+line_found find named = option_map_or (taken_of named.extras) (find named.number) None
+
+-- the step of a label that names its line: none where there is no such line
+abbrev pub label_step : (ℕ → Option lines.Line) → Label NamedLine → Option (Step tcp_shape)
+label_step find label = option_map step_of (with_line (line_found find) label)
+
+-- the step of a label that takes no line
+abbrev pub hidden_step : {A : Type 0} → Label A → Option (Step tcp_shape)
+hidden_step label = option_map step_of (with_line (λ line. None) label)
 
 -- the rule that a witness's step breaks, if it breaks one
 abbrev pub rule_broken : Header → List lines.Line → World tcp_shape → witness.Step → Option Rule
-rule_broken h all w s = option_map_or (λ step. first_broken (step_rules (tcp h) s.moment w step)) (label_step h all s.label) None
+rule_broken h all w s = option_map_or (λ step. first_broken (step_rules (tcp h) s.moment w step)) (label_step (line_at h all) s.label) None
 
 -- the world after it
 abbrev pub world_after : Header → List lines.Line → World tcp_shape → witness.Step → World tcp_shape
-world_after h all w s = option_map_or (λ step. after (tcp h) s.moment w step) (label_step h all s.label) w
+world_after h all w s = option_map_or (λ step. after (tcp h) s.moment w step) (label_step (line_at h all) s.label) w
 
 -- the line of the witness at which the first rule of the machine is broken, with the rule; the first step stands in line 2
 abbrev pub broken_from : Header → List lines.Line → World tcp_shape → ℕ → List witness.Step → Option (ℕ × Rule)

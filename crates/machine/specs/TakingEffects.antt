@@ -13,7 +13,7 @@ use Rattle.window_rules.specs.Growth.{counted_after}
 use Rattle.timer_rules.specs.declared.timers.Timers.{Timers}
 use Rattle.timer_rules.specs.Timers.{sampled, raised_for_lost_syn, armed, stopped, all_stopped}
 use Rattle.machine.specs.Endpoints.{Stream, Window, Endpoint, Emission, max_made, next, flag_count}
-use Rattle.machine.specs.declared.how.How.{How}
+use Rattle.case_forms.specs.declared.steps.TakeChoice.{TakeChoice}
 use Rattle.machine.specs.TakingRules.{is_new_ack, acknowledges_syn, acked, is_duplicate}
 
 -- the position of a segment's first byte, and that behind its last, where its FIN stands
@@ -27,21 +27,21 @@ fin_place m = first_byte m + length m.payload
 abbrev pub kept_start : Endpoint → Emission → ℕ
 kept_start e m = max (next e) (first_byte m)
 
-abbrev pub kept_bytes : Endpoint → How → Emission → List ℕ
+abbrev pub kept_bytes : Endpoint → TakeChoice → Emission → List ℕ
 kept_bytes e how m = if how.keep then slice_range m.payload (kept_start e m - first_byte m) (min (fin_place m) e.window.edge - first_byte m) else []
 
 -- a FIN is kept up to the edge
-abbrev pub keeps_fin : Endpoint → How → Emission → Bool
+abbrev pub keeps_fin : Endpoint → TakeChoice → Emission → Bool
 keeps_fin e how m = how.keep && m.flags.fin && nat_le (next e) (fin_place m) && nat_le (fin_place m) e.window.edge
 
-abbrev pub receive_after : Endpoint → How → Emission → Receiving
+abbrev pub receive_after : Endpoint → TakeChoice → Emission → Receiving
 receive_after e how m = kept e.stream.receive (kept_start e m) (kept_bytes e how m) (keeps_fin e how m)
 
 -- the oldest position that is not acknowledged, then
 abbrev pub una_after : Endpoint → Emission → ℕ
 una_after e m = max e.stream.una m.ack
 
-abbrev pub stream_taken : Endpoint → How → Emission → Stream
+abbrev pub stream_taken : Endpoint → TakeChoice → Emission → Stream
 stream_taken e how m = record e.stream { receive = receive_after e how m; una = una_after e m }
 
 -- the own FIN is acknowledged
@@ -63,7 +63,7 @@ finished states.FinWait1 true = states.Closing
 finished states.FinWait2 true = states.TimeWait
 finished state passed = state
 
-abbrev pub state_taken : Endpoint → How → Emission → State
+abbrev pub state_taken : Endpoint → TakeChoice → Emission → State
 state_taken e how m = finished (acknowledged e.state e m) (is_ended (receive_after e how m))
 
 -- the window is taken from a segment that is not older than the one that it was taken from last; one that acknowledges the SYN sets it (RFC 9293, 3.10.7.4)
@@ -78,7 +78,7 @@ abbrev pub opens : Endpoint → Emission → Bool
 opens e m = takes_window e m && nat_lt 0 m.window
 
 -- cwnd is the value chosen, up to the greatest; what is counted, duplicates and fast recovery go by the old one (RFC 5681, 3.1 and 3.2)
-abbrev pub congestion_taken : Endpoint → How → Emission → Congestion
+abbrev pub congestion_taken : Endpoint → TakeChoice → Emission → Congestion
 congestion_taken e how m = record e.congestion {
   cwnd = how.cwnd;
   counted = if is_new_ack e m && not (acknowledges_syn e m) then counted_after e.congestion (acked e m) else e.congestion.counted;
@@ -110,7 +110,7 @@ state_timers t old states.Closed moment = all_stopped t
 state_timers t old states.TimeWait moment = if is_time_wait old then t else armed t Msl2 moment
 state_timers t old new moment = t
 
-abbrev pub timers_taken : Header → Endpoint → How → Emission → ℕ → Timers
+abbrev pub timers_taken : Header → Endpoint → TakeChoice → Emission → ℕ → Timers
 timers_taken h e how m moment =
     let measured : Timers = timeout_taken h e (how.sample && is_new_ack e m) m.ack (acknowledges_syn e m) moment in
     let running : Timers = rto_taken measured (una_after e m == max_made e) (is_new_ack e m) moment in
@@ -118,7 +118,7 @@ timers_taken h e how m moment =
     state_timers persisting e.state (state_taken e how m) moment
 
 -- a segment without RST is taken, in all states but SYN-SENT
-abbrev pub taken : Header → Endpoint → How → Emission → ℕ → Endpoint
+abbrev pub taken : Header → Endpoint → TakeChoice → Emission → ℕ → Endpoint
 taken h e how m moment = record e {
   state = state_taken e how m;
   stream = stream_taken e how m;

@@ -10,7 +10,7 @@ use Rattle.seqno.specs.Near.{near_position}
 use Rattle.streams.specs.Makings.{made_again}
 use Rattle.window_rules.specs.Windows.{initial_window}
 use Rattle.window_rules.specs.Growth.{may_grow, on_duplicate}
-use Rattle.machine.specs.declared.how.How.{How}
+use Rattle.case_forms.specs.declared.steps.TakeChoice.{TakeChoice}
 use Rattle.machine.specs.Endpoints.{Name, same_name, Endpoint, Emission, Body, max_made, next, receive_window, segment_length}
 use Rattle.machine.specs.Lookups.{is_syn_received, same_word}
 
@@ -55,12 +55,12 @@ abbrev pub may_sample : Endpoint → Emission → Bool
 may_sample e m = is_new_ack e m && not (made_again e.makings e.stream.una m.ack)
 
 -- a listener takes a SYN that is neither acknowledgment nor reset (RFC 9293, 3.10.7.2)
-abbrev pub listener_rules : How → Emission → List (Rule × Bool)
+abbrev pub listener_rules : TakeChoice → Emission → List (Rule × Bool)
 listener_rules how m =
     (rules.State, not (m.flags.syn && not m.flags.ack && not m.flags.rst)) ∷ (rules.Growth, nat_lt 0 how.cwnd) ∷ (rules.Sample, how.sample) ∷ []
 
 -- in SYN-SENT: a SYN or a reset, where it acknowledges, of the own SYN (RFC 9293, 3.10.7.3)
-abbrev pub syn_sent_rules : Endpoint → How → Emission → List (Rule × Bool)
+abbrev pub syn_sent_rules : Endpoint → TakeChoice → Emission → List (Rule × Bool)
 syn_sent_rules e how m =
     (rules.State, not (m.flags.syn || m.flags.rst)) ∷ (rules.AckRange, (m.flags.ack || m.flags.rst) && not (answers_syn e m))
     ∷ (rules.Growth, nat_lt (greatest_at_syn e m) how.cwnd) ∷ (rules.Sample, how.sample && (m.flags.rst || not m.flags.ack || made_again e.makings e.stream.una 1)) ∷ []
@@ -113,11 +113,11 @@ abbrev pub joins_full_queue : Header → Body → Endpoint → Emission → Bool
 joins_full_queue h b e m = is_syn_received e.state && not m.flags.rst && option_map_or (is_queue_full h b) e.listener false
 
 -- the rules in the other states, where it is known whether the child would join a full queue
-abbrev pub rules_with_queue : (full : Bool) → Name → Endpoint → How → Emission → List (Rule × Bool)
+abbrev pub rules_with_queue : (full : Bool) → Name → Endpoint → TakeChoice → Emission → List (Rule × Bool)
 rules_with_queue full me e how m =
     (rules.NotPeer, not (is_from_peer me e m)) ∷ (rules.Number, is_bad_number e m) ∷ (rules.Unacceptable, not (is_acceptable e m))
     ∷ (rules.AckRange, is_bad_ack_range e m) ∷ (rules.QueueFull, full)
     ∷ (rules.Growth, nat_lt (greatest_window e m) how.cwnd) ∷ (rules.Sample, how.sample && not (may_sample e m)) ∷ []
 
-abbrev pub connected_rules : Header → Body → Name → Endpoint → How → Emission → List (Rule × Bool)
+abbrev pub connected_rules : Header → Body → Name → Endpoint → TakeChoice → Emission → List (Rule × Bool)
 connected_rules h b me e how m = rules_with_queue (joins_full_queue h b e m) me e how m

@@ -4,6 +4,9 @@ use Rattle.case_forms.specs.declared.trace.Header.{Header}
 use Rattle.case_forms.specs.States.{is_fin_wait_2}
 use Rattle.case_forms.specs.declared.timer.Timer.{Timer}
 use Rattle.case_forms.specs.declared.timer.Timer.TheVariants.{Rto, Persist, Msl2, Giveup}
+pub use Rattle.case_forms.specs.declared.timer.Expiry.{Expiry}
+pub use Rattle.case_forms.specs.declared.timer.Growth.{Growth}
+pub use Rattle.case_forms.specs.declared.timer.Recovery.{Recovery}
 use Rattle.verdict.specs.declared.rule.Rule.{Rule}
 use Rattle.verdict.specs.declared.rule.Rule.TheVariants as rules
 use Rattle.streams.specs.Sent.{end_of}
@@ -12,24 +15,6 @@ use Rattle.timer_rules.specs.Timers.{is_armed, is_early, expired}
 use Rattle.machine.specs.Endpoints.{Timeout, Endpoint, max_made, flight, flag_count, is_up}
 use Rattle.machine.specs.Lookups.{is_closed}
 use Rattle.machine.specs.CallEffects.{shut_down}
-
--- whose timer, and which
-pub record Expiry : Type 0 where
-  pub lport : ℕ
-  pub rport : ℕ
-  pub timer : Timer
-
--- the choice at an expiry of the retransmission timer
-pub record Growth : Type 0 where
-  pub cwnd : ℕ
-  pub ssthresh : ℕ
-
--- whose fast recovery begins, and the choice
-pub record Recovery : Type 0 where
-  pub lport : ℕ
-  pub rport : ℕ
-  pub cwnd : ℕ
-  pub ssthresh : ℕ
 
 -- the SYN is pending; the timer expired before
 abbrev pub greatest_values : Endpoint → ℕ × ℕ

@@ -16,11 +16,7 @@
 #![tactic(auto)]
 
 mod endpoint;
-mod how;
-mod making;
 mod queue;
 
 pub use endpoint::{Emission, Endpoint, Fault, Listener, Name, Socket, Stream, Thing, Window};
-pub use how::How;
-pub use making::Making;
 pub use queue::Queue;

@@ -19,7 +19,7 @@ use Rattle.hosts.specs.HostRules.{deed_rules, call_rules, effect_rules, fresh_ru
 use Rattle.machine.specs.declared.endpoint.Emission.{Emission}
 use Rattle.machine.specs.Endpoints.{Body}
 use Rattle.machine.specs.Lookups.{is_syn_sent, endpoint_of}
-use Rattle.machine.specs.declared.how.How.{How}
+use Rattle.case_forms.specs.declared.steps.TakeChoice.{TakeChoice}
 use Rattle.machine.specs.Meeting.{Taker, Nobody, AtListener, AtEndpoint, taker, taker_rules}
 use Rattle.machine.specs.TakingRules.{syn_sent_rules, connected_rules}
 use Rattle.machine.specs.CallRules.{is_bad_socket}
@@ -40,7 +40,7 @@ ascend_on : {X : Type 0} (f : X → List (Rule × Bool)) (none : List (Rule × B
 ascend_on f none None a b = a
 ascend_on f none (Some x) a b = b x
 
-ascend_taker : (h : Header) (host : Host) (b : Body) (how : How) (m : Emission) (t : Taker) → ascend 6 (taker_rules h host b how m t) ≡ true
+ascend_taker : (h : Header) (host : Host) (b : Body) (how : TakeChoice) (m : Emission) (t : Taker) → ascend 6 (taker_rules h host b how m t) ≡ true
 ascend_taker h host b how m Nobody = refl
 ascend_taker h host b how m (AtListener l) = refl
 ascend_taker h host b how m (AtEndpoint i e) = go (is_syn_sent e.state)

@@ -6,6 +6,7 @@ use Rattle.case_forms.specs.declared.calls.Host.TheVariants.{Zero, One}
 use Rattle.case_forms.specs.declared.trace.Header.{Header}
 use Rattle.case_forms.specs.declared.trace.Line as lines
 use Rattle.case_forms.specs.declared.steps.Step as witness
+use Rattle.case_forms.specs.Traces.{line_at}
 use Rattle.verdict.specs.declared.rule.Rule.{Rule}
 use Rattle.verdict.specs.Rules.{first_broken}
 use Rattle.hosts.specs.Hosts.{World, Stamped}
@@ -23,7 +24,7 @@ use Rattle.machine_laws.proofs.Later.{name}
 -- the steps that a witness asks for
 abbrev pub steps_of : Header → List lines.Line → List witness.Step → List (Stamped tcp_shape)
 steps_of h all [] = []
-steps_of h all (s ∷ steps) = option_map_or (λ step. record { moment = s.moment; step = step } ∷ steps_of h all steps) (label_step h all s.label) (steps_of h all steps)
+steps_of h all (s ∷ steps) = option_map_or (λ step. record { moment = s.moment; step = step } ∷ steps_of h all steps) (label_step (line_at h all) s.label) (steps_of h all steps)
 
 -- the first rule that steps break, one by one
 abbrev broken : Header → World tcp_shape → List (Stamped tcp_shape) → Option Rule

@@ -16,10 +16,10 @@ use Rattle.machine.specs.declared.endpoint.Endpoint.{Endpoint}
 use Rattle.machine.specs.declared.endpoint.Emission.{Emission}
 use Rattle.machine.specs.Endpoints.{Body}
 use Rattle.machine.specs.Lookups.{is_closed, is_syn_sent, listener_on, place_of, endpoint_at}
-use Rattle.machine.specs.declared.making.Making.{Making}
+use Rattle.case_forms.specs.declared.steps.SegmentPlan.{SegmentPlan}
 use Rattle.machine.specs.Making.{is_bad_payload, is_bad_place, making_rules}
 use Rattle.machine.specs.MakingEffects.{emission_of, after_making}
-use Rattle.machine.specs.declared.how.How.{How}
+use Rattle.case_forms.specs.declared.steps.TakeChoice.{TakeChoice}
 use Rattle.machine.specs.TakingRules.{syn_sent_rules, connected_rules}
 use Rattle.machine.specs.Meeting.{Taker, Nobody, AtListener, AtEndpoint, listener_taker, endpoint_taker, taker, taker_rules, child, endpoint_taken, after_taking}
 use Rattle.machine.specs.Resets.{finds_nothing}
@@ -65,7 +65,7 @@ taker-forget b m = rw (place-forget b m.rport m.lport) (by (place_of b m.rport m
     by None = listener-forget b m
     by (Some i) = endpoint_taker-forget b m i
 
-taker_rules-forget : (h : Header) (me : Host) (b : Body) (how : How) (m : Emission) (t : Taker) → taker_rules h me (forget_body b) how m (forget_taker t) ≡ taker_rules h me b how m t
+taker_rules-forget : (h : Header) (me : Host) (b : Body) (how : TakeChoice) (m : Emission) (t : Taker) → taker_rules h me (forget_body b) how m (forget_taker t) ≡ taker_rules h me b how m t
 taker_rules-forget h me b how m Nobody = refl
 taker_rules-forget h me b how m (AtListener l) = refl
 taker_rules-forget h me b how m (AtEndpoint i e) = by (is_syn_sent e.state)
@@ -91,7 +91,7 @@ act_rules-forget h me moment b (Resets m) = rw (taker-forget b m, nothing-forget
 act_rules-forget h me moment b (Expires x growth) = rules_at-forget b x.lport x.rport (λ e. expiry_rules h moment e x.timer growth) (λ e. expiry_rules-forget h moment e x.timer growth)
 act_rules-forget h me moment b (Recovers x) = rules_at-forget b x.lport x.rport (λ e. recovery_rules e x.cwnd x.ssthresh) (λ e. recovery_rules-forget e x.cwnd x.ssthresh)
 
-taking-forgets : (h : Header) (b : Body) (how : How) (m : Emission) (moment : ℕ) (t : Taker) → forget_body (after_taking h (forget_body b) how m moment (forget_taker t)) ≡ forget_body (after_taking h b how m moment t)
+taking-forgets : (h : Header) (b : Body) (how : TakeChoice) (m : Emission) (moment : ℕ) (t : Taker) → forget_body (after_taking h (forget_body b) how m moment (forget_taker t)) ≡ forget_body (after_taking h b how m moment t)
 taking-forgets h b how m moment Nobody = body-forget b
 taking-forgets h b how m moment (AtListener l) = rw (append-forgets b.endpoints (child l how m moment ∷ [])) refl
 taking-forgets h b how m moment (AtEndpoint i e) = rw (modify-forgets b.endpoints i (λ x. endpoint_taken h x how m moment) (endpoint-forgets h how m moment)) refl
@@ -105,10 +105,10 @@ act-forgets h me moment b (Expires x growth) = ports-forgets b x.lport x.rport (
 act-forgets h me moment b (Recovers x) = ports-forgets b x.lport x.rport (λ e. after_recovery e x.cwnd x.ssthresh) (recovery-forgets x.cwnd x.ssthresh)
 
 -- a permitted segment below the oldest position that is not acknowledged is empty
-empty_below : (e : Endpoint) (m : Making) → is_bad_payload e m ≡ false → is_bad_place e m ≡ false → m.pos < e.stream.una → m.len ≡ 0
+empty_below : (e : Endpoint) (m : SegmentPlan) → is_bad_payload e m ≡ false → is_bad_place e m ≡ false → m.pos < e.stream.una → m.len ≡ 0
 empty_below e m payload place low = grind (arith, nat_tests, payload, place, low)
 
-piece_same : (e : Endpoint) (m : Making) → first_broken (making_rules e m) ≡ None → piece (forget_endpoint e).stream.accepted m.pos m.len ≡ piece e.stream.accepted m.pos m.len
+piece_same : (e : Endpoint) (m : SegmentPlan) → first_broken (making_rules e m) ≡ None → piece (forget_endpoint e).stream.accepted m.pos m.len ≡ piece e.stream.accepted m.pos m.len
 piece_same e m permitted =
     let all = none_all (making_rules e m) permitted in
     elim (cases_lt m.pos e.stream.una) [
@@ -116,11 +116,11 @@ piece_same e m permitted =
       | inr high ↦ piece-forget e m.pos m.len high
     ]
 
-emission_same : (me : Name) (e : Endpoint) (m : Making) → first_broken (making_rules e m) ≡ None → emission_of me (forget_endpoint e) m ≡ emission_of me e m
+emission_same : (me : Name) (e : Endpoint) (m : SegmentPlan) → first_broken (making_rules e m) ≡ None → emission_of me (forget_endpoint e) m ≡ emission_of me e m
 emission_same me e m permitted = rw (next-forget e, piece_same e m permitted) refl
 
 -- the segment that is made is the same where it is permitted
-pub makes-forget : (h : Header) (me : Host) (moment : ℕ) (b : Body) (m : Making) → first_broken (act_rules h me moment b (Makes m)) ≡ None → act_makes me (forget_body b) (Makes m) ≡ act_makes me b (Makes m)
+pub makes-forget : (h : Header) (me : Host) (moment : ℕ) (b : Body) (m : SegmentPlan) → first_broken (act_rules h me moment b (Makes m)) ≡ None → act_makes me (forget_body b) (Makes m) ≡ act_makes me b (Makes m)
 makes-forget h me moment b m permitted = rw (place-forget b m.lport m.rport) (by (place_of b m.lport m.rport) permitted)
   where
     at : (i : ℕ) (o : Option Endpoint) → first_broken (option_map_or (λ e. making_rules e m) o ((rules.NoEndpoint, true) ∷ [])) ≡ None

@@ -10,7 +10,7 @@ use Rattle.streams.proofs.Fades.{below-mark, fade-fade}
 use Rattle.machine.specs.declared.endpoint.Endpoint.{Endpoint}
 use Rattle.machine.specs.CallEffects.{shut_down, after_shut, after_close, after_abort, orphaned, after_send, after_recv}
 use Rattle.machine.specs.Lookups.{is_syn_sent}
-use Rattle.machine.specs.declared.making.Making.{Making}
+use Rattle.case_forms.specs.declared.steps.SegmentPlan.{SegmentPlan}
 use Rattle.machine.specs.Making.{making_length}
 use Rattle.machine.specs.MakingEffects.{endpoint_made, after_making}
 use Rattle.machine.specs.Timing.{Growth, after_expiry, after_recovery}
@@ -79,7 +79,7 @@ recv-forgets bytes e =
       fade-fade (suc e.stream.receive.delivered) (suc (e.stream.receive.delivered + length bytes)) e.stream.receive.taken (omega arith),
     ) refl
 
-made-forgets : (m : Making) (moment : ℕ) → Forgets (λ e. endpoint_made e m moment)
+made-forgets : (m : SegmentPlan) (moment : ℕ) → Forgets (λ e. endpoint_made e m moment)
 made-forgets m moment e =
     let una = e.stream.una in
     let old = length e.makings in
@@ -95,7 +95,7 @@ made-forgets m moment e =
 abbrev reset_made : Endpoint → Endpoint
 reset_made e = record (shut_down e) { reset_due = false }
 
-pub making-forgets : (m : Making) (moment : ℕ) → Forgets (λ e. after_making e m moment)
+pub making-forgets : (m : SegmentPlan) (moment : ℕ) → Forgets (λ e. after_making e m moment)
 making-forgets m moment e = by m.flags.rst
   where
     by : (b : Bool) → forget_endpoint (if b then reset_made (endpoint_made (forget_endpoint e) m moment) else endpoint_made (forget_endpoint e) m moment)

@@ -11,15 +11,15 @@ use Rattle.machine.specs.declared.endpoint.Emission.{Emission}
 use Rattle.machine.specs.declared.endpoint.Name.{Name}
 use Rattle.machine.specs.Endpoints.{Body}
 use Rattle.machine.specs.CallRules.{await_allows, recv_allows}
-use Rattle.machine.specs.declared.making.Making.{Making}
+use Rattle.case_forms.specs.declared.steps.SegmentPlan.{SegmentPlan}
 use Rattle.machine.specs.Making.{making_rules}
-use Rattle.machine.specs.declared.how.How.{How}
+use Rattle.case_forms.specs.declared.steps.TakeChoice.{TakeChoice}
 use Rattle.machine.specs.TakingRules.{is_acceptable_at, place_taken, syn_sent_rules, connected_rules}
 use Rattle.machine.specs.Timing.{Growth, expiry_rules, recovery_rules}
 use Rattle.machine.specs.Forgetting.{forget_endpoint}
 use Rattle.machine_laws.proofs.ForgetReads.{next-forget, max_made-forget, end_of-forget, ended-forget, waiting-forget, again-forget}
 
-pub making_rules-forget : (e : Endpoint) (m : Making) → making_rules (forget_endpoint e) m ≡ making_rules e m
+pub making_rules-forget : (e : Endpoint) (m : SegmentPlan) → making_rules (forget_endpoint e) m ≡ making_rules e m
 making_rules-forget e m = rw (next-forget e, max_made-forget e, end_of-forget e) refl
 
 pub await-forget : (e : Endpoint) (answer : Answer) → await_allows (forget_endpoint e) answer ≡ await_allows e answer
@@ -34,7 +34,7 @@ recv-forget e most answers.Again = rw (ended-forget e, waiting-forget e) refl
 recv-forget e most answers.NotConn = rw (next-forget e) refl
 recv-forget e most _ = refl
 
-pub syn_sent_rules-forget : (e : Endpoint) (how : How) (m : Emission) → syn_sent_rules (forget_endpoint e) how m ≡ syn_sent_rules e how m
+pub syn_sent_rules-forget : (e : Endpoint) (how : TakeChoice) (m : Emission) → syn_sent_rules (forget_endpoint e) how m ≡ syn_sent_rules e how m
 syn_sent_rules-forget e how m = rw (max_made-forget e, again-forget e 1) refl
 
 place_taken-forget : (e : Endpoint) (m : Emission) → place_taken (forget_endpoint e) m ≡ place_taken e m
@@ -47,7 +47,7 @@ acceptable-forget e m = rw (place_taken-forget e m) (by (place_taken e m))
     by None = refl
     by (Some pos) = rw (next-forget e) refl
 
-pub connected_rules-forget : (h : Header) (b : Body) (me : Name) (e : Endpoint) (how : How) (m : Emission) → connected_rules h b me (forget_endpoint e) how m ≡ connected_rules h b me e how m
+pub connected_rules-forget : (h : Header) (b : Body) (me : Name) (e : Endpoint) (how : TakeChoice) (m : Emission) → connected_rules h b me (forget_endpoint e) how m ≡ connected_rules h b me e how m
 connected_rules-forget h b me e how m = rw (acceptable-forget e m, next-forget e, max_made-forget e, again-forget e m.ack) refl
 
 pub expiry_rules-forget : (h : Header) (moment : ℕ) (e : Endpoint) (timer : Timer) (growth : Growth) → expiry_rules h moment (forget_endpoint e) timer growth ≡ expiry_rules h moment e timer growth

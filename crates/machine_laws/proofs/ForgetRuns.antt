@@ -4,6 +4,7 @@ use Rattle.std.specs.Option.{option_map_or}
 use Rattle.case_forms.specs.declared.trace.Header.{Header}
 use Rattle.case_forms.specs.declared.trace.Line as lines
 use Rattle.case_forms.specs.declared.steps.Step as witness
+use Rattle.case_forms.specs.Traces.{line_at}
 use Rattle.verdict.specs.declared.rule.Rule.{Rule}
 use Rattle.verdict.specs.Rules.{first_broken}
 use Rattle.hosts.specs.Hosts.{World, Step, Stamped}
@@ -34,14 +35,14 @@ kept_end h w (x ∷ xs) ok =
     rw (after-forgets h x.moment w x.step (makes_permitted h x.moment w x.step ok.0)) (kept_end h (after (tcp h) x.moment w x.step) xs ok.1)
 
 rule-forget : (h : Header) (all : List lines.Line) (w : World tcp_shape) (s : witness.Step) → rule_broken h all (forget w) s ≡ rule_broken h all w s
-rule-forget h all w s = by (label_step h all s.label)
+rule-forget h all w s = by (label_step (line_at h all) s.label)
   where
     by : (o : Option (Step tcp_shape)) → option_map_or (λ step. first_broken (step_rules (tcp h) s.moment (forget w) step)) o None ≡ option_map_or (λ step. first_broken (step_rules (tcp h) s.moment w step)) o None
     by None = refl
     by (Some step) = ap first_broken (step_rules-forget h s.moment w step)
 
 world-forgets : (h : Header) (all : List lines.Line) (w : World tcp_shape) (s : witness.Step) → rule_broken h all w s ≡ None → forget (world_after h all (forget w) s) ≡ forget (world_after h all w s)
-world-forgets h all w s = by (label_step h all s.label)
+world-forgets h all w s = by (label_step (line_at h all) s.label)
   where
     by : (o : Option (Step tcp_shape)) → option_map_or (λ step. first_broken (step_rules (tcp h) s.moment w step)) o None ≡ None
         → forget (option_map_or (λ step. after (tcp h) s.moment (forget w) step) o (forget w)) ≡ forget (option_map_or (λ step. after (tcp h) s.moment w step) o w)

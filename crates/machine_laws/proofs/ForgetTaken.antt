@@ -15,7 +15,7 @@ use Rattle.streams.proofs.Fades.{fade-put_all, is_fin-fade, length-front-fade}
 use Rattle.machine.specs.declared.endpoint.Endpoint.{Endpoint}
 use Rattle.machine.specs.declared.endpoint.Emission.{Emission}
 use Rattle.machine.specs.Lookups.{is_syn_sent}
-use Rattle.machine.specs.declared.how.How.{How}
+use Rattle.case_forms.specs.declared.steps.TakeChoice.{TakeChoice}
 use Rattle.machine.specs.TakingRules.{is_new_ack, acknowledges_syn}
 use Rattle.machine.specs.TakingEffects.{acknowledged, kept_start, kept_bytes, keeps_fin, receive_after, state_taken, timeout_taken, timers_taken, taken}
 use Rattle.machine.specs.Meeting.{timers_met, una_met, met_peer, reset_fault, was_reset, endpoint_taken}
@@ -24,7 +24,7 @@ use Rattle.machine_laws.proofs.ForgetReads.{next-forget, max_made-forget, end_of
 use Rattle.machine_laws.proofs.ForgetEffects.{Forgets, forgets}
 
 -- what is taken is put behind the same front
-pub receive-forgets : (e : Endpoint) (how : How) (m : Emission) → forgotten (receive_after (forget_endpoint e) how m) ≡ forgotten (receive_after e how m)
+pub receive-forgets : (e : Endpoint) (how : TakeChoice) (m : Emission) → forgotten (receive_after (forget_endpoint e) how m) ≡ forgotten (receive_after e how m)
 receive-forgets e how m =
     rw (next-forget e)
     (ap (λ (taken : List (Option Cell)). let r : Receiving = record { taken = taken; delivered = e.stream.receive.delivered } in r)
@@ -34,7 +34,7 @@ receive-forgets e how m =
 ended-forgotten : (r : Receiving) → is_ended (forgotten r) ≡ is_ended r
 ended-forgotten r = rw (length-front-fade (suc r.delivered) r.taken) (is_fin-fade (suc r.delivered) r.taken (length (front r.taken) - 1))
 
-ended-forgets : (e : Endpoint) (how : How) (m : Emission) → is_ended (receive_after (forget_endpoint e) how m) ≡ is_ended (receive_after e how m)
+ended-forgets : (e : Endpoint) (how : TakeChoice) (m : Emission) → is_ended (receive_after (forget_endpoint e) how m) ≡ is_ended (receive_after e how m)
 ended-forgets e how m =
     sym (ended-forgotten (receive_after (forget_endpoint e) how m)) ∙ (ap is_ended (receive-forgets e how m) ∙ ended-forgotten (receive_after e how m))
 
@@ -44,7 +44,7 @@ acknowledged-forget states.Closing e m = rw (end_of-forget e) refl
 acknowledged-forget states.LastAck e m = rw (end_of-forget e) refl
 acknowledged-forget _ e m = refl
 
-state-forget : (e : Endpoint) (how : How) (m : Emission) → state_taken (forget_endpoint e) how m ≡ state_taken e how m
+state-forget : (e : Endpoint) (how : TakeChoice) (m : Emission) → state_taken (forget_endpoint e) how m ≡ state_taken e how m
 state-forget e how m = rw (acknowledged-forget e.state e m, ended-forgets e how m) refl
 
 -- a sample is of a position that is not acknowledged
@@ -53,14 +53,14 @@ timeout-forget : (h : Header) (e : Endpoint) (sample : Bool) (ack : ℕ) (syn : 
 timeout-forget h e false ack syn moment unacked = refl
 timeout-forget h e true ack syn moment unacked = rw (get-covered (once 0) e.stream.una (ack - 1) e.makings (unacked refl)) refl
 
-unacked : (e : Endpoint) (how : How) (m : Emission) → (how.sample && is_new_ack e m) ≡ true → e.stream.una ≤ m.ack - 1
+unacked : (e : Endpoint) (how : TakeChoice) (m : Emission) → (how.sample && is_new_ack e m) ≡ true → e.stream.una ≤ m.ack - 1
 unacked e how m new = grind (arith, nat_tests, new)
 
-timers-forget : (h : Header) (e : Endpoint) (how : How) (m : Emission) (moment : ℕ) → timers_taken h (forget_endpoint e) how m moment ≡ timers_taken h e how m moment
+timers-forget : (h : Header) (e : Endpoint) (how : TakeChoice) (m : Emission) (moment : ℕ) → timers_taken h (forget_endpoint e) how m moment ≡ timers_taken h e how m moment
 timers-forget h e how m moment =
     rw (state-forget e how m, timeout-forget h e (how.sample && is_new_ack e m) m.ack (acknowledges_syn e m) moment (unacked e how m), max_made-forget e) refl
 
-pub taken-forgets : (h : Header) (how : How) (m : Emission) (moment : ℕ) → Forgets (λ e. taken h e how m moment)
+pub taken-forgets : (h : Header) (how : TakeChoice) (m : Emission) (moment : ℕ) → Forgets (λ e. taken h e how m moment)
 taken-forgets h how m moment e =
     let una = e.stream.una in
     rw (
@@ -73,10 +73,10 @@ taken-forgets h how m moment e =
     ) refl
 
 -- the SYN is sampled while it is not acknowledged
-syn_unacked : (e : Endpoint) (how : How) (m : Emission) → (how.sample && m.flags.ack && e.stream.una == 0) ≡ true → e.stream.una ≤ 1 - 1
+syn_unacked : (e : Endpoint) (how : TakeChoice) (m : Emission) → (how.sample && m.flags.ack && e.stream.una == 0) ≡ true → e.stream.una ≤ 1 - 1
 syn_unacked e how m new = grind (arith, nat_tests, new)
 
-timers_met-forget : (h : Header) (e : Endpoint) (how : How) (m : Emission) (moment : ℕ) → timers_met h (forget_endpoint e) how m moment ≡ timers_met h e how m moment
+timers_met-forget : (h : Header) (e : Endpoint) (how : TakeChoice) (m : Emission) (moment : ℕ) → timers_met h (forget_endpoint e) how m moment ≡ timers_met h e how m moment
 timers_met-forget h e how m moment =
     rw (timeout-forget h e (how.sample && m.flags.ack && e.stream.una == 0) 1 m.flags.ack moment (syn_unacked e how m), max_made-forget e) refl
 
@@ -87,7 +87,7 @@ una_rises e m = by m.flags.ack
     by true = omega arith
     by false = omega arith
 
-pub met-forgets : (h : Header) (how : How) (m : Emission) (moment : ℕ) → Forgets (λ e. met_peer h e how m moment)
+pub met-forgets : (h : Header) (how : TakeChoice) (m : Emission) (moment : ℕ) → Forgets (λ e. met_peer h e how m moment)
 met-forgets h how m moment e =
     let una = e.stream.una in
     let higher = una_rises e m in
@@ -97,10 +97,10 @@ fault-forget : (state : State) (e : Endpoint) → reset_fault state (forget_endp
 fault-forget states.SynReceived e = refl
 fault-forget _ e = refl
 
-pub reset-forgets : (how : How) → Forgets (λ e. was_reset e how)
+pub reset-forgets : (how : TakeChoice) → Forgets (λ e. was_reset e how)
 reset-forgets how = forgets (λ e. was_reset e how) (λ e. rw (fault-forget e.state e) refl)
 
-pub endpoint-forgets : (h : Header) (how : How) (m : Emission) (moment : ℕ) → Forgets (λ e. endpoint_taken h e how m moment)
+pub endpoint-forgets : (h : Header) (how : TakeChoice) (m : Emission) (moment : ℕ) → Forgets (λ e. endpoint_taken h e how m moment)
 endpoint-forgets h how m moment e = by m.flags.rst (is_syn_sent e.state)
   where
     by : (rst sent : Bool) → forget_endpoint (if rst then was_reset (forget_endpoint e) how else if sent then met_peer h (forget_endpoint e) how m moment else taken h (forget_endpoint e) how m moment)

@@ -21,7 +21,7 @@ use Rattle.machine.specs.declared.endpoint.Emission.{Emission}
 use Rattle.machine.specs.Endpoints.{Body, next}
 use Rattle.machine.specs.Lookups.{is_syn_sent, place_of, at_ports, with_endpoint}
 use Rattle.machine.specs.CallEffects.{shut_down}
-use Rattle.machine.specs.declared.making.Making.{Making}
+use Rattle.case_forms.specs.declared.steps.SegmentPlan.{SegmentPlan}
 use Rattle.machine.specs.Making.{may_make, may_make_syn, may_make_reset, may_make_other, is_bad_payload, is_bad_ack, is_beyond_offer, is_congesting, making_rules}
 use Rattle.machine.specs.MakingEffects.{emission_of, after_making, endpoint_made}
 use Rattle.machine.specs.Timing.{Expiry, Growth, Recovery, after_expiry, after_recovery}
@@ -44,7 +44,7 @@ record Fits (acc : List ℕ) (ended : Bool) (pos len : ℕ) (s f : Bool) : Type 
 without_fin : (f : Bool) → not f ≡ true → f ≡ false
 without_fin f e = not_true f e
 
-fits : (e : Endpoint) (m : Making) → may_make e m ≡ true → is_bad_payload e m ≡ false → Fits e.stream.accepted e.stream.ended m.pos m.len m.flags.syn m.flags.fin
+fits : (e : Endpoint) (m : SegmentPlan) → may_make e m ≡ true → is_bad_payload e m ≡ false → Fits e.stream.accepted e.stream.ended m.pos m.len m.flags.syn m.flags.fin
 fits e m may good = go m.flags.syn m.flags.rst may good
   where
     acc : List ℕ
@@ -92,18 +92,18 @@ fits e m may good = go m.flags.syn m.flags.rst may good
         }
 
 -- what the rules say of a segment that is made
-pub record MayMake (e : Endpoint) (m : Making) : Type 0 where
+pub record MayMake (e : Endpoint) (m : SegmentPlan) : Type 0 where
   pub state : may_make e m ≡ true
   pub payload : is_bad_payload e m ≡ false
   pub ack : is_bad_ack e m ≡ false
   pub offered : is_beyond_offer e m ≡ false
   pub congestion : is_congesting e m ≡ false
 
-pub making_facts : (e : Endpoint) (m : Making) → first_broken (making_rules e m) ≡ None → MayMake e m
+pub making_facts : (e : Endpoint) (m : SegmentPlan) → first_broken (making_rules e m) ≡ None → MayMake e m
 making_facts e m may = let t = none_all (making_rules e m) may in
     record { state = not_false _ t.1.0; payload = t.1.1.1.0; ack = t.1.1.1.1.0; offered = t.1.1.1.1.1.1.0; congestion = t.1.1.1.1.1.1.1.0 }
 
-pub made_good : (a : Hosts) (host : Host) (i : ℕ) (e : Endpoint) (m : Making) → Good a → slice_get (pick a host).body.endpoints i ≡ Some e → MayMake e m → GoodEmission a (emission_of (name host i) e m)
+pub made_good : (a : Hosts) (host : Host) (i : ℕ) (e : Endpoint) (m : SegmentPlan) → Good a → slice_get (pick a host).body.endpoints i ≡ Some e → MayMake e m → GoodEmission a (emission_of (name host i) e m)
 made_good a host i e m g at t =
     let f = fits e m t.state t.payload in
     record {
@@ -122,7 +122,7 @@ made_good a host i e m g at t =
     acks false k bad = absurd cc
 
 -- the segment that a making makes
-pub makes_good : (a : Hosts) (host : Host) (m : Making) (x : Emission) → Good a → first_broken (rules_at (pick a host).body m.lport m.rport (λ e. making_rules e m)) ≡ None
+pub makes_good : (a : Hosts) (host : Host) (m : SegmentPlan) (x : Emission) → Good a → first_broken (rules_at (pick a host).body m.lport m.rport (λ e. making_rules e m)) ≡ None
     → option_map_or (made_at host (pick a host).body m) (place_of (pick a host).body m.lport m.rport) None ≡ Some x → GoodEmission a x
 makes_good a host m x g may made = go (place_of (pick a host).body m.lport m.rport) may made
   where
@@ -152,7 +152,7 @@ moves_at_ports a host b lport rport f g streams waits = map_or_cases (λ (x : Bo
     (λ e. moves_not a host silent b.endpoints (λ i. refl) g)
     (λ i e. moves_plain a host b.endpoints i f g streams waits)
 
-pub moves_making : (a : Hosts) (host : Host) (b : Body) (m : Making) (moment : ℕ) → GoodEnds a host b.endpoints → Moves a host silent b.endpoints (at_ports b m.lport m.rport (λ e. after_making e m moment)).endpoints
+pub moves_making : (a : Hosts) (host : Host) (b : Body) (m : SegmentPlan) (moment : ℕ) → GoodEnds a host b.endpoints → Moves a host silent b.endpoints (at_ports b m.lport m.rport (λ e. after_making e m moment)).endpoints
 moves_making a host b m moment g = moves_at_ports a host b m.lport m.rport (λ e. after_making e m moment) g
     (λ e. either_stream m.flags.rst (record (shut_down (endpoint_made e m moment)) { reset_due = false }) (endpoint_made e m moment) e.stream refl refl)
     (λ e. either_waits m.flags.rst (is_syn_sent e.state) (record (shut_down (endpoint_made e m moment)) { reset_due = false }) (endpoint_made e m moment) (λ x. absurd cc) (λ x. x))

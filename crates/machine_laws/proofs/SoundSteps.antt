@@ -30,9 +30,9 @@ use Rattle.machine.specs.declared.endpoint.Thing.TheVariants.{Listens, Ends}
 use Rattle.machine.specs.Endpoints.{Body, new_endpoint}
 use Rattle.machine.specs.Lookups.{is_syn_sent, is_syn_received, given, thing_of, queue_of, with_endpoint}
 use Rattle.machine.specs.CallEffects.{shut_down, ended_state, after_shut, after_close, after_abort, orphaned, without_listener, dead, thing_gone, after_gone, accepted_from, after_accept, change_thing, change, after_send, after_recv, after_call}
-use Rattle.machine.specs.declared.making.Making.{Making}
+use Rattle.case_forms.specs.declared.steps.SegmentPlan.{SegmentPlan}
 use Rattle.machine.specs.MakingEffects.{endpoint_made, after_making}
-use Rattle.machine.specs.declared.how.How.{How}
+use Rattle.case_forms.specs.declared.steps.TakeChoice.{TakeChoice}
 use Rattle.machine.specs.TakingRules.{is_new_ack, acknowledges_syn}
 use Rattle.machine.specs.TakingEffects.{fin_acknowledged, acknowledged, finished, state_taken, taken}
 use Rattle.machine.specs.Meeting.{Taker, Nobody, AtListener, AtEndpoint, taker, child, met_peer, was_reset, endpoint_taken, after_taking}
@@ -49,7 +49,7 @@ use Rattle.machine_laws.proofs.Sound.{is_early, Sound, Keeps, Stays, stays_not, 
 
 -- 1. endpoints
 
-stays_making : (e : Endpoint) (m : Making) (moment : ℕ) → Stays e (after_making e m moment)
+stays_making : (e : Endpoint) (m : SegmentPlan) (moment : ℕ) → Stays e (after_making e m moment)
 stays_making e m moment = stays_either m.flags.rst e (record (shut_down (endpoint_made e m moment)) { reset_due = false }) (endpoint_made e m moment) (record { listener = refl; late = λ h. refl }) (record { listener = refl; late = λ h. h })
 
 stays_expiry : (e : Endpoint) (timer : Timer) (growth : Growth) (moment : ℕ) → Stays e (after_expiry e timer growth moment)
@@ -91,7 +91,7 @@ finished_late states.Closing passed h = refl
 finished_late states.LastAck passed h = refl
 finished_late states.TimeWait passed h = refl
 
-stays_taken : (h : Header) (e : Endpoint) (how : How) (m : Emission) (moment : ℕ) → Stays e (endpoint_taken h e how m moment)
+stays_taken : (h : Header) (e : Endpoint) (how : TakeChoice) (m : Emission) (moment : ℕ) → Stays e (endpoint_taken h e how m moment)
 stays_taken h e how m moment = go m.flags.rst (is_syn_sent e.state) refl
   where
     go : (r s : Bool) → is_syn_sent e.state ≡ s → Stays e (if r then was_reset e how else if s then met_peer h e how m moment else taken h e how m moment)
@@ -104,7 +104,7 @@ not_both states.SynSent e = absurd cc
 not_both state e = refl
 
 -- the SYN is acknowledged in SYN-RECEIVED
-late_joined : (h : Header) (e : Endpoint) (how : How) (m : Emission) (moment : ℕ) → (is_syn_received e.state && acknowledges_syn e m) ≡ true → is_early (endpoint_taken h e how m moment).state ≡ false
+late_joined : (h : Header) (e : Endpoint) (how : TakeChoice) (m : Emission) (moment : ℕ) → (is_syn_received e.state && acknowledges_syn e m) ≡ true → is_early (endpoint_taken h e how m moment).state ≡ false
 late_joined h e how m moment c =
     let parts = both_true (is_syn_received e.state) (acknowledges_syn e m) c in
     let new = (both_true (is_new_ack e m) (e.stream.una == 0) parts.1).0 in
@@ -162,7 +162,7 @@ stays_abort e = record { listener = refl; late = λ h. refl }
 keeps_same : (b : Body) (o : Option ℕ) → Sound b → Keeps b b o
 keeps_same b o g = record { sound = g; stays = λ n i e. e; given = λ n e. inl e }
 
-keeps_taking : (h : Header) (b : Body) (how : How) (m : Emission) (moment : ℕ) → Sound b → Keeps b (after_taking h b how m moment (taker b m)) None
+keeps_taking : (h : Header) (b : Body) (how : TakeChoice) (m : Emission) (moment : ℕ) → Sound b → Keeps b (after_taking h b how m moment (taker b m)) None
 keeps_taking h b how m moment g = go (taker b m) refl
   where
     by : (i : ℕ) (e : Endpoint) → slice_get b.endpoints i ≡ Some e → (c : Bool) (o : Option ℕ) → (is_syn_received e.state && acknowledges_syn e m) ≡ c → e.listener ≡ o

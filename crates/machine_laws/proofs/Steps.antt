@@ -26,9 +26,9 @@ use Rattle.machine.specs.Endpoints.{Body}
 use Rattle.machine.specs.Lookups.{given, thing_of}
 use Rattle.machine.specs.CallRules.{is_bad_socket, thing_allows, socket_allows, call_allows}
 use Rattle.machine.specs.CallEffects.{after_call}
-use Rattle.machine.specs.declared.making.Making.{Making}
+use Rattle.case_forms.specs.declared.steps.SegmentPlan.{SegmentPlan}
 use Rattle.machine.specs.Wires.{sent}
-use Rattle.machine.specs.declared.how.How.{How}
+use Rattle.case_forms.specs.declared.steps.TakeChoice.{TakeChoice}
 use Rattle.machine.specs.Meeting.{taker, taker_rules}
 use Rattle.machine.specs.Resets.{reset_of}
 use Rattle.machine.specs.Machine.{Calls, tcp, tcp_shape, aim, gives}
@@ -107,7 +107,7 @@ kept_answers h s w host line g = let a = w.hosts in let k = pick a host in
       inbox = inbox_settled (GoodEmission c) k.inbox line t.inbox;
     }))
 
-kept_takes : (h : Header) (s : ℕ) (w : World tcp_shape) (host : Host) (line : ℕ) (how : How) → Good w.hosts → Permitted (tcp h) s w (At host (Takes line how)) → Kept all_silent w.hosts (after (tcp h) s w (At host (Takes line how))).hosts
+kept_takes : (h : Header) (s : ℕ) (w : World tcp_shape) (host : Host) (line : ℕ) (how : TakeChoice) → Good w.hosts → Permitted (tcp h) s w (At host (Takes line how)) → Kept all_silent w.hosts (after (tcp h) s w (At host (Takes line how))).hosts
 kept_takes h s w host line how g may = let a = w.hosts in let k = pick a host in
     option_cases (λ (o : Option Emission). Kept all_silent a (with_host a host (record k { body = on o k.body (λ m. (tcp h).act_after host s k.body ((tcp h).takes how m)); inbox = on o k.inbox (λ m. settled line k.inbox) })))
     (waiting line k.inbox) (kept_same a host g)
@@ -121,7 +121,7 @@ kept_takes h s w host line how g may = let a = w.hosts in let k = pick a host in
     deed_taken : Emission → HostState tcp_shape
     deed_taken m = record (pick w.hosts host) { body = (tcp h).act_after host s (pick w.hosts host).body ((tcp h).takes how m); inbox = settled line (pick w.hosts host).inbox }
 
-kept_makes : (h : Header) (s : ℕ) (w : World tcp_shape) (host : Host) (m : Making) → Good w.hosts → Permitted (tcp h) s w (At host (Makes m)) → Kept all_silent w.hosts (after (tcp h) s w (At host (Makes m))).hosts
+kept_makes : (h : Header) (s : ℕ) (w : World tcp_shape) (host : Host) (m : SegmentPlan) → Good w.hosts → Permitted (tcp h) s w (At host (Makes m)) → Kept all_silent w.hosts (after (tcp h) s w (At host (Makes m))).hosts
 kept_makes h s w host m g may = let a = w.hosts in let k = pick a host in
     kept_host a host (deed_after (tcp h) host s (suc w.count) (pick a (other host)).wire k (Makes m)) all_silent g (moves_making a host k.body m s (ends a host g)) (λ i. refl)
     (λ c later t. record {

@@ -24,7 +24,7 @@ use Rattle.machine.specs.declared.endpoint.Endpoint.{Endpoint}
 use Rattle.machine.specs.declared.endpoint.Emission.{Emission}
 use Rattle.machine.specs.Endpoints.{Body, flag_count, same_name, max_made}
 use Rattle.machine.specs.Lookups.{is_closed, is_syn_sent, place_of, listener_on}
-use Rattle.machine.specs.declared.how.How.{How}
+use Rattle.case_forms.specs.declared.steps.TakeChoice.{TakeChoice}
 use Rattle.machine.specs.TakingRules.{syn_sent_rules, connected_rules, acknowledges_syn}
 use Rattle.machine.specs.TakingEffects.{kept_bytes, keeps_fin, receive_after, fin_acknowledged, acknowledged, finished, taken}
 use Rattle.machine.specs.Meeting.{Taker, Nobody, AtListener, AtEndpoint, listener_taker, endpoint_taker, taker, taker_rules, child, met_peer, was_reset, endpoint_taken, after_taking}
@@ -69,7 +69,7 @@ kept_cell payload true f s pos n edge k c e =
 
 -- 2. what is taken
 
-kept_taken : (b : Hosts) (e : Endpoint) (how : How) (m : Emission) → e.stream.peer ≡ Some m.maker → GoodEmission b m
+kept_taken : (b : Hosts) (e : Endpoint) (how : TakeChoice) (m : Emission) → e.stream.peer ≡ Some m.maker → GoodEmission b m
     → Taken (λ p c. (q : Name) × (e.stream.peer ≡ Some q) × HasStream b q (λ t. slice_get (all_cells t) p ≡ Some c)) e.stream.receive.taken
     → Taken (λ p c. (q : Name) × (e.stream.peer ≡ Some q) × HasStream b q (λ t. slice_get (all_cells t) p ≡ Some c)) (receive_after e how m).taken
 kept_taken b e how m peer good old =
@@ -153,7 +153,7 @@ record FromPeer (me : Name) (e : Endpoint) (m : Emission) : Type 0 where
   pub plain : m.answers ≡ false
   pub knew : (q : Name) → m.knew ≡ Some q → m.knew ≡ Some me
 
-from_peer : (a : Hosts) (h : Header) (b : Body) (me : Name) (e : Endpoint) (how : How) (m : Emission) → GoodEmission a m → m.flags.rst ≡ false → first_broken (connected_rules h b me e how m) ≡ None → FromPeer me e m
+from_peer : (a : Hosts) (h : Header) (b : Body) (me : Name) (e : Endpoint) (how : TakeChoice) (m : Emission) → GoodEmission a m → m.flags.rst ≡ false → first_broken (connected_rules h b me e how m) ≡ None → FromPeer me e m
 from_peer a h b me e how m good r may =
     let t = none_all (connected_rules h b me e how m) may in
     let plain : m.answers ≡ false = is_not m.answers (λ x. let y = good.resets x in cc) in
@@ -175,7 +175,7 @@ from_peer a h b me e how m good r may =
     flip true is = absurd cc
     flip false is = refl
 
-changes_taken : (a : Hosts) (h : Header) (me : Name) (e : Endpoint) (how : How) (m : Emission) (moment : ℕ) → GoodEnd a me e → GoodEmission a m → FromPeer me e m → is_syn_sent e.state ≡ false → Changes a me nothing e (taken h e how m moment)
+changes_taken : (a : Hosts) (h : Header) (me : Name) (e : Endpoint) (how : TakeChoice) (m : Emission) (moment : ℕ) → GoodEnd a me e → GoodEmission a m → FromPeer me e m → is_syn_sent e.state ≡ false → Changes a me nothing e (taken h e how m moment)
 changes_taken a h me e how m moment g good f up =
     let r = e.stream.receive in
     let told = kept_told r (max (next r) (m.pos + flag_count m.flags.syn)) (kept_bytes e how m) (keeps_fin e how m) (omega arith) g.stream.delivered in
@@ -217,7 +217,7 @@ met_good b me q s there p is none = record {
   delivered = let none' = ap (λ (x : Receiving). x.delivered) is in omega arith;
 }
 
-changes_met : (a : Hosts) (h : Header) (me : Name) (e : Endpoint) (how : How) (m : Emission) (moment : ℕ) → GoodEnd a me e → GoodEmission a m → is_syn_sent e.state ≡ true → Changes a me nothing e (met_peer h e how m moment)
+changes_met : (a : Hosts) (h : Header) (me : Name) (e : Endpoint) (how : TakeChoice) (m : Emission) (moment : ℕ) → GoodEnd a me e → GoodEmission a m → is_syn_sent e.state ≡ true → Changes a me nothing e (met_peer h e how m moment)
 changes_met a h me e how m moment g good waits =
     let alone = g.waits waits in
     let none : received e.stream.receive ≡ [] = take_nothing e.stream.receive.delivered (arrived e.stream.receive) (ap (λ (l : List (Option Cell)). bytes_of (front l)) alone.1) in
@@ -245,7 +245,7 @@ changes_met a h me e how m moment g good waits =
     met_state true y = cc
     met_state false y = cc
 
-changes_endpoint : (a : Hosts) (h : Header) (b : Body) (me : Name) (e : Endpoint) (how : How) (m : Emission) (moment : ℕ) → GoodEnd a me e → GoodEmission a m
+changes_endpoint : (a : Hosts) (h : Header) (b : Body) (me : Name) (e : Endpoint) (how : TakeChoice) (m : Emission) (moment : ℕ) → GoodEnd a me e → GoodEmission a m
     → first_broken (if is_syn_sent e.state then syn_sent_rules e how m else connected_rules h b me e how m) ≡ None → Changes a me nothing e (endpoint_taken h e how m moment)
 changes_endpoint a h b me e how m moment g good may = go m.flags.rst (is_syn_sent e.state) refl refl may
   where
@@ -279,7 +279,7 @@ taker_there b m i e x = go (place_of b m.rport m.lport) x
     go None x = absurd (no_endpoint (listener_on b m.rport) i e x)
     go (Some j) x = inner j (slice_get b.endpoints j) refl x
 
-pub moves_taking : (a : Hosts) (h : Header) (host : Host) (b : Body) (how : How) (m : Emission) (moment : ℕ) → GoodEnds a host b.endpoints → GoodEmission a m
+pub moves_taking : (a : Hosts) (h : Header) (host : Host) (b : Body) (how : TakeChoice) (m : Emission) (moment : ℕ) → GoodEnds a host b.endpoints → GoodEmission a m
     → first_broken (taker_rules h host b how m (taker b m)) ≡ None → Moves a host silent b.endpoints (after_taking h b how m moment (taker b m)).endpoints
 moves_taking a h host b how m moment g good may = go (taker b m) refl may
   where

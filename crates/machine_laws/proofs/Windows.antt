@@ -35,7 +35,7 @@ use Rattle.machine.specs.Endpoints.{Body, new_endpoint, max_made, flight}
 use Rattle.machine.specs.Lookups.{is_syn_sent, place_of, endpoint_at, endpoint_of, at_ports, with_endpoint, thing_of, queue_of}
 use Rattle.machine.specs.CallEffects.{shut_down, after_shut, after_close, after_abort, orphaned, thing_gone, dead, accepted_from, after_accept, change_thing, after_send, after_recv, after_call}
 use Rattle.machine.specs.MakingEffects.{endpoint_made, after_making}
-use Rattle.machine.specs.declared.how.How.{How}
+use Rattle.case_forms.specs.declared.steps.TakeChoice.{TakeChoice}
 use Rattle.machine.specs.TakingRules.{syn_sent_rules, connected_rules, listener_rules, greatest_at_syn, greatest_window}
 use Rattle.machine.specs.TakingEffects.{taken as segment_taken}
 use Rattle.machine.specs.Meeting.{Taker, Nobody, AtListener, AtEndpoint, taker, taker_rules, child, met_peer, was_reset, endpoint_taken, after_taking}
@@ -119,7 +119,7 @@ expiry_moves w s host line x growth i e at = go x.timer refl
     go Giveup is = stayed refl refl
 
 -- the windows of who took a segment are those chosen
-chosen : (h : Header) (e : Endpoint) (how : How) (m : Emission) (moment : ℕ) → ((endpoint_taken h e how m moment).congestion.cwnd ≡ how.cwnd) × ((endpoint_taken h e how m moment).congestion.ssthresh ≡ e.congestion.ssthresh)
+chosen : (h : Header) (e : Endpoint) (how : TakeChoice) (m : Emission) (moment : ℕ) → ((endpoint_taken h e how m moment).congestion.cwnd ≡ how.cwnd) × ((endpoint_taken h e how m moment).congestion.ssthresh ≡ e.congestion.ssthresh)
 chosen h e how m moment = go m.flags.rst (is_syn_sent e.state)
   where
     go : (r s : Bool) → ((if r then was_reset e how else if s then met_peer h e how m moment else segment_taken h e how m moment).congestion.cwnd ≡ how.cwnd)
@@ -128,14 +128,14 @@ chosen h e how m moment = go m.flags.rst (is_syn_sent e.state)
     go false true = (refl, refl)
     go false false = (refl, refl)
 
-allowed : (h : Header) (b : Body) (me : Name) (e : Endpoint) (how : How) (m : Emission) → first_broken (if is_syn_sent e.state then syn_sent_rules e how m else connected_rules h b me e how m) ≡ None → how.cwnd ≤ greatest_taking e m
+allowed : (h : Header) (b : Body) (me : Name) (e : Endpoint) (how : TakeChoice) (m : Emission) → first_broken (if is_syn_sent e.state then syn_sent_rules e how m else connected_rules h b me e how m) ≡ None → how.cwnd ≤ greatest_taking e m
 allowed h b me e how m may = go (is_syn_sent e.state) may
   where
     go : (s : Bool) → first_broken (if s then syn_sent_rules e how m else connected_rules h b me e how m) ≡ None → how.cwnd ≤ (if s then greatest_at_syn e m else greatest_window e m)
     go true may = at_most_from (greatest_at_syn e m) how.cwnd (none_all (syn_sent_rules e how m) may).1.1.0
     go false may = at_most_from (greatest_window e m) how.cwnd (none_all (connected_rules h b me e how m) may).1.1.1.1.1.0
 
-follows_taking : (h : Header) (s : ℕ) (w : World tcp_shape) (host : Host) (line : ℕ) (how : How) (m : Emission) → waiting line (pick w.hosts host).inbox ≡ Some m → first_broken (taker_rules h host (pick w.hosts host).body how m (taker (pick w.hosts host).body m)) ≡ None
+follows_taking : (h : Header) (s : ℕ) (w : World tcp_shape) (host : Host) (line : ℕ) (how : TakeChoice) (m : Emission) → waiting line (pick w.hosts host).inbox ≡ Some m → first_broken (taker_rules h host (pick w.hosts host).body how m (taker (pick w.hosts host).body m)) ≡ None
     → Follows w (At host (Takes line how)) host (pick w.hosts host).body.endpoints (after_taking h (pick w.hosts host).body how m s (taker (pick w.hosts host).body m)).endpoints
 follows_taking h s w host line how m waits may = go (taker (pick w.hosts host).body m) refl may
   where
@@ -279,7 +279,7 @@ timeout_leaves h s w host line x growth i e may is at there = subst Bound (sym i
         let parts = neither (nat_lt ((greatest_values e).0) growth.cwnd) (nat_lt ((greatest_values e).1) growth.ssthresh) t.1.0 in
         (at_most_from ((greatest_values e).0) growth.cwnd parts.0, at_most_from ((greatest_values e).1) growth.ssthresh parts.1)
 
-taking_leaves : (h : Header) (s : ℕ) (w : World tcp_shape) (host : Host) (line : ℕ) (how : How) (m : Emission) (i : ℕ) (e : Endpoint)
+taking_leaves : (h : Header) (s : ℕ) (w : World tcp_shape) (host : Host) (line : ℕ) (how : TakeChoice) (m : Emission) (i : ℕ) (e : Endpoint)
     → Permitted (tcp h) s w (At host (Takes line how))
     → waiting line (pick w.hosts host).inbox ≡ Some m → taker (pick w.hosts host).body m ≡ AtEndpoint i e
     → Leaves h s w (At host (Takes line how)) (name host i) (λ c. (c.cwnd ≤ greatest_taking e m) × (c.ssthresh ≡ e.congestion.ssthresh))

@@ -14,8 +14,8 @@ use Rattle.machine.specs.declared.endpoint.Endpoint.{Endpoint}
 use Rattle.machine.specs.declared.endpoint.Emission.{Emission}
 use Rattle.machine.specs.Endpoints.{max_made, flight}
 use Rattle.machine.specs.Lookups.{is_syn_sent, place_of, endpoint_of}
-use Rattle.machine.specs.declared.making.Making.{Making}
-use Rattle.machine.specs.declared.how.How.{How}
+use Rattle.case_forms.specs.declared.steps.SegmentPlan.{SegmentPlan}
+use Rattle.case_forms.specs.declared.steps.TakeChoice.{TakeChoice}
 use Rattle.machine.specs.TakingRules.{greatest_at_syn, greatest_window}
 use Rattle.machine.specs.Meeting.{taker, AtEndpoint}
 use Rattle.machine.specs.Timing.{Expiry, Growth, Recovery, greatest_values}
@@ -29,7 +29,7 @@ pub record InBothWindows (e : Endpoint) (end : ℕ) : Type 0 where
   pub congestion : end ≤ congestion_edge e.stream.una e.congestion
 
 -- the endpoint of the ports is there, and where bytes of the segment stand at or above all that it made before, they end in both windows
-abbrev pub NewDataFits : World tcp_shape → Host → Making → Type 0
+abbrev pub NewDataFits : World tcp_shape → Host → SegmentPlan → Type 0
 NewDataFits w host m = (e : Endpoint) × (endpoint_of (pick w.hosts host).body m.lport m.rport ≡ Some e)
     × ((x : Emission) → act_makes host (pick w.hosts host).body (acts.Makes m) ≡ Some x → 0 < length x.payload → max_made e < x.pos + length x.payload → InBothWindows e (x.pos + length x.payload))
 
@@ -39,7 +39,7 @@ greatest_taking e m = if is_syn_sent e.state then greatest_at_syn e m else great
 
 -- the step takes this segment, which waits for it, at the endpoint
 abbrev pub TakesThere : World tcp_shape → Step tcp_shape → Name → Endpoint → Emission → Type 0
-TakesThere w step me e m = (line : ℕ) × (how : How) × (step ≡ At me.host (Takes line how))
+TakesThere w step me e m = (line : ℕ) × (how : TakeChoice) × (step ≡ At me.host (Takes line how))
     × (waiting line (pick w.hosts me.host).inbox ≡ Some m) × (taker (pick w.hosts me.host).body m ≡ AtEndpoint me.number e)
 
 -- the step is an expiry of the retransmission timer of the endpoint's ports

@@ -10,7 +10,7 @@ ghost use Rattle.machine.specs.declared.endpoint.Emission.{Emission};
 ghost use Rattle.machine.specs.declared.endpoint.Endpoint.{Endpoint};
 ghost use Rattle.machine.specs.Endpoints.{next};
 ghost use Rattle.machine.specs.TakingRules.{is_bad_number};
-ghost use Rattle.machine.specs.declared.making.Making.{Making};
+ghost use Rattle.case_forms.specs.declared.steps.SegmentPlan.{SegmentPlan};
 ghost use Rattle.machine.specs.Machine.{tcp, tcp_shape};
 ghost use Rattle.machine_laws.specs.Runs.{world_at_end};
 ghost use Rattle.machine_laws.specs.Bounds.{NewDataFits, WindowsFollow};
@@ -35,7 +35,7 @@ pub fn acknowledged_was_taken()
 /// Bytes that are made for the first time end in the window that the peer offers and in the congestion window. Other
 /// segments that are made, resets that answer, carry no bytes.
 pub fn new_data_fits()
-    ensures { (h : Header) (moment : ℕ) (w : World tcp_shape) (host : Host) (m : Making) → Permitted (tcp h) moment w (At host (Makes m)) → NewDataFits w host m }
+    ensures { (h : Header) (moment : ℕ) (w : World tcp_shape) (host : Host) (m : SegmentPlan) → Permitted (tcp h) moment w (At host (Makes m)) → NewDataFits w host m }
 {}
 
 /// Taking a segment, an expiry of the retransmission timer and the beginning of fast recovery leave the congestion window and

@@ -11,8 +11,8 @@ use Rattle.recordings.specs.Books.{Bring, Do, Key}
 use Rattle.machine.specs.declared.endpoint.Emission.{Emission}
 use Rattle.machine.specs.declared.endpoint.Name.{Name}
 use Rattle.machine.specs.Machine.{tcp_shape}
-use Rattle.machine.specs.declared.making.Making.{Making}
-use Rattle.machine.specs.declared.how.How.{How}
+use Rattle.case_forms.specs.declared.steps.SegmentPlan.{SegmentPlan}
+use Rattle.case_forms.specs.declared.steps.TakeChoice.{TakeChoice}
 use Rattle.recordings.specs.Recordings.{TcpEntry}
 
 abbrev pub header : Header
@@ -23,11 +23,11 @@ abbrev pub packet : (src dst seq ack flags : ℕ) → List ℕ → Wire
 packet src dst seq ack flags payload = telling.packet src dst seq ack flags 65535 None payload
 
 -- a segment to be made, with the initial number where it is the first
-abbrev pub making : (lport rport pos len : ℕ) → Flags → Option ℕ → Making
+abbrev pub making : (lport rport pos len : ℕ) → Flags → Option ℕ → SegmentPlan
 making lport rport pos len made iss = record { lport = lport; rport = rport; pos = pos; len = len; flags = made; window = 65535; iss = option_map (λ n. record { 0 = n }) iss }
 
 -- the choices at taking one
-abbrev pub how : (cwnd : ℕ) (keep sample : Bool) → How
+abbrev pub how : (cwnd : ℕ) (keep sample : Bool) → TakeChoice
 how cwnd keep sample = record { cwnd = cwnd; keep = keep; sample = sample }
 
 -- the first endpoint of a host

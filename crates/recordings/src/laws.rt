@@ -9,7 +9,7 @@ ghost use Rattle.recordings.specs.Books.{end};
 ghost use Rattle.recordings.specs.Keys.{Books};
 ghost use Rattle.recordings.specs.Placing.{IsPlacedRun};
 ghost use Rattle.machine.specs.Machine.{tcp, tcp_shape};
-ghost use Rattle.machine.specs.declared.making.Making.{Making};
+ghost use Rattle.case_forms.specs.declared.steps.SegmentPlan.{SegmentPlan};
 ghost use Rattle.machine_laws.specs.Bounds.{NewDataFits, WindowsFollow};
 ghost use Rattle.machine_laws.specs.Runs.{world_at_end};
 ghost use Rattle.machine_laws.specs.Consequences.{AcknowledgedWasTaken, EndIsWhole, ReceivedIsAPrefix};
@@ -42,7 +42,7 @@ pub fn merged_books_have_the_consequences()
     ensures received { (h : Header) (first : ℕ) (zeros ones : List TcpEntry) (steps : List (Stamped tcp_shape)) → AreFirstSteps h first zeros ones steps → ReceivedIsAPrefix h steps }
     ensures ended { (h : Header) (first : ℕ) (zeros ones : List TcpEntry) (steps : List (Stamped tcp_shape)) → AreFirstSteps h first zeros ones steps → EndIsWhole h steps }
     ensures acknowledged { (h : Header) (first : ℕ) (zeros ones : List TcpEntry) (steps : List (Stamped tcp_shape)) (x : Stamped tcp_shape) → AreFirstSteps h first zeros ones (steps ++ x ∷ []) → AcknowledgedWasTaken h steps x }
-    ensures edges { (h : Header) (first : ℕ) (zeros ones : List TcpEntry) (steps : List (Stamped tcp_shape)) (moment : ℕ) (host : Host) (m : Making) → AreFirstSteps h first zeros ones (steps ++ record { moment = moment; step = At host (Makes m) } ∷ []) → NewDataFits (world_at_end h steps) host m }
+    ensures edges { (h : Header) (first : ℕ) (zeros ones : List TcpEntry) (steps : List (Stamped tcp_shape)) (moment : ℕ) (host : Host) (m : SegmentPlan) → AreFirstSteps h first zeros ones (steps ++ record { moment = moment; step = At host (Makes m) } ∷ []) → NewDataFits (world_at_end h steps) host m }
     ensures windows { (h : Header) (first : ℕ) (zeros ones : List TcpEntry) (steps : List (Stamped tcp_shape)) (x : Stamped tcp_shape) → AreFirstSteps h first zeros ones (steps ++ x ∷ []) → WindowsFollow h x.moment (world_at_end h steps) x.step }
 {
     merged_books_are_a_run();

@@ -1,22 +1,22 @@
 //! A step of the machine, told by its label: whether it breaks a rule, and the world after it.
 //!
-//! `specs/Steps.antt` says which step of the machine a label asks for. Nothing here knows the order of lines: which line
-//! a step may take is told by `interval_order`. What the world is, and what each step does to it, is `endpoint_state`'s.
+//! Which step of the machine a label asks for is said by `step_of` of `machine`. Nothing here knows the order of lines: which
+//! line a step may take is told by `interval_order`. What the world is, and what each step does to it, is `endpoint_state`'s.
 //!
-//! - `label`: what a step does
-//! - `extras`: the extra numbers of a line
-//! - `rules`: the least rule that a step breaks
-//! - `step`: the world after a step
+//! - `line`: a step that takes a line: the least rule that it breaks, and the world after it
+//! - `hidden`: a step that takes none: the same
+//! - `expired`: a timer's line
+//! - `step`: any step
 #![tactic(auto)]
 
-mod extras;
-mod label;
-mod rules;
+mod expired;
+mod hidden;
+mod line;
 mod step;
 #[cfg(test)]
 mod tests;
 
-pub use label::Label;
+pub use hidden::apply_hidden;
+pub use line::apply_line;
 pub use machine::Emission;
-pub use rules::admits;
-pub use step::{StepFault, apply};
+pub use step::{Label, StepFault, admits, apply};

@@ -8,14 +8,14 @@ ghost use Rattle.verdict.specs.Rules.{first_broken};
 
 use crate::arrives::otherwise::window::persist_taken;
 use crate::arrives::syn_sent::told_smss;
-use case_forms::State;
-use machine::{Emission, Endpoint, How};
+use case_forms::{State, TakeChoice};
+use machine::{Emission, Endpoint};
 use std::alloc::Global;
 use verdict::Rule;
 
 /// Whether a listener may take the segment: a SYN that is neither acknowledgment nor reset (RFC 9293, 3.10.7.2). An
 /// error is the first rule that is broken.
-pub fn admits_listening(how: How, m: &Emission) -> Result<(), Rule>
+pub fn admits_listening(how: TakeChoice, m: &Emission) -> Result<(), Rule>
     ensures { result_err result ≡ first_broken (listener_rules how m.now) }
 {
     if !(m.flags.syn && !m.flags.ack && !m.flags.rst) {
@@ -31,7 +31,7 @@ pub fn admits_listening(how: How, m: &Emission) -> Result<(), Rule>
 }
 
 /// A child of the listener at this place, which took the peer's SYN at a moment in microseconds (RFC 9293, 3.10.7.2).
-pub fn child(alloc: Global, listener: u32, how: How, m: &Emission, moment: u64) -> Endpoint
+pub fn child(alloc: Global, listener: u32, how: TakeChoice, m: &Emission, moment: u64) -> Endpoint
     ensures { result ≡ child listener how m.now moment }
 {
     let mut child = Endpoint::new(alloc, m.rport, m.lport, Some(listener), State::SynReceived);

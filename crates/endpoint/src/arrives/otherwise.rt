@@ -29,8 +29,8 @@ use crate::arrives::otherwise::sequence::{is_acceptable, is_bad_number};
 use crate::arrives::otherwise::text::receive;
 use crate::arrives::otherwise::timers::{state_timers, timers_before};
 use crate::arrives::otherwise::window::{probe_due_taken, window_taken};
-use case_forms::Header;
-use machine::{Emission, Endpoint, How, Name};
+use case_forms::{Header, TakeChoice};
+use machine::{Emission, Endpoint, Name};
 use segment::OutOfMemory;
 use verdict::Rule;
 
@@ -40,7 +40,7 @@ pub fn admits_connected(
     full: bool,
     me: Name,
     endpoint: &Endpoint,
-    how: How,
+    how: TakeChoice,
     m: &Emission,
 ) -> Result<(), Rule>
     ensures { result_err result ≡ first_broken (rules_with_queue full me endpoint.now how m.now) }
@@ -73,7 +73,7 @@ pub fn admits_connected(
 pub(crate) fn taken(
     header: &Header,
     endpoint: &mut Endpoint,
-    how: How,
+    how: TakeChoice,
     m: &Emission,
     moment: u64,
 ) -> Result<(), OutOfMemory>

@@ -16,8 +16,8 @@ use crate::arrives::otherwise::ack::{acknowledges_syn, is_no_sample};
 use crate::arrives::otherwise::timers::{rto_taken, timeout_taken};
 use crate::arrives::otherwise::window::persist_taken;
 use crate::same::same_word;
-use case_forms::{Header, State};
-use machine::{Emission, Endpoint, How, Window};
+use case_forms::{Header, State, TakeChoice};
+use machine::{Emission, Endpoint, Window};
 use seqno::number;
 use timer_rules::Timers;
 use verdict::Rule;
@@ -25,7 +25,7 @@ use window_rules::{Congestion, initial_window};
 
 /// Whether an endpoint in SYN-SENT may take the segment (RFC 9293, 3.10.7.3). An error is the first rule that is
 /// broken.
-pub fn admits_syn_sent(endpoint: &Endpoint, how: How, m: &Emission) -> Result<(), Rule>
+pub fn admits_syn_sent(endpoint: &Endpoint, how: TakeChoice, m: &Emission) -> Result<(), Rule>
     ensures { result_err result ≡ first_broken (syn_sent_rules endpoint.now how m.now) }
 {
     if !(m.flags.syn || m.flags.rst) {
@@ -92,7 +92,7 @@ pub fn joins(endpoint: &Endpoint, m: &Emission) -> bool
 pub(crate) fn met_peer(
     header: &Header,
     endpoint: &mut Endpoint,
-    how: How,
+    how: TakeChoice,
     m: &Emission,
     moment: u64,
 )
@@ -144,7 +144,7 @@ pub(crate) fn window_met(endpoint: &Endpoint, m: &Emission) -> Window
     window
 }
 
-pub(crate) fn congestion_met(endpoint: &Endpoint, how: How, m: &Emission) -> Congestion
+pub(crate) fn congestion_met(endpoint: &Endpoint, how: TakeChoice, m: &Emission) -> Congestion
     ensures { result ≡ record endpoint.now.congestion { cwnd = how.cwnd; smss = told_smss m.now; dup = if m.now.flags.ack then 0 else endpoint.now.congestion.dup } }
 {
     let mut congestion = endpoint.congestion;
@@ -159,7 +159,7 @@ pub(crate) fn congestion_met(endpoint: &Endpoint, how: How, m: &Emission) -> Con
 pub(crate) fn timers_met(
     header: &Header,
     endpoint: &Endpoint,
-    how: How,
+    how: TakeChoice,
     m: &Emission,
     moment: u64,
     una: u64,

@@ -8,11 +8,12 @@ ghost use Rattle.std.specs.Prelude.{◌≡◌, ◌<◌, ◌^◌, if◌then◌els
 
 use crate::makes::kind::numbered;
 use crate::makes::payload::has_new_bytes;
-use machine::{Endpoint, Making};
+use case_forms::SegmentPlan;
+use machine::Endpoint;
 use seqno::{Word, number};
 use window_rules::{congestion_edge, offered_edge};
 
-pub(crate) fn is_bad_ack(endpoint: &Endpoint, making: &Making) -> bool
+pub(crate) fn is_bad_ack(endpoint: &Endpoint, making: &SegmentPlan) -> bool
     ensures { result ≡ is_bad_ack endpoint.now making.now }
 {
     let next = endpoint.next();
@@ -23,7 +24,7 @@ pub(crate) fn is_bad_ack(endpoint: &Endpoint, making: &Making) -> bool
     }
 }
 
-pub(crate) fn is_beyond_offer(endpoint: &Endpoint, making: &Making) -> bool
+pub(crate) fn is_beyond_offer(endpoint: &Endpoint, making: &SegmentPlan) -> bool
     requires { IsSmall endpoint.now making.now }
     ensures { result ≡ is_beyond_offer endpoint.now making.now }
 {
@@ -35,7 +36,7 @@ pub(crate) fn is_beyond_offer(endpoint: &Endpoint, making: &Making) -> bool
     has_new_bytes(endpoint, making) && edge < making.pos + making.len as u64
 }
 
-pub(crate) fn is_congesting(endpoint: &Endpoint, making: &Making) -> bool
+pub(crate) fn is_congesting(endpoint: &Endpoint, making: &SegmentPlan) -> bool
     requires { IsSmall endpoint.now making.now }
     ensures { result ≡ is_congesting endpoint.now making.now }
 {
@@ -44,7 +45,7 @@ pub(crate) fn is_congesting(endpoint: &Endpoint, making: &Making) -> bool
 }
 
 // The position that a segment acknowledges, and its number.
-pub(crate) fn acknowledgment(endpoint: &Endpoint, making: &Making) -> (u64, Word)
+pub(crate) fn acknowledgment(endpoint: &Endpoint, making: &SegmentPlan) -> (u64, Word)
     ensures position { result.0 ≡ (if making.now.flags.ack then next endpoint.now else 0) }
     ensures number { result.1 ≡ (if making.now.flags.ack then numbered endpoint.now.irs (next endpoint.now) else word_zero) }
     ensures small { result.0 < 2 ^ 63 }
@@ -57,7 +58,7 @@ pub(crate) fn acknowledgment(endpoint: &Endpoint, making: &Making) -> (u64, Word
 }
 
 // How far its own windows reached then.
-pub(crate) fn own_edge(endpoint: &Endpoint, making: &Making) -> u64
+pub(crate) fn own_edge(endpoint: &Endpoint, making: &SegmentPlan) -> u64
     ensures { result ≡ (if making.now.flags.ack then max endpoint.now.window.edge (next endpoint.now + making.now.window) else endpoint.now.window.edge) }
 {
     let edge = endpoint.window.edge;

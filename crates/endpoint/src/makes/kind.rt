@@ -6,8 +6,8 @@ ghost use Rattle.machine.specs.Making.{may_carry, may_finish, may_not_send, may_
 ghost use Rattle.machine.specs.MakingEffects.{numbered};
 ghost use Rattle.std.specs.Prelude.{◌≡◌, if◌then◌else◌, false};
 
-use case_forms::State;
-use machine::{Endpoint, Making};
+use case_forms::{SegmentPlan, State};
+use machine::Endpoint;
 use seqno::{Word, number};
 
 pub(crate) fn may_carry(state: State) -> bool
@@ -41,7 +41,7 @@ pub(crate) fn is_syn_state(state: State, ack: bool) -> bool
     }
 }
 
-pub(crate) fn may_make_syn(endpoint: &Endpoint, making: &Making) -> bool
+pub(crate) fn may_make_syn(endpoint: &Endpoint, making: &SegmentPlan) -> bool
     ensures { result ≡ may_make_syn endpoint.now making.now }
 {
     is_syn_state(endpoint.state, making.flags.ack)
@@ -50,14 +50,14 @@ pub(crate) fn may_make_syn(endpoint: &Endpoint, making: &Making) -> bool
         && !making.flags.rst
 }
 
-pub(crate) fn may_make_reset(endpoint: &Endpoint, making: &Making) -> bool
+pub(crate) fn may_make_reset(endpoint: &Endpoint, making: &SegmentPlan) -> bool
     ensures { result ≡ may_make_reset endpoint.now making.now }
 {
     (endpoint.reset_due || endpoint.closed && !endpoint.state.is_closed() && 1 <= endpoint.next())
         && !making.flags.fin
 }
 
-pub(crate) fn may_make_other(endpoint: &Endpoint, making: &Making) -> bool
+pub(crate) fn may_make_other(endpoint: &Endpoint, making: &SegmentPlan) -> bool
     ensures { result ≡ may_make_other endpoint.now making.now }
 {
     !may_not_send(endpoint.state)
@@ -65,7 +65,7 @@ pub(crate) fn may_make_other(endpoint: &Endpoint, making: &Making) -> bool
         && (!making.flags.fin || may_finish(endpoint.state))
 }
 
-pub(crate) fn may_make(endpoint: &Endpoint, making: &Making) -> bool
+pub(crate) fn may_make(endpoint: &Endpoint, making: &SegmentPlan) -> bool
     ensures { result ≡ may_make endpoint.now making.now }
 {
     if making.flags.syn {
@@ -77,13 +77,13 @@ pub(crate) fn may_make(endpoint: &Endpoint, making: &Making) -> bool
     }
 }
 
-pub(crate) fn makes_nothing(endpoint: &Endpoint, making: &Making) -> bool
+pub(crate) fn makes_nothing(endpoint: &Endpoint, making: &SegmentPlan) -> bool
     ensures { result ≡ makes_nothing endpoint.now making.now }
 {
     endpoint.state.is_closed() && !(making.flags.rst && endpoint.reset_due)
 }
 
-pub(crate) fn is_bad_iss(endpoint: &Endpoint, making: &Making) -> bool
+pub(crate) fn is_bad_iss(endpoint: &Endpoint, making: &SegmentPlan) -> bool
     ensures { result ≡ is_bad_iss endpoint.now making.now }
 {
     if endpoint.iss.is_some() {

@@ -4,10 +4,11 @@ ghost use Rattle.machine.specs.Bounds.{greatest_position};
 ghost use Rattle.machine.specs.Making.{making_length, has_new_bytes, is_bad_payload, old_end, is_bad_empty_place, is_bad_place};
 ghost use Rattle.std.specs.Prelude.{◌≡◌, ◌≤◌};
 
-use machine::{Endpoint, Making};
+use case_forms::SegmentPlan;
+use machine::Endpoint;
 
 /// How many positions a segment takes: its bytes, its SYN and its FIN.
-pub(crate) fn making_length(making: &Making) -> u64
+pub(crate) fn making_length(making: &SegmentPlan) -> u64
     ensures value { result ≡ making_length making.now }
     ensures small { result ≤ 65537 }
 {
@@ -15,14 +16,14 @@ pub(crate) fn making_length(making: &Making) -> u64
 }
 
 /// Whether bytes that were not made before are among a segment's.
-pub(crate) fn has_new_bytes(endpoint: &Endpoint, making: &Making) -> bool
+pub(crate) fn has_new_bytes(endpoint: &Endpoint, making: &SegmentPlan) -> bool
     requires { making.now.pos ≤ greatest_position }
     ensures { result ≡ has_new_bytes endpoint.now making.now }
 {
     0 < making.len && endpoint.max_made() < making.pos + making.len as u64
 }
 
-pub(crate) fn is_bad_payload(endpoint: &Endpoint, making: &Making) -> bool
+pub(crate) fn is_bad_payload(endpoint: &Endpoint, making: &SegmentPlan) -> bool
     requires { making.now.pos ≤ greatest_position }
     ensures { result ≡ is_bad_payload endpoint.now making.now }
 {
@@ -38,21 +39,21 @@ pub(crate) fn is_bad_payload(endpoint: &Endpoint, making: &Making) -> bool
         || (making.flags.fin && !(endpoint.stream.ended && end == accepted))
 }
 
-pub(crate) fn old_end(endpoint: &Endpoint, making: &Making) -> u64
+pub(crate) fn old_end(endpoint: &Endpoint, making: &SegmentPlan) -> u64
     requires { making.now.pos ≤ greatest_position }
     ensures { result ≡ old_end endpoint.now making.now }
 {
     (making.pos + making_length(making)).min(endpoint.max_made())
 }
 
-pub(crate) fn is_bad_empty_place(endpoint: &Endpoint, making: &Making) -> bool
+pub(crate) fn is_bad_empty_place(endpoint: &Endpoint, making: &SegmentPlan) -> bool
     requires { making.now.pos ≤ greatest_position }
     ensures { result ≡ is_bad_empty_place endpoint.now making.now }
 {
     making.pos + 1 < endpoint.stream.una || endpoint.max_made() < making.pos
 }
 
-pub(crate) fn is_bad_place(endpoint: &Endpoint, making: &Making) -> bool
+pub(crate) fn is_bad_place(endpoint: &Endpoint, making: &SegmentPlan) -> bool
     requires { making.now.pos ≤ greatest_position }
     ensures { result ≡ is_bad_place endpoint.now making.now }
 {

@@ -8,8 +8,8 @@ ghost use Rattle.std.specs.Prelude.{◌≡◌, ◌||◌, not, ◌<◌, ◌+◌, 
 ghost use Rattle.streams.specs.Makings.{made_again};
 
 use crate::arrives::otherwise::window::takes_window;
-use case_forms::State;
-use machine::{Emission, Endpoint, How};
+use case_forms::{State, TakeChoice};
+use machine::{Emission, Endpoint};
 
 /// Whether the segment acknowledges nothing, or what was not made. In SYN-RECEIVED it has to acknowledge the SYN.
 pub(crate) fn is_bad_ack_range(endpoint: &Endpoint, m: &Emission) -> bool

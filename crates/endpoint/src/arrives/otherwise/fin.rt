@@ -5,10 +5,10 @@ ghost use Rattle.machine.specs.TakingEffects.{fin_place, keeps_fin, finished};
 ghost use Rattle.std.specs.Prelude.{◌≡◌};
 
 use crate::arrives::otherwise::text::first_byte;
-use case_forms::State;
-use machine::{Emission, Endpoint, How};
+use case_forms::{State, TakeChoice};
+use machine::{Emission, Endpoint};
 
-pub(crate) fn keeps_fin(endpoint: &Endpoint, how: How, m: &Emission) -> bool
+pub(crate) fn keeps_fin(endpoint: &Endpoint, how: TakeChoice, m: &Emission) -> bool
     requires { IsSmallEmission m.now }
     ensures { result ≡ keeps_fin endpoint.now how m.now }
 {

@@ -8,11 +8,16 @@ ghost use Rattle.streams.specs.Forgetting.{forgotten};
 ghost use Rattle.streams.specs.Received.{is_ended};
 
 use crate::arrives::otherwise::fin::{fin_place, keeps_fin};
-use machine::{Emission, Endpoint, How};
+use case_forms::TakeChoice;
+use machine::{Emission, Endpoint};
 use segment::OutOfMemory;
 
 /// Keeps what is kept of a segment. The answer is whether the peer's FIN was taken then, with all before it.
-pub(crate) fn receive(endpoint: &mut Endpoint, how: How, m: &Emission) -> Result<bool, OutOfMemory>
+pub(crate) fn receive(
+    endpoint: &mut Endpoint,
+    how: TakeChoice,
+    m: &Emission,
+) -> Result<bool, OutOfMemory>
     requires small { IsSmallEmission m.now }
     requires met { 1 ≤ next endpoint.old }
     requires forgets { forgotten endpoint.old.stream.receive ≡ endpoint.old.stream.receive }
@@ -30,7 +35,7 @@ pub(crate) fn receive(endpoint: &mut Endpoint, how: How, m: &Emission) -> Result
     Ok(endpoint.stream.receive.is_ended())
 }
 
-pub(crate) fn kept_bytes<'a>(endpoint: &Endpoint, how: How, m: &'a Emission) -> &'a [u8]
+pub(crate) fn kept_bytes<'a>(endpoint: &Endpoint, how: TakeChoice, m: &'a Emission) -> &'a [u8]
     requires { IsSmallEmission m.now }
     ensures { result.now ≡ kept_bytes endpoint.now how m.now }
 {

@@ -7,15 +7,15 @@ ghost use Rattle.std.specs.Prelude.{◌≡◌, ◌==◌, ◌&&◌, if◌then◌e
 
 use crate::arrives::otherwise::ack::{acknowledges_syn, is_new_ack, una_after};
 use crate::arrives::otherwise::window::{persist_taken, takes_window};
-use case_forms::{Header, State, Timer};
-use machine::{Emission, Endpoint, How};
+use case_forms::{Header, State, TakeChoice, Timer};
+use machine::{Emission, Endpoint};
 use timer_rules::Timers;
 
 /// The timers before the state is looked at: `timers_taken` is `state_timers` of them.
 pub(crate) fn timers_before(
     header: &Header,
     endpoint: &Endpoint,
-    how: How,
+    how: TakeChoice,
     m: &Emission,
     moment: u64,
 ) -> Timers

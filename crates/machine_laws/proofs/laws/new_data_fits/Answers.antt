@@ -11,7 +11,7 @@ use Rattle.machine.specs.declared.endpoint.Endpoint.{Endpoint}
 use Rattle.machine.specs.declared.endpoint.Emission.{Emission}
 use Rattle.machine.specs.Endpoints.{max_made}
 use Rattle.machine.specs.Lookups.{place_of}
-use Rattle.machine.specs.declared.making.Making.{Making}
+use Rattle.case_forms.specs.declared.steps.SegmentPlan.{SegmentPlan}
 use Rattle.machine.specs.Making.{making_rules, has_new_bytes}
 use Rattle.machine.specs.MakingEffects.{emission_of}
 use Rattle.machine.specs.Machine.{made_at}
@@ -27,7 +27,7 @@ both true false p q = absurd cc
 both false c p q = absurd cc
 
 -- of the segment that an endpoint makes
-fits : (e : Endpoint) (m : Making) → MayMake e m → (n : ℕ) → n ≤ m.len → 0 < n → max_made e < m.pos + n → InBothWindows e (m.pos + n)
+fits : (e : Endpoint) (m : SegmentPlan) → MayMake e m → (n : ℕ) → n ≤ m.len → 0 < n → max_made e < m.pos + n → InBothWindows e (m.pos + n)
 fits e m t n le some above =
     let new : has_new_bytes e m ≡ true = both (nat_lt 0 m.len) (nat_lt (max_made e) (m.pos + m.len)) (less_to 0 m.len (omega arith)) (less_to (max_made e) (m.pos + m.len) (omega arith)) in
     let offered = at_most_from (offered_edge e.stream.una e.window.wnd e.probe_due) (m.pos + m.len) (and_false (has_new_bytes e m) _ t.offered new) in

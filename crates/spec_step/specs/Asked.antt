@@ -1,0 +1,24 @@
+-- What a step asks of the world: which rules, and what the world is after it.
+use Rattle.std.specs.Prelude.{◌≡◌, ℕ, Bool, List, [], Option, None}
+use Rattle.std.specs.Option.{option_map_or}
+use Rattle.verdict.specs.declared.rule.Rule.{Rule}
+use Rattle.verdict.specs.Rules.{first_broken}
+use Rattle.hosts.specs.Hosts.{Step}
+use Rattle.hosts.specs.HostRules.{step_rules}
+use Rattle.machine.specs.Machine.{tcp, tcp_shape}
+use Rattle.endpoint_state.specs.Worlds.{Progress, after}
+
+-- the least rule that a step breaks
+abbrev pub broken_by : Progress → ℕ → Step tcp_shape → Option Rule
+broken_by p moment step = first_broken (step_rules (tcp p.header) moment p.world step)
+
+-- the rules of a step that may be none: then no rule is broken
+abbrev pub asked_rules : Progress → ℕ → Option (Step tcp_shape) → List (Rule × Bool)
+asked_rules p moment asked = option_map_or (step_rules (tcp p.header) moment p.world) asked []
+
+-- what the case has come to after it: where it is none, the world stays
+abbrev pub asked_after : Progress → ℕ → Option (Step tcp_shape) → Progress
+asked_after p moment asked = option_map_or (after p moment) asked p
+
+abbrev pub IsPermitted : Progress → ℕ → Option (Step tcp_shape) → Type 0
+IsPermitted p moment asked = first_broken (asked_rules p moment asked) ≡ None

@@ -1,0 +1,123 @@
+//! A step that takes no line.
+
+ghost use Rattle.std.specs.Prelude.{◌≡◌, ◌<◌, None, Some, Err, IfErr, OnOk, OnErr};
+ghost use Rattle.std.specs.Result.{result_err};
+ghost use Rattle.case_forms.specs.Witnesses.{IsWithinLimits};
+ghost use Rattle.verdict.specs.Rules.{first_broken};
+ghost use Rattle.hosts.specs.Hosts.{Effect};
+ghost use Rattle.machine.specs.Bounds.{most_steps};
+ghost use Rattle.machine.specs.Steps.{hidden_step};
+ghost use Rattle.endpoint_state.specs.Worlds.{after};
+ghost use Rattle.spec_step.specs.Faults.{IfBroken};
+ghost use Rattle.spec_step.specs.Asked.{broken_by, asked_rules, asked_after, IsPermitted};
+
+use crate::step::StepFault;
+use case_forms::{Answer, Label, OutOfMemory};
+use endpoint_state::{World, do_call};
+use verdict::Rule;
+
+/// Does a step that takes no line, as `apply` does any step. A label that takes one asks for nothing here.
+pub fn apply_hidden<Taken>(
+    world: &mut World,
+    moment: u64,
+    label: &Label<Taken>,
+) -> Result<(), StepFault>
+    requires steps { world.old.steps < most_steps }
+    requires label { IsWithinLimits label.now }
+    ensures ok { OnOk result (world.new ≡ asked_after world.old moment (hidden_step label.now)) }
+    ensures admitted { OnOk result (first_broken (asked_rules world.old moment (hidden_step label.now)) ≡ None) }
+    ensures broken { IfErr result (λ fault. IfBroken fault (λ rule. first_broken (asked_rules world.old moment (hidden_step label.now)) ≡ Some rule)) }
+    ensures memory { result ≡ Err StepFault.OutOfMemory → first_broken (asked_rules world.old moment (hidden_step label.now)) ≡ None }
+    ensures err { OnErr result (world.new ≡ world.old) }
+{
+    if let Err(rule) = admits_hidden(world, moment, label) {
+        return Err(StepFault::Broken(rule));
+    }
+    match perform(world, moment, label) {
+        Ok(()) => Ok(()),
+        Err(_) => Err(StepFault::OutOfMemory),
+    }
+}
+
+/// The least rule that a step breaks which takes no line.
+pub(crate) fn admits_hidden<Taken>(
+    world: &World,
+    moment: u64,
+    label: &Label<Taken>,
+) -> Result<(), Rule>
+    requires steps { world.now.steps < most_steps }
+    requires label { IsWithinLimits label.now }
+    ensures { result_err result ≡ first_broken (asked_rules world.now moment (hidden_step label.now)) }
+{
+    match label {
+        Label::L(_) => Ok(()),
+        Label::D { thread, answer } => admits_effect(world, moment, *thread, answer),
+        Label::M { host, plan } => world.admits_making(*host, plan),
+        Label::T { host, line, choice } => world.admits_taking(*host, moment, *line, *choice),
+        Label::K { host, line } => world.admits_dropping(*host, *line),
+        Label::R { host, line } => world.admits_reset(*host, moment, *line),
+        Label::F { host, recovery } => world.admits_recovery(
+            *host,
+            recovery.lport,
+            recovery.rport,
+            recovery.cwnd,
+            recovery.ssthresh,
+        ),
+    }
+}
+
+// The same of the effect of a call, whose rules read no moment.
+#[tactic(auto, using(endpoint_state::proofs::CallLemmas::effect_at_any_moment))]
+fn admits_effect(world: &World, moment: u64, thread: u32, answer: &Answer) -> Result<(), Rule>
+    ensures { result_err result ≡ broken_by world.now moment (Effect thread answer.now) }
+{
+    endpoint_state::admits_effect(world, thread, answer)
+}
+
+// Does a step that is admitted.
+fn perform<Taken>(world: &mut World, moment: u64, label: &Label<Taken>) -> Result<(), OutOfMemory>
+    requires steps { world.old.steps < most_steps }
+    requires label { IsWithinLimits label.now }
+    requires permitted { IsPermitted world.old moment (hidden_step label.now) }
+    ensures ok { OnOk result (world.new ≡ asked_after world.old moment (hidden_step label.now)) }
+    ensures err { OnErr result (world.new ≡ world.old) }
+{
+    match label {
+        Label::L(_) => Ok(()),
+        Label::D { thread, answer } => have_effect(world, moment, *thread, answer),
+        Label::M { host, plan } => world.make(*host, plan, moment),
+        Label::T { host, line, choice } => world.take(*host, *line, *choice, moment),
+        Label::K { host, line } => {
+            world.drop_arrival(*host, *line, moment);
+            Ok(())
+        }
+        Label::R { host, line } => world.answer(*host, *line, moment),
+        Label::F { host, recovery } => {
+            world.recover(
+                *host,
+                recovery.lport,
+                recovery.rport,
+                recovery.cwnd,
+                recovery.ssthresh,
+                moment,
+            );
+            Ok(())
+        }
+    }
+}
+
+// A call has its effect, which reads no moment.
+#[tactic(auto, using(endpoint_state::proofs::CallLemmas::effect_at_any_moment, endpoint_state::proofs::CallLemmas::after_at_any_moment))]
+fn have_effect(
+    world: &mut World,
+    moment: u64,
+    thread: u32,
+    answer: &Answer,
+) -> Result<(), OutOfMemory>
+    requires steps { world.old.steps < most_steps }
+    requires permitted { broken_by world.old moment (Effect thread answer.now) ≡ None }
+    ensures ok { OnOk result (world.new ≡ after world.old moment (Effect thread answer.now)) }
+    ensures err { OnErr result (world.new ≡ world.old) }
+{
+    do_call(world, thread, answer)
+}

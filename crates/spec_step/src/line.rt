@@ -1,0 +1,117 @@
+//! A step that takes a line.
+
+ghost use Rattle.std.specs.Prelude.{◌≡◌, ◌<◌, None, Some, Err, IfErr, OnOk, OnErr};
+ghost use Rattle.std.specs.Result.{result_err};
+ghost use Rattle.machine.specs.Bounds.{most_steps};
+ghost use Rattle.machine.specs.Steps.{line_step};
+ghost use Rattle.endpoint_state.specs.Worlds.{after};
+ghost use Rattle.spec_step.specs.Asked.{broken_by};
+ghost use Rattle.spec_step.specs.Faults.{IfBroken};
+
+use crate::expired::{growth_of, timer_of};
+use crate::step::StepFault;
+use case_forms::{OutOfMemory, TakenLine};
+use endpoint_state::World;
+use verdict::Rule;
+
+/// Does a step that takes a line, as `apply` does any step.
+pub fn apply_line(world: &mut World, moment: u64, line: &TakenLine) -> Result<(), StepFault>
+    requires { world.old.steps < most_steps }
+    ensures ok { OnOk result (world.new ≡ after world.old moment (line_step line.now)) }
+    ensures admitted { OnOk result (broken_by world.old moment (line_step line.now) ≡ None) }
+    ensures broken { IfErr result (λ fault. IfBroken fault (λ rule. broken_by world.old moment (line_step line.now) ≡ Some rule)) }
+    ensures memory { result ≡ Err StepFault.OutOfMemory → broken_by world.old moment (line_step line.now) ≡ None }
+    ensures err { OnErr result (world.new ≡ world.old) }
+{
+    if let Err(rule) = admits_line(world, moment, line) {
+        return Err(StepFault::Broken(rule));
+    }
+    match take_line(world, moment, line) {
+        Ok(()) => Ok(()),
+        Err(_) => Err(StepFault::OutOfMemory),
+    }
+}
+
+/// The least rule that a step breaks which takes a line.
+pub(crate) fn admits_line(world: &World, moment: u64, line: &TakenLine) -> Result<(), Rule>
+    ensures { result_err result ≡ broken_by world.now moment (line_step line.now) }
+{
+    match line {
+        TakenLine::CallBegin { thread, call, .. } => world.admits_begin(*thread, call),
+        TakenLine::CallEnd { thread, answer, .. } => world.admits_finish(*thread, answer),
+        TakenLine::Sent {
+            line,
+            host,
+            made,
+            wire,
+        } => world.admits_sending(*host, *line, *made, wire),
+        TakenLine::Came {
+            line,
+            host,
+            copied,
+            wire,
+        } => world.admits_arrival(*host, moment, *line, *copied, wire),
+        TakenLine::Expired {
+            line,
+            host,
+            ports,
+            expired,
+        } => {
+            let growth = growth_of(*expired);
+            world.admits_expiry(
+                *host,
+                moment,
+                *line,
+                ports.lport,
+                ports.rport,
+                timer_of(*expired),
+                growth.cwnd,
+                growth.ssthresh,
+            )
+        }
+    }
+}
+
+// Does a step that is admitted.
+fn take_line(world: &mut World, moment: u64, line: &TakenLine) -> Result<(), OutOfMemory>
+    requires steps { world.old.steps < most_steps }
+    requires permitted { broken_by world.old moment (line_step line.now) ≡ None }
+    ensures ok { OnOk result (world.new ≡ after world.old moment (line_step line.now)) }
+    ensures err { OnErr result (world.new ≡ world.old) }
+{
+    match line {
+        TakenLine::CallBegin { thread, call, .. } => world.begin(*thread, call),
+        TakenLine::CallEnd { thread, answer, .. } => world.finish(*thread, answer),
+        TakenLine::Sent {
+            line,
+            host,
+            made,
+            wire,
+        } => world.send(*host, *line, *made, wire, moment),
+        TakenLine::Came {
+            line,
+            host,
+            copied,
+            wire,
+        } => world.arrive(*host, *line, *copied, wire, moment),
+        TakenLine::Expired {
+            line,
+            host,
+            ports,
+            expired,
+        } => {
+            let growth = growth_of(*expired);
+            world.expire(
+                *host,
+                *line,
+                ports.lport,
+                ports.rport,
+                timer_of(*expired),
+                growth.cwnd,
+                growth.ssthresh,
+                moment,
+            );
+            Ok(())
+        }
+    }
+}
