@@ -12,7 +12,7 @@ ghost use Rattle.timer_rules.specs.Timers.{is_early};
 ghost use Rattle.verdict.specs.Rules.{first_broken};
 
 use crate::calls::close::shut_down;
-use case_forms::{Header, Timer};
+use case_forms::{Growth, Header, Timer};
 use machine::{Endpoint, Fault};
 use timer_rules::{TimerFault, Timers};
 use verdict::Rule;
@@ -26,15 +26,14 @@ pub fn admits_expiry(
     moment: u64,
     endpoint: &Endpoint,
     timer: Timer,
-    cwnd: u32,
-    ssthresh: u32,
+    growth: Growth,
 ) -> Result<(), Rule>
-    ensures { result_err result ≡ first_broken (expiry_rules header.now moment endpoint.now timer (record { cwnd = cwnd; ssthresh = ssthresh })) }
+    ensures { result_err result ≡ first_broken (expiry_rules header.now moment endpoint.now timer growth) }
 {
     if endpoint.state.is_closed() {
         return Err(Rule::NoEndpoint);
     }
-    if is_rto(timer) && is_above(endpoint, cwnd, ssthresh) {
+    if is_rto(timer) && is_above(endpoint, growth) {
         return Err(Rule::Growth);
     }
     if is_off(endpoint, timer) {
@@ -64,11 +63,11 @@ pub(crate) fn greatest_values(endpoint: &Endpoint) -> (u64, u64)
     )
 }
 
-pub(crate) fn is_above(endpoint: &Endpoint, cwnd: u32, ssthresh: u32) -> bool
-    ensures { result ≡ is_above endpoint.now (record { cwnd = cwnd; ssthresh = ssthresh }) }
+pub(crate) fn is_above(endpoint: &Endpoint, growth: Growth) -> bool
+    ensures { result ≡ is_above endpoint.now growth }
 {
     let greatest = greatest_values(endpoint);
-    greatest.0 < cwnd as u64 || greatest.1 < ssthresh as u64
+    greatest.0 < growth.cwnd as u64 || greatest.1 < growth.ssthresh as u64
 }
 
 pub(crate) fn is_off(endpoint: &Endpoint, timer: Timer) -> bool
@@ -127,26 +126,26 @@ pub(crate) fn is_refused_early(timers: &Timers, timer: Timer, moment: u64, heade
 /// A timer expires at a moment in microseconds. Behind the retransmission timer the congestion window and the slow start
 /// threshold are these, in bytes, and all that was made may be made again; behind the persist timer a probe is due; the
 /// wait in TIME-WAIT is over, or the endpoint gives up, with a reset that is due.
-pub fn expire(endpoint: &mut Endpoint, timer: Timer, cwnd: u32, ssthresh: u32, moment: u64)
+pub fn expire(endpoint: &mut Endpoint, timer: Timer, growth: Growth, moment: u64)
     requires { HasRoom endpoint.old }
-    ensures { endpoint.new ≡ forget_endpoint (after_expiry endpoint.old timer (record { cwnd = cwnd; ssthresh = ssthresh }) moment) }
+    ensures { endpoint.new ≡ forget_endpoint (after_expiry endpoint.old timer growth moment) }
 {
     match timer {
-        Timer::Rto => expire_retransmission(endpoint, cwnd, ssthresh, moment),
+        Timer::Rto => expire_retransmission(endpoint, growth, moment),
         Timer::Persist => expire_persist(endpoint, moment),
         Timer::Msl2 => shut_down(endpoint),
         Timer::Giveup => give_up(endpoint),
     }
 }
 
-pub(crate) fn expire_retransmission(endpoint: &mut Endpoint, cwnd: u32, ssthresh: u32, moment: u64)
+pub(crate) fn expire_retransmission(endpoint: &mut Endpoint, growth: Growth, moment: u64)
     requires tries { endpoint.old.tries + 1 < 2 ^ 32 }
     requires backs { endpoint.old.backs + 1 < 2 ^ 32 }
-    ensures { endpoint.new ≡ after_rto endpoint.old (record { cwnd = cwnd; ssthresh = ssthresh }) moment }
+    ensures { endpoint.new ≡ after_rto endpoint.old growth moment }
 {
     endpoint.recover = endpoint.max_made();
-    endpoint.congestion.cwnd = cwnd;
-    endpoint.congestion.ssthresh = ssthresh;
+    endpoint.congestion.cwnd = growth.cwnd;
+    endpoint.congestion.ssthresh = growth.ssthresh;
     endpoint.congestion.dup = 0;
     endpoint.congestion.counted = 0;
     endpoint.congestion.fast = false;

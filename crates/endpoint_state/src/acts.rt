@@ -16,7 +16,7 @@ ghost use Rattle.endpoint_state.specs.Changes.{changed};
 ghost use Rattle.endpoint_state.specs.Takers.{IsOpen, joins_at, taker_found};
 
 use crate::body::{Body, Found};
-use case_forms::{Header, Host, SegmentPlan, TakeChoice, Timer};
+use case_forms::{Expiry, Growth, Header, Host, Recovery, SegmentPlan, TakeChoice};
 use endpoint::joins;
 use machine::{Emission, Name};
 use segment::OutOfMemory;
@@ -48,35 +48,26 @@ impl Body {
         Ok(made)
     }
 
-    /// A timer of the endpoint of these ports expires, at a moment in microseconds, with this congestion window and slow
-    /// start threshold (in bytes) from then on.
+    /// A timer expires, at a moment in microseconds, with this choice of what its endpoint has then.
     #[tactic(auto, using(crate::proofs::BodyLemmas::body_same))]
-    pub fn expire(
-        &mut self,
-        lport: u16,
-        rport: u16,
-        timer: Timer,
-        cwnd: u32,
-        ssthresh: u32,
-        moment: u64,
-    )
+    pub fn expire(&mut self, expiry: Expiry, growth: Growth, moment: u64)
         requires { All HasRoom self.old.endpoints }
-        ensures { self.new ≡ forget_body (at_ports self.old lport rport (λ e. after_expiry e timer (record { cwnd = cwnd; ssthresh = ssthresh }) moment)) }
+        ensures { self.new ≡ forget_body (at_ports self.old expiry.lport expiry.rport (λ e. after_expiry e expiry.timer growth moment)) }
     {
-        if let Some(place) = self.place_of(lport, rport) {
-            self.endpoints.expire(place, timer, cwnd, ssthresh, moment);
+        if let Some(place) = self.place_of(expiry.lport, expiry.rport) {
+            self.endpoints.expire(place, expiry.timer, growth, moment);
         }
     }
 
-    /// Fast recovery begins at the endpoint of these ports, with this congestion window and slow start threshold (in
-    /// bytes).
+    /// Fast recovery begins.
     #[tactic(auto, using(crate::proofs::BodyLemmas::body_same))]
-    pub fn recover(&mut self, lport: u16, rport: u16, cwnd: u32, ssthresh: u32)
+    pub fn recover(&mut self, recovery: Recovery)
         requires { All HasRoom self.old.endpoints }
-        ensures { self.new ≡ forget_body (at_ports self.old lport rport (λ e. after_recovery e cwnd ssthresh)) }
+        ensures { self.new ≡ forget_body (at_ports self.old recovery.lport recovery.rport (λ e. after_recovery e recovery.cwnd recovery.ssthresh)) }
     {
-        if let Some(place) = self.place_of(lport, rport) {
-            self.endpoints.recover(place, cwnd, ssthresh);
+        if let Some(place) = self.place_of(recovery.lport, recovery.rport) {
+            self.endpoints
+                .recover(place, recovery.cwnd, recovery.ssthresh);
         }
     }
 

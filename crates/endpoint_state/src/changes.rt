@@ -14,7 +14,7 @@ ghost use Rattle.streams.specs.Received.{waiting};
 ghost use Rattle.endpoint_state.specs.Changes.{changed};
 
 use crate::endpoints::Endpoints;
-use case_forms::{Header, SegmentPlan, TakeChoice, Timer};
+use case_forms::{Growth, Header, SegmentPlan, TakeChoice, Timer};
 use endpoint::take_segment;
 use machine::{Emission, Endpoint, Name};
 use segment::OutOfMemory;
@@ -40,13 +40,12 @@ impl Endpoints {
         make_at(&mut self.all, alloc, me, making, moment)
     }
 
-    /// A timer of the endpoint at a place expires, at a moment in microseconds, with this congestion window and slow start
-    /// threshold (in bytes) from then on.
-    pub fn expire(&mut self, place: u32, timer: Timer, cwnd: u32, ssthresh: u32, moment: u64)
+    /// A timer of the endpoint at a place expires, at a moment in microseconds, with this choice of what it has then.
+    pub fn expire(&mut self, place: u32, timer: Timer, growth: Growth, moment: u64)
         requires { All HasRoom self.old }
-        ensures { self.new ≡ changed self.old place (λ e. after_expiry e timer (record { cwnd = cwnd; ssthresh = ssthresh }) moment) }
+        ensures { self.new ≡ changed self.old place (λ e. after_expiry e timer growth moment) }
     {
-        expire_at(&mut self.all, place as usize, timer, cwnd, ssthresh, moment);
+        expire_at(&mut self.all, place as usize, timer, growth, moment);
     }
 
     /// Fast recovery begins at the endpoint at a place, with this congestion window and slow start threshold (in bytes).
@@ -226,16 +225,15 @@ fn expire_at(
     endpoints: &mut Vec<Endpoint>,
     place: usize,
     timer: Timer,
-    cwnd: u32,
-    ssthresh: u32,
+    growth: Growth,
     moment: u64,
 )
     requires { All HasRoom endpoints.old.items }
-    ensures { endpoints.new.items ≡ changed endpoints.old.items place (λ e. after_expiry e timer (record { cwnd = cwnd; ssthresh = ssthresh }) moment) }
+    ensures { endpoints.new.items ≡ changed endpoints.old.items place (λ e. after_expiry e timer growth moment) }
 {
     if place < endpoints.len() {
         let endpoint = &mut endpoints[place];
-        endpoint::expire(endpoint, timer, cwnd, ssthresh, moment);
+        endpoint::expire(endpoint, timer, growth, moment);
     }
 }
 

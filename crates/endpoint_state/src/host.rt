@@ -2,27 +2,35 @@
 //! nothing is changed.
 
 ghost use Rattle.std.specs.Prelude.{◌≡◌, ◌≤◌, true, [], OnOk, OnErr};
-ghost use Rattle.hosts.specs.Hosts.{Answers, Does, Drops, Expires, Gets, Makes, Sends, Takes};
+ghost use Rattle.verdict.specs.declared.rule.Rule.TheVariants as rule_names;
+ghost use Rattle.hosts.specs.Tables.{on, waiting};
 ghost use Rattle.std.specs.Option.{IfSome};
 ghost use Rattle.std.specs.Result.{result_err};
 ghost use Rattle.verdict.specs.Rules.{first_broken};
-ghost use Rattle.hosts.specs.HostSteps.{deed_after, empty_host};
-ghost use Rattle.hosts.specs.HostRules.{arrival_rules, deed_rules, sending_rules};
+ghost use Rattle.hosts.specs.HostSteps.{empty_host};
+ghost use Rattle.hosts.specs.HostRules.{arrival_rules, just, sending_rules};
 ghost use Rattle.machine.specs.Wires.{in_rules, out_rules};
-ghost use Rattle.machine.specs.Lookups.{given};
+ghost use Rattle.machine.specs.Lookups.{at_ports, given};
+ghost use Rattle.machine.specs.Making.{making_rules};
+ghost use Rattle.machine.specs.Meeting.{taker, taker_rules};
+ghost use Rattle.machine.specs.Resets.{reset_rules};
+ghost use Rattle.machine.specs.Timing.{after_expiry, after_recovery, expiry_rules, recovery_rules};
 ghost use Rattle.machine.specs.CallRules.{call_allows};
 ghost use Rattle.machine.specs.CallEffects.{after_call};
-ghost use Rattle.machine.specs.Machine.{act_makes, tcp};
+ghost use Rattle.machine.specs.Machine.{act_makes, rules_at, tcp};
 ghost use Rattle.machine.specs.Machine as acts;
 ghost use Rattle.machine.specs.Forgetting.{forget_host};
 ghost use Rattle.machine.specs.Bounds.{greatest_position, IsSmallEmission};
 ghost use Rattle.endpoint_state.specs.Kept.{IsReady};
+ghost use Rattle.endpoint_state.specs.Kinds.{answered_one, dropped_one, got_one, made_one, sent_one, taken_one};
 
 use crate::arriving::{admits_arrival, arrive, settle, waiting};
 use crate::body::Body;
 use crate::made::Made;
 use crate::sending::{admits_sending, send};
-use case_forms::{Answer, Call, Header, Host, SegmentPlan, TakeChoice, Timer, Wire};
+use case_forms::{
+    Answer, Call, Expiry, Growth, Header, Host, Recovery, SegmentPlan, TakeChoice, Wire,
+};
 use endpoint::reset_of;
 use indexmap::IndexMap;
 use machine::Emission;
@@ -53,7 +61,6 @@ impl Model for HostState {
 /// A segment is made under this number, and waits to go out.
 pub(crate) fn make(
     alloc: Global,
-    header: &Header,
     me: Host,
     host: &mut HostState,
     making: &SegmentPlan,
@@ -62,7 +69,7 @@ pub(crate) fn make(
 ) -> Result<(), OutOfMemory>
     requires ready { IsReady host.old }
     requires small { making.now.pos ≤ greatest_position }
-    ensures ok { OnOk result (host.new ≡ forget_host (deed_after (tcp header.now) me moment fresh [] host.old (Makes making.now))) }
+    ensures ok { OnOk result (host.new ≡ forget_host (made_one me moment fresh making.now host.old)) }
     ensures small { OnOk result (IfSome (act_makes me host.old.body (acts.Makes making.now)) IsSmallEmission) }
     ensures err { OnErr result (host.new ≡ host.old) }
 {
@@ -79,16 +86,13 @@ pub(crate) fn make(
 
 /// The segment of this number goes out with this line.
 pub(crate) fn send_made(
-    header: &Header,
-    me: Host,
     host: &mut HostState,
     line: u64,
     number: u32,
     wire: &Wire,
     moment: u64,
 ) -> Result<(), OutOfMemory>
-    requires ready { IsReady host.old }
-    ensures ok { OnOk result (host.new ≡ forget_host (deed_after (tcp header.now) me moment 0 [] host.old (Sends line number wire.now))) }
+    ensures ok { OnOk result (host.new ≡ sent_one moment line number wire.now host.old) }
     ensures err { OnErr result (host.new ≡ host.old) }
 {
     send(&mut host.made, &mut host.wire, line, number, wire, moment)
@@ -96,17 +100,12 @@ pub(crate) fn send_made(
 
 /// A copy of what the other host put on its wire comes in with this line.
 pub(crate) fn get(
-    header: &Header,
-    me: Host,
     host: &mut HostState,
     far: &HostState,
     line: u64,
     copied: u64,
-    wire: &Wire,
-    moment: u64,
 ) -> Result<(), OutOfMemory>
-    requires ready { IsReady host.old }
-    ensures ok { OnOk result (host.new ≡ forget_host (deed_after (tcp header.now) me moment 0 far.now.wire host.old (Gets line copied wire.now))) }
+    ensures ok { OnOk result (host.new ≡ got_one far.now.wire line copied host.old) }
     ensures err { OnErr result (host.new ≡ host.old) }
 {
     arrive(&mut host.inbox, &far.wire, line, copied)
@@ -116,14 +115,13 @@ pub(crate) fn get(
 pub(crate) fn take(
     alloc: Global,
     header: &Header,
-    me: Host,
     host: &mut HostState,
     line: u64,
     how: TakeChoice,
     moment: u64,
 ) -> Result<(), OutOfMemory>
     requires ready { IsReady host.old }
-    ensures ok { OnOk result (host.new ≡ forget_host (deed_after (tcp header.now) me moment 0 [] host.old (Takes line how))) }
+    ensures ok { OnOk result (host.new ≡ forget_host (taken_one header.now moment line how host.old)) }
     ensures err { OnErr result (host.new ≡ host.old) }
 {
     let Some(m) = waiting(&host.inbox, line) else {
@@ -135,9 +133,8 @@ pub(crate) fn take(
 }
 
 /// The segment that waits under this line is dropped.
-pub(crate) fn drop_waiting(header: &Header, me: Host, host: &mut HostState, line: u64, moment: u64)
-    requires ready { IsReady host.old }
-    ensures { host.new ≡ forget_host (deed_after (tcp header.now) me moment 0 [] host.old (Drops line)) }
+pub(crate) fn drop_waiting(host: &mut HostState, line: u64)
+    ensures { host.new ≡ dropped_one line host.old }
 {
     settle(&mut host.inbox, line);
 }
@@ -145,15 +142,11 @@ pub(crate) fn drop_waiting(header: &Header, me: Host, host: &mut HostState, line
 /// The segment that waits under this line is answered by a reset, which gets this number.
 pub(crate) fn answer(
     alloc: Global,
-    header: &Header,
-    me: Host,
     host: &mut HostState,
     line: u64,
-    moment: u64,
     fresh: u32,
 ) -> Result<(), OutOfMemory>
-    requires ready { IsReady host.old }
-    ensures ok { OnOk result (host.new ≡ forget_host (deed_after (tcp header.now) me moment fresh [] host.old (Answers line))) }
+    ensures ok { OnOk result (host.new ≡ answered_one line fresh host.old) }
     ensures err { OnErr result (host.new ≡ host.old) }
 {
     let Some(m) = waiting(&host.inbox, line) else {
@@ -165,41 +158,20 @@ pub(crate) fn answer(
     Ok(())
 }
 
-/// A timer of the endpoint of these ports expires: then its congestion window and slow start threshold.
-pub(crate) fn expire(
-    header: &Header,
-    me: Host,
-    host: &mut HostState,
-    line: u64,
-    lport: u16,
-    rport: u16,
-    timer: Timer,
-    cwnd: u32,
-    ssthresh: u32,
-    moment: u64,
-)
-    requires ready { IsReady host.old }
-    ensures { host.new ≡ forget_host (deed_after (tcp header.now) me moment 0 [] host.old (Expires line (record { lport = lport; rport = rport; timer = timer }) (record { cwnd = cwnd; ssthresh = ssthresh }))) }
+/// A timer expires: then its endpoint's congestion window and slow start threshold.
+pub(crate) fn expire(host: &mut HostState, expiry: Expiry, growth: Growth, moment: u64)
+    requires { IsReady host.old }
+    ensures { host.new ≡ forget_host (record host.old { body = at_ports host.old.body expiry.lport expiry.rport (λ e. after_expiry e expiry.timer growth moment) }) }
 {
-    host.body
-        .expire(lport, rport, timer, cwnd, ssthresh, moment);
+    host.body.expire(expiry, growth, moment);
 }
 
-/// Fast recovery begins at the endpoint of these ports, with this congestion window and slow start threshold.
-pub(crate) fn recover(
-    header: &Header,
-    me: Host,
-    host: &mut HostState,
-    lport: u16,
-    rport: u16,
-    cwnd: u32,
-    ssthresh: u32,
-    moment: u64,
-)
-    requires ready { IsReady host.old }
-    ensures { host.new ≡ forget_host (deed_after (tcp header.now) me moment 0 [] host.old (Does (record { lport = lport; rport = rport; cwnd = cwnd; ssthresh = ssthresh }))) }
+/// Fast recovery begins.
+pub(crate) fn recover(host: &mut HostState, recovery: Recovery)
+    requires { IsReady host.old }
+    ensures { host.new ≡ forget_host (record host.old { body = at_ports host.old.body recovery.lport recovery.rport (λ e. after_recovery e recovery.cwnd recovery.ssthresh) }) }
 {
-    host.body.recover(lport, rport, cwnd, ssthresh);
+    host.body.recover(recovery);
 }
 
 /// A call that may have this answer has its effect.
@@ -266,16 +238,10 @@ impl HostState {
     }
 
     /// Whether it may make a segment. An error is the first rule that is broken.
-    pub(crate) fn admits_making(
-        &self,
-        header: &Header,
-        me: Host,
-        moment: u64,
-        making: &SegmentPlan,
-    ) -> Result<(), Rule>
+    pub(crate) fn admits_making(&self, making: &SegmentPlan) -> Result<(), Rule>
         requires ready { IsReady self.now }
         requires small { making.now.pos ≤ greatest_position }
-        ensures { result_err result ≡ first_broken (deed_rules (tcp header.now) me moment [] self.now (Makes making.now)) }
+        ensures { result_err result ≡ first_broken (rules_at self.now.body making.now.lport making.now.rport (λ e. making_rules e making.now)) }
     {
         self.body.admits_making(making)
     }
@@ -285,11 +251,10 @@ impl HostState {
         &self,
         header: &Header,
         me: Host,
-        moment: u64,
         line: u64,
         how: TakeChoice,
     ) -> Result<(), Rule>
-        ensures { result_err result ≡ first_broken (deed_rules (tcp header.now) me moment [] self.now (Takes line how)) }
+        ensures { result_err result ≡ first_broken (on (waiting line self.now.inbox) (just rule_names.Inbox true) (λ m. taker_rules header.now me self.now.body how m (taker self.now.body m))) }
     {
         match waiting(&self.inbox, line) {
             Some(m) => self.body.admits_taking(header, me, how, m),
@@ -298,14 +263,8 @@ impl HostState {
     }
 
     /// Whether it may drop what waits under this line. An error is the rule that nothing does.
-    pub(crate) fn admits_dropping(
-        &self,
-        header: &Header,
-        me: Host,
-        moment: u64,
-        line: u64,
-    ) -> Result<(), Rule>
-        ensures { result_err result ≡ first_broken (deed_rules (tcp header.now) me moment [] self.now (Drops line)) }
+    pub(crate) fn admits_dropping(&self, line: u64) -> Result<(), Rule>
+        ensures { result_err result ≡ first_broken (on (waiting line self.now.inbox) (just rule_names.Inbox true) (λ m. [])) }
     {
         match waiting(&self.inbox, line) {
             Some(_) => Ok(()),
@@ -314,14 +273,8 @@ impl HostState {
     }
 
     /// Whether it may answer by a reset the segment that waits under this line. An error is the first rule that is broken.
-    pub(crate) fn admits_reset(
-        &self,
-        header: &Header,
-        me: Host,
-        moment: u64,
-        line: u64,
-    ) -> Result<(), Rule>
-        ensures { result_err result ≡ first_broken (deed_rules (tcp header.now) me moment [] self.now (Answers line)) }
+    pub(crate) fn admits_reset(&self, line: u64) -> Result<(), Rule>
+        ensures { result_err result ≡ first_broken (on (waiting line self.now.inbox) (just rule_names.Inbox true) (λ m. reset_rules self.now.body m)) }
     {
         match waiting(&self.inbox, line) {
             Some(m) => self.body.admits_reset(m),
@@ -329,40 +282,23 @@ impl HostState {
         }
     }
 
-    /// Whether a timer of the endpoint of these ports may expire, with this window and threshold from then on. An error is the
-    /// first rule that is broken.
+    /// Whether a timer may expire, with this choice of what its endpoint has then. An error is the first rule that is broken.
     pub(crate) fn admits_expiry(
         &self,
         header: &Header,
-        me: Host,
         moment: u64,
-        line: u64,
-        lport: u16,
-        rport: u16,
-        timer: Timer,
-        cwnd: u32,
-        ssthresh: u32,
+        expiry: Expiry,
+        growth: Growth,
     ) -> Result<(), Rule>
-        ensures { result_err result ≡ first_broken (deed_rules (tcp header.now) me moment [] self.now (Expires line (record { lport = lport; rport = rport; timer = timer }) (record { cwnd = cwnd; ssthresh = ssthresh }))) }
+        ensures { result_err result ≡ first_broken (rules_at self.now.body expiry.lport expiry.rport (λ e. expiry_rules header.now moment e expiry.timer growth)) }
     {
-        self.body
-            .admits_expiry(header, moment, lport, rport, timer, cwnd, ssthresh)
+        self.body.admits_expiry(header, moment, expiry, growth)
     }
 
-    /// Whether fast recovery may begin at the endpoint of these ports, with this window and threshold. An error is the first rule
-    /// that is broken.
-    pub(crate) fn admits_recovery(
-        &self,
-        header: &Header,
-        me: Host,
-        moment: u64,
-        lport: u16,
-        rport: u16,
-        cwnd: u32,
-        ssthresh: u32,
-    ) -> Result<(), Rule>
-        ensures { result_err result ≡ first_broken (deed_rules (tcp header.now) me moment [] self.now (Does (record { lport = lport; rport = rport; cwnd = cwnd; ssthresh = ssthresh }))) }
+    /// Whether fast recovery may begin. An error is the first rule that is broken.
+    pub(crate) fn admits_recovery(&self, recovery: Recovery) -> Result<(), Rule>
+        ensures { result_err result ≡ first_broken (rules_at self.now.body recovery.lport recovery.rport (λ e. recovery_rules e recovery.cwnd recovery.ssthresh)) }
     {
-        self.body.admits_recovery(lport, rport, cwnd, ssthresh)
+        self.body.admits_recovery(recovery)
     }
 }

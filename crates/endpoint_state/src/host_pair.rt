@@ -1,21 +1,18 @@
-//! The two hosts, and what one of them does.
+//! The two hosts: each of them for a look, and the one that acts, lent.
 
-ghost use Rattle.std.specs.Prelude.{◌≡◌, ◌≤◌, true, OnOk, OnErr};
+ghost use Rattle.std.specs.Prelude.{◌≡◌, true, OnOk, OnErr};
 ghost use Rattle.std.specs.Borrow.{sem};
-ghost use Rattle.std.specs.Option.{IfSome};
-ghost use Rattle.hosts.specs.Tables.{Both, pick, other, with_host};
-ghost use Rattle.hosts.specs.Hosts.{Answers, Does, Drops, Expires, Gets, Makes, Sends, Takes};
-ghost use Rattle.machine.specs.Bounds.{greatest_position, IsSmallEmission};
+ghost use Rattle.hosts.specs.Tables.{Both, other, pick, with_host};
 ghost use Rattle.hosts.specs.HostSteps.{empty_host};
-ghost use Rattle.machine.specs.Machine.{act_makes, tcp};
-ghost use Rattle.machine.specs.Machine as acts;
-ghost use Rattle.machine.specs.CallRules.{call_allows};
+ghost use Rattle.machine.specs.Machine.{tcp};
 ghost use Rattle.machine.specs.CallEffects.{after_call};
+ghost use Rattle.machine.specs.CallRules.{call_allows};
+ghost use Rattle.endpoint_state.specs.Kinds.{got_one};
+ghost use Rattle.endpoint_state.specs.Sides.{AreReady, forget_hosts};
 ghost use Rattle.endpoint_state.specs.Lending.{LendsSide};
-ghost use Rattle.endpoint_state.specs.Sides.{AreReady, forget_hosts, hosts_after};
 
 use crate::host::{self, HostState};
-use case_forms::{Answer, Call, Header, Host, SegmentPlan, TakeChoice, Timer, Wire};
+use case_forms::{Answer, Call, Header, Host};
 use segment::OutOfMemory;
 use std::alloc::Global;
 use std::marker::Model;
@@ -60,7 +57,7 @@ impl Hosts {
     }
 
     // The host that acts; what is written there is the only change.
-    fn side(&mut self, host: Host) -> &mut HostState
+    pub(crate) fn side(&mut self, host: Host) -> &mut HostState
         ensures* writes_back { sem 𝓛 (LendsSide self.entry host result) }
         ensures value { result.now ≡ pick self.old host }
     {
@@ -70,183 +67,14 @@ impl Hosts {
         }
     }
 
-    /// A host makes a segment under this number.
-    #[tactic(auto, using(crate::proofs::Still::still_host))]
-    pub(crate) fn make(
-        &mut self,
-        alloc: Global,
-        header: &Header,
-        host: Host,
-        making: &SegmentPlan,
-        moment: u64,
-        fresh: u32,
-    ) -> Result<(), OutOfMemory>
-        requires ready { AreReady self.old }
-        requires small { making.now.pos ≤ greatest_position }
-        ensures ok { OnOk result (self.new ≡ hosts_after header.now moment fresh self.old host (Makes making.now)) }
-        ensures small { OnOk result (IfSome (act_makes host (pick self.old host).body (acts.Makes making.now)) IsSmallEmission) }
-        ensures err { OnErr result (self.new ≡ self.old) }
-    {
-        host::make(alloc, header, host, self.side(host), making, moment, fresh)
-    }
-
-    /// The segment of this number goes out with this line.
-    #[tactic(auto, using(crate::proofs::Still::still_host))]
-    pub(crate) fn send_made(
-        &mut self,
-        header: &Header,
-        host: Host,
-        line: u64,
-        number: u32,
-        wire: &Wire,
-        moment: u64,
-    ) -> Result<(), OutOfMemory>
-        requires ready { AreReady self.old }
-        ensures ok { OnOk result (self.new ≡ hosts_after header.now moment 0 self.old host (Sends line number wire.now)) }
-        ensures err { OnErr result (self.new ≡ self.old) }
-    {
-        host::send_made(header, host, self.side(host), line, number, wire, moment)
-    }
-
-    /// The segment that waits under this line is taken.
-    #[tactic(auto, using(crate::proofs::Still::still_host))]
-    pub(crate) fn take(
-        &mut self,
-        alloc: Global,
-        header: &Header,
-        host: Host,
-        line: u64,
-        how: TakeChoice,
-        moment: u64,
-    ) -> Result<(), OutOfMemory>
-        requires ready { AreReady self.old }
-        ensures ok { OnOk result (self.new ≡ hosts_after header.now moment 0 self.old host (Takes line how)) }
-        ensures err { OnErr result (self.new ≡ self.old) }
-    {
-        host::take(alloc, header, host, self.side(host), line, how, moment)
-    }
-
-    /// The segment that waits under this line is dropped.
-    #[tactic(auto, using(crate::proofs::Still::still_host))]
-    pub(crate) fn drop_waiting(&mut self, header: &Header, host: Host, line: u64, moment: u64)
-        requires ready { AreReady self.old }
-        ensures { self.new ≡ hosts_after header.now moment 0 self.old host (Drops line) }
-    {
-        host::drop_waiting(header, host, self.side(host), line, moment);
-    }
-
-    /// The segment that waits under this line is answered by a reset, which gets this number.
-    #[tactic(auto, using(crate::proofs::Still::still_host))]
-    pub(crate) fn answer(
-        &mut self,
-        alloc: Global,
-        header: &Header,
-        host: Host,
-        line: u64,
-        moment: u64,
-        fresh: u32,
-    ) -> Result<(), OutOfMemory>
-        requires ready { AreReady self.old }
-        ensures ok { OnOk result (self.new ≡ hosts_after header.now moment fresh self.old host (Answers line)) }
-        ensures err { OnErr result (self.new ≡ self.old) }
-    {
-        host::answer(alloc, header, host, self.side(host), line, moment, fresh)
-    }
-
-    /// A timer of the endpoint of these ports expires: then its congestion window and slow start threshold, in bytes.
-    #[tactic(auto, using(crate::proofs::Still::still_host))]
-    pub(crate) fn expire(
-        &mut self,
-        header: &Header,
-        host: Host,
-        line: u64,
-        lport: u16,
-        rport: u16,
-        timer: Timer,
-        cwnd: u32,
-        ssthresh: u32,
-        moment: u64,
-    )
-        requires ready { AreReady self.old }
-        ensures { self.new ≡ hosts_after header.now moment 0 self.old host (Expires line (record { lport = lport; rport = rport; timer = timer }) (record { cwnd = cwnd; ssthresh = ssthresh })) }
-    {
-        host::expire(
-            header,
-            host,
-            self.side(host),
-            line,
-            lport,
-            rport,
-            timer,
-            cwnd,
-            ssthresh,
-            moment,
-        );
-    }
-
-    /// Fast recovery begins at the endpoint of these ports, with this congestion window and slow start threshold in bytes.
-    #[tactic(auto, using(crate::proofs::Still::still_host))]
-    pub(crate) fn recover(
-        &mut self,
-        header: &Header,
-        host: Host,
-        lport: u16,
-        rport: u16,
-        cwnd: u32,
-        ssthresh: u32,
-        moment: u64,
-    )
-        requires ready { AreReady self.old }
-        ensures { self.new ≡ hosts_after header.now moment 0 self.old host (Does (record { lport = lport; rport = rport; cwnd = cwnd; ssthresh = ssthresh })) }
-    {
-        host::recover(
-            header,
-            host,
-            self.side(host),
-            lport,
-            rport,
-            cwnd,
-            ssthresh,
-            moment,
-        );
-    }
-
-    /// A copy of what the other host put on its wire comes in with this line.
-    #[tactic(auto, using(crate::proofs::Still::still_host))]
-    pub(crate) fn get(
-        &mut self,
-        header: &Header,
-        host: Host,
-        line: u64,
-        copied: u64,
-        wire: &Wire,
-        moment: u64,
-    ) -> Result<(), OutOfMemory>
-        requires ready { AreReady self.old }
-        ensures ok { OnOk result (self.new ≡ hosts_after header.now moment 0 self.old host (Gets line copied wire.now)) }
+    /// A copy of what the other host put on its wire comes in at a host with this line.
+    pub(crate) fn get(&mut self, host: Host, line: u64, copied: u64) -> Result<(), OutOfMemory>
+        ensures ok { OnOk result (self.new ≡ with_host self.old host (got_one (pick self.old (other host)).wire line copied (pick self.old host))) }
         ensures err { OnErr result (self.new ≡ self.old) }
     {
         match host {
-            Host::Zero => host::get(
-                header,
-                host,
-                &mut self.zero,
-                &self.one,
-                line,
-                copied,
-                wire,
-                moment,
-            ),
-            Host::One => host::get(
-                header,
-                host,
-                &mut self.one,
-                &self.zero,
-                line,
-                copied,
-                wire,
-                moment,
-            ),
+            Host::Zero => host::get(&mut self.zero, &self.one, line, copied),
+            Host::One => host::get(&mut self.one, &self.zero, line, copied),
         }
     }
 

@@ -16,7 +16,9 @@ ghost use Rattle.endpoint_state.specs.declared.body.Found.TheVariants as found;
 ghost use Rattle.endpoint_state.specs.Takers.{taker_found};
 
 use crate::body::{Body, Found};
-use case_forms::{Answer, Call, Header, Host, SegmentPlan, State, TakeChoice, Timer};
+use case_forms::{
+    Answer, Call, Expiry, Growth, Header, Host, Recovery, SegmentPlan, State, TakeChoice,
+};
 use endpoint::{endpoint_allows, listener_allows};
 use machine::{Emission, Endpoint, Name, Thing};
 use seqno::number;
@@ -79,41 +81,33 @@ impl Body {
         }
     }
 
-    /// Whether a timer of the endpoint of these ports may expire at this moment (in microseconds), with this congestion
-    /// window and slow start threshold (in bytes) from then on. An error is the first rule that is broken.
+    /// Whether a timer may expire at this moment (in microseconds), with this choice of what its endpoint has then. An error is
+    /// the first rule that is broken.
     pub fn admits_expiry(
         &self,
         header: &Header,
         moment: u64,
-        lport: u16,
-        rport: u16,
-        timer: Timer,
-        cwnd: u32,
-        ssthresh: u32,
+        expiry: Expiry,
+        growth: Growth,
     ) -> Result<(), Rule>
-        ensures { result_err result ≡ first_broken (rules_at self.now lport rport (λ e. expiry_rules header.now moment e timer (record { cwnd = cwnd; ssthresh = ssthresh }))) }
+        ensures { result_err result ≡ first_broken (rules_at self.now expiry.lport expiry.rport (λ e. expiry_rules header.now moment e expiry.timer growth)) }
     {
-        match self.endpoint_of(lport, rport) {
+        match self.endpoint_of(expiry.lport, expiry.rport) {
             Some(endpoint) => {
-                endpoint::admits_expiry(header, moment, endpoint, timer, cwnd, ssthresh)
+                endpoint::admits_expiry(header, moment, endpoint, expiry.timer, growth)
             }
             None => Err(Rule::NoEndpoint),
         }
     }
 
-    /// Whether fast recovery may begin at the endpoint of these ports, with this congestion window and slow start
-    /// threshold (in bytes). An error is the first rule that is broken.
-    pub fn admits_recovery(
-        &self,
-        lport: u16,
-        rport: u16,
-        cwnd: u32,
-        ssthresh: u32,
-    ) -> Result<(), Rule>
-        ensures { result_err result ≡ first_broken (rules_at self.now lport rport (λ e. recovery_rules e cwnd ssthresh)) }
+    /// Whether fast recovery may begin. An error is the first rule that is broken.
+    pub fn admits_recovery(&self, recovery: Recovery) -> Result<(), Rule>
+        ensures { result_err result ≡ first_broken (rules_at self.now recovery.lport recovery.rport (λ e. recovery_rules e recovery.cwnd recovery.ssthresh)) }
     {
-        match self.endpoint_of(lport, rport) {
-            Some(endpoint) => endpoint::admits_recovery(endpoint, cwnd, ssthresh),
+        match self.endpoint_of(recovery.lport, recovery.rport) {
+            Some(endpoint) => {
+                endpoint::admits_recovery(endpoint, recovery.cwnd, recovery.ssthresh)
+            }
             None => Err(Rule::NoEndpoint),
         }
     }

@@ -10,10 +10,13 @@ ghost use Rattle.machine.specs.Machine.{tcp};
 ghost use Rattle.endpoint_state.specs.Worlds.{after, start};
 ghost use Rattle.endpoint_state.specs.Sides.{AreReady};
 
+use crate::host;
 use crate::host_pair::Hosts;
 use crate::threads::{admits_begin, admits_end, begin, finish};
 use crate::turn::Turn;
-use case_forms::{Answer, Call, Header, Host, SegmentPlan, TakeChoice, Timer, Wire};
+use case_forms::{
+    Answer, Call, Expiry, Growth, Header, Host, Recovery, SegmentPlan, TakeChoice, Wire,
+};
 use indexmap::IndexMap;
 use segment::OutOfMemory;
 use std::alloc::Global;
@@ -128,9 +131,7 @@ impl World {
         requires small { making.now.pos ≤ greatest_position }
         ensures { result_err result ≡ first_broken (step_rules (tcp self.now.header) 0 self.now.world (At host (Makes making.now))) }
     {
-        self.hosts
-            .near(host)
-            .admits_making(&self.header, host, 0, making)
+        self.hosts.near(host).admits_making(making)
     }
 
     /// Whether a host may take the segment that came in with this line, at a moment in microseconds. An error is the first rule
@@ -146,16 +147,14 @@ impl World {
     {
         self.hosts
             .near(host)
-            .admits_taking(&self.header, host, moment, line, how)
+            .admits_taking(&self.header, host, line, how)
     }
 
     /// Whether a host may drop what came in with this line. An error is the first rule that is broken: nothing waits (`Inbox`).
     pub fn admits_dropping(&self, host: Host, line: u64) -> Result<(), Rule>
         ensures { result_err result ≡ first_broken (step_rules (tcp self.now.header) 0 self.now.world (At host (Drops line))) }
     {
-        self.hosts
-            .near(host)
-            .admits_dropping(&self.header, host, 0, line)
+        self.hosts.near(host).admits_dropping(line)
     }
 
     /// Whether a host may answer by a reset what came in with this line, at a moment in microseconds. An error is the first rule
@@ -163,54 +162,30 @@ impl World {
     pub fn admits_reset(&self, host: Host, moment: u64, line: u64) -> Result<(), Rule>
         ensures { result_err result ≡ first_broken (step_rules (tcp self.now.header) moment self.now.world (At host (Answers line))) }
     {
-        self.hosts
-            .near(host)
-            .admits_reset(&self.header, host, moment, line)
+        self.hosts.near(host).admits_reset(line)
     }
 
-    /// Whether a timer of the endpoint of these ports may expire at a moment in microseconds, with this congestion window
-    /// and slow start threshold in bytes from then on. An error is the first rule that is broken.
+    /// Whether a timer may expire at a moment in microseconds, with this choice of what its endpoint has then. An error is the
+    /// first rule that is broken.
     pub fn admits_expiry(
         &self,
         host: Host,
         moment: u64,
-        line: u64,
-        lport: u16,
-        rport: u16,
-        timer: Timer,
-        cwnd: u32,
-        ssthresh: u32,
+        expiry: Expiry,
+        growth: Growth,
     ) -> Result<(), Rule>
-        ensures { result_err result ≡ first_broken (step_rules (tcp self.now.header) moment self.now.world (At host (Expires line (record { lport = lport; rport = rport; timer = timer }) (record { cwnd = cwnd; ssthresh = ssthresh })))) }
-    {
-        self.hosts.near(host).admits_expiry(
-            &self.header,
-            host,
-            moment,
-            line,
-            lport,
-            rport,
-            timer,
-            cwnd,
-            ssthresh,
-        )
-    }
-
-    /// Whether fast recovery may begin at the endpoint of these ports, with this congestion window and slow start
-    /// threshold in bytes. An error is the first rule that is broken.
-    pub fn admits_recovery(
-        &self,
-        host: Host,
-        lport: u16,
-        rport: u16,
-        cwnd: u32,
-        ssthresh: u32,
-    ) -> Result<(), Rule>
-        ensures { result_err result ≡ first_broken (step_rules (tcp self.now.header) 0 self.now.world (At host (Does (record { lport = lport; rport = rport; cwnd = cwnd; ssthresh = ssthresh })))) }
+        ensures { result_err result ≡ first_broken (step_rules (tcp self.now.header) moment self.now.world (At host (Expires 0 expiry growth))) }
     {
         self.hosts
             .near(host)
-            .admits_recovery(&self.header, host, 0, lport, rport, cwnd, ssthresh)
+            .admits_expiry(&self.header, moment, expiry, growth)
+    }
+
+    /// Whether fast recovery may begin (RFC 5681, 3.2). An error is the first rule that is broken.
+    pub fn admits_recovery(&self, host: Host, recovery: Recovery) -> Result<(), Rule>
+        ensures { result_err result ≡ first_broken (step_rules (tcp self.now.header) 0 self.now.world (At host (Does recovery))) }
+    {
+        self.hosts.near(host).admits_recovery(recovery)
     }
 
     /// A thread begins a call. The error is that memory ran out, and then nothing is changed.
@@ -247,8 +222,7 @@ impl World {
         ensures err { OnErr result (self.new ≡ self.old) }
     {
         let fresh = self.count + 1;
-        self.hosts
-            .make(self.alloc, &self.header, host, making, moment, fresh)?;
+        host::make(self.alloc, host, self.hosts.side(host), making, moment, fresh)?;
         self.count = fresh;
         self.steps += 1;
         Ok(())
@@ -269,8 +243,7 @@ impl World {
         ensures ok { OnOk result (self.new ≡ after self.old moment (At host (Sends line number wire.now))) }
         ensures err { OnErr result (self.new ≡ self.old) }
     {
-        self.hosts
-            .send_made(&self.header, host, line, number, wire, moment)?;
+        host::send_made(self.hosts.side(host), line, number, wire, moment)?;
         self.steps += 1;
         Ok(())
     }
@@ -290,8 +263,7 @@ impl World {
         ensures ok { OnOk result (self.new ≡ after self.old moment (At host (Gets line copied wire.now))) }
         ensures err { OnErr result (self.new ≡ self.old) }
     {
-        self.hosts
-            .get(&self.header, host, line, copied, wire, moment)?;
+        self.hosts.get(host, line, copied)?;
         self.steps += 1;
         Ok(())
     }
@@ -310,8 +282,7 @@ impl World {
         ensures ok { OnOk result (self.new ≡ after self.old moment (At host (Takes line how))) }
         ensures err { OnErr result (self.new ≡ self.old) }
     {
-        self.hosts
-            .take(self.alloc, &self.header, host, line, how, moment)?;
+        host::take(self.alloc, &self.header, self.hosts.side(host), line, how, moment)?;
         self.steps += 1;
         Ok(())
     }
@@ -322,7 +293,7 @@ impl World {
         requires permitted { Permitted (tcp self.old.header) moment self.old.world (At host (Drops line)) }
         ensures { self.new ≡ after self.old moment (At host (Drops line)) }
     {
-        self.hosts.drop_waiting(&self.header, host, line, moment);
+        host::drop_waiting(self.hosts.side(host), line);
         self.steps += 1;
     }
 
@@ -335,61 +306,29 @@ impl World {
         ensures err { OnErr result (self.new ≡ self.old) }
     {
         let fresh = self.count + 1;
-        self.hosts
-            .answer(self.alloc, &self.header, host, line, moment, fresh)?;
+        host::answer(self.alloc, self.hosts.side(host), line, fresh)?;
         self.count = fresh;
         self.steps += 1;
         Ok(())
     }
 
-    /// A timer of the endpoint of these ports expires, at a moment in microseconds, with this congestion window and slow start
-    /// threshold in bytes from then on.
-    pub fn expire(
-        &mut self,
-        host: Host,
-        line: u64,
-        lport: u16,
-        rport: u16,
-        timer: Timer,
-        cwnd: u32,
-        ssthresh: u32,
-        moment: u64,
-    )
+    /// A timer expires, at a moment in microseconds, with this choice of what its endpoint has then.
+    pub fn expire(&mut self, host: Host, expiry: Expiry, growth: Growth, moment: u64)
         requires steps { self.old.steps < most_steps }
-        requires permitted { Permitted (tcp self.old.header) moment self.old.world (At host (Expires line (record { lport = lport; rport = rport; timer = timer }) (record { cwnd = cwnd; ssthresh = ssthresh }))) }
-        ensures { self.new ≡ after self.old moment (At host (Expires line (record { lport = lport; rport = rport; timer = timer }) (record { cwnd = cwnd; ssthresh = ssthresh }))) }
+        requires permitted { Permitted (tcp self.old.header) moment self.old.world (At host (Expires 0 expiry growth)) }
+        ensures { self.new ≡ after self.old moment (At host (Expires 0 expiry growth)) }
     {
-        self.hosts.expire(
-            &self.header,
-            host,
-            line,
-            lport,
-            rport,
-            timer,
-            cwnd,
-            ssthresh,
-            moment,
-        );
+        host::expire(self.hosts.side(host), expiry, growth, moment);
         self.steps += 1;
     }
 
-    /// Fast recovery begins at the endpoint of these ports, at a moment in microseconds, with this congestion window and slow
-    /// start threshold in bytes (RFC 5681, 3.2).
-    pub fn recover(
-        &mut self,
-        host: Host,
-        lport: u16,
-        rport: u16,
-        cwnd: u32,
-        ssthresh: u32,
-        moment: u64,
-    )
+    /// Fast recovery begins, at a moment in microseconds (RFC 5681, 3.2).
+    pub fn recover(&mut self, host: Host, recovery: Recovery, moment: u64)
         requires steps { self.old.steps < most_steps }
-        requires permitted { Permitted (tcp self.old.header) moment self.old.world (At host (Does (record { lport = lport; rport = rport; cwnd = cwnd; ssthresh = ssthresh }))) }
-        ensures { self.new ≡ after self.old moment (At host (Does (record { lport = lport; rport = rport; cwnd = cwnd; ssthresh = ssthresh }))) }
+        requires permitted { Permitted (tcp self.old.header) moment self.old.world (At host (Does recovery)) }
+        ensures { self.new ≡ after self.old moment (At host (Does recovery)) }
     {
-        self.hosts
-            .recover(&self.header, host, lport, rport, cwnd, ssthresh, moment);
+        host::recover(self.hosts.side(host), recovery);
         self.steps += 1;
     }
 }

@@ -9,7 +9,7 @@ use Rattle.endpoint_state.proofs.Deeds.{Host_, took, took_nothing}
 use Rattle.endpoint_state.proofs.host.take.Goals as goal
 
 pub returns-in_default-clause-ok : goal.returns-in_default-clause-ok
-returns-in_default-clause-ok c = took_nothing c.args.header.now c.args.me c.args.moment c.args.line c.args.how c.args.host.now c.requires.ready
+returns-in_default-clause-ok c = took_nothing c.args.header.now c.args.moment c.args.line c.args.how c.args.host.now c.requires.ready
     (ap (λ (h : Host_). waiting c.args.line h.inbox) (sym c.host.view_is) ∙ (sym c.waiting.ensures ∙ ap (λ (o : Option (Bor Emission)). option_copied o) c.in_default.is))
 
 pub take-requires-clause-small : goal.take-requires-clause-small

@@ -9,4 +9,4 @@ use Rattle.endpoint_state.proofs.endpoints.Endpoints.expire.Goals as goal
 
 pub invariant_of-self : goal.invariant_of-self
 invariant_of-self c = rw c.expire_at.ensures
-    (indexed_changed (find_ports c.self.inside.places.entries) (is_child_in c.self.inside.children.entries) c.self.inside.all.items c.self.invariant (subst (λ (es : List Endpoint). All HasRoom es) (sym c.self.view_is) c.requires) c.args.place (λ e. after_expiry e c.args.timer (record { cwnd = c.args.cwnd; ssthresh = c.args.ssthresh }) c.args.moment) (λ e. keeps_expired e c.args.timer (record { cwnd = c.args.cwnd; ssthresh = c.args.ssthresh }) c.args.moment))
+    (indexed_changed (find_ports c.self.inside.places.entries) (is_child_in c.self.inside.children.entries) c.self.inside.all.items c.self.invariant (subst (λ (es : List Endpoint). All HasRoom es) (sym c.self.view_is) c.requires) c.args.place (λ e. after_expiry e c.args.timer c.args.growth c.args.moment) (λ e. keeps_expired e c.args.timer c.args.growth c.args.moment))

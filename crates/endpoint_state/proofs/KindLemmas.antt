@@ -1,0 +1,58 @@
+-- What a deed of each kind leaves at one host is what the kernel's deed leaves of both, with all discarded that may be.
+use Rattle.std.proofs.Common.{◌≡◌, ℕ, List, Option, None, Some, refl, sym, ap, ◌∙◌, nat_eq}
+use Rattle.std.specs.Map.{lookup}
+use Rattle.indexmap.specs.IndexMap.{insert_entry}
+use Rattle.case_forms.specs.declared.trace.Header.{Header}
+use Rattle.case_forms.specs.declared.trace.Wire.{Wire}
+use Rattle.case_forms.specs.declared.calls.Host.{Host}
+use Rattle.case_forms.specs.declared.calls.Host.TheVariants.{Zero, One}
+use Rattle.hosts.specs.Tables.{Both, pick, other, with_host, on, waiting, settled, unsent}
+use Rattle.hosts.specs.Hosts.{HostState, Answers, Deed, Drops, Gets, Sends}
+use Rattle.hosts.specs.HostSteps.{deed_after}
+use Rattle.machine.specs.declared.endpoint.Emission.{Emission}
+use Rattle.machine.specs.Resets.{reset_of}
+use Rattle.machine.specs.Machine.{tcp, tcp_shape}
+use Rattle.machine.specs.Forgetting.{forget_host}
+use Rattle.endpoint_state.specs.Kept.{IsReady}
+use Rattle.endpoint_state.specs.Kinds.{answered_one, dropped_one, got_one, sent_one}
+use Rattle.endpoint_state.specs.Sides.{AreReady, forget_hosts, hosts_after}
+use Rattle.endpoint_state.proofs.Still.{still_body, still_host}
+
+abbrev Host_ : Type 0
+Host_ = HostState tcp_shape
+
+pub ready_at : (hosts : Both Host_) (host : Host) → AreReady hosts → IsReady (pick hosts host)
+ready_at hosts Zero are = are.zero
+ready_at hosts One are = are.one
+
+-- one lemma for every kind: the other host is still
+pub lent : (hosts : Both Host_) (host : Host) (x y : Host_) → AreReady hosts → x ≡ forget_host y → with_host hosts host x ≡ forget_hosts (with_host hosts host y)
+lent hosts Zero x y are is = rw (is, still_host hosts.one are.one) refl
+lent hosts One x y are is = rw (is, still_host hosts.zero are.zero) refl
+
+-- where only tables change
+tables : (hosts : Both Host_) (host : Host) (x : Host_) → AreReady hosts → x.body ≡ (pick hosts host).body → with_host hosts host x ≡ forget_hosts (with_host hosts host x)
+tables hosts host x are same = lent hosts host x x are (sym (ap (λ b. record x { body = b }) (rw same (still_body (pick hosts host).body (ready_at hosts host are).room) ∙ sym same)))
+
+pub sent_hosts : (hd : Header) (moment fresh line number : ℕ) (w : Wire) (hosts : Both Host_) (host : Host) → AreReady hosts → with_host hosts host (sent_one moment line number w (pick hosts host)) ≡ hosts_after hd moment fresh hosts host (Sends line number w)
+sent_hosts hd moment fresh line number w hosts host are = tables hosts host (sent_one moment line number w (pick hosts host)) are refl
+
+pub got_hosts : (hd : Header) (moment fresh line copied : ℕ) (w : Wire) (hosts : Both Host_) (host : Host) → AreReady hosts → with_host hosts host (got_one (pick hosts (other host)).wire line copied (pick hosts host)) ≡ hosts_after hd moment fresh hosts host (Gets line copied w)
+got_hosts hd moment fresh line copied w hosts host are = tables hosts host (got_one (pick hosts (other host)).wire line copied (pick hosts host)) are refl
+
+pub dropped_hosts : (hd : Header) (moment fresh line : ℕ) (hosts : Both Host_) (host : Host) → AreReady hosts → with_host hosts host (dropped_one line (pick hosts host)) ≡ hosts_after hd moment fresh hosts host (Drops line)
+dropped_hosts hd moment fresh line hosts host are = tables hosts host (dropped_one line (pick hosts host)) are refl
+
+pub answered_hosts : (hd : Header) (moment fresh line : ℕ) (hosts : Both Host_) (host : Host) → AreReady hosts → with_host hosts host (answered_one line fresh (pick hosts host)) ≡ hosts_after hd moment fresh hosts host (Answers line)
+answered_hosts hd moment fresh line hosts host are =
+    tables hosts host (answered_one line fresh (pick hosts host)) are refl
+    ∙ ap (λ (h : Host_). forget_hosts (with_host hosts host h)) (by (waiting line (pick hosts host).inbox))
+  where
+    k : Host_
+    k = pick hosts host
+
+    by : (o : Option Emission)
+        → (let y : Host_ = record k { made = on o k.made (λ e. insert_entry nat_eq k.made fresh (unsent (reset_of e))); inbox = on o k.inbox (λ e. settled line k.inbox) } in y)
+        ≡ record k { body = on o k.body (λ e. k.body); made = on o k.made (λ e. insert_entry nat_eq k.made fresh (unsent (reset_of e))); inbox = on o k.inbox (λ e. settled line k.inbox) }
+    by None = refl
+    by (Some e) = refl
