@@ -3,12 +3,10 @@
 //! Memory grows with the trace, since all its lines are offered at the start; a step costs the logarithm of the number
 //! of lines that wait.
 
-ghost use Rattle.std.specs.Prelude.{◌≡◌, ◌↔◌, ◌<◌, ◌++◌, List, [], length, IfOk, IfNone, IsSome};
-ghost use Rattle.std.specs.Option.{option_map};
+ghost use Rattle.std.specs.Prelude.{◌≡◌, ◌↔◌, ◌<◌, ◌++◌, List, [], length, IfOk, IfNone};
 ghost use Rattle.case_forms.specs.declared.trace.Line.{Line};
 ghost use Rattle.std.specs.List.{All};
 ghost use Rattle.case_forms.specs.Traces.{first_event_line, IsRecorded, IsTrace};
-ghost use Rattle.case_forms.specs.TakenLines.{taken_of};
 ghost use Rattle.case_forms.specs.Witnesses.{IsWithinLimits, IsWitness};
 ghost use Rattle.interval_order.specs.Orders.{passing, order_of, order_after};
 ghost use Rattle.interval_order.specs.OrderRules.{order_rules};
@@ -17,8 +15,8 @@ ghost use Rattle.hosts.specs.HostSteps as hosts;
 ghost use Rattle.machine.specs.Bounds.{most_steps};
 ghost use Rattle.machine.specs.Machine.{tcp};
 ghost use Rattle.machine.specs.Steps.{line_step, hidden_step};
-ghost use Rattle.endpoint_state.specs.Worlds.{start};
-ghost use Rattle.spec_step.specs.Asked.{asked_rules, asked_after};
+ghost use Rattle.endpoint_state.specs.Worlds.{start, after};
+ghost use Rattle.spec_step.specs.Asked.{broken_by, asked_rules, asked_after};
 ghost use Rattle.checker.specs.Seen.{move_of};
 ghost use Rattle.checker.specs.Verdicts.{verdict, verdict_from, verdict_left, takes_line, line_named};
 ghost use Rattle.checker.specs.Kept.{kept_broken, kept_progress};
@@ -27,7 +25,7 @@ ghost use Rattle.checker.specs.Judges.{Says};
 ghost use Rattle.checker.specs.Consequences.{ReadsBeginWhatWasSent, EndsAreWhole, AllAcknowledgedWasTaken, AllKeepWindows};
 
 use crate::laws::explained_follows;
-use case_forms::{Extras, Header, Label, Line, NamedLine, OutOfMemory, Step, Trace, Witness};
+use case_forms::{Header, Label, Line, NamedLine, OutOfMemory, Step, TakenLine, Trace, Witness};
 use endpoint_state::World;
 use interval_order::Window;
 use spec_step::{StepFault, apply_hidden, apply_line};
@@ -133,7 +131,10 @@ fn replay(window: &mut Window, world: &mut World, step: &Step) -> Result<Option<
 {
     match &step.label {
         Label::L(named) => match window.place(named.number, named.extras.count(), step.moment) {
-            Ok(line) => take(world, step.moment, line, named.extras),
+            Ok(line) => match line.taken(named.extras) {
+                Some(taken) => take(world, step.moment, &taken),
+                None => unreachable!(),
+            },
             Err(rule) => Ok(Some(rule)),
         },
         Label::D { .. }
@@ -145,22 +146,13 @@ fn replay(window: &mut Window, world: &mut World, step: &Step) -> Result<Option<
     }
 }
 
-// Takes a line that breaks no rule of order, or says which rule of the machine is broken.
-fn take(
-    world: &mut World,
-    moment: u64,
-    line: Line,
-    extras: Extras,
-) -> Result<Option<Rule>, OutOfMemory>
-    requires steps { world.old.steps < most_steps }
-    requires counted { IsSome (taken_of extras line) }
-    ensures rule { IfOk result (λ r. r ≡ first_broken (asked_rules world.old moment (option_map line_step (taken_of extras line)))) }
-    ensures after { IfOk result (λ r. IfNone r (world.new ≡ asked_after world.old moment (option_map line_step (taken_of extras line)))) }
+// Takes a line in the machine, or says which of its rules is broken.
+fn take(world: &mut World, moment: u64, line: &TakenLine) -> Result<Option<Rule>, OutOfMemory>
+    requires { world.old.steps < most_steps }
+    ensures rule { IfOk result (λ r. r ≡ broken_by world.old moment (line_step line.now)) }
+    ensures after { IfOk result (λ r. IfNone r (world.new ≡ after world.old moment (line_step line.now))) }
 {
-    let Some(taken) = line.taken(extras) else {
-        unreachable!();
-    };
-    match apply_line(world, moment, &taken) {
+    match apply_line(world, moment, line) {
         Ok(()) => Ok(None),
         Err(StepFault::Broken(rule)) => Ok(Some(rule)),
         Err(StepFault::OutOfMemory) => Err(AllocError),
