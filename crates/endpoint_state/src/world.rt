@@ -96,14 +96,8 @@ impl World {
 
     /// Whether the segment that a host made under this number may go out so: it looks so, and didn't go out before. An error is
     /// the first rule that is broken.
-    pub fn admits_sending(
-        &self,
-        host: Host,
-        line: u64,
-        number: u32,
-        wire: &Wire,
-    ) -> Result<(), Rule>
-        ensures { result_err result ≡ first_broken (step_rules (tcp self.now.header) 0 self.now.world (At host (Sends line number wire.now))) }
+    pub fn admits_sending(&self, host: Host, number: u32, wire: &Wire) -> Result<(), Rule>
+        ensures { result_err result ≡ first_broken (step_rules (tcp self.now.header) 0 self.now.world (At host (Sends 0 number wire.now))) }
     {
         self.hosts.near(host).admits_sending(number, wire)
     }
@@ -114,11 +108,10 @@ impl World {
         &self,
         host: Host,
         moment: u64,
-        line: u64,
         copied: u64,
         wire: &Wire,
     ) -> Result<(), Rule>
-        ensures { result_err result ≡ first_broken (step_rules (tcp self.now.header) moment self.now.world (At host (Gets line copied wire.now))) }
+        ensures { result_err result ≡ first_broken (step_rules (tcp self.now.header) moment self.now.world (At host (Gets 0 copied wire.now))) }
     {
         self.hosts
             .far(host)

@@ -3,10 +3,20 @@
 ghost use Rattle.std.specs.Prelude.{◌≡◌};
 ghost use Rattle.machine.specs.Steps.{timer_of, growth_of};
 
-use case_forms::{Expired, Growth, Timer};
+use case_forms::{Expired, Expiry, Growth, Ports, Timer};
 
-/// Which timer it is.
-pub(crate) fn timer_of(expired: Expired) -> Timer
+/// Which timer it is, and whose.
+pub(crate) fn expiry_of(ports: Ports, expired: Expired) -> Expiry
+    ensures { result ≡ record { lport = ports.lport; rport = ports.rport; timer = timer_of expired } }
+{
+    Expiry {
+        lport: ports.lport,
+        rport: ports.rport,
+        timer: timer_of(expired),
+    }
+}
+
+fn timer_of(expired: Expired) -> Timer
     ensures { result ≡ timer_of expired }
 {
     match expired {

@@ -56,13 +56,7 @@ pub(crate) fn admits_hidden<Taken>(
         Label::T { host, line, choice } => world.admits_taking(*host, moment, *line, *choice),
         Label::K { host, line } => world.admits_dropping(*host, *line),
         Label::R { host, line } => world.admits_reset(*host, moment, *line),
-        Label::F { host, recovery } => world.admits_recovery(
-            *host,
-            recovery.lport,
-            recovery.rport,
-            recovery.cwnd,
-            recovery.ssthresh,
-        ),
+        Label::F { host, recovery } => world.admits_recovery(*host, *recovery),
     }
 }
 
@@ -93,14 +87,7 @@ fn perform<Taken>(world: &mut World, moment: u64, label: &Label<Taken>) -> Resul
         }
         Label::R { host, line } => world.answer(*host, *line, moment),
         Label::F { host, recovery } => {
-            world.recover(
-                *host,
-                recovery.lport,
-                recovery.rport,
-                recovery.cwnd,
-                recovery.ssthresh,
-                moment,
-            );
+            world.recover(*host, *recovery, moment);
             Ok(())
         }
     }

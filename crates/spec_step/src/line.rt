@@ -8,7 +8,7 @@ ghost use Rattle.endpoint_state.specs.Worlds.{after};
 ghost use Rattle.spec_step.specs.Asked.{broken_by};
 ghost use Rattle.spec_step.specs.Faults.{IfBroken};
 
-use crate::expired::{growth_of, timer_of};
+use crate::expired::{expiry_of, growth_of};
 use crate::step::StepFault;
 use case_forms::{OutOfMemory, TakenLine};
 use endpoint_state::World;
@@ -40,35 +40,28 @@ pub(crate) fn admits_line(world: &World, moment: u64, line: &TakenLine) -> Resul
         TakenLine::CallBegin { thread, call, .. } => world.admits_begin(*thread, call),
         TakenLine::CallEnd { thread, answer, .. } => world.admits_finish(*thread, answer),
         TakenLine::Sent {
-            line,
             host,
             made,
             wire,
-        } => world.admits_sending(*host, *line, *made, wire),
+            ..
+        } => world.admits_sending(*host, *made, wire),
         TakenLine::Came {
-            line,
             host,
             copied,
             wire,
-        } => world.admits_arrival(*host, moment, *line, *copied, wire),
+            ..
+        } => world.admits_arrival(*host, moment, *copied, wire),
         TakenLine::Expired {
-            line,
             host,
             ports,
             expired,
-        } => {
-            let growth = growth_of(*expired);
-            world.admits_expiry(
-                *host,
-                moment,
-                *line,
-                ports.lport,
-                ports.rport,
-                timer_of(*expired),
-                growth.cwnd,
-                growth.ssthresh,
-            )
-        }
+            ..
+        } => world.admits_expiry(
+            *host,
+            moment,
+            expiry_of(*ports, *expired),
+            growth_of(*expired),
+        ),
     }
 }
 
@@ -95,22 +88,13 @@ fn take_line(world: &mut World, moment: u64, line: &TakenLine) -> Result<(), Out
             wire,
         } => world.arrive(*host, *line, *copied, wire, moment),
         TakenLine::Expired {
-            line,
             host,
             ports,
             expired,
+            ..
         } => {
-            let growth = growth_of(*expired);
-            world.expire(
-                *host,
-                *line,
-                ports.lport,
-                ports.rport,
-                timer_of(*expired),
-                growth.cwnd,
-                growth.ssthresh,
-                moment,
-            );
+            let expiry = expiry_of(*ports, *expired);
+            world.expire(*host, expiry, growth_of(*expired), moment);
             Ok(())
         }
     }
