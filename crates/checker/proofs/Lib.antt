@@ -1,6 +1,5 @@
 pub mod YesLemmas
 pub mod KeptLemmas
-pub mod TakenLemmas
 pub mod CheckLemmas
 pub mod JudgeLemmas
 pub mod OfferLemmas

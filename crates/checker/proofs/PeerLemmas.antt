@@ -153,20 +153,17 @@ moves_deed h s w host (Does x) good may = moves_at_ports w (At host (Does x)) ho
 moves_deed h s w host (Expires line x growth) good may = moves_at_ports w (At host (Expires line x growth)) host (pick w.hosts host).body x.lport x.rport (λ e. after_expiry e x.timer growth s) (λ e. expiry_stream x.timer e growth s)
 moves_deed h s w host (Makes m) good may = moves_at_ports w (At host (Makes m)) host (pick w.hosts host).body m.lport m.rport (λ e. after_making e m s)
     (λ e. either_stream m.flags.rst (record (shut_down (endpoint_made e m s)) { reset_due = false }) (endpoint_made e m s) e.stream refl refl)
-moves_deed h s w host (Sends line number wire) good may = let k = pick w.hosts host in let step : Step tcp_shape = At host (Sends line number wire) in
-    on_cases (λ (x : HostState tcp_shape). Moves w step host k.body.endpoints x.body.endpoints) (lookup (nat_eq number) k.made) k _ (moves_not w step host k.body.endpoints) (λ m e. moves_not w step host k.body.endpoints)
-moves_deed h s w host (Gets line copied wire) good may = let k = pick w.hosts host in let step : Step tcp_shape = At host (Gets line copied wire) in
-    on_cases (λ (x : HostState tcp_shape). Moves w step host k.body.endpoints x.body.endpoints) (lookup (nat_eq copied) (pick w.hosts (other host)).wire) k _ (moves_not w step host k.body.endpoints) (λ m e. moves_not w step host k.body.endpoints)
+moves_deed h s w host (Sends line number wire) good may = moves_not w (At host (Sends line number wire)) host (pick w.hosts host).body.endpoints
+moves_deed h s w host (Gets line copied wire) good may = moves_not w (At host (Gets line copied wire)) host (pick w.hosts host).body.endpoints
 moves_deed h s w host (Takes line how) good may = let k = pick w.hosts host in let step : Step tcp_shape = At host (Takes line how) in
-    on_cases (λ (x : HostState tcp_shape). Moves w step host k.body.endpoints x.body.endpoints) (waiting line k.inbox) k _ (moves_not w step host k.body.endpoints)
+    on_cases (λ (b : Body). Moves w step host k.body.endpoints b.endpoints) (waiting line k.inbox) k.body _ (moves_not w step host k.body.endpoints)
     (λ m e.
     let t = on_passes (waiting line k.inbox) rules.Inbox (λ x. taker_rules h host k.body how x (taker k.body x)) may in
     let one : t.0 ≡ m = same_Some t.0 m (sym t.1 ∙ e) in
     moves_taking h s w host line how m good e (subst (λ (x : Emission). first_broken (taker_rules h host k.body how x (taker k.body x)) ≡ None) one t.2))
-moves_deed h s w host (Drops line) good may = let k = pick w.hosts host in let step : Step tcp_shape = At host (Drops line) in
-    on_cases (λ (x : HostState tcp_shape). Moves w step host k.body.endpoints x.body.endpoints) (waiting line k.inbox) k _ (moves_not w step host k.body.endpoints) (λ m e. moves_not w step host k.body.endpoints)
+moves_deed h s w host (Drops line) good may = moves_not w (At host (Drops line)) host (pick w.hosts host).body.endpoints
 moves_deed h s w host (Answers line) good may = let k = pick w.hosts host in let step : Step tcp_shape = At host (Answers line) in
-    on_cases (λ (x : HostState tcp_shape). Moves w step host k.body.endpoints x.body.endpoints) (waiting line k.inbox) k _ (moves_not w step host k.body.endpoints) (λ m e. moves_not w step host k.body.endpoints)
+    on_cases (λ (b : Body). Moves w step host k.body.endpoints b.endpoints) (waiting line k.inbox) k.body _ (moves_not w step host k.body.endpoints) (λ m e. moves_not w step host k.body.endpoints)
 
 -- 2. calls
 

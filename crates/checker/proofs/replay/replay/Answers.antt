@@ -1,8 +1,7 @@
 use Rattle.checker.proofs.KeptLemmas.{refused_line}
-use Rattle.checker.proofs.TakenLemmas.{line_taken}
 use Rattle.checker.proofs.replay.replay.Goals as goal
 
 pub returns-in-Err-clause-rule : goal.returns-in-Err-clause-rule
 returns-in-Err-clause-rule c =
-    refused_line c.args.world.now.header c.args.window.now c.args.world.now.world c.args.step.now c.in-L.line c.in-Err.rule c.in-L.is
+    refused_line c.args.world.now.header c.args.window.now c.args.world.now.world c.args.step.now c.in-L.named c.in-Err.rule c.in-L.is
     (rw c.count.ensures at c.in-Err.ensures.rule)
