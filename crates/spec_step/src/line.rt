@@ -3,14 +3,15 @@
 ghost use Rattle.std.specs.Prelude.{◌≡◌, ◌<◌, None, Some, Err, IfErr, OnOk, OnErr};
 ghost use Rattle.std.specs.Result.{result_err};
 ghost use Rattle.machine.specs.Bounds.{most_steps};
-ghost use Rattle.machine.specs.Steps.{line_step};
+ghost use Rattle.hosts.specs.Hosts.{At, Expires};
+ghost use Rattle.machine.specs.Steps.{growth_of, line_step, timer_of};
 ghost use Rattle.endpoint_state.specs.Worlds.{after};
 ghost use Rattle.spec_step.specs.Asked.{broken_by};
 ghost use Rattle.spec_step.specs.Faults.{IfBroken};
 
 use crate::expired::{expiry_of, growth_of};
 use crate::step::StepFault;
-use case_forms::{OutOfMemory, TakenLine};
+use case_forms::{Expired, Host, OutOfMemory, Ports, TakenLine};
 use endpoint_state::World;
 use verdict::Rule;
 
@@ -56,13 +57,23 @@ pub(crate) fn admits_line(world: &World, moment: u64, line: &TakenLine) -> Resul
             ports,
             expired,
             ..
-        } => world.admits_expiry(
-            *host,
-            moment,
-            expiry_of(*ports, *expired),
-            growth_of(*expired),
-        ),
+        } => admits_expired(world, moment, *host, *ports, *expired),
     }
+}
+
+// The same of a timer that expired.
+fn admits_expired(
+    world: &World,
+    moment: u64,
+    host: Host,
+    ports: Ports,
+    expired: Expired,
+) -> Result<(), Rule>
+    ensures { result_err result ≡ broken_by world.now moment (At host (Expires 0 (record { lport = ports.lport; rport = ports.rport; timer = timer_of expired }) (growth_of expired))) }
+{
+    let expiry = expiry_of(ports, expired);
+    let growth = growth_of(expired);
+    world.admits_expiry(host, moment, expiry, growth)
 }
 
 // Does a step that is admitted.
