@@ -1,3 +1,5 @@
 pub mod Traces
 pub mod Steps
+pub mod TakenLines
+pub mod Naming
 pub mod Witnesses

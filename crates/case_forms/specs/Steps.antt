@@ -1,7 +1,7 @@
 -- The extra numbers of a step.
 use Rattle.std.specs.Prelude.{ℕ}
-use Rattle.case_forms.specs.declared.steps.Extras.{Extras}
-use Rattle.case_forms.specs.declared.steps.Extras.TheVariants.{Bare, One, Two}
+use Rattle.case_forms.specs.declared.named_line.Extras.{Extras}
+use Rattle.case_forms.specs.declared.named_line.Extras.TheVariants.{Bare, One, Two}
 
 -- how many they are
 abbrev pub extras_count : Extras → ℕ

@@ -6,8 +6,8 @@ use Rattle.case_forms.specs.declared.steps.Label.TheVariants.{M}
 use Rattle.case_forms.specs.declared.steps.Witness.{Witness}
 
 -- the positions that a label names are not above the greatest that a text can name
-abbrev pub IsWithinLimits : Label → Type 0
-IsWithinLimits (M host local remote position len flags window iss) = position ≤ 10 ^ 18
+abbrev pub IsWithinLimits : {A : Type 0} → Label A → Type 0
+IsWithinLimits (M host plan) = plan.pos ≤ 10 ^ 18
 IsWithinLimits _ = Unit {0}
 
 -- its steps are fewer than the lines that a text can have, and within its limits

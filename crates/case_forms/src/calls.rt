@@ -14,6 +14,15 @@ pub enum Host {
     One,
 }
 
+/// The ports of an endpoint.
+#[derive(Clone, Copy, Debug, PartialEq, Eq)]
+pub struct Ports {
+    /// Its own.
+    pub lport: u16,
+    /// The peer's.
+    pub rport: u16,
+}
+
 /// The state of an endpoint (RFC 9293, 3.3.2). `Listen` is answered for a listener.
 #[derive(Clone, Copy, Debug, PartialEq, Eq)]
 pub enum State {

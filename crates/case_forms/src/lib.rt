@@ -5,18 +5,24 @@
 //!
 //! - `calls`: hosts, socket calls, their answers, and the states of an endpoint (RFC 9293, 3.3.2)
 //! - `trace`: spans, the header, segments as they were seen, event lines, and a whole trace
-//! - `timer`: the timers of an endpoint
-//! - `steps`: the labels and steps of a witness, the flags of a made segment, and a whole witness
+//! - `timer`: the timers of an endpoint, and what is chosen where one expires or fast recovery begins
+//! - `steps`: labels, what a segment is that is made, what is chosen at one that is taken, and a whole witness
+//! - `named_line`: the line that a step takes, by its number
+//! - `taken_line`: the same line, by what it tells
 #![tactic(auto)]
 
 mod calls;
+mod named_line;
 mod steps;
+mod taken_line;
 mod timer;
 mod trace;
 
-pub use calls::{Answer, Call, Host, State};
-pub use steps::{Extras, Flags, Label, Step, Steps, Witness};
-pub use timer::Timer;
+pub use calls::{Answer, Call, Host, Ports, State};
+pub use named_line::{Extras, NamedLine};
+pub use steps::{Flags, Label, SegmentPlan, Step, Steps, TakeChoice, Takes, Witness};
+pub use taken_line::{Expired, TakenLine};
+pub use timer::{Expiry, Growth, Recovery, Timer};
 pub use trace::{Event, Header, Line, Lines, Span, Trace, Wire};
 
 /// Memory ran out. Nothing was changed.

@@ -1,34 +1,15 @@
 //! The steps of a witness.
 
 ghost use Rattle.std.specs.Prelude.{◌≡◌, [], ◌∷◌, ◌++◌, IfOk, OnOk, OnErr};
-ghost use Rattle.case_forms.specs.Steps.{extras_count};
 
 use crate::OutOfMemory;
 use crate::calls::{Answer, Host};
+use crate::named_line::NamedLine;
+use crate::timer::Recovery;
 use crate::trace::Span;
+use seqno::Word;
 use std::alloc::Global;
 use std::marker::Model;
-
-/// The extra numbers of a step that takes a line.
-#[derive(Clone, Copy, Debug, PartialEq, Eq)]
-pub enum Extras {
-    Bare,
-    One(u32),
-    Two(u32, u32),
-}
-
-impl Extras {
-    /// How many they are.
-    pub fn count(self) -> u8
-        ensures { result ≡ extras_count self }
-    {
-        match self {
-            Extras::Bare => 0,
-            Extras::One(_) => 1,
-            Extras::Two(_, _) => 2,
-        }
-    }
-}
 
 /// The flags of a segment that is made (RFC 9293, 3.1).
 #[derive(Clone, Copy, Debug, PartialEq, Eq)]
@@ -39,53 +20,99 @@ pub struct Flags {
     pub fin: bool,
 }
 
-/// What a step does.
-#[derive(Debug, PartialEq, Eq, Drop)]
-pub enum Label {
-    /// `L n [x [y]]`: take trace line n. One number more says which of the segments made an O line shows, or which O line
-    /// an I line copies; two are the congestion window and the slow start threshold after an rto line, in bytes.
-    L(u64, Extras),
-    /// `D t answer`: the open call of thread t has its effect, with this answer.
-    D(u32, Answer),
-    /// `M h lp rp pos len flags wnd [iss]`: host h makes a segment between these ports, its local and its remote one,
-    /// from this position on; the length counts the bytes of its payload, 0 to 65515. Then its flags, its window in
-    /// bytes, and, with the first SYN of the endpoint, the initial send sequence number (RFC 9293, 3.4.1).
-    M(Host, u16, u16, u64, u16, Flags, u16, Option<u32>),
-    /// `T h k cwnd keep sample`: host h takes the segment of trace line k from its inbox. The congestion window is then
-    /// `cwnd` bytes (RFC 5681, 3.1); `keep`: data above the next position are kept; `sample`: the round trip time
-    /// is measured (RFC 6298, 2).
-    T(Host, u64, u32, bool, bool),
-    /// `K h k`: host h drops the segment of trace line k from its inbox.
-    K(Host, u64),
-    /// `R h k`: host h answers the segment of trace line k by a reset (RFC 9293, 3.10.7.1).
-    R(Host, u64),
-    /// `F h lp rp cwnd ssthresh`: the endpoint of these ports enters fast recovery (RFC 5681, 3.2), with this congestion
-    /// window and slow start threshold, both in bytes.
-    F(Host, u16, u16, u32, u32),
+/// A segment that a host is to make (RFC 9293, 3.1).
+#[derive(Clone, Copy, Debug, PartialEq, Eq)]
+pub struct SegmentPlan {
+    /// The port of its endpoint.
+    pub lport: u16,
+    /// The peer's port.
+    pub rport: u16,
+    /// The position of its number.
+    pub pos: u64,
+    /// How many bytes it carries, 0 to 65515.
+    pub len: u16,
+    pub flags: Flags,
+    /// The window that it offers, in bytes.
+    pub window: u16,
+    /// The initial send sequence number, with the first SYN of the endpoint alone (RFC 9293, 3.4.1).
+    pub iss: Option<Word>,
 }
 
-impl Label {
-    /// An equal label.
-    pub fn copy(&self) -> Result<Label, OutOfMemory>
+/// What an endpoint chooses at a segment that it takes.
+#[derive(Clone, Copy, Debug, PartialEq, Eq)]
+pub struct TakeChoice {
+    /// The congestion window from then on, in bytes (RFC 5681, 3.1).
+    pub cwnd: u32,
+    /// The bytes and the FIN are kept, as far as they fit.
+    pub keep: bool,
+    /// The round trip time is measured (RFC 6298, 2).
+    pub sample: bool,
+}
+
+/// What a step does. `Taken` says how a step names the line that it takes: by its number in a witness (`NamedLine`), and by
+/// what the line tells for the machine (`TakenLine`).
+#[derive(Debug, PartialEq, Eq, Drop)]
+pub enum Label<Taken> {
+    /// `L n [x [y]]`: take a line of the trace.
+    L(Taken),
+    /// `D t answer`: the open call of thread t has its effect, with this answer.
+    D { thread: u32, answer: Answer },
+    /// `M h lp rp pos len flags wnd [iss]`: host h makes this segment.
+    M { host: Host, plan: SegmentPlan },
+    /// `T h k cwnd keep sample`: host h takes the segment of trace line k from its inbox, with this choice.
+    T {
+        host: Host,
+        line: u64,
+        choice: TakeChoice,
+    },
+    /// `K h k`: host h drops the segment of trace line k from its inbox.
+    K { host: Host, line: u64 },
+    /// `R h k`: host h answers the segment of trace line k by a reset (RFC 9293, 3.10.7.1).
+    R { host: Host, line: u64 },
+    /// `F h lp rp cwnd ssthresh`: an endpoint of host h enters fast recovery (RFC 5681, 3.2).
+    F { host: Host, recovery: Recovery },
+}
+
+/// How a step names the line that it takes.
+pub trait Takes {
+    /// An equal value. The error is that memory ran out.
+    fn copy(&self) -> Result<Self, OutOfMemory>
+        ensures { IfOk result (λ taken. taken ≡ self.now) };
+}
+
+impl<Taken: Takes> Label<Taken> {
+    /// An equal label. The error is that memory ran out.
+    pub fn copy(&self) -> Result<Label<Taken>, OutOfMemory>
         ensures { IfOk result (λ label. label ≡ self.now) }
     {
-        match self {
-            Label::L(line, extras) => Ok(Label::L(*line, *extras)),
-            Label::D(thread, answer) => Ok(Label::D(*thread, answer.copy()?)),
-            Label::M(host, local, remote, position, len, flags, window, iss) => {
-                Ok(Label::M(
-                    *host, *local, *remote, *position, *len, *flags, *window, *iss,
-                ))
-            }
-            Label::T(host, line, cwnd, keep, sample) => {
-                Ok(Label::T(*host, *line, *cwnd, *keep, *sample))
-            }
-            Label::K(host, line) => Ok(Label::K(*host, *line)),
-            Label::R(host, line) => Ok(Label::R(*host, *line)),
-            Label::F(host, local, remote, cwnd, ssthresh) => {
-                Ok(Label::F(*host, *local, *remote, *cwnd, *ssthresh))
-            }
-        }
+        Ok(match self {
+            Label::L(taken) => Label::L(taken.copy()?),
+            Label::D { thread, answer } => Label::D {
+                thread: *thread,
+                answer: answer.copy()?,
+            },
+            Label::M { host, plan } => Label::M {
+                host: *host,
+                plan: *plan,
+            },
+            Label::T { host, line, choice } => Label::T {
+                host: *host,
+                line: *line,
+                choice: *choice,
+            },
+            Label::K { host, line } => Label::K {
+                host: *host,
+                line: *line,
+            },
+            Label::R { host, line } => Label::R {
+                host: *host,
+                line: *line,
+            },
+            Label::F { host, recovery } => Label::F {
+                host: *host,
+                recovery: *recovery,
+            },
+        })
     }
 }
 
@@ -94,7 +121,7 @@ impl Label {
 pub struct Step {
     /// When it is done, in microseconds.
     pub moment: u64,
-    pub label: Label,
+    pub label: Label<NamedLine>,
     /// The whole line of the witness, without its end.
     pub span: Span,
 }

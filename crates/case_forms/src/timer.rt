@@ -1,4 +1,4 @@
-//! The timers of an endpoint.
+//! The timers of an endpoint, and what is chosen where one expires or fast recovery begins.
 
 /// What may expire at an endpoint.
 #[derive(Clone, Copy, Debug, PartialEq, Eq)]
@@ -11,4 +11,29 @@ pub enum Timer {
     Msl2,
     /// `giveup`: the endpoint sent again often enough, or waited long enough (RFC 9293, 3.8.3).
     Giveup,
+}
+
+/// A timer that expires, of the endpoint of these ports.
+#[derive(Clone, Copy, Debug, PartialEq, Eq)]
+pub struct Expiry {
+    pub lport: u16,
+    pub rport: u16,
+    pub timer: Timer,
+}
+
+/// What is chosen where a retransmission timer expires, both in bytes (RFC 5681, 3.1).
+#[derive(Clone, Copy, Debug, PartialEq, Eq)]
+pub struct Growth {
+    pub cwnd: u32,
+    pub ssthresh: u32,
+}
+
+/// Fast recovery of the endpoint of these ports, with the congestion window and the slow start threshold that are chosen, both
+/// in bytes (RFC 5681, 3.2).
+#[derive(Clone, Copy, Debug, PartialEq, Eq)]
+pub struct Recovery {
+    pub lport: u16,
+    pub rport: u16,
+    pub cwnd: u32,
+    pub ssthresh: u32,
 }

@@ -1,0 +1,166 @@
+//! A line of the trace, as the machine takes it.
+
+ghost use Rattle.std.specs.Prelude.{◌≡◌, IfOk};
+ghost use Rattle.case_forms.specs.TakenLines.{expired_by, taken_of};
+
+use crate::OutOfMemory;
+use crate::calls::{Answer, Call, Host, Ports};
+use crate::named_line::Extras;
+use crate::steps::Takes;
+use crate::timer::{Growth, Timer};
+use crate::trace::{Event, Line, Wire};
+
+/// A timer that expired, with what is chosen there.
+#[derive(Clone, Copy, Debug, PartialEq, Eq)]
+pub enum Expired {
+    /// The congestion window and the slow start threshold are chosen (RFC 5681, 3.1).
+    Rto(Growth),
+    Persist,
+    Msl2,
+    Giveup,
+}
+
+/// What a line tells that a step takes, with what the step adds to a line of its kind. `line` is its number among all lines
+/// of the trace, the header's too.
+#[derive(Debug, PartialEq, Eq, Drop)]
+pub enum TakenLine {
+    /// The thread begins a call.
+    CallBegin { line: u64, thread: u32, call: Call },
+    /// The thread's open call ends with this answer.
+    CallEnd {
+        line: u64,
+        thread: u32,
+        answer: Answer,
+    },
+    /// A segment of the host goes out, which was made under the number `made`.
+    Sent {
+        line: u64,
+        host: Host,
+        made: u32,
+        wire: Wire,
+    },
+    /// A segment comes in at the host, a copy of what went out by the line `copied`.
+    Came {
+        line: u64,
+        host: Host,
+        copied: u64,
+        wire: Wire,
+    },
+    /// A timer of the host's endpoint of these ports expires.
+    Expired {
+        line: u64,
+        host: Host,
+        ports: Ports,
+        expired: Expired,
+    },
+}
+
+impl Takes for TakenLine {
+    fn copy(&self) -> Result<Self, OutOfMemory> {
+        Ok(match self {
+            TakenLine::CallBegin { line, thread, call } => TakenLine::CallBegin {
+                line: *line,
+                thread: *thread,
+                call: call.copy()?,
+            },
+            TakenLine::CallEnd {
+                line,
+                thread,
+                answer,
+            } => TakenLine::CallEnd {
+                line: *line,
+                thread: *thread,
+                answer: answer.copy()?,
+            },
+            TakenLine::Sent {
+                line,
+                host,
+                made,
+                wire,
+            } => TakenLine::Sent {
+                line: *line,
+                host: *host,
+                made: *made,
+                wire: wire.copy()?,
+            },
+            TakenLine::Came {
+                line,
+                host,
+                copied,
+                wire,
+            } => TakenLine::Came {
+                line: *line,
+                host: *host,
+                copied: *copied,
+                wire: wire.copy()?,
+            },
+            TakenLine::Expired {
+                line,
+                host,
+                ports,
+                expired,
+            } => TakenLine::Expired {
+                line: *line,
+                host: *host,
+                ports: *ports,
+                expired: *expired,
+            },
+        })
+    }
+}
+
+// The timer that expired, where these are the numbers that are added to its line.
+fn expired_by(timer: Timer, extras: Extras) -> Option<Expired>
+    ensures { result ≡ expired_by timer extras }
+{
+    match (timer, extras) {
+        (Timer::Rto, Extras::Two(cwnd, ssthresh)) => Some(Expired::Rto(Growth { cwnd, ssthresh })),
+        (Timer::Persist, Extras::Bare) => Some(Expired::Persist),
+        (Timer::Msl2, Extras::Bare) => Some(Expired::Msl2),
+        (Timer::Giveup, Extras::Bare) => Some(Expired::Giveup),
+        _ => None,
+    }
+}
+
+impl Line {
+    /// The line as the machine takes it, where a step adds these numbers; None where a line of its kind has another count of
+    /// them.
+    pub fn taken(self, extras: Extras) -> Option<TakenLine>
+        ensures { result ≡ taken_of extras self }
+    {
+        let line = self.number;
+        let thread = self.thread;
+        match (self.event, extras) {
+            (Event::CallBegin(call), Extras::Bare) => {
+                Some(TakenLine::CallBegin { line, thread, call })
+            }
+            (Event::CallEnd(answer), Extras::Bare) => Some(TakenLine::CallEnd {
+                line,
+                thread,
+                answer,
+            }),
+            (Event::Sent(host, wire), Extras::One(made)) => Some(TakenLine::Sent {
+                line,
+                host,
+                made,
+                wire,
+            }),
+            (Event::Came(host, wire), Extras::One(copied)) => Some(TakenLine::Came {
+                line,
+                host,
+                copied: u64::from(copied),
+                wire,
+            }),
+            (Event::Expired(host, lport, rport, timer), extras) => {
+                let expired = expired_by(timer, extras)?;
+                Some(TakenLine::Expired {
+                    line,
+                    host,
+                    ports: Ports { lport, rport },
+                    expired,
+                })
+            }
+            _ => None,
+        }
+    }
+}
