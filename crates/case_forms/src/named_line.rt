@@ -37,8 +37,7 @@ pub struct NamedLine {
 }
 
 impl Takes for NamedLine {
-    fn copy(&self) -> Result<Self, OutOfMemory>
-    {
+    fn copy(&self) -> Result<Self, OutOfMemory> {
         Ok(*self)
     }
 }

@@ -56,9 +56,15 @@ pub enum Label<Taken> {
     /// `L n [x [y]]`: take a line of the trace.
     L(Taken),
     /// `D t answer`: the open call of thread t has its effect, with this answer.
-    D { thread: u32, answer: Answer },
+    D {
+        thread: u32,
+        answer: Answer,
+    },
     /// `M h lp rp pos len flags wnd [iss]`: host h makes this segment.
-    M { host: Host, plan: SegmentPlan },
+    M {
+        host: Host,
+        plan: SegmentPlan,
+    },
     /// `T h k cwnd keep sample`: host h takes the segment of trace line k from its inbox, with this choice.
     T {
         host: Host,
@@ -66,11 +72,20 @@ pub enum Label<Taken> {
         choice: TakeChoice,
     },
     /// `K h k`: host h drops the segment of trace line k from its inbox.
-    K { host: Host, line: u64 },
+    K {
+        host: Host,
+        line: u64,
+    },
     /// `R h k`: host h answers the segment of trace line k by a reset (RFC 9293, 3.10.7.1).
-    R { host: Host, line: u64 },
+    R {
+        host: Host,
+        line: u64,
+    },
     /// `F h lp rp cwnd ssthresh`: an endpoint of host h enters fast recovery (RFC 5681, 3.2).
-    F { host: Host, recovery: Recovery },
+    F {
+        host: Host,
+        recovery: Recovery,
+    },
 }
 
 /// How a step names the line that it takes.

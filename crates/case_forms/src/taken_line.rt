@@ -25,7 +25,11 @@ pub enum Expired {
 #[derive(Debug, PartialEq, Eq, Drop)]
 pub enum TakenLine {
     /// The thread begins a call.
-    CallBegin { line: u64, thread: u32, call: Call },
+    CallBegin {
+        line: u64,
+        thread: u32,
+        call: Call,
+    },
     /// The thread's open call ends with this answer.
     CallEnd {
         line: u64,

@@ -3,11 +3,13 @@ use Rattle.std.proofs.Common.{◌≡◌, ◌≤◌, ℕ, List, ◌++◌, Bool, t
 use Rattle.std.specs.Prelude.{codes}
 use Rattle.std.specs.Fmt.{decimal}
 use Rattle.std.specs.List.{AllByRecursion}
+use Rattle.seqno.specs.declared.word.Word.{Word}
 use Rattle.case_forms.specs.declared.calls.Host.{Host}
 use Rattle.case_forms.specs.declared.calls.Answer.{Answer}
-use Rattle.case_forms.specs.declared.steps.Extras.{Extras}
-use Rattle.case_forms.specs.declared.steps.Extras.TheVariants.{Bare, One, Two}
+use Rattle.case_forms.specs.declared.named_line.Extras.{Extras}
+use Rattle.case_forms.specs.declared.named_line.Extras.TheVariants.{Bare, One, Two}
 use Rattle.case_forms.specs.declared.steps.Flags.{Flags}
+use Rattle.case_forms.specs.declared.named_line.NamedLine.{NamedLine}
 use Rattle.case_forms.specs.declared.steps.Label.{Label}
 use Rattle.case_forms.specs.declared.steps.Label.TheVariants.{L, D, M, T, K, R, F}
 use Rattle.line_fields.specs.Word.{Rest}
@@ -34,8 +36,8 @@ use Rattle.witness.proofs.PartLaw.{IsWithin, one_piece, reads_within, bit_piece,
 
 -- ---- a line
 
-abbrev make_line : ℕ × Extras → Label
-make_line y = L y.0 y.1
+abbrev make_line : ℕ × Extras → Label NamedLine
+make_line y = L (record { number = y.0; extras = y.1 })
 
 abbrev FitsLine : ℕ × Extras → Type 0
 FitsLine y = IsWithin 0 4294967295 y.0 × AreExtras y.1
@@ -48,7 +50,7 @@ reads_line =
 
 -- ---- an effect
 
-abbrev make_effect : ℕ × Answer → Label
+abbrev make_effect : ℕ × Answer → Label NamedLine
 make_effect y = D y.0 y.1
 
 reads_effect : IsLastReader effect_label (IsMade make_effect (λ y. IsWithin 0 4294967295 y.0 × IsAnswer y.1) (λ y. one_piece y.0 ++ answer_pieces y.1))
@@ -62,25 +64,25 @@ reads_effect =
 abbrev At : Type 0
 At = Host × ℕ × ℕ
 
-abbrev make_segment : At × (ℕ × (ℕ × (Flags × (ℕ × Option ℕ)))) → Label
-make_segment y = M y.0.0 y.0.1 y.0.2 y.1.0 y.1.1.0 y.1.1.1.0 y.1.1.1.1.0 y.1.1.1.1.1
+abbrev make_segment : At × (ℕ × (ℕ × (Flags × (ℕ × Option Word)))) → Label NamedLine
+make_segment y = M y.0.0 (record { lport = y.0.1; rport = y.0.2; pos = y.1.0; len = y.1.1.0; flags = y.1.1.1.0; window = y.1.1.1.1.0; iss = y.1.1.1.1.1 })
 
-abbrev FitsSegment : At × (ℕ × (ℕ × (Flags × (ℕ × Option ℕ)))) → Type 0
+abbrev FitsSegment : At × (ℕ × (ℕ × (Flags × (ℕ × Option Word)))) → Type 0
 FitsSegment y = IsEndpoint y.0 × (IsWithin 0 1000000000000000000 y.1.0 × (IsWithin 0 65515 y.1.1.0 × (Unit {0} × (IsWithin 0 65535 y.1.1.1.1.0 × IsIss y.1.1.1.1.1))))
 
-abbrev window_pieces : ℕ × Option ℕ → List Piece
+abbrev window_pieces : ℕ × Option Word → List Piece
 window_pieces y = one_piece y.0 ++ iss_pieces y.1
 
-abbrev flags_pieces : Flags × (ℕ × Option ℕ) → List Piece
+abbrev flags_pieces : Flags × (ℕ × Option Word) → List Piece
 flags_pieces y = flags_piece y.0 ++ window_pieces y.1
 
-abbrev len_pieces : ℕ × (Flags × (ℕ × Option ℕ)) → List Piece
+abbrev len_pieces : ℕ × (Flags × (ℕ × Option Word)) → List Piece
 len_pieces y = one_piece y.0 ++ flags_pieces y.1
 
-abbrev position_pieces : ℕ × (ℕ × (Flags × (ℕ × Option ℕ))) → List Piece
+abbrev position_pieces : ℕ × (ℕ × (Flags × (ℕ × Option Word))) → List Piece
 position_pieces y = one_piece y.0 ++ len_pieces y.1
 
-abbrev all_pieces : At × (ℕ × (ℕ × (Flags × (ℕ × Option ℕ)))) → List Piece
+abbrev all_pieces : At × (ℕ × (ℕ × (Flags × (ℕ × Option Word)))) → List Piece
 all_pieces y = pieces_at y.0 ++ position_pieces y.1
 
 reads_segment : IsLastReader segment_label (IsMade make_segment FitsSegment all_pieces)
@@ -95,8 +97,8 @@ reads_segment =
 
 -- ---- an inbox entry that is taken, dropped or refused
 
-abbrev make_taking : (Host × ℕ) × (ℕ × (Bool × Bool)) → Label
-make_taking y = T y.0.0 y.0.1 y.1.0 y.1.1.0 y.1.1.1
+abbrev make_taking : (Host × ℕ) × (ℕ × (Bool × Bool)) → Label NamedLine
+make_taking y = T y.0.0 y.0.1 (record { cwnd = y.1.0; keep = y.1.1.0; sample = y.1.1.1 })
 
 abbrev FitsTaking : (Host × ℕ) × (ℕ × (Bool × Bool)) → Type 0
 FitsTaking y = IsEntry y.0 × (IsWithin 0 4294967295 y.1.0 × (Unit {0} × Unit {0}))
@@ -115,13 +117,13 @@ reads_taking =
     (λ cwnd. reads_part Any bit_field (λ b. Unit {0}) bit_piece _ (λ x. make_taking (entry, (cwnd, x))) _ bit_piece reads_bit
     (λ keep. reads_made Any bit_field (λ sample. make_taking (entry, (cwnd, (keep, sample)))) (λ b. Unit {0}) bit_piece reads_bit)))
 
-abbrev make_dropping : Host × ℕ → Label
+abbrev make_dropping : Host × ℕ → Label NamedLine
 make_dropping y = K y.0 y.1
 
 reads_dropping : IsReader dropping_label (IsMade make_dropping IsEntry pieces_in)
 reads_dropping = reads_made Any entry_field make_dropping IsEntry pieces_in reads_entry
 
-abbrev make_refusing : Host × ℕ → Label
+abbrev make_refusing : Host × ℕ → Label NamedLine
 make_refusing y = R y.0 y.1
 
 reads_refusing : IsReader refusing_label (IsMade make_refusing IsEntry pieces_in)
@@ -129,8 +131,8 @@ reads_refusing = reads_made Any entry_field make_refusing IsEntry pieces_in read
 
 -- ---- fast recovery
 
-abbrev make_recovery : At × (ℕ × ℕ) → Label
-make_recovery y = F y.0.0 y.0.1 y.0.2 y.1.0 y.1.1
+abbrev make_recovery : At × (ℕ × ℕ) → Label NamedLine
+make_recovery y = F y.0.0 (record { lport = y.0.1; rport = y.0.2; cwnd = y.1.0; ssthresh = y.1.1 })
 
 abbrev FitsRecovery : At × (ℕ × ℕ) → Type 0
 FitsRecovery y = IsEndpoint y.0 × (IsWithin 0 4294967295 y.1.0 × IsWithin 0 4294967295 y.1.1)
@@ -157,18 +159,18 @@ labels_named words.Refusing = refl
 labels_named words.Recovery = refl
 
 -- what was read behind the first word
-abbrev Behind : LabelWord → Rest → Label × Rest → Type 0
+abbrev Behind : LabelWord → Rest → Label NamedLine × Rest → Type 0
 Behind k r x = IsBehind label_word label_tail IsLabel k r x.0 x.1
 
 -- what was made of parts is known by the parts
-takes_made : {Y : Type 0} (k : LabelWord) (make : Y → Label) (Fits : Y → Type 0) (pieces : Y → List Piece) (r : Rest) (x : Label × Rest) → ((ws : List (List ℕ)) × IsMade make Fits pieces x.0 ws × (texts r ≡ ws ++ texts x.1))
+takes_made : {Y : Type 0} (k : LabelWord) (make : Y → Label NamedLine) (Fits : Y → Type 0) (pieces : Y → List Piece) (r : Rest) (x : Label NamedLine × Rest) → ((ws : List (List ℕ)) × IsMade make Fits pieces x.0 ws × (texts r ≡ ws ++ texts x.1))
     → ((y : Y) → Fits y → IsLabel (make y) × (label_word (make y) ≡ k) × (pieces y ≡ label_tail (make y))) → Behind k r x
 takes_made k make Fits pieces r x p is =
     let s = p.1 in
     let own = is s.0 s.2 in
     is_known label_word label_tail IsLabel k r x.1 x.0 (make s.0) p.0 s.1 own.0 own.1 (subst (λ (ps : List Piece). AreWritten ps p.0) own.2 s.3) p.2
 
-behind_takes : (k : LabelWord) (r : Rest) (x : Label × Rest) → label_behind k r ≡ Ok x → Behind k r x
+behind_takes : (k : LabelWord) (r : Rest) (x : Label NamedLine × Rest) → label_behind k r ≡ Ok x → Behind k r x
 behind_takes words.Line r x e = takes_made words.Line make_line _ _ r x (reads_line.takes r x e) (λ y fits. ((fits.0.1, fits.1), refl, refl))
 behind_takes words.Effect r x e = takes_made words.Effect make_effect _ _ r x (reads_effect.takes r x e) (λ y fits. ((fits.0.1, fits.1), refl, refl))
 behind_takes words.Making r x e =
@@ -178,21 +180,21 @@ behind_takes words.Dropping r x e = takes_made words.Dropping make_dropping IsEn
 behind_takes words.Refusing r x e = takes_made words.Refusing make_refusing IsEntry pieces_in r x (reads_refusing.takes r x e) (λ y fits. (fits, refl, refl))
 behind_takes words.Recovery r x e = takes_made words.Recovery make_recovery FitsRecovery _ r x (reads_recovery.takes r x e) (λ y fits. ((fits.0, fits.1.0.1, fits.1.1.1), refl, refl))
 
-abbrev Gets : Label → Rest → List (List ℕ) → Type 0
+abbrev Gets : Label NamedLine → Rest → List (List ℕ) → Type 0
 Gets label r more = (rest : Rest) × (label_behind (label_word label) r ≡ Ok (label, rest)) × (texts rest ≡ more)
 
-behind_again : (label : Label) (r : Rest) (us more : List (List ℕ)) → Nothing more → IsLabel label → AreWritten (label_tail label) us → texts r ≡ us ++ more → Gets label r more
-behind_again (L line extras) r us more last fits w e = reads_line.again r (L line extras) us more last ((line, extras), refl, ((omega arith, fits.0), fits.1), w) e
+behind_again : (label : Label NamedLine) (r : Rest) (us more : List (List ℕ)) → Nothing more → IsLabel label → AreWritten (label_tail label) us → texts r ≡ us ++ more → Gets label r more
+behind_again (L line) r us more last fits w e = reads_line.again r (L line) us more last ((line.number, line.extras), refl, ((omega arith, fits.0), fits.1), w) e
 behind_again (D thread answer) r us more last fits w e = reads_effect.again r (D thread answer) us more last ((thread, answer), refl, ((omega arith, fits.0), fits.1), w) e
-behind_again (M host local remote position len flags window iss) r us more last fits w e =
-    reads_segment.again r (M host local remote position len flags window iss) us more last
-    (((host, local, remote), (position, (len, (flags, (window, iss))))), refl, (fits.0, ((omega arith, fits.1), ((omega arith, fits.2), (tt, ((omega arith, fits.3), fits.4))))), w) e
-behind_again (T host line cwnd keep sample) r us more last fits w e =
-    reads_taking.again r (T host line cwnd keep sample) us more tt (((host, line), (cwnd, (keep, sample))), refl, (fits.0, ((omega arith, fits.1), (tt, tt))), w) e
+behind_again (M host plan) r us more last fits w e =
+    reads_segment.again r (M host plan) us more last
+    (((host, plan.lport, plan.rport), (plan.pos, (plan.len, (plan.flags, (plan.window, plan.iss))))), refl, (fits.0, ((omega arith, fits.1), ((omega arith, fits.2), (tt, ((omega arith, fits.3), fits.4))))), w) e
+behind_again (T host line choice) r us more last fits w e =
+    reads_taking.again r (T host line choice) us more tt (((host, line), (choice.cwnd, (choice.keep, choice.sample))), refl, (fits.0, ((omega arith, fits.1), (tt, tt))), w) e
 behind_again (K host line) r us more last fits w e = reads_dropping.again r (K host line) us more tt ((host, line), refl, fits, w) e
 behind_again (R host line) r us more last fits w e = reads_refusing.again r (R host line) us more tt ((host, line), refl, fits, w) e
-behind_again (F host local remote cwnd ssthresh) r us more last fits w e =
-    reads_recovery.again r (F host local remote cwnd ssthresh) us more tt (((host, local, remote), (cwnd, ssthresh)), refl, (fits.0, ((omega arith, fits.1), (omega arith, fits.2))), w) e
+behind_again (F host recovery) r us more last fits w e =
+    reads_recovery.again r (F host recovery) us more tt (((host, recovery.lport, recovery.rport), (recovery.cwnd, recovery.ssthresh)), refl, (fits.0, ((omega arith, fits.1), (omega arith, fits.2))), w) e
 
 -- what is read is spelled so, and what is spelled so is read
 pub reads_label : IsLastReader label_field IsSpelledLabel
@@ -206,9 +208,9 @@ extras_clean Bare fits = tt
 extras_clean (One x) fits = (IsClean-decimal x (omega arith), tt)
 extras_clean (Two x y) fits = (IsClean-decimal x (let h = fits.0 in omega arith), (IsClean-decimal y (let h = fits.1 in omega arith), tt))
 
-iss_clean : (iss : Option ℕ) → IsIss iss → AllByRecursion IsCleanPiece (iss_pieces iss)
+iss_clean : (iss : Option Word) → IsIss iss → AllByRecursion IsCleanPiece (iss_pieces iss)
 iss_clean None fits = tt
-iss_clean (Some n) fits = (IsClean-decimal n (omega arith), tt)
+iss_clean (Some iss) fits = (IsClean-decimal iss.0 (omega arith), tt)
 
 bit_clean : (b : Bool) → IsClean (decimal (bit_number b))
 bit_clean true = IsClean-decimal 1 (omega arith)
@@ -218,10 +220,10 @@ bit_clean false = IsClean-decimal 0 (omega arith)
 number_clean : (n : ℕ) → n ≤ 1000000000000000000 → IsClean (decimal n)
 number_clean n le = IsClean-decimal n (omega arith)
 
-pub label_clean : (label : Label) → IsLabel label → AllByRecursion IsCleanPiece (label_pieces label)
-label_clean (L line extras) fits = (clean_by (codes "L") refl, (number_clean line (let h = fits.0 in omega arith), extras_clean extras fits.1))
+pub label_clean : (label : Label NamedLine) → IsLabel label → AllByRecursion IsCleanPiece (label_pieces label)
+label_clean (L line) fits = (clean_by (codes "L") refl, (number_clean line.number (let h = fits.0 in omega arith), extras_clean line.extras fits.1))
 label_clean (D thread answer) fits = (clean_by (codes "D") refl, (number_clean thread (let h = fits.0 in omega arith), answer_clean answer fits.1))
-label_clean (M host local remote position len flags window iss) fits =
+label_clean (M host plan) fits =
     let ports = fits.0 in
     let from = ports.1 in
     let to = ports.3 in
@@ -231,19 +233,19 @@ label_clean (M host local remote position len flags window iss) fits =
       (
         host_clean host,
         (
-          number_clean local (omega arith),
-          (number_clean remote (omega arith), (number_clean position fits.1, (number_clean len (omega arith), (flags_clean flags, (number_clean window (omega arith), iss_clean iss fits.4))))),
+          number_clean plan.lport (omega arith),
+          (number_clean plan.rport (omega arith), (number_clean plan.pos fits.1, (number_clean plan.len (omega arith), (flags_clean plan.flags, (number_clean plan.window (omega arith), iss_clean plan.iss fits.4))))),
         ),
       ),
     )
-label_clean (T host line cwnd keep sample) fits =
-    (clean_by (codes "T") refl, (host_clean host, (number_clean line (let h = fits.0 in omega arith), (number_clean cwnd (let h = fits.1 in omega arith), (bit_clean keep, (bit_clean sample, tt))))))
+label_clean (T host line choice) fits =
+    (clean_by (codes "T") refl, (host_clean host, (number_clean line (let h = fits.0 in omega arith), (number_clean choice.cwnd (let h = fits.1 in omega arith), (bit_clean choice.keep, (bit_clean choice.sample, tt))))))
 label_clean (K host line) fits = (clean_by (codes "K") refl, (host_clean host, (number_clean line (omega arith), tt)))
 label_clean (R host line) fits = (clean_by (codes "R") refl, (host_clean host, (number_clean line (omega arith), tt)))
-label_clean (F host local remote cwnd ssthresh) fits =
+label_clean (F host recovery) fits =
     let ports = fits.0 in
     let from = ports.1 in
     let to = ports.3 in
     let low = fits.1 in
     let high = fits.2 in
-    (clean_by (codes "F") refl, (host_clean host, (number_clean local (omega arith), (number_clean remote (omega arith), (number_clean cwnd (omega arith), (number_clean ssthresh (omega arith), tt))))))
+    (clean_by (codes "F") refl, (host_clean host, (number_clean recovery.lport (omega arith), (number_clean recovery.rport (omega arith), (number_clean recovery.cwnd (omega arith), (number_clean recovery.ssthresh (omega arith), tt))))))

@@ -4,6 +4,7 @@ use Rattle.std.specs.List.{All}
 use Rattle.std.proofs.lemmas.List.Elements.{All-nil, All-cons}
 use Rattle.std.specs.Prelude.{IfOk, Result, Ok, Err}
 use Rattle.case_forms.specs.Witnesses.{IsWithinLimits, IsWitness}
+use Rattle.case_forms.specs.declared.named_line.NamedLine.{NamedLine}
 use Rattle.case_forms.specs.declared.steps.Label.{Label}
 use Rattle.case_forms.specs.declared.steps.Label.TheVariants.{L, D, M, T, K, R, F}
 use Rattle.case_forms.specs.declared.steps.Step.{Step}
@@ -16,14 +17,14 @@ use Rattle.witness.specs.Steps.{IsStepText}
 use Rattle.witness.specs.WitnessText.{number_after, IsWitnessText, witness_of}
 use Rattle.witness.proofs.TextLaw.{text_takes}
 
-label_within : (label : Label) → IsLabel label → IsWithinLimits label
-label_within (L line extras) fits = tt
+label_within : (label : Label NamedLine) → IsLabel label → IsWithinLimits label
+label_within (L line) fits = tt
 label_within (D thread answer) fits = tt
-label_within (M host local remote position len flags window iss) fits = fits.1
-label_within (T host line cwnd keep sample) fits = tt
+label_within (M host plan) fits = fits.1
+label_within (T host line choice) fits = tt
 label_within (K host line) fits = tt
 label_within (R host line) fits = tt
-label_within (F host local remote cwnd ssthresh) fits = tt
+label_within (F host recovery) fits = tt
 
 -- the steps of lines that are numbered from here on end at the last line that a text can have
 record AreLimited (number : ℕ) (steps : List Step) : Type 0 where

@@ -1,9 +1,11 @@
 -- The spelling of the parts of labels, both ways.
 use Rattle.std.proofs.Common.{◌≡◌, ◌≤◌, ◌<◌, ◌^◌, zero, suc, ℕ, List, [], ◌∷◌, ◌++◌, Bool, true, false, eqb, Option, Some, None, Result, Ok, refl, sym, ap, subst, ◌∙◌, arith, inl, inr, ◌⊎◌}
 use Rattle.std.specs.Fmt.{decimal}
+use Rattle.std.specs.Option.{option_map}
+use Rattle.seqno.specs.declared.word.Word.{Word}
 use Rattle.case_forms.specs.declared.calls.Host.{Host}
-use Rattle.case_forms.specs.declared.steps.Extras.{Extras}
-use Rattle.case_forms.specs.declared.steps.Extras.TheVariants.{Bare, One, Two}
+use Rattle.case_forms.specs.declared.named_line.Extras.{Extras}
+use Rattle.case_forms.specs.declared.named_line.Extras.TheVariants.{Bare, One, Two}
 use Rattle.line_fields.specs.declared.fault.TextFault.{TextFault}
 use Rattle.line_fields.specs.Word.{Rest}
 use Rattle.line_fields.specs.Reading.{◌>>=◌, number_field, or_end}
@@ -110,6 +112,14 @@ reads_entry =
 
 -- ---- a number that may be missing
 
+abbrev maybe_pieces : Option ℕ → List Piece
+maybe_pieces None = []
+maybe_pieces (Some n) = one_piece n
+
+abbrev IsMaybe : Option ℕ → Type 0
+IsMaybe None = Unit {0}
+IsMaybe (Some n) = n ≤ 4294967295
+
 abbrev maybe : {B : Type 0} → B → (ℕ → B) → Option ℕ → B
 maybe none some None = none
 maybe none some (Some n) = some n
@@ -121,13 +131,13 @@ reads_given : {B : Type 0} (some : ℕ → B) → IsLastReader (given some) (IsM
 reads_given some =
     reads_made Nothing (number_field 0 4294967295) some (IsWithin 0 4294967295) one_piece (reads_last (number_field 0 4294967295) (IsBy (IsWithin 0 4294967295) one_piece) (reads_within 0 4294967295 (omega arith)))
 
-back_by : {B : Type 0} (none : B) (some : ℕ → B) (o : Option ℕ) (b : B) (ws : List (List ℕ)) → b ≡ maybe none some o → IsIss o → AreWritten (iss_pieces o) ws → ((b ≡ none) × (ws ≡ [])) ⊎ IsMade some (IsWithin 0 4294967295) one_piece b ws
+back_by : {B : Type 0} (none : B) (some : ℕ → B) (o : Option ℕ) (b : B) (ws : List (List ℕ)) → b ≡ maybe none some o → IsMaybe o → AreWritten (maybe_pieces o) ws → ((b ≡ none) × (ws ≡ [])) ⊎ IsMade some (IsWithin 0 4294967295) one_piece b ws
 back_by none some None b ws same fits h = inl (same, none_written ws h)
 back_by none some (Some n) b ws same fits h = inr (n, same, (omega arith, fits), h)
 
-reads_maybe : {B : Type 0} (none : B) (some : ℕ → B) → IsLastReader (λ r. or_end none (given some) r.words r) (IsMade (maybe none some) IsIss iss_pieces)
+reads_maybe : {B : Type 0} (none : B) (some : ℕ → B) → IsLastReader (λ r. or_end none (given some) r.words r) (IsMade (maybe none some) IsMaybe maybe_pieces)
 reads_maybe none some =
-    reads_as Nothing (λ r. or_end none (given some) r.words r) _ (IsMade (maybe none some) IsIss iss_pieces)
+    reads_as Nothing (λ r. or_end none (given some) r.words r) _ (IsMade (maybe none some) IsMaybe maybe_pieces)
     (reads_or_end none (given some) (IsMade some (IsWithin 0 4294967295) one_piece) (reads_given some) (λ b ws s empty. subst (λ (us : List (List ℕ)). AreWritten (one_piece s.0) us) empty s.3))
     (λ b ws s. elim s [
       | inl bare ↦ (None, bare.0, tt, subst (λ (us : List (List ℕ)). AreWritten [] us) (sym bare.1) tt)
@@ -135,16 +145,32 @@ reads_maybe none some =
     ])
     (λ b ws s. back_by none some s.0 b ws s.1 s.2 s.3)
 
-same_number : (o : Option ℕ) → maybe None (λ n. Some n) o ≡ o
-same_number None = refl
-same_number (Some n) = refl
+-- ---- an initial send sequence number
+
+abbrev word : ℕ → Word
+word n = record { 0 = n }
+
+abbrev number_of : Option Word → Option ℕ
+number_of iss = option_map (λ w. w.0) iss
+
+same_word : (iss : Option Word) → iss ≡ maybe None (λ n. Some (word n)) (number_of iss)
+same_word None = refl
+same_word (Some w) = refl
+
+word_there : (o : Option ℕ) (ws : List (List ℕ)) → IsMaybe o → AreWritten (maybe_pieces o) ws → IsBy IsIss iss_pieces (maybe None (λ n. Some (word n)) o) ws
+word_there None ws fits h = (tt, h)
+word_there (Some n) ws fits h = (fits, h)
+
+word_back : (iss : Option Word) (ws : List (List ℕ)) → IsBy IsIss iss_pieces iss ws → IsMaybe (number_of iss) × AreWritten (maybe_pieces (number_of iss)) ws
+word_back None ws s = s
+word_back (Some w) ws s = s
 
 pub reads_iss : IsLastReader first_number_field (IsBy IsIss iss_pieces)
 unfolding first_number_field
 reads_iss =
-    reads_as Nothing first_number_field _ (IsBy IsIss iss_pieces) (reads_maybe None (λ n. Some n))
-    (λ iss ws s. let same = sym (s.1 ∙ same_number s.0) in (subst IsIss same s.2, subst (λ (o : Option ℕ). AreWritten (iss_pieces o) ws) same s.3))
-    (λ iss ws s. (iss, sym (same_number iss), s.0, s.1))
+    reads_as Nothing first_number_field _ (IsBy IsIss iss_pieces) (reads_maybe None (λ n. Some (word n)))
+    (λ iss ws s. subst (λ (x : Option Word). IsBy IsIss iss_pieces x ws) (sym s.1) (word_there s.0 ws s.2 s.3))
+    (λ iss ws s. (number_of iss, same_word iss, (word_back iss ws s).0, (word_back iss ws s).1))
 
 -- ---- the extra numbers
 
@@ -155,13 +181,13 @@ abbrev make_first : ℕ × Option ℕ → Extras
 make_first y = with_second y.0 y.1
 
 abbrev FitsFirst : ℕ × Option ℕ → Type 0
-FitsFirst y = IsWithin 0 4294967295 y.0 × IsIss y.1
+FitsFirst y = IsWithin 0 4294967295 y.0 × IsMaybe y.1
 
 abbrev first_pieces : ℕ × Option ℕ → List Piece
-first_pieces y = one_piece y.0 ++ iss_pieces y.1
+first_pieces y = one_piece y.0 ++ maybe_pieces y.1
 
 reads_first : IsLastReader first_field (IsMade make_first FitsFirst first_pieces)
-reads_first = reads_part Nothing (number_field 0 4294967295) (IsWithin 0 4294967295) one_piece _ make_first IsIss iss_pieces (reads_within 0 4294967295 (omega arith)) (λ x. reads_maybe (One x) (λ y. Two x y))
+reads_first = reads_part Nothing (number_field 0 4294967295) (IsWithin 0 4294967295) one_piece _ make_first IsMaybe maybe_pieces (reads_within 0 4294967295 (omega arith)) (λ x. reads_maybe (One x) (λ y. Two x y))
 
 some_first : (extras : Extras) (ws : List (List ℕ)) → IsMade make_first FitsFirst first_pieces extras ws → ws ≡ [] → ⊥
 some_first extras ws s empty = subst (λ (us : List (List ℕ)). AreWritten (first_pieces s.0) us) empty s.3

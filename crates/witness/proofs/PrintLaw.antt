@@ -5,6 +5,7 @@ use Rattle.std.specs.Fmt.{decimal}
 use Rattle.std.specs.List.{concat}
 use Rattle.std.proofs.Math.Seq.{take-suc}
 use Rattle.std.proofs.lemmas.List.{append-nil}
+use Rattle.case_forms.specs.declared.named_line.NamedLine.{NamedLine}
 use Rattle.case_forms.specs.declared.steps.Label.{Label}
 use Rattle.case_forms.specs.declared.steps.Step.{Step}
 use Rattle.case_forms.specs.declared.steps.Witness.{Witness}
@@ -67,7 +68,7 @@ printed_again number (s ∷ steps) [] h = absurd h
 printed_again number (s ∷ steps) (raw ∷ raws) h = (step_again number s raw h.0, printed_again (number_after number s) steps raws h.1)
 
 -- what is printed says what the steps say
-abbrev said_line : ℕ × Label → List ℕ
+abbrev said_line : ℕ × Label NamedLine → List ℕ
 said_line said = printed_line (number said.0 ∷ label_pieces said.1)
 
 lines_said : (steps : List Step) → map step_line steps ≡ map said_line (map without_span steps)
@@ -77,7 +78,7 @@ lines_said (s ∷ steps) = ap (λ (lines : List (List ℕ)). step_line s ∷ lin
 pub print_again : (v w : Witness) (text : List ℕ) → IsWitnessText v text → without_spans v ≡ without_spans w → IsWitnessText v (witness_text w)
 print_again v w text t same =
     let begins = t.begins in
-    let lines : map step_line w.steps ≡ map step_line v.steps = lines_said w.steps ∙ ap (λ (said : List (ℕ × Label)). map said_line said) (sym same) ∙ sym (lines_said v.steps) in
+    let lines : map step_line w.steps ≡ map step_line v.steps = lines_said w.steps ∙ ap (λ (said : List (ℕ × Label NamedLine)). map said_line said) (sym same) ∙ sym (lines_said v.steps) in
     record {
       first = first_text ++ 10 ∷ [];
       raws = map step_line v.steps;

@@ -3,6 +3,7 @@ use Rattle.std.proofs.Common.{◌≡◌, ◌≤◌, ℕ, List, [], ◌∷◌, �
 use Rattle.std.specs.Fmt.{decimal}
 use Rattle.std.specs.List.{AllByRecursion}
 use Rattle.std.proofs.lemmas.List.{append-nil}
+use Rattle.case_forms.specs.declared.named_line.NamedLine.{NamedLine}
 use Rattle.case_forms.specs.declared.steps.Label.{Label}
 use Rattle.case_forms.specs.declared.steps.Step.{Step}
 use Rattle.line_fields.specs.declared.fault.TextFault.{TextFault}
@@ -23,18 +24,18 @@ use Rattle.witness.proofs.LabelLaw.{reads_label, label_clean}
 
 -- ---- the fields of a step
 
-abbrev last_of : ℕ × Rest → Label × Rest → Result (ℕ × Label) TextFault
+abbrev last_of : ℕ × Rest → Label NamedLine × Rest → Result (ℕ × Label NamedLine) TextFault
 last_of m l = no_more l.1 >>= λ u. Ok (m.0, l.0)
 
-abbrev behind_moment : ℕ × Rest → Result (ℕ × Label) TextFault
+abbrev behind_moment : ℕ × Rest → Result (ℕ × Label NamedLine) TextFault
 behind_moment m = label_field m.1 >>= last_of m
 
-record AreFields (f : ℕ × Label) (ws : List (List ℕ)) : Type 0 where
+record AreFields (f : ℕ × Label NamedLine) (ws : List (List ℕ)) : Type 0 where
   written : AreWritten (number f.0 ∷ label_pieces f.1) ws
   moment : f.0 ≤ 1000000000000000000
   label : IsLabel f.1
 
-step_fields_take : (r : Rest) (f : ℕ × Label) → step_fields r ≡ Ok f → AreFields f (texts r)
+step_fields_take : (r : Rest) (f : ℕ × Label NamedLine) → step_fields r ≡ Ok f → AreFields f (texts r)
 step_fields_take r f e =
     let a = bind_ok (number_field 0 1000000000000000000 r) behind_moment f e in
     let b = bind_ok (label_field a.0.1) (last_of a.0) f a.2 in
@@ -45,9 +46,9 @@ step_fields_take r f e =
     let behind : texts a.0.1 ≡ l.0 = l.2 ∙ ap (λ (us : List (List ℕ)). l.0 ++ us) none ∙ append-nil l.0 in
     let spelled : texts r ≡ decimal a.0.0 ∷ l.0 = m.2 ∙ ap (λ (us : List (List ℕ)). us ++ texts a.0.1) m.1.2 ∙ ap (λ (us : List (List ℕ)). decimal a.0.0 ∷ us) behind in
     let written = subst (λ (us : List (List ℕ)). AreWritten (number a.0.0 ∷ label_pieces b.0.0) us) (sym spelled) (refl, l.1.1) in
-    subst (λ (g : ℕ × Label). AreFields g (texts r)) (ok_is (a.0.0, b.0.0) f c.2) (record { written = written; moment = m.1.1; label = l.1.0 })
+    subst (λ (g : ℕ × Label NamedLine). AreFields g (texts r)) (ok_is (a.0.0, b.0.0) f c.2) (record { written = written; moment = m.1.1; label = l.1.0 })
 
-step_fields_again : (r : Rest) (f : ℕ × Label) → AreFields f (texts r) → step_fields r ≡ Ok f
+step_fields_again : (r : Rest) (f : ℕ × Label NamedLine) → AreFields f (texts r) → step_fields r ≡ Ok f
 step_fields_again r f s =
     let w = first_plain (decimal f.0) (label_pieces f.1) (texts r) s.written in
     let m = (reads_number 0 1000000000000000000 (omega arith)).again r f.0 (decimal f.0 ∷ []) w.0 tt (omega arith, s.moment, refl) w.1 in
@@ -57,10 +58,10 @@ step_fields_again r f s =
 
 -- ---- a step
 
-abbrev made : ℕ → Rest → ℕ × Label → Step
+abbrev made : ℕ → Rest → ℕ × Label NamedLine → Step
 made number r f = record { moment = f.0; label = f.1; span = record { line = number; start = 0; stop = r.stop } }
 
-abbrev done_with : ℕ → Rest → ℕ × Label → Result Step TextFault
+abbrev done_with : ℕ → Rest → ℕ × Label NamedLine → Result Step TextFault
 done_with number r f = Ok (made number r f)
 
 abbrev done : Step → Result Step TextFault

@@ -1,5 +1,6 @@
 -- Labels, read from left to right.
 use Rattle.std.specs.Prelude.{Result, Ok}
+use Rattle.case_forms.specs.declared.named_line.NamedLine.{NamedLine}
 use Rattle.case_forms.specs.declared.steps.Label.{Label}
 use Rattle.case_forms.specs.declared.steps.Label.TheVariants.{L, D, M, T, K, R, F}
 use Rattle.line_fields.specs.declared.fault.TextFault.{TextFault}
@@ -14,21 +15,21 @@ use Rattle.witness.specs.Parts.{endpoint_field, entry_field, bit_field, extras_f
 use Rattle.witness.specs.Labels.{label_name, all_label_words}
 
 -- the number of a line, and the extra numbers
-unfoldable pub line_label : Rest → Result (Label × Rest) TextFault
+unfoldable pub line_label : Rest → Result (Label NamedLine × Rest) TextFault
 line_label r = do
   line ← number_field 0 4294967295 r
   extras ← extras_field line.1
-  Ok (L line.0 extras.0, extras.1)
+  Ok (L (record { number = line.0; extras = extras.0 }), extras.1)
 
 -- a thread, and the answer of its open call
-unfoldable pub effect_label : Rest → Result (Label × Rest) TextFault
+unfoldable pub effect_label : Rest → Result (Label NamedLine × Rest) TextFault
 effect_label r = do
   thread ← number_field 0 4294967295 r
   answer ← answer_field thread.1
   Ok (D thread.0 answer.0, answer.1)
 
 -- an endpoint, and what the segment is that it makes
-unfoldable pub segment_label : Rest → Result (Label × Rest) TextFault
+unfoldable pub segment_label : Rest → Result (Label NamedLine × Rest) TextFault
 segment_label r = do
   at ← endpoint_field r
   position ← number_field 0 1000000000000000000 at.1
@@ -36,39 +37,39 @@ segment_label r = do
   flags ← flags_field len.1
   window ← number_field 0 65535 flags.1
   iss ← first_number_field window.1
-  Ok (M at.0.0 at.0.1 at.0.2 position.0 len.0 flags.0 window.0 iss.0, iss.1)
+  Ok (M at.0.0 (record { lport = at.0.1; rport = at.0.2; pos = position.0; len = len.0; flags = flags.0; window = window.0; iss = iss.0 }), iss.1)
 
 -- an inbox entry, the congestion window, whether data are kept, and whether the time is sampled
-unfoldable pub taking_label : Rest → Result (Label × Rest) TextFault
+unfoldable pub taking_label : Rest → Result (Label NamedLine × Rest) TextFault
 taking_label r = do
   entry ← entry_field r
   cwnd ← number_field 0 4294967295 entry.1
   keep ← bit_field cwnd.1
   sample ← bit_field keep.1
-  Ok (T entry.0.0 entry.0.1 cwnd.0 keep.0 sample.0, sample.1)
+  Ok (T entry.0.0 entry.0.1 (record { cwnd = cwnd.0; keep = keep.0; sample = sample.0 }), sample.1)
 
 -- an inbox entry that is dropped
-abbrev pub dropping_label : Rest → Result (Label × Rest) TextFault
+abbrev pub dropping_label : Rest → Result (Label NamedLine × Rest) TextFault
 dropping_label r = do
   entry ← entry_field r
   Ok (K entry.0.0 entry.0.1, entry.1)
 
 -- an inbox entry that is answered by a reset
-abbrev pub refusing_label : Rest → Result (Label × Rest) TextFault
+abbrev pub refusing_label : Rest → Result (Label NamedLine × Rest) TextFault
 refusing_label r = do
   entry ← entry_field r
   Ok (R entry.0.0 entry.0.1, entry.1)
 
 -- an endpoint, its congestion window and its slow start threshold
-unfoldable pub recovery_label : Rest → Result (Label × Rest) TextFault
+unfoldable pub recovery_label : Rest → Result (Label NamedLine × Rest) TextFault
 recovery_label r = do
   at ← endpoint_field r
   cwnd ← number_field 0 4294967295 at.1
   ssthresh ← number_field 0 4294967295 cwnd.1
-  Ok (F at.0.0 at.0.1 at.0.2 cwnd.0 ssthresh.0, ssthresh.1)
+  Ok (F at.0.0 (record { lport = at.0.1; rport = at.0.2; cwnd = cwnd.0; ssthresh = ssthresh.0 }), ssthresh.1)
 
 -- what follows the first word
-abbrev pub label_behind : LabelWord → Rest → Result (Label × Rest) TextFault
+abbrev pub label_behind : LabelWord → Rest → Result (Label NamedLine × Rest) TextFault
 label_behind words.Line r = line_label r
 label_behind words.Effect r = effect_label r
 label_behind words.Making r = segment_label r
@@ -78,5 +79,5 @@ label_behind words.Refusing r = refusing_label r
 label_behind words.Recovery r = recovery_label r
 
 -- a label
-unfoldable pub label_field : Rest → Result (Label × Rest) TextFault
+unfoldable pub label_field : Rest → Result (Label NamedLine × Rest) TextFault
 label_field r = kind_field label_name all_label_words r >>= λ word. label_behind word.0 word.1

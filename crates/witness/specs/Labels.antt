@@ -1,11 +1,13 @@
 -- Labels, as a witness spells them.
 use Rattle.std.specs.Prelude.{◌≤◌, ℕ, Bool, true, false, List, [], ◌∷◌, ◌++◌, Option, Some, None, codes}
+use Rattle.seqno.specs.declared.word.Word.{Word}
 use Rattle.case_forms.specs.declared.calls.Host.{Host}
-use Rattle.case_forms.specs.declared.steps.Extras.{Extras}
-use Rattle.case_forms.specs.declared.steps.Extras.TheVariants.{Bare, One, Two}
-use Rattle.case_forms.specs.declared.steps.Flags.{Flags}
+use Rattle.case_forms.specs.declared.named_line.Extras.{Extras}
+use Rattle.case_forms.specs.declared.named_line.Extras.TheVariants.{Bare, One, Two}
+use Rattle.case_forms.specs.declared.named_line.NamedLine.{NamedLine}
 use Rattle.case_forms.specs.declared.steps.Label.{Label}
 use Rattle.case_forms.specs.declared.steps.Label.TheVariants.{L, D, M, T, K, R, F}
+use Rattle.case_forms.specs.declared.steps.SegmentPlan.{SegmentPlan}
 use Rattle.line_fields.specs.Hosts.{host_number}
 use Rattle.line_fields.specs.Spelling.{Piece, plain, number, AreWritten}
 use Rattle.line_fields.specs.Answers.{answer_pieces, IsAnswer}
@@ -45,14 +47,14 @@ AreExtras (One x) = x ≤ 4294967295
 AreExtras (Two x y) = (x ≤ 4294967295) × (y ≤ 4294967295)
 
 -- the field of an initial send sequence number, which may be missing
-abbrev pub iss_pieces : Option ℕ → List Piece
+abbrev pub iss_pieces : Option Word → List Piece
 iss_pieces None = []
-iss_pieces (Some iss) = number iss ∷ []
+iss_pieces (Some iss) = number iss.0 ∷ []
 
 -- the limit of an initial send sequence number
-abbrev pub IsIss : Option ℕ → Type 0
+abbrev pub IsIss : Option Word → Type 0
 IsIss None = Unit {0}
-IsIss (Some iss) = iss ≤ 4294967295
+IsIss (Some iss) = iss.0 ≤ 4294967295
 
 -- the ports of an endpoint
 abbrev pub ArePorts : ℕ → ℕ → Type 0
@@ -67,43 +69,43 @@ abbrev pub entry_pieces : Host → ℕ → List Piece
 entry_pieces host line = number (host_number host) ∷ number line ∷ []
 
 -- the fields of what a segment is that is made
-abbrev pub segment_pieces : ℕ → ℕ → Flags → ℕ → Option ℕ → List Piece
-segment_pieces position len flags window iss = number position ∷ number len ∷ plain (flags_text flags) ∷ number window ∷ iss_pieces iss
+abbrev pub segment_pieces : SegmentPlan → List Piece
+segment_pieces plan = number plan.pos ∷ number plan.len ∷ plain (flags_text plan.flags) ∷ number plan.window ∷ iss_pieces plan.iss
 
 -- the fields of a label behind its first word
-abbrev pub label_tail : Label → List Piece
-label_tail (L line extras) = number line ∷ extras_pieces extras
+abbrev pub label_tail : Label NamedLine → List Piece
+label_tail (L line) = number line.number ∷ extras_pieces line.extras
 label_tail (D thread answer) = number thread ∷ answer_pieces answer
-label_tail (M host local remote position len flags window iss) = endpoint_pieces host local remote ++ segment_pieces position len flags window iss
-label_tail (T host line cwnd keep sample) = entry_pieces host line ++ number cwnd ∷ number (bit_number keep) ∷ number (bit_number sample) ∷ []
+label_tail (M host plan) = endpoint_pieces host plan.lport plan.rport ++ segment_pieces plan
+label_tail (T host line choice) = entry_pieces host line ++ number choice.cwnd ∷ number (bit_number choice.keep) ∷ number (bit_number choice.sample) ∷ []
 label_tail (K host line) = entry_pieces host line
 label_tail (R host line) = entry_pieces host line
-label_tail (F host local remote cwnd ssthresh) = endpoint_pieces host local remote ++ number cwnd ∷ number ssthresh ∷ []
+label_tail (F host recovery) = endpoint_pieces host recovery.lport recovery.rport ++ number recovery.cwnd ∷ number recovery.ssthresh ∷ []
 
 -- the first word of each label
-abbrev pub label_word : Label → LabelWord
-label_word (L line extras) = words.Line
+abbrev pub label_word : Label NamedLine → LabelWord
+label_word (L line) = words.Line
 label_word (D thread answer) = words.Effect
-label_word (M host local remote position len flags window iss) = words.Making
-label_word (T host line cwnd keep sample) = words.Taking
+label_word (M host plan) = words.Making
+label_word (T host line choice) = words.Taking
 label_word (K host line) = words.Dropping
 label_word (R host line) = words.Refusing
-label_word (F host local remote cwnd ssthresh) = words.Recovery
+label_word (F host recovery) = words.Recovery
 
 -- the fields of a label
-abbrev pub label_pieces : Label → List Piece
+abbrev pub label_pieces : Label NamedLine → List Piece
 label_pieces label = plain (label_name (label_word label)) ∷ label_tail label
 
 -- the limits of a label
-abbrev pub IsLabel : Label → Type 0
-IsLabel (L line extras) = (line ≤ 4294967295) × AreExtras extras
+abbrev pub IsLabel : Label NamedLine → Type 0
+IsLabel (L line) = (line.number ≤ 4294967295) × AreExtras line.extras
 IsLabel (D thread answer) = (thread ≤ 4294967295) × IsAnswer answer
-IsLabel (M host local remote position len flags window iss) = ArePorts local remote × (position ≤ 1000000000000000000) × (len ≤ 65515) × (window ≤ 65535) × IsIss iss
-IsLabel (T host line cwnd keep sample) = (line ≤ 4294967295) × (cwnd ≤ 4294967295)
+IsLabel (M host plan) = ArePorts plan.lport plan.rport × (plan.pos ≤ 1000000000000000000) × (plan.len ≤ 65515) × (plan.window ≤ 65535) × IsIss plan.iss
+IsLabel (T host line choice) = (line ≤ 4294967295) × (choice.cwnd ≤ 4294967295)
 IsLabel (K host line) = line ≤ 4294967295
 IsLabel (R host line) = line ≤ 4294967295
-IsLabel (F host local remote cwnd ssthresh) = ArePorts local remote × (cwnd ≤ 4294967295) × (ssthresh ≤ 4294967295)
+IsLabel (F host recovery) = ArePorts recovery.lport recovery.rport × (recovery.cwnd ≤ 4294967295) × (recovery.ssthresh ≤ 4294967295)
 
 -- these fields spell the label
-abbrev pub IsSpelledLabel : Label → List (List ℕ) → Type 0
+abbrev pub IsSpelledLabel : Label NamedLine → List (List ℕ) → Type 0
 IsSpelledLabel label ws = IsLabel label × AreWritten (label_pieces label) ws

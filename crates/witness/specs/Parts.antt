@@ -1,8 +1,9 @@
 -- The parts of labels, read from left to right.
 use Rattle.std.specs.Prelude.{ℕ, Bool, ◌==◌, Option, Some, None, Result, Ok}
+use Rattle.seqno.specs.declared.word.Word.{Word}
 use Rattle.case_forms.specs.declared.calls.Host.{Host}
-use Rattle.case_forms.specs.declared.steps.Extras.{Extras}
-use Rattle.case_forms.specs.declared.steps.Extras.TheVariants.{Bare, One, Two}
+use Rattle.case_forms.specs.declared.named_line.Extras.{Extras}
+use Rattle.case_forms.specs.declared.named_line.Extras.TheVariants.{Bare, One, Two}
 use Rattle.line_fields.specs.declared.fault.TextFault.{TextFault}
 use Rattle.line_fields.specs.Word.{Rest}
 use Rattle.line_fields.specs.Reading.{◌>>=◌, number_field, or_end}
@@ -46,11 +47,11 @@ unfoldable pub extras_field : Rest → Result (Extras × Rest) TextFault
 extras_field r = or_end Bare first_field r.words r
 
 -- an initial send sequence number that is given
-abbrev pub given_field : Rest → Result (Option ℕ × Rest) TextFault
+abbrev pub given_field : Rest → Result (Option Word × Rest) TextFault
 given_field r = do
   iss ← number_field 0 4294967295 r
-  Ok (Some iss.0, iss.1)
+  Ok (Some (record { 0 = iss.0 }), iss.1)
 
 -- the initial send sequence number: none where nothing is left
-unfoldable pub first_number_field : Rest → Result (Option ℕ × Rest) TextFault
+unfoldable pub first_number_field : Rest → Result (Option Word × Rest) TextFault
 first_number_field r = or_end None given_field r.words r

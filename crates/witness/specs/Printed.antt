@@ -1,6 +1,7 @@
 -- The text that a witness is printed as.
 use Rattle.std.specs.Prelude.{ℕ, List, [], ◌∷◌, ◌++◌, map}
 use Rattle.std.specs.List.{concat}
+use Rattle.case_forms.specs.declared.named_line.NamedLine.{NamedLine}
 use Rattle.case_forms.specs.declared.steps.Label.{Label}
 use Rattle.case_forms.specs.declared.steps.Step.{Step}
 use Rattle.case_forms.specs.declared.steps.Witness.{Witness}
@@ -17,9 +18,9 @@ abbrev pub witness_text : Witness → List ℕ
 witness_text w = (first_text ++ 10 ∷ []) ++ steps_text w.steps
 
 -- what a step says
-abbrev pub without_span : Step → ℕ × Label
+abbrev pub without_span : Step → ℕ × Label NamedLine
 without_span s = (s.moment, s.label)
 
 -- what the steps of a witness say, wherever they stand
-abbrev pub without_spans : Witness → List (ℕ × Label)
+abbrev pub without_spans : Witness → List (ℕ × Label NamedLine)
 without_spans w = map without_span w.steps

@@ -1,5 +1,6 @@
 -- A step as a line of a witness.
 use Rattle.std.specs.Prelude.{◌≡◌, ◌≤◌, ℕ, List, ◌∷◌, Result, Ok}
+use Rattle.case_forms.specs.declared.named_line.NamedLine.{NamedLine}
 use Rattle.case_forms.specs.declared.steps.Label.{Label}
 use Rattle.case_forms.specs.declared.steps.Step.{Step}
 use Rattle.line_fields.specs.declared.fault.TextFault.{TextFault}
@@ -24,7 +25,7 @@ pub record IsStepText (number : ℕ) (s : Step) (raw : List ℕ) : Type 0 where
   pub span : s.span ≡ whole_line number (joined texts)
 
 -- moment and label, and no field more
-abbrev pub step_fields : Rest → Result (ℕ × Label) TextFault
+abbrev pub step_fields : Rest → Result (ℕ × Label NamedLine) TextFault
 step_fields r = do
   moment ← number_field 0 1000000000000000000 r
   label ← label_field moment.1

@@ -8,7 +8,7 @@ ghost use Rattle.witness.specs.LabelFields.{line_label, effect_label, segment_la
 
 use crate::flags::flags;
 use crate::parts::{bit, endpoint, entry, extras, first_number};
-use case_forms::Label;
+use case_forms::{Label, NamedLine, Recovery, SegmentPlan, TakeChoice};
 use line_fields::{FaultKind, Fields, TextFault, Token, answer};
 use std::alloc::Global;
 
@@ -69,62 +69,80 @@ fn label_word(fields: &mut Fields) -> Result<LabelWord, TextFault>
 
 // The number of a line, and the extra numbers.
 #[tactic(auto, unfolding(crate::specs::LabelFields::line_label))]
-fn line_label(fields: &mut Fields) -> Result<Label, TextFault>
+fn line_label(fields: &mut Fields) -> Result<Label<NamedLine>, TextFault>
     ensures { Gives (λ label. (label, fields.new)) result (line_label fields.old) }
 {
-    let line = u64::from(fields.number32()?);
-    Ok(Label::L(line, extras(fields)?))
+    let number = u64::from(fields.number32()?);
+    let extras = extras(fields)?;
+    Ok(Label::L(NamedLine { number, extras }))
 }
 
 // A thread, and the answer of its open call.
 #[tactic(auto, unfolding(crate::specs::LabelFields::effect_label))]
-fn effect_label(alloc: Global, fields: &mut Fields) -> Result<Label, TextFault>
+fn effect_label(alloc: Global, fields: &mut Fields) -> Result<Label<NamedLine>, TextFault>
     ensures { Gives (λ label. (label, fields.new)) result (effect_label fields.old) }
 {
     let thread = fields.number32()?;
-    Ok(Label::D(thread, answer(alloc, fields)?))
+    let answer = answer(alloc, fields)?;
+    Ok(Label::D { thread, answer })
 }
 
 // An endpoint, and what the segment is that it makes.
 #[tactic(auto, unfolding(crate::specs::LabelFields::segment_label))]
-fn segment_label(fields: &mut Fields) -> Result<Label, TextFault>
+fn segment_label(fields: &mut Fields) -> Result<Label<NamedLine>, TextFault>
     ensures { Gives (λ label. (label, fields.new)) result (segment_label fields.old) }
 {
-    let (host, local, remote) = endpoint(fields)?;
-    let position = fields.number(0, MAX_POSITION)?;
+    let (host, lport, rport) = endpoint(fields)?;
+    let pos = fields.number(0, MAX_POSITION)?;
     let len = fields.number(0, MAX_LEN)? as u16;
     let flags = flags(fields)?;
     let window = fields.number(0, MAX_WINDOW)? as u16;
     let iss = first_number(fields)?;
-    Ok(Label::M(host, local, remote, position, len, flags, window, iss))
+    let plan = SegmentPlan {
+        lport,
+        rport,
+        pos,
+        len,
+        flags,
+        window,
+        iss,
+    };
+    Ok(Label::M { host, plan })
 }
 
 // An inbox entry, and what its taking leaves: the congestion window, and whether data are kept and the time is sampled.
 #[tactic(auto, unfolding(crate::specs::LabelFields::taking_label))]
-fn taking_label(fields: &mut Fields) -> Result<Label, TextFault>
+fn taking_label(fields: &mut Fields) -> Result<Label<NamedLine>, TextFault>
     ensures { Gives (λ label. (label, fields.new)) result (taking_label fields.old) }
 {
     let (host, line) = entry(fields)?;
     let cwnd = fields.number32()?;
     let keep = bit(fields)?;
     let sample = bit(fields)?;
-    Ok(Label::T(host, line, cwnd, keep, sample))
+    let choice = TakeChoice { cwnd, keep, sample };
+    Ok(Label::T { host, line, choice })
 }
 
 // An endpoint, its congestion window and its slow start threshold.
 #[tactic(auto, unfolding(crate::specs::LabelFields::recovery_label))]
-fn recovery_label(fields: &mut Fields) -> Result<Label, TextFault>
+fn recovery_label(fields: &mut Fields) -> Result<Label<NamedLine>, TextFault>
     ensures { Gives (λ label. (label, fields.new)) result (recovery_label fields.old) }
 {
-    let (host, local, remote) = endpoint(fields)?;
+    let (host, lport, rport) = endpoint(fields)?;
     let cwnd = fields.number32()?;
     let ssthresh = fields.number32()?;
-    Ok(Label::F(host, local, remote, cwnd, ssthresh))
+    let recovery = Recovery {
+        lport,
+        rport,
+        cwnd,
+        ssthresh,
+    };
+    Ok(Label::F { host, recovery })
 }
 
 // A label, which is the last of its line. An unknown word is Field.
 #[tactic(auto, unfolding(crate::specs::LabelFields::label_field))]
-pub(crate) fn label(alloc: Global, fields: &mut Fields) -> Result<Label, TextFault>
+pub(crate) fn label(alloc: Global, fields: &mut Fields) -> Result<Label<NamedLine>, TextFault>
     ensures { Gives (λ label. (label, fields.new)) result (label_field fields.old) }
 {
     match label_word(fields)? {
@@ -134,11 +152,11 @@ pub(crate) fn label(alloc: Global, fields: &mut Fields) -> Result<Label, TextFau
         LabelWord::Taking => taking_label(fields),
         LabelWord::Dropping => {
             let (host, line) = entry(fields)?;
-            Ok(Label::K(host, line))
+            Ok(Label::K { host, line })
         }
         LabelWord::Refusing => {
             let (host, line) = entry(fields)?;
-            Ok(Label::R(host, line))
+            Ok(Label::R { host, line })
         }
         LabelWord::Recovery => recovery_label(fields),
     }

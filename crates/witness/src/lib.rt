@@ -23,7 +23,10 @@ mod reading;
 #[cfg(test)]
 mod tests;
 
-pub use case_forms::{Extras, Flags, Label, OutOfMemory, Span, Step, Steps, Witness};
+pub use case_forms::{
+    Extras, Flags, Label, NamedLine, OutOfMemory, Recovery, SegmentPlan, Span, Step, Steps,
+    TakeChoice, Witness,
+};
 pub use first_line::begins_witness;
 pub use line_fields::{FaultKind, TextFault};
 pub use printing::{print_law, print_witness};

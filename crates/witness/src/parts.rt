@@ -6,6 +6,7 @@ ghost use Rattle.witness.specs.Parts.{endpoint_field, entry_field, bit_field, ex
 
 use case_forms::{Extras, Host};
 use line_fields::{Fields, TextFault};
+use seqno::Word;
 
 // A host, and the ports of one of its endpoints: the local one and the remote one.
 #[tactic(auto, unfolding(crate::specs::Parts::endpoint_field))]
@@ -55,12 +56,12 @@ pub(crate) fn extras(fields: &mut Fields) -> Result<Extras, TextFault>
 // The initial send sequence number behind a segment's window, where there is a further field. That field is always a
 // number.
 #[tactic(auto, unfolding(crate::specs::Parts::first_number_field))]
-pub(crate) fn first_number(fields: &mut Fields) -> Result<Option<u32>, TextFault>
+pub(crate) fn first_number(fields: &mut Fields) -> Result<Option<Word>, TextFault>
     ensures { Gives (λ iss. (iss, fields.new)) result (first_number_field fields.old) }
 {
     if fields.is_empty() {
         return Ok(None);
     }
     let iss = fields.number32()?;
-    Ok(Some(iss))
+    Ok(Some(Word(iss)))
 }

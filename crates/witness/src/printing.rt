@@ -10,7 +10,7 @@ ghost use Rattle.witness.specs.Printed.{witness_text, without_spans};
 
 use crate::first_line::FIRST_LINE;
 use crate::flags::push_flags;
-use case_forms::{Extras, Flags, Host, Label, OutOfMemory, Step, Witness};
+use case_forms::{Extras, Host, Label, NamedLine, OutOfMemory, SegmentPlan, Step, Witness};
 use line_fields::{push_answer, push_end, push_host, push_number, push_space, push_word};
 use std::alloc::Global;
 
@@ -63,66 +63,59 @@ fn push_extras(out: &mut Vec<u8>, extras: Extras) -> Result<(), OutOfMemory>
 }
 
 // Writes what the segment is that an endpoint makes, each field behind a space.
-fn push_segment(
-    out: &mut Vec<u8>,
-    position: u64,
-    len: u16,
-    flags: Flags,
-    window: u16,
-    iss: Option<u32>,
-) -> Result<(), OutOfMemory>
-    ensures { OnOk result (out.new.items ≡ out.old.items ++ printed_behind (segment_pieces position len flags window iss)) }
+fn push_segment(out: &mut Vec<u8>, plan: SegmentPlan) -> Result<(), OutOfMemory>
+    ensures { OnOk result (out.new.items ≡ out.old.items ++ printed_behind (segment_pieces plan)) }
 {
-    push_field(out, position)?;
-    push_field(out, u64::from(len))?;
-    push_flags(out, flags)?;
-    push_field(out, u64::from(window))?;
-    match iss {
+    push_field(out, plan.pos)?;
+    push_field(out, u64::from(plan.len))?;
+    push_flags(out, plan.flags)?;
+    push_field(out, u64::from(plan.window))?;
+    match plan.iss {
         None => Ok(()),
-        Some(iss) => push_field(out, u64::from(iss)),
+        Some(iss) => push_field(out, u64::from(iss.0)),
     }
 }
 
 // Writes a label, each field behind a space.
-fn push_label(out: &mut Vec<u8>, label: &Label) -> Result<(), OutOfMemory>
+fn push_label(out: &mut Vec<u8>, label: &Label<NamedLine>) -> Result<(), OutOfMemory>
     ensures { OnOk result (out.new.items ≡ out.old.items ++ printed_behind (label_pieces label.now)) }
 {
     match label {
-        Label::L(line, extras) => {
+        Label::L(line) => {
             push_word(out, " L")?;
-            push_field(out, *line)?;
-            push_extras(out, *extras)
+            push_field(out, line.number)?;
+            push_extras(out, line.extras)
         }
-        Label::D(thread, answer) => {
+        Label::D { thread, answer } => {
             push_word(out, " D")?;
             push_field(out, u64::from(*thread))?;
             push_answer(out, answer)
         }
-        Label::M(host, local, remote, position, len, flags, window, iss) => {
+        Label::M { host, plan } => {
             push_word(out, " M")?;
-            push_endpoint(out, *host, *local, *remote)?;
-            push_segment(out, *position, *len, *flags, *window, *iss)
+            push_endpoint(out, *host, plan.lport, plan.rport)?;
+            push_segment(out, *plan)
         }
-        Label::T(host, line, cwnd, keep, sample) => {
+        Label::T { host, line, choice } => {
             push_word(out, " T")?;
             push_entry(out, *host, *line)?;
-            push_field(out, u64::from(*cwnd))?;
-            push_bit(out, *keep)?;
-            push_bit(out, *sample)
+            push_field(out, u64::from(choice.cwnd))?;
+            push_bit(out, choice.keep)?;
+            push_bit(out, choice.sample)
         }
-        Label::K(host, line) => {
+        Label::K { host, line } => {
             push_word(out, " K")?;
             push_entry(out, *host, *line)
         }
-        Label::R(host, line) => {
+        Label::R { host, line } => {
             push_word(out, " R")?;
             push_entry(out, *host, *line)
         }
-        Label::F(host, local, remote, cwnd, ssthresh) => {
+        Label::F { host, recovery } => {
             push_word(out, " F")?;
-            push_endpoint(out, *host, *local, *remote)?;
-            push_field(out, u64::from(*cwnd))?;
-            push_field(out, u64::from(*ssthresh))
+            push_endpoint(out, *host, recovery.lport, recovery.rport)?;
+            push_field(out, u64::from(recovery.cwnd))?;
+            push_field(out, u64::from(recovery.ssthresh))
         }
     }
 }

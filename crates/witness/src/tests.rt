@@ -6,9 +6,13 @@
 mod faults;
 mod vectors;
 
-use crate::{Extras, Flags, Label, Step, begins_witness, read_step};
+use crate::{
+    Extras, Flags, Label, NamedLine, Recovery, SegmentPlan, Step, TakeChoice, begins_witness,
+    read_step,
+};
 use case_forms::{Answer, Host, Span, State};
 use segment::Bytes;
+use seqno::Word;
 use std::alloc::Global;
 use std::process::Abort;
 use std::test::Fail;
@@ -19,7 +23,7 @@ fn reads(
     alloc: Global,
     text: &str,
     moment: u64,
-    label: Label,
+    label: Label<NamedLine>,
 ) -> Result<(), Fail> {
     let stop = text.len();
     let span = Span {
@@ -43,24 +47,34 @@ fn flags(ack: bool, rst: bool, syn: bool, fin: bool) -> Flags {
     Flags { ack, rst, syn, fin }
 }
 
+// A step that takes line 11.
+fn takes(extras: Extras) -> Label<NamedLine> {
+    Label::L(NamedLine { number: 11, extras })
+}
+
+// The effect of a thread's call.
+fn effect(thread: u32, answer: Answer) -> Label<NamedLine> {
+    Label::D { thread, answer }
+}
+
 #[test]
 fn reads_lines_and_effects(rt: HostRuntime) -> Result<(), Fail> {
     let alloc = rt.alloc();
     let data = Answer::Bytes(Bytes::from(vec![in alloc; 0xab, 0xcd]?));
     let table = [
-        ("30 L 11", Label::L(11, Extras::Bare)),
-        ("30 L 11 1", Label::L(11, Extras::One(1))),
-        ("30 L 11 1 536", Label::L(11, Extras::Two(1, 536))),
-        ("30 D 1 ok 5", Label::D(1, Answer::Given(5))),
+        ("30 L 11", takes(Extras::Bare)),
+        ("30 L 11 1", takes(Extras::One(1))),
+        ("30 L 11 1 536", takes(Extras::Two(1, 536))),
+        ("30 D 1 ok 5", effect(1, Answer::Given(5))),
         (
             "30 D 2 state LISTEN",
-            Label::D(2, Answer::State(State::Listen)),
+            effect(2, Answer::State(State::Listen)),
         ),
         (
             "30 D 4294967295 notconn",
-            Label::D(4_294_967_295, Answer::NotConn),
+            effect(4_294_967_295, Answer::NotConn),
         ),
-        ("30 D 1 data aBCd", Label::D(1, data)),
+        ("30 D 1 data aBCd", effect(1, data)),
     ];
     for (text, label) in table {
         reads(&rt, alloc, text, 30, label)?;
@@ -77,30 +91,48 @@ fn reads_segments(rt: HostRuntime) -> Result<(), Fail> {
         (
             "0 M 0 4000 80 0 0 S 65535 4294967294",
             0,
-            Label::M(Host::Zero, 4000, 80, 0, 0, syn, 65535, Some(4_294_967_294)),
+            Host::Zero,
+            SegmentPlan {
+                lport: 4000,
+                rport: 80,
+                pos: 0,
+                len: 0,
+                flags: syn,
+                window: 65535,
+                iss: Some(Word(4_294_967_294)),
+            },
         ),
         (
             "1 M 1 1 65535 1000000000000000000 65515 ARSF 0",
             1,
-            Label::M(
-                Host::One,
-                1,
-                65535,
-                1_000_000_000_000_000_000,
-                65515,
-                all,
-                0,
-                None,
-            ),
+            Host::One,
+            SegmentPlan {
+                lport: 1,
+                rport: 65535,
+                pos: 1_000_000_000_000_000_000,
+                len: 65515,
+                flags: all,
+                window: 0,
+                iss: None,
+            },
         ),
         (
             "2 M 1 80 4000 1 5 - 9 0",
             2,
-            Label::M(Host::One, 80, 4000, 1, 5, none, 9, Some(0)),
+            Host::One,
+            SegmentPlan {
+                lport: 80,
+                rport: 4000,
+                pos: 1,
+                len: 5,
+                flags: none,
+                window: 9,
+                iss: Some(Word(0)),
+            },
         ),
     ];
-    for (text, moment, label) in table {
-        reads(&rt, rt.alloc(), text, moment, label)?;
+    for (text, moment, host, plan) in table {
+        reads(&rt, rt.alloc(), text, moment, Label::M { host, plan })?;
     }
     Ok(())
 }
@@ -110,14 +142,53 @@ fn reads_what_an_endpoint_does(rt: HostRuntime) -> Result<(), Fail> {
     let table = [
         (
             "41 T 1 12 2144 1 0",
-            Label::T(Host::One, 12, 2144, true, false),
+            Label::T {
+                host: Host::One,
+                line: 12,
+                choice: TakeChoice {
+                    cwnd: 2144,
+                    keep: true,
+                    sample: false,
+                },
+            },
         ),
-        ("41 T 0 12 0 0 1", Label::T(Host::Zero, 12, 0, false, true)),
-        ("41 K 0 23", Label::K(Host::Zero, 23)),
-        ("41 R 1 4294967295", Label::R(Host::One, 4_294_967_295)),
+        (
+            "41 T 0 12 0 0 1",
+            Label::T {
+                host: Host::Zero,
+                line: 12,
+                choice: TakeChoice {
+                    cwnd: 0,
+                    keep: false,
+                    sample: true,
+                },
+            },
+        ),
+        (
+            "41 K 0 23",
+            Label::K {
+                host: Host::Zero,
+                line: 23,
+            },
+        ),
+        (
+            "41 R 1 4294967295",
+            Label::R {
+                host: Host::One,
+                line: 4_294_967_295,
+            },
+        ),
         (
             "41 F 0 4000 80 2144 1072",
-            Label::F(Host::Zero, 4000, 80, 2144, 1072),
+            Label::F {
+                host: Host::Zero,
+                recovery: Recovery {
+                    lport: 4000,
+                    rport: 80,
+                    cwnd: 2144,
+                    ssthresh: 1072,
+                },
+            },
         ),
     ];
     for (text, label) in table {
