@@ -6,6 +6,7 @@
 #![tactic(auto)]
 
 mod ends;
+mod lines;
 #[cfg(test)]
 mod tests;
 
