@@ -14,3 +14,5 @@ pub mod HexLaw
 pub mod Names
 pub mod AnswerLaw
 pub mod HostLaw
+pub mod RowLemmas
+pub mod LeftLemmas
