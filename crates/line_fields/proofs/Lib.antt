@@ -16,3 +16,4 @@ pub mod AnswerLaw
 pub mod HostLaw
 pub mod RowLemmas
 pub mod LeftLemmas
+pub mod ReadsLemmas
