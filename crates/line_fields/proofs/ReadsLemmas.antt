@@ -1,8 +1,9 @@
 -- Readings of the next lines of a text, one after the other.
-use Rattle.std.proofs.Common.{◌≡◌, ℕ, List, [], ◌∷◌, Option, None, Some, Result, Ok, Err, refl, ap, ◌∙◌}
+use Rattle.std.proofs.Common.{◌≡◌, ℕ, List, [], ◌∷◌, Option, None, Some, Result, Ok, Err, refl, sym, subst}
 use Rattle.line_fields.specs.declared.fault.TextFault.{TextFault}
 use Rattle.line_fields.specs.declared.fault.ReadFault.{ReadFault}
 use Rattle.line_fields.specs.declared.fault.ReadFault.TheVariants as reads
+use Rattle.line_fields.specs.Faults.{IsTextFault}
 use Rattle.line_fields.specs.Reading.{◌>>=◌, Fails}
 use Rattle.line_fields.specs.Lines.{line_text, next_raw}
 use Rattle.line_fields.specs.Rows.{TakesRow, first_text, FailsAt, Reads}
@@ -24,11 +25,15 @@ module _ {X Y : Type 0} (view : X → List (List ℕ) → Y) (number : ℕ) (lin
   reads_fault (Some raws) None raw e took fails = absurd took
   reads_fault (Some raws) (Some rest) raw e took fails = Fails-map e.kind e (line raw) (one_of raws) (λ is. rw (took, is) refl) fails
 
-  -- so has its text, with which reading begins, or it is missing
-  pub reads_text : ((raw : List ℕ) (e : TextFault) → line_text number raw ≡ Err e → line raw ≡ Err e) → (a b : Option (List (List ℕ))) (e : TextFault) → FailsAt (first_text number) e a → Reads view one_of a b (Err (reads.Text e))
-  reads_text begins None b e fails = tt
-  reads_text begins (Some []) b e fails = Fails-map e.kind e (first_text number []) (one_of []) (λ is. let h = is in cc) fails
-  reads_text begins (Some (raw ∷ raws)) b e fails = Fails-map e.kind e (first_text number (raw ∷ raws)) (one_of (raw ∷ raws)) (λ is. let first = begins raw e is in rw first refl) fails
+  text_fails : ((raw : List ℕ) (e : TextFault) → line_text number raw ≡ Err e → line raw ≡ Err e) → (raws : List (List ℕ)) (e : TextFault) → Fails e.kind e (first_text number raws) → Fails e.kind e (one_of raws)
+  text_fails begins [] e fails = Fails-map e.kind e (first_text number []) (one_of []) (λ is. let h = is in cc) fails
+  text_fails begins (raw ∷ raws) e fails = Fails-map e.kind e (first_text number (raw ∷ raws)) (one_of (raw ∷ raws)) (λ is. let first = begins raw e is in rw first refl) fails
+
+  -- the line is missing, or its text has this fault, with which reading begins
+  pub reads_text : ((raw : List ℕ) (e : TextFault) → line_text number raw ≡ Err e → line raw ≡ Err e) → (a b : Option (List (List ℕ))) (f : ReadFault) → ((e : TextFault) → f ≡ reads.Text e → FailsAt (first_text number) e a) → Reads view one_of a b (Err f)
+  reads_text begins None b f fails = tt
+  reads_text begins (Some raws) b (reads.Text e) fails = text_fails begins raws e (fails e refl)
+  reads_text begins (Some raws) b reads.Read fails = tt
 
 -- one reading after the other
 module _ {X Y Z W : Type 0} (view : X → List (List ℕ) → Y) (read : List (List ℕ) → Result Y TextFault) (after : W → List (List ℕ) → Z) (next : Y → Result Z TextFault) where
@@ -45,3 +50,9 @@ module _ {X Y Z W : Type 0} (view : X → List (List ℕ) → Y) (read : List (L
   reads_not None b c f p = tt
   reads_not (Some raws) b c (reads.Text e) p = Fails-map e.kind e (read raws) (read raws >>= next) (λ is. rw is refl) p
   reads_not (Some raws) b c reads.Read p = tt
+
+-- ---- a text in memory
+
+pub text_fault : {Y : Type 0} (f : ReadFault) (e : TextFault) (read : Result Y TextFault) → IsTextFault f e → ((d : TextFault) → f ≡ reads.Text d → Fails d.kind d read) → Fails e.kind e read
+text_fault (reads.Text d) e read is fails = subst (λ (t : TextFault). Fails t.kind t read) (sym is) (fails d refl)
+text_fault reads.Read e read is fails = rw is tt

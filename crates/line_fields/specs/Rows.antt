@@ -45,3 +45,11 @@ Reads view read (Some raws) None (Ok x) = ⊥
 Reads view read (Some raws) (Some rest) (Ok x) = read raws ≡ Ok (view x rest)
 Reads view read (Some raws) new (Err (reads.Text e)) = Fails e.kind e (read raws)
 Reads view read (Some raws) new (Err reads.Read) = Unit {0}
+
+-- a value that is read, and the lines behind it
+abbrev pub with_rest : {X : Type 0} → X → List (List ℕ) → X × List (List ℕ)
+with_rest x rest = (x, rest)
+
+-- the lines behind one that has no value
+abbrev pub rest_alone : Unit {0} → List (List ℕ) → List (List ℕ)
+rest_alone u rest = rest
