@@ -8,7 +8,7 @@ use Rattle.line_fields.specs.Lines.{line_text}
 use Rattle.line_fields.specs.Folding.{read_lines}
 use Rattle.line_fields.proofs.Loop.{Fails-map}
 use Rattle.line_fields.specs.Rows.{TakesRow, HasNoRow, next_text, FailsAt}
-use Rattle.line_fields.specs.Left.{in_front, Yields, FailsLeft}
+use Rattle.line_fields.specs.Left.{in_front, Yields, FailsLeft, Remains}
 
 module _ {S A : Type 0} (read : S → List ℕ → Result A TextFault) (after : S → A → S) where
   abbrev pub left_in : S → Option (List (List ℕ)) → Option (Result (List A) TextFault)
@@ -41,3 +41,17 @@ module _ {S A : Type 0} (read : S → List ℕ → Result A TextFault) (after : 
   fails_text number state begins (Some []) e fails = Fails-map e.kind e (next_text number []) (read_lines read after state []) (λ is. absurd cc) fails
   fails_text number state begins (Some (raw ∷ raws)) e fails =
       Fails-map e.kind e (line_text number raw) (read_lines read after state (raw ∷ raws)) (λ is. let first = begins raw e is in rw first refl) fails
+
+-- ---- what is left stayed as it was
+
+pub yields_after : {A : Type 0} (a b c : Option (Result (List A) TextFault)) (item : Option A) → Remains a b → Yields b c item → Yields a c item
+yields_after None b c item same yields = tt
+yields_after (Some left) None c item same yields = absurd same
+yields_after (Some left) (Some rest) None item same yields = absurd yields
+yields_after (Some left) (Some rest) (Some more) None same yields = (same ∙ yields.0, yields.1)
+yields_after (Some left) (Some rest) (Some more) (Some item) same yields = same ∙ yields
+
+pub fails_after : {A : Type 0} (a b : Option (Result A TextFault)) (e : TextFault) → Remains a b → FailsLeft e b → FailsLeft e a
+fails_after None b e same fails = tt
+fails_after (Some left) None e same fails = absurd same
+fails_after (Some left) (Some rest) e same fails = Fails-map e.kind e rest left (λ is. same ∙ is) fails

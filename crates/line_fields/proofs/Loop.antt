@@ -14,10 +14,10 @@ use Rattle.line_fields.proofs.Readers.{bind_ok, ok_is}
 abbrev pub with_front : {A : Type 0} → List A → Result (List A) TextFault → Result (List A) TextFault
 with_front front read = read >>= λ items. Ok (front ++ items)
 
-abbrev all_of : {A : Type 0} → List A → Result (List A) TextFault
+abbrev pub all_of : {A : Type 0} → List A → Result (List A) TextFault
 all_of items = Ok items
 
-regroup : {A : Type 0} (front : List A) (item : A) (read : Result (List A) TextFault) → with_front front (read >>= λ items. Ok (item ∷ items)) ≡ with_front (front ++ item ∷ []) read
+pub regroup : {A : Type 0} (front : List A) (item : A) (read : Result (List A) TextFault) → with_front front (read >>= λ items. Ok (item ∷ items)) ≡ with_front (front ++ item ∷ []) read
 regroup {A = A} front item (Ok x) = ap (λ (items : List A). all_of items) (simp append_assoc)
 regroup front item (Err e) = refl
 

@@ -5,7 +5,7 @@ use Rattle.line_fields.specs.declared.fault.ReadFault.{ReadFault}
 use Rattle.line_fields.specs.declared.fault.ReadFault.TheVariants as reads
 use Rattle.line_fields.specs.Faults.{IsTextFault}
 use Rattle.line_fields.specs.Reading.{◌>>=◌, Fails}
-use Rattle.line_fields.specs.Lines.{line_text, next_raw}
+use Rattle.line_fields.specs.Lines.{line_text, exact_line, next_raw}
 use Rattle.line_fields.specs.Rows.{TakesRow, first_text, FailsAt, Reads}
 use Rattle.line_fields.proofs.Loop.{Fails-map}
 
@@ -34,6 +34,11 @@ module _ {X Y : Type 0} (view : X → List (List ℕ) → Y) (number : ℕ) (lin
   reads_text begins None b f fails = tt
   reads_text begins (Some raws) b (reads.Text e) fails = text_fails begins raws e (fails e refl)
   reads_text begins (Some raws) b reads.Read fails = tt
+
+-- so does a line that has to stand as it is
+pub exact_begins : (number : ℕ) (wanted raw : List ℕ) (e : TextFault) → line_text number raw ≡ Err e → exact_line number wanted raw ≡ Err e
+unfolding exact_line
+exact_begins number wanted raw e is = rw is refl
 
 -- one reading after the other
 module _ {X Y Z W : Type 0} (view : X → List (List ℕ) → Y) (read : List (List ℕ) → Result Y TextFault) (after : W → List (List ℕ) → Z) (next : Y → Result Z TextFault) where

@@ -18,3 +18,9 @@ Yields (Some left) (Some rest) (Some item) = left ≡ in_front item rest
 abbrev pub FailsLeft : {A : Type 0} → TextFault → Option (Result A TextFault) → Type 0
 FailsLeft e None = Unit {0}
 FailsLeft e (Some left) = Fails e.kind e left
+
+-- what is left stays as it is
+abbrev pub Remains : {A : Type 0} → Option (Result A TextFault) → Option (Result A TextFault) → Type 0
+Remains None new = Unit {0}
+Remains (Some left) None = ⊥
+Remains (Some left) (Some rest) = left ≡ rest

@@ -9,7 +9,7 @@ use Rattle.case_forms.specs.declared.trace.Trace.{Trace}
 use Rattle.line_fields.specs.declared.fault.TextFault.{TextFault}
 use Rattle.line_fields.specs.declared.fault.ReadFault.TheVariants as reads
 use Rattle.line_fields.specs.Reading.{◌>>=◌, Fails}
-use Rattle.line_fields.specs.Lines.{line_text, line_rest, exact_line}
+use Rattle.line_fields.specs.Lines.{line_text, line_rest}
 use Rattle.line_fields.specs.Rows.{rows_of, with_rest, TakesRow, HasNoRow, next_text, FailsAt, Reads}
 use Rattle.line_fields.specs.Left.{in_front, Yields, FailsLeft}
 use Rattle.line_fields.proofs.Loop.{Fails-map, with_front, regroup}
@@ -44,10 +44,6 @@ stands place raw line is = let l = reads_line.takes place raw line is in record 
 pub number_begins : (number : ℕ) (name : List ℕ) (least most : ℕ) (raw : List ℕ) (e : TextFault) → line_text number raw ≡ Err e → number_line number name least most raw ≡ Err e
 unfolding number_line line_rest
 number_begins number name least most raw e is = rw is refl
-
-pub exact_begins : (number : ℕ) (wanted raw : List ℕ) (e : TextFault) → line_text number raw ≡ Err e → exact_line number wanted raw ≡ Err e
-unfolding exact_line
-exact_begins number wanted raw e is = rw is refl
 
 pub header_begins : (a b : Option (List ℕ)) (h : Header) → Reads with_rest header_of (rows_of a) (rows_of b) (Ok h) → Begins (option_map trace_of a) (option_map (events_of h) (rows_of b)) h
 unfolding trace_of

@@ -4,9 +4,8 @@ use Rattle.line_fields.specs.declared.fault.ReadFault.{ReadFault}
 use Rattle.line_fields.specs.Lines.{exact_line}
 use Rattle.line_fields.specs.Rows.{rest_alone}
 use Rattle.line_fields.specs.Spelling.{joined}
-use Rattle.line_fields.proofs.ReadsLemmas.{reads_value, reads_fault, reads_text}
+use Rattle.line_fields.proofs.ReadsLemmas.{reads_value, reads_fault, reads_text, exact_begins}
 use Rattle.trace_reader.specs.Headers.{first_words, first_line}
-use Rattle.trace_reader.proofs.StreamLaw.{exact_begins}
 use Rattle.trace_reader.proofs.header.first_line.Goals as goal
 
 pub returns-in_err-needed_line-clause-line : goal.returns-in_err-needed_line-clause-line
