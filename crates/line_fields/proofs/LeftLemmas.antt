@@ -1,14 +1,13 @@
 -- A reader of lines in a state, seen by what it has left.
-use Rattle.std.proofs.Common.{◌≡◌, ℕ, List, [], ◌∷◌, Option, None, Some, Result, Ok, Err, refl, sym, ap, ◌∙◌}
+use Rattle.std.proofs.Common.{◌≡◌, ℕ, List, [], ◌∷◌, Option, None, Some, Result, Ok, Err, refl, ◌∙◌}
 use Rattle.std.specs.Option.{option_map}
-use Rattle.line_fields.specs.declared.fault.FaultKind.{FaultKind}
 use Rattle.line_fields.specs.declared.fault.TextFault.{TextFault}
-use Rattle.line_fields.specs.Reading.{◌>>=◌, Fails}
+use Rattle.line_fields.specs.Reading.{Fails}
 use Rattle.line_fields.specs.Lines.{line_text}
 use Rattle.line_fields.specs.Folding.{read_lines}
 use Rattle.line_fields.proofs.Loop.{Fails-map}
 use Rattle.line_fields.specs.Rows.{TakesRow, HasNoRow, next_text, FailsAt}
-use Rattle.line_fields.specs.Left.{in_front, Yields, FailsLeft, Remains}
+use Rattle.line_fields.specs.Left.{Yields, FailsLeft, Remains}
 
 module _ {S A : Type 0} (read : S → List ℕ → Result A TextFault) (after : S → A → S) where
   abbrev pub left_in : S → Option (List (List ℕ)) → Option (Result (List A) TextFault)

@@ -6,7 +6,7 @@ use Rattle.line_fields.specs.declared.fault.ReadFault.TheVariants as reads
 use Rattle.line_fields.specs.Faults.{IsTextFault}
 use Rattle.line_fields.specs.Reading.{◌>>=◌, Fails}
 use Rattle.line_fields.specs.Lines.{line_text, exact_line, next_raw}
-use Rattle.line_fields.specs.Rows.{TakesRow, first_text, FailsAt, Reads}
+use Rattle.line_fields.specs.Rows.{TakesRow, needed_text, FailsAt, Reads}
 use Rattle.line_fields.proofs.Loop.{Fails-map}
 
 -- a reading of the next line, which has to be there
@@ -25,12 +25,12 @@ module _ {X Y : Type 0} (view : X → List (List ℕ) → Y) (number : ℕ) (lin
   reads_fault (Some raws) None raw e took fails = absurd took
   reads_fault (Some raws) (Some rest) raw e took fails = Fails-map e.kind e (line raw) (one_of raws) (λ is. rw (took, is) refl) fails
 
-  text_fails : ((raw : List ℕ) (e : TextFault) → line_text number raw ≡ Err e → line raw ≡ Err e) → (raws : List (List ℕ)) (e : TextFault) → Fails e.kind e (first_text number raws) → Fails e.kind e (one_of raws)
-  text_fails begins [] e fails = Fails-map e.kind e (first_text number []) (one_of []) (λ is. let h = is in cc) fails
-  text_fails begins (raw ∷ raws) e fails = Fails-map e.kind e (first_text number (raw ∷ raws)) (one_of (raw ∷ raws)) (λ is. let first = begins raw e is in rw first refl) fails
+  text_fails : ((raw : List ℕ) (e : TextFault) → line_text number raw ≡ Err e → line raw ≡ Err e) → (raws : List (List ℕ)) (e : TextFault) → Fails e.kind e (needed_text number raws) → Fails e.kind e (one_of raws)
+  text_fails begins [] e fails = Fails-map e.kind e (needed_text number []) (one_of []) (λ is. let h = is in cc) fails
+  text_fails begins (raw ∷ raws) e fails = Fails-map e.kind e (needed_text number (raw ∷ raws)) (one_of (raw ∷ raws)) (λ is. let first = begins raw e is in rw first refl) fails
 
   -- the line is missing, or its text has this fault, with which reading begins
-  pub reads_text : ((raw : List ℕ) (e : TextFault) → line_text number raw ≡ Err e → line raw ≡ Err e) → (a b : Option (List (List ℕ))) (f : ReadFault) → ((e : TextFault) → f ≡ reads.Text e → FailsAt (first_text number) e a) → Reads view one_of a b (Err f)
+  pub reads_text : ((raw : List ℕ) (e : TextFault) → line_text number raw ≡ Err e → line raw ≡ Err e) → (a b : Option (List (List ℕ))) (f : ReadFault) → ((e : TextFault) → f ≡ reads.Text e → FailsAt (needed_text number) e a) → Reads view one_of a b (Err f)
   reads_text begins None b f fails = tt
   reads_text begins (Some raws) b (reads.Text e) fails = text_fails begins raws e (fails e refl)
   reads_text begins (Some raws) b reads.Read fails = tt

@@ -1,17 +1,12 @@
 -- What was read by pieces is a line of the text.
-use Rattle.std.proofs.Common.{◌≡◌, ◌≢◌, ◌<◌, ◌≤◌, ◌+◌, ◌-◌, ◌⊎◌, ◌==◌, ◌&&◌, Bool, true, false, cond, inl, inr, refl, sym, ap, subst, ◌∙◌, arith, ℕ, zero, suc, List, [], ◌∷◌, ◌++◌, Option, None, Some, OnSome, length, get_or, take, drop, append_assoc, append-nil, length-append, Ok, Err, nat_lt}
-use Rattle.std.specs.Prelude.{IfOk, not, if◌then◌else◌}
-use Rattle.std.proofs.lemmas.List.{take_at, drop_at, take_all, drop_all}
-use Rattle.std.proofs.lemmas.Bool.{ltb-true, lt-ltb, and_parts, eqb-true, eq-eqb, false_from_ne_true}
+use Rattle.std.proofs.Common.{◌≡◌, ◌≢◌, ◌<◌, ◌≤◌, ◌+◌, ◌-◌, ◌==◌, ◌&&◌, Bool, true, false, cond, inl, inr, refl, sym, ap, subst, ◌∙◌, arith, ℕ, suc, List, [], ◌∷◌, ◌++◌, Option, None, Some, length, get_or, take, drop, append-nil, length-append, Err, nat_lt}
+use Rattle.std.proofs.lemmas.Bool.{lt-ltb, eqb-true, false_from_ne_true}
 use Rattle.std.proofs.lemmas.Grind.{common_steps}
-use Rattle.std.proofs.lemmas.Bool.Decides.{nat_tests}
-use Rattle.std.specs.Io.KnownBytes.{Consumes, IsAtEnd}
 use Rattle.bstr.specs.Text.{lines_of, line_len, without_terminator, no_cr}
 use Rattle.bstr.proofs.lemmas.LineLemmas.{line_len-none, lines-nil, lines-step}
-use Rattle.counted.specs.LineParts.{HasNoFeed, EndsAtFeed, LosesLine, IsKept, GivesLine}
+use Rattle.counted.specs.LineParts.{HasNoFeed, LosesLine, GivesLine}
 use Rattle.line_fields.specs.declared.fault.FaultKind.TheVariants.{LineTooLong}
-use Rattle.line_fields.specs.declared.fault.TextFault.{TextFault}
-use Rattle.line_fields.specs.Lines.{line_text, text_in, is_ended, whole_line}
+use Rattle.line_fields.specs.Lines.{line_text}
 use Rattle.line_fields.proofs.Texts.{lines_of-line, one_line}
 use Rattle.line_fields.specs.Rows.{rows_of, TakesRow, HasNoRow, next_text, FailsAt}
 
@@ -97,6 +92,7 @@ text_both front c rest other =
     by_test : (b : Bool) (r all : List ℕ) → 0 < length r → cond b (no_cr (front ++ r)) (front ++ all) ≡ front ++ cond b (no_cr r) all
     by_test true r all some = no_cr_both front r some
     by_test false r all some = refl
+
     by_rest : (rest : List ℕ) → cond (nat_lt 0 (length (c ∷ rest)) && get_or (c ∷ rest) (length (c ∷ rest) - 1) 0 == 10) (no_cr (front ++ take (length (c ∷ rest) - 1) (c ∷ rest))) (front ++ c ∷ rest)
         ≡ front ++ cond (nat_lt 0 (length (c ∷ rest)) && get_or (c ∷ rest) (length (c ∷ rest) - 1) 0 == 10) (no_cr (take (length (c ∷ rest) - 1) (c ∷ rest))) (c ∷ rest)
     by_rest [] =

@@ -30,8 +30,8 @@ next_text number [] = Ok []
 next_text number (raw ∷ raws) = line_text number raw
 
 -- the text of the next line, which has to be there
-abbrev pub first_text : ℕ → List (List ℕ) → Result (List ℕ) TextFault
-first_text number raws = next_raw number raws >>= λ raw. line_text number raw.0
+abbrev pub needed_text : ℕ → List (List ℕ) → Result (List ℕ) TextFault
+needed_text number raws = next_raw number raws >>= λ raw. line_text number raw.0
 
 -- what is known is read with this fault, unless memory ran out
 abbrev pub FailsAt : {X Y : Type 0} → (X → Result Y TextFault) → TextFault → Option X → Type 0

@@ -3,7 +3,7 @@
 ghost use Rattle.std.specs.Prelude.{◌≡◌, ◌≢◌, Err, true, false, OnOk};
 ghost use Rattle.counted.specs.Counting.{left_of, failures_of, one_more};
 ghost use Rattle.line_fields.specs.declared.fault.TextFault.{TextFault};
-ghost use Rattle.line_fields.specs.Rows.{rows_of, TakesRow, HasNoRow, next_text, first_text, FailsAt};
+ghost use Rattle.line_fields.specs.Rows.{rows_of, TakesRow, HasNoRow, next_text, needed_text, FailsAt};
 
 use crate::fault::{FaultKind, ReadFault, TextFault};
 use crate::lines::{MAX_LINE, content};
@@ -51,7 +51,7 @@ pub fn needed_line<B: BufRead>(
     line: &mut Vec<u8>,
 ) -> Result<(), ReadFault>
     ensures line { OnOk result (TakesRow (rows_of (left_of B.remaining source.old)) (rows_of (left_of B.remaining source.new)) line.new.items) }
-    ensures fault { (e : TextFault) → result ≡ Err (ReadFault.Text e) → FailsAt (first_text number) e (rows_of (left_of B.remaining source.old)) }
+    ensures fault { (e : TextFault) → result ≡ Err (ReadFault.Text e) → FailsAt (needed_text number) e (rows_of (left_of B.remaining source.old)) }
     ensures read { result ≡ Err ReadFault.Read → failures_of source.new ≡ one_more (failures_of source.old) }
     ensures same { result ≢ Err ReadFault.Read → failures_of source.new ≡ failures_of source.old }
 {

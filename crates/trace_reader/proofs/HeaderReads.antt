@@ -38,7 +38,6 @@ module _ (number : ℕ) (name : List ℕ) (least most : ℕ) (next : Numbered �
   pub number_not : (a b : Known) (f : ReadFault) → Reads with_rest (next_number number name least most) a b (Err f) → Heads numbered a b (Err f)
   number_not a b f p = reads_not with_rest (next_number number name least most) with_rest next a b b f p
 
-
   -- it is the last
   pub number_last : (a b : Known) (n : ℕ) (h : Header) → ((rest : Raws) → next (n, rest) ≡ Ok (h, rest)) → Reads with_rest (next_number number name least most) a b (Ok n) → Heads numbered a b (Ok h)
   number_last None b n h made p = tt

@@ -1,6 +1,5 @@
 -- A reader of lines one by one, against the reading of all of them.
-use Rattle.std.proofs.Common.{◌≡◌, ℕ, List, [], ◌∷◌, ◌++◌, Option, None, Some, Result, Ok, Err, refl, ap, ◌∙◌}
-use Rattle.std.proofs.lemmas.List.{append-nil}
+use Rattle.std.proofs.Common.{◌≡◌, ℕ, List, Option, None, Some, Result, Ok, Err, refl, ap, ◌∙◌}
 use Rattle.std.specs.Option.{option_map}
 use Rattle.bstr.specs.Text.{lines_of}
 use Rattle.case_forms.specs.declared.trace.Header.{Header}
@@ -8,11 +7,11 @@ use Rattle.case_forms.specs.declared.trace.Line.{Line}
 use Rattle.case_forms.specs.declared.trace.Trace.{Trace}
 use Rattle.line_fields.specs.declared.fault.TextFault.{TextFault}
 use Rattle.line_fields.specs.declared.fault.ReadFault.TheVariants as reads
-use Rattle.line_fields.specs.Reading.{◌>>=◌, Fails}
+use Rattle.line_fields.specs.Reading.{Fails}
 use Rattle.line_fields.specs.Lines.{line_text, line_rest}
 use Rattle.line_fields.specs.Rows.{rows_of, with_rest, TakesRow, HasNoRow, next_text, FailsAt, Reads}
-use Rattle.line_fields.specs.Left.{in_front, Yields, FailsLeft}
-use Rattle.line_fields.proofs.Loop.{Fails-map, with_front, regroup}
+use Rattle.line_fields.specs.Left.{Yields, FailsLeft}
+use Rattle.line_fields.proofs.Loop.{Fails-map, with_front}
 use Rattle.line_fields.proofs.LeftLemmas.{left_in, yields_item, yields_none, fails_line, fails_text}
 use Rattle.trace_reader.specs.Headers.{number_line, header_of}
 use Rattle.trace_reader.specs.EventLines.{Place, behind, line_of}

@@ -22,8 +22,8 @@ mod stream;
 mod wires;
 
 pub use case_forms::{Answer, Call, Event, Header, Host, Line, Lines, State, Timer, Trace, Wire};
-pub use events::event_line;
 pub use counted::Counted;
+pub use events::event_line;
 pub use line_fields::{FaultKind, ReadFault, SegFault, Span, TextFault, Token};
 pub use printing::{print_law, print_trace};
 pub use reading::read_trace;

@@ -68,7 +68,10 @@ impl<B> StepReader<B> {
     }
 
     // What was read; a fault is kept for the calls to come.
-    fn keep_fault(&mut self, read: Result<Option<Step>, ReadFault>) -> Result<Option<Step>, ReadFault>
+    fn keep_fault(
+        &mut self,
+        read: Result<Option<Step>, ReadFault>,
+    ) -> Result<Option<Step>, ReadFault>
         requires { fault_of self.old ≡ None }
         ensures read { result ≡ read }
         ensures source { source_of self.new ≡ source_of self.old }

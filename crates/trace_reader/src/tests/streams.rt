@@ -134,7 +134,10 @@ fn a_text_is_the_same_in_pieces(rt: HostRuntime) -> Result<(), Fail> {
     for size in [1, 7, 4096] {
         let read = read_pieces(rt.alloc(), text.as_bytes(), size, None)?;
         let printed = print_trace(rt.alloc(), &read.trace?)?;
-        assert!(rt; printed.as_slice() == text.as_bytes(), "in pieces of {size}");
+        assert!(rt;
+            printed.as_slice() == text.as_bytes(),
+            "in pieces of {size}"
+        );
         assert_eq!(rt; read.again, None);
         assert_eq!(rt; read.failures, 0);
     }
@@ -173,7 +176,11 @@ fn a_failed_read_is_answered_for_ever(rt: HostRuntime) -> Result<(), Fail> {
     let reads = text.len().div_ceil(7) as u64 + 1;
     for fails_after in 0..reads {
         let read = read_pieces(rt.alloc(), text.as_bytes(), 7, Some(fails_after))?;
-        assert_eq!(rt; read.trace.err(), Some(ReadFault::Read), "after {fails_after}");
+        assert_eq!(rt;
+            read.trace.err(),
+            Some(ReadFault::Read),
+            "after {fails_after}"
+        );
         assert_eq!(rt; read.again, Some(ReadFault::Read), "after {fails_after}");
         assert_eq!(rt; read.failures, 1);
     }

@@ -63,7 +63,10 @@ fn a_text_is_the_same_in_pieces(rt: HostRuntime) -> Result<(), Fail> {
         let mut reader = StepReader::new(rt.alloc(), Counted::new(source));
         let witness = all(rt.alloc(), &mut reader)?;
         let printed = print_witness(rt.alloc(), &witness)?;
-        assert!(rt; printed.as_slice() == STEPS.as_bytes(), "in pieces of {size}");
+        assert!(rt;
+            printed.as_slice() == STEPS.as_bytes(),
+            "in pieces of {size}"
+        );
         assert!(rt; reader.next()?.is_none());
         assert_eq!(rt; reader.into_source().failures(), 0);
     }

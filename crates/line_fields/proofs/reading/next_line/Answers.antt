@@ -1,6 +1,5 @@
 use Rattle.line_fields.specs.declared.fault.FaultKind.TheVariants.{LineTooLong}
-use Rattle.std.proofs.Common.{◌≡◌, ◌+◌, length, Some, Err, ap, subst, sym, ◌∙◌}
-use Rattle.counted.specs.LineParts.{GivesLine}
+use Rattle.std.proofs.Common.{◌≡◌, ◌+◌, length, ap, subst, ◌∙◌}
 use Rattle.bstr.specs.Text.{without_terminator}
 use Rattle.line_fields.specs.declared.fault.TextFault.{TextFault}
 use Rattle.line_fields.specs.Rows.{rows_of, next_text, FailsAt}

@@ -1,4 +1,4 @@
-use Rattle.std.proofs.Common.{◌≡◌, ◌∙◌, sym, ap, Ok, Err}
+use Rattle.std.proofs.Common.{◌≡◌, ◌∙◌, sym, ap, Err}
 use Rattle.std.proofs.lemmas.Result.{err_from_is_err_and}
 use Rattle.line_fields.specs.declared.fault.ReadFault.{ReadFault}
 use Rattle.line_fields.specs.declared.fault.ReadFault.TheVariants.{Text}

@@ -1,12 +1,9 @@
-use Rattle.std.proofs.Common.{◌≡◌, Err, Ok, true, false, ap, subst, sym, ◌∙◌, arith, refl, ℕ, List}
+use Rattle.std.proofs.Common.{◌≡◌, Err, Ok, ap, subst, ◌∙◌, arith, refl}
 use Rattle.std.proofs.lemmas.Result.{err_from_is_err_and}
-use Rattle.case_forms.specs.declared.trace.Line.{Line}
 use Rattle.line_fields.specs.declared.fault.TextFault.{TextFault}
-use Rattle.line_fields.specs.Reading.{Fails, Gives}
 use Rattle.line_fields.specs.declared.fault.ReadFault.{ReadFault}
 use Rattle.line_fields.specs.declared.fault.ReadFault.TheVariants.{Text}
 use Rattle.line_fields.specs.Left.{FailsLeft}
-use Rattle.trace_reader.specs.EventLines.{line_of}
 use Rattle.trace_reader.specs.TraceLeft.{lines_left}
 use Rattle.trace_reader.proofs.StreamLaw.{next_fails, line_fails, line_read, all_read, stands}
 use Rattle.trace_reader.proofs.stream.TraceReader.read.Goals as goal
