@@ -6,7 +6,7 @@ use std::io;
 use std::io::{BufRead, ErrorKind, Read, Write};
 
 // After so many calls each fails.
-const MOST_CALLS: u64 = 1 << 50;
+pub(crate) const MOST_CALLS: u64 = 1 << 50;
 
 // The count of failures stays here.
 const MOST_FAILURES: u64 = 1 << 60;
@@ -15,7 +15,7 @@ const MOST_FAILURES: u64 = 1 << 60;
 /// each fails, and so does a write that takes none of its bytes. Nothing else is counted.
 #[derive(Drop)]
 pub struct Counted<X> {
-    inner: X,
+    pub(crate) inner: X,
     calls: u64,
     failures: u64,
     ghost callable: { calls ≤ 2 ^ 50 },
@@ -70,7 +70,7 @@ impl<X> Counted<X> {
     }
 
     // One failure more.
-    fn count_failure(&mut self)
+    pub(crate) fn count_failure(&mut self)
         ensures inner { inner_of self.new ≡ inner_of self.old }
         ensures calls { calls_of self.new ≡ calls_of self.old }
         ensures one { failures_of self.new ≡ one_more (failures_of self.old) }
@@ -79,7 +79,7 @@ impl<X> Counted<X> {
     }
 
     // Whether one more call may be made, which is counted.
-    fn may_call(&mut self) -> bool
+    pub(crate) fn may_call(&mut self) -> bool
         ensures may { IsTrue result ↔ (calls_of self.old < 2 ^ 50) }
         ensures calls { calls_of self.new ≡ one_call_more (calls_of self.old) }
         ensures inner { inner_of self.new ≡ inner_of self.old }

@@ -7,6 +7,7 @@
 #![tactic(auto)]
 
 mod ends;
+mod lines;
 #[cfg(test)]
 mod tests;
 

@@ -14,3 +14,6 @@ pub mod HexLaw
 pub mod Names
 pub mod AnswerLaw
 pub mod HostLaw
+pub mod RowLemmas
+pub mod LeftLemmas
+pub mod ReadsLemmas

@@ -1,7 +1,6 @@
--- Lines that are read one after the other: as a loop does, and both ways against their spelling.
-use Rattle.std.proofs.Common.{◌≡◌, ℕ, List, [], ◌∷◌, ◌++◌, Result, Ok, Err, refl, sym, ap, subst, ◌∙◌, append_assoc}
+-- Lines that are read one after the other: behind those that were read before, and both ways against their spelling.
+use Rattle.std.proofs.Common.{◌≡◌, ℕ, List, [], ◌∷◌, ◌++◌, Result, Ok, Err, refl, ap, subst, append_assoc}
 use Rattle.std.specs.List.{AllByRecursion}
-use Rattle.std.proofs.lemmas.List.{append-nil}
 use Rattle.line_fields.specs.declared.fault.FaultKind.{FaultKind}
 use Rattle.line_fields.specs.declared.fault.FaultKind.TheVariants as kinds
 use Rattle.line_fields.specs.declared.fault.TextFault.{TextFault}
@@ -17,23 +16,9 @@ with_front front read = read >>= λ items. Ok (front ++ items)
 abbrev all_of : {A : Type 0} → List A → Result (List A) TextFault
 all_of items = Ok items
 
-regroup : {A : Type 0} (front : List A) (item : A) (read : Result (List A) TextFault) → with_front front (read >>= λ items. Ok (item ∷ items)) ≡ with_front (front ++ item ∷ []) read
+pub regroup : {A : Type 0} (front : List A) (item : A) (read : Result (List A) TextFault) → with_front front (read >>= λ items. Ok (item ∷ items)) ≡ with_front (front ++ item ∷ []) read
 regroup {A = A} front item (Ok x) = ap (λ (items : List A). all_of items) (simp append_assoc)
 regroup front item (Err e) = refl
-
-pub goes_on : {S A : Type 0} (read : S → List ℕ → Result A TextFault) (after : S → A → S) (front : List A) (state : S) (raw : List ℕ) (raws : List (List ℕ)) (item : A) (total : Result (List A) TextFault) → read state raw ≡ Ok item
-    → with_front front (read_lines read after state (raw ∷ raws)) ≡ total → with_front (front ++ item ∷ []) (read_lines read after (after state item) raws) ≡ total
-unfolding read_lines
-goes_on read after front state raw raws item total took so_far =
-    let one : with_front front (read_lines read after state (raw ∷ raws)) ≡ with_front (front ++ item ∷ []) (read_lines read after (after state item) raws) = rw took (regroup front item (read_lines read after (after state item) raws)) in
-    sym one ∙ so_far
-
-fails_with : {S A : Type 0} (read : S → List ℕ → Result A TextFault) (after : S → A → S) (front : List A) (state : S) (raw : List ℕ) (raws : List (List ℕ)) (e : TextFault) (total : Result (List A) TextFault) → read state raw ≡ Err e
-    → with_front front (read_lines read after state (raw ∷ raws)) ≡ total → total ≡ Err e
-unfolding read_lines
-fails_with read after front state raw raws e total took so_far =
-    let one : with_front front (read_lines read after state (raw ∷ raws)) ≡ Err e = rw took refl in
-    sym so_far ∙ one
 
 pub Fails-map : {A B : Type 0} (kind : FaultKind) (e : TextFault) (x : Result A TextFault) (y : Result B TextFault) → (x ≡ Err e → y ≡ Err e) → Fails kind e x → Fails kind e y
 Fails-map kinds.Header e x y f h = f h
@@ -46,15 +31,6 @@ Fails-map kinds.LineTooLong e x y f h = f h
 Fails-map kinds.Cut e x y f h = f h
 Fails-map kinds.TooManyLines e x y f h = f h
 Fails-map kinds.OutOfMemory e x y f h = tt
-
-pub stops : {S A : Type 0} (read : S → List ℕ → Result A TextFault) (after : S → A → S) (e : TextFault) (front : List A) (state : S) (raw : List ℕ) (raws : List (List ℕ)) (total : Result (List A) TextFault) → Fails e.kind e (read state raw)
-    → with_front front (read_lines read after state (raw ∷ raws)) ≡ total → Fails e.kind e total
-stops read after e front state raw raws total fault so_far =
-    Fails-map e.kind e (read state raw) total (λ took. fails_with read after front state raw raws e total took so_far) fault
-
-pub is_done : {S A : Type 0} (read : S → List ℕ → Result A TextFault) (after : S → A → S) (front : List A) (state : S) (total : Result (List A) TextFault) → with_front front (read_lines read after state []) ≡ total → total ≡ Ok front
-unfolding read_lines
-is_done {A = A} read after front state total so_far = sym so_far ∙ ap (λ (items : List A). all_of items) (append-nil front)
 
 -- ---- both ways
 

@@ -1,9 +1,11 @@
 -- The names of faults, and the fault of a line that is missing.
-use Rattle.std.specs.Prelude.{ℕ, List, ◌++◌, codes}
+use Rattle.std.specs.Prelude.{◌≡◌, ℕ, List, ◌++◌, codes}
 use Rattle.segment.specs.Faults.{fault_name}
 use Rattle.line_fields.specs.declared.fault.FaultKind.{FaultKind}
 use Rattle.line_fields.specs.declared.fault.FaultKind.TheVariants as kinds
 use Rattle.line_fields.specs.declared.fault.TextFault.{TextFault}
+use Rattle.line_fields.specs.declared.fault.ReadFault.{ReadFault}
+use Rattle.line_fields.specs.declared.fault.ReadFault.TheVariants as reads
 
 -- the name under which a fault is printed; that of a segment's fault stands behind a word and a space
 abbrev pub kind_name : FaultKind → List ℕ
@@ -21,3 +23,8 @@ kind_name kinds.OutOfMemory = codes "memory"
 -- a line that has to stand in the text, and does not
 abbrev pub missing_line : ℕ → TextFault
 missing_line number = record { kind = kinds.Header; span = record { line = number; start = 0; stop = 0 } }
+
+-- the fault of a text in memory, where a read that fails is as if memory had run out
+abbrev pub IsTextFault : ReadFault → TextFault → Type 0
+IsTextFault (reads.Text e) fault = fault ≡ e
+IsTextFault reads.Read fault = fault.kind ≡ kinds.OutOfMemory

@@ -7,6 +7,8 @@ pub mod Choice
 pub mod Hosts
 pub mod Lines
 pub mod Folding
+pub mod Rows
+pub mod Left
 pub mod Spelling
 pub mod HexFields
 pub mod States

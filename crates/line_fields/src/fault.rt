@@ -120,3 +120,39 @@ impl<T: Drop> From<AllocFailed<T>> for TextFault {
         TextFault::out_of_memory()
     }
 }
+
+/// Why a text that is read line by line cannot be read on.
+#[derive(Clone, Copy, Debug, PartialEq, Eq, Error)]
+pub enum ReadFault {
+    /// What was read is at fault, or memory ran out.
+    #[error("{0}")]
+    Text(TextFault),
+    /// A read failed.
+    #[error("a read failed")]
+    Read,
+}
+
+impl From<TextFault> for ReadFault {
+    ghost use Rattle.line_fields.specs.declared.fault.ReadFault.TheVariants.{Text};
+
+    ghost from_gives = { λ e fault. fault ≡ Text e };
+
+    fn from(e: TextFault) -> ReadFault {
+        ReadFault::Text(e)
+    }
+}
+
+/// The fault of a text in memory. No read of it fails before its `Counted` has made the most reads, which are more than
+/// memory has bytes for; then it is as if memory had run out.
+impl From<ReadFault> for TextFault {
+    ghost use Rattle.line_fields.specs.Faults.{IsTextFault};
+
+    ghost from_gives = { IsTextFault };
+
+    fn from(fault: ReadFault) -> TextFault {
+        match fault {
+            ReadFault::Text(e) => e,
+            ReadFault::Read => TextFault::out_of_memory(),
+        }
+    }
+}

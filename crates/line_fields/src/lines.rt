@@ -3,15 +3,14 @@
 ghost use Rattle.std.specs.Prelude.{◌≡◌};
 ghost use Rattle.bstr.specs.Text.{without_terminator};
 ghost use Rattle.line_fields.specs.Reading.{Gives};
-ghost use Rattle.line_fields.specs.Lines.{is_ended, line_text, line_rest, exact_line, next_raw};
+ghost use Rattle.line_fields.specs.Lines.{is_ended, line_text, line_rest, exact_line};
 
 use crate::fault::{FaultKind, TextFault};
 use crate::fields::{Fields, is_text};
-use bstr::LinesWithTerminator;
 use case_forms::Span;
 
 // How many bytes a line may have, its end not counted.
-const MAX_LINE: usize = 140_000;
+pub(crate) const MAX_LINE: usize = 140_000;
 
 // The number of the last line that a text may have.
 const MAX_LINES: u64 = 10_000_000;
@@ -88,17 +87,4 @@ pub fn exact_line(number: u64, wanted: &str, raw: &[u8]) -> Result<(), TextFault
         kind: FaultKind::Header,
         span,
     })
-}
-
-/// The next line of a text, with its end, where one has to be. A missing one is Header at its number, columns 0 to 0.
-pub fn next_line<'a>(
-    number: u64,
-    lines: &mut LinesWithTerminator<'a>,
-) -> Result<&'a [u8], TextFault>
-    ensures { Gives (λ raw. (raw.now, lines.new)) result (next_raw number lines.old) }
-{
-    match lines.next() {
-        Some(raw) => Ok(raw),
-        None => Err(TextFault::missing_line(number)),
-    }
 }

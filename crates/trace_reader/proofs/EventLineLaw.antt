@@ -156,7 +156,3 @@ reads_line = record { takes = line_takes; again = line_again }
 
 pub line_is_raw : (place : Place) (l : Line) (raw : List ℕ) → IsEventLine place l raw → IsRaw raw
 line_is_raw place l raw t = is_raw place.1 t.texts raw (texts_clean place l raw t) t.text
-
--- a line that is read is numbered within the limits
-pub counted : (before number : ℕ) (raw : List ℕ) (l : Line) → line_of (before, number) raw ≡ Ok l → number ≤ 10000000
-counted before number raw l e = (line_takes (before, number) raw l e).text.count

@@ -85,7 +85,7 @@ number_again number name least most fits clean raw n line low high =
 
 -- ---- the next line
 
-abbrev Raws : Type 0
+abbrev pub Raws : Type 0
 Raws = List (List ℕ)
 
 raw_takes : (number : ℕ) (raws : Raws) (x : List ℕ × Raws) → next_raw number raws ≡ Ok x → raws ≡ x.0 ∷ x.1
@@ -134,28 +134,28 @@ first_given raw rest line = ap (λ (x : Result (Unit {0}) TextFault). x >>= λ u
 
 -- ---- the header
 
-abbrev Numbered : Type 0
+abbrev pub Numbered : Type 0
 Numbered = ℕ × Raws
 
-abbrev Headed : Type 0
+abbrev pub Headed : Type 0
 Headed = Header × Raws
 
-abbrev with_extra : Numbered → Numbered → Numbered → Numbered → Numbered → Result Headed TextFault
+abbrev pub with_extra : Numbered → Numbered → Numbered → Numbered → Numbered → Result Headed TextFault
 with_extra s m g i x = Ok (record { skew = s.0; msl = m.0; grain = g.0; minrto = i.0; extra = x.0 }, x.1)
 
-abbrev with_minrto : Numbered → Numbered → Numbered → Numbered → Result Headed TextFault
+abbrev pub with_minrto : Numbered → Numbered → Numbered → Numbered → Result Headed TextFault
 with_minrto s m g i = next_number 6 (codes "extra") 0 65535 i.1 >>= with_extra s m g i
 
-abbrev with_grain : Numbered → Numbered → Numbered → Result Headed TextFault
+abbrev pub with_grain : Numbered → Numbered → Numbered → Result Headed TextFault
 with_grain s m g = next_number 5 (codes "minrto") 0 60000000 g.1 >>= with_minrto s m g
 
-abbrev with_msl : Numbered → Numbered → Result Headed TextFault
+abbrev pub with_msl : Numbered → Numbered → Result Headed TextFault
 with_msl s m = next_number 4 (codes "grain") 0 60000000 m.1 >>= with_grain s m
 
-abbrev with_skew : Numbered → Result Headed TextFault
+abbrev pub with_skew : Numbered → Result Headed TextFault
 with_skew s = next_number 3 (codes "msl") 1 3600000000 s.1 >>= with_msl s
 
-abbrev with_first : Raws → Result Headed TextFault
+abbrev pub with_first : Raws → Result Headed TextFault
 with_first f = next_number 2 (codes "skew") 0 1000000000 f >>= with_skew
 
 -- the header that was read, and the bytes of its lines

@@ -5,3 +5,5 @@ pub mod EventLineLaw
 pub mod HeaderLaw
 pub mod TraceLaw
 pub mod LinesText
+pub mod StreamLaw
+pub mod HeaderReads

@@ -13,4 +13,5 @@ pub mod Events
 pub mod EventFields
 pub mod EventLines
 pub mod TraceText
+pub mod TraceLeft
 pub mod Printed

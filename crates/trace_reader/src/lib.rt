@@ -8,7 +8,8 @@
 //! - `calls`: the calls that a thread may begin
 //! - `wires`: segments in hex
 //! - `events`: events, and event lines, each read alone
-//! - `reading`: the reader of a whole text, a fold over its lines
+//! - `stream`: the reader of a text whose lines are read as they are asked for
+//! - `reading`: the reader of a whole text, by the same reader
 //! - `printing`: the printer of a trace
 #![tactic(auto)]
 
@@ -17,13 +18,16 @@ mod events;
 mod header;
 mod printing;
 mod reading;
+mod stream;
 mod wires;
 
 pub use case_forms::{Answer, Call, Event, Header, Host, Line, Lines, State, Timer, Trace, Wire};
+pub use counted::Counted;
 pub use events::event_line;
-pub use line_fields::{FaultKind, SegFault, Span, TextFault, Token};
+pub use line_fields::{FaultKind, ReadFault, SegFault, Span, TextFault, Token};
 pub use printing::{print_law, print_trace};
 pub use reading::read_trace;
+pub use stream::TraceReader;
 
 #[cfg(test)]
 mod tests;

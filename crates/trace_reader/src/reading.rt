@@ -3,41 +3,25 @@
 ghost use Rattle.std.specs.Prelude.{◌≡◌, IfOk, Ok};
 ghost use Rattle.case_forms.specs.declared.trace.Trace.{Trace};
 ghost use Rattle.case_forms.specs.Traces.{IsTrace};
-ghost use Rattle.bstr.specs.Text.{lines_of};
 ghost use Rattle.line_fields.specs.Reading.{Gives};
-ghost use Rattle.trace_reader.specs.TraceText.{IsTraceText, events_of, trace_of};
+ghost use Rattle.trace_reader.specs.TraceText.{IsTraceText, trace_of};
 
-use crate::events::event_line;
-use crate::header::header;
-use bstr::{ByteSlice, LinesWithTerminator};
-use case_forms::{Header, Lines, Trace};
+use crate::stream::TraceReader;
+use case_forms::{Lines, Trace};
+use counted::Counted;
 use line_fields::TextFault;
 use std::alloc::Global;
 
-// The event lines behind a header.
-fn events(alloc: Global, header: &Header, raws: LinesWithTerminator) -> Result<Lines, TextFault>
-    ensures { Gives (λ lines. lines) result (events_of header.now raws.entry) }
-{
-    let mut lines = Lines::new(alloc);
-    let mut before = 0;
-    let mut number = header.first_event_line();
-    for raw in raws {
-        let line = event_line(alloc, before, number, raw)?;
-        before = line.moment;
-        number += 1;
-        lines.push(line)?;
-    }
-    Ok(lines)
-}
-
 // The trace, or the first fault.
-#[tactic(auto, unfolding(crate::specs::TraceText::trace_of))]
 fn read(alloc: Global, text: &[u8]) -> Result<Trace, TextFault>
     ensures { Gives (λ trace. trace) result (trace_of text.now) }
 {
-    let mut raws = text.lines_with_terminator();
-    let header = header(&mut raws)?;
-    let lines = events(alloc, &header, raws)?;
+    let mut reader = TraceReader::new(alloc, Counted::new(text));
+    let header = reader.header()?;
+    let mut lines = Lines::new(alloc);
+    while let Some(line) = reader.next()? {
+        lines.push(line)?;
+    }
     Ok(Trace { header, lines })
 }
 

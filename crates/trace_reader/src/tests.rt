@@ -6,6 +6,7 @@ mod event_faults;
 mod forms;
 mod header_faults;
 mod limits;
+mod streams;
 mod whole_traces;
 
 use crate::{TextFault, read_trace};

@@ -17,7 +17,7 @@ use Rattle.witness.specs.Steps.{IsStepText}
 use Rattle.witness.specs.WitnessText.{number_after, IsWitnessText, witness_of}
 use Rattle.witness.proofs.TextLaw.{text_takes}
 
-label_within : (label : Label NamedLine) → IsLabel label → IsWithinLimits label
+pub label_within : (label : Label NamedLine) → IsLabel label → IsWithinLimits label
 label_within (L line) fits = tt
 label_within (D thread answer) fits = tt
 label_within (M host plan) fits = fits.1

@@ -5,4 +5,5 @@ pub mod Labels
 pub mod LabelFields
 pub mod Steps
 pub mod WitnessText
+pub mod StepsLeft
 pub mod Printed

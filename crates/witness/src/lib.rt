@@ -10,7 +10,8 @@
 //! - `labels`: what a step does
 //! - `parts`: the parts of labels: endpoints, inbox entries, yes or no, numbers that may be missing
 //! - `flags`: the flags of a segment that is made, as letters
-//! - `reading`: one step, and a whole witness
+//! - `stream`: the reader of a text whose steps are read as they are asked for
+//! - `reading`: one step, and a whole witness, by the same reader
 //! - `printing`: the text of a witness, which is read again as the same witness
 #![tactic(auto)]
 
@@ -20,6 +21,7 @@ mod labels;
 mod parts;
 mod printing;
 mod reading;
+mod stream;
 #[cfg(test)]
 mod tests;
 
@@ -27,7 +29,9 @@ pub use case_forms::{
     Extras, Flags, Label, NamedLine, OutOfMemory, Recovery, SegmentPlan, Span, Step, Steps,
     TakeChoice, Witness,
 };
+pub use counted::Counted;
 pub use first_line::begins_witness;
-pub use line_fields::{FaultKind, TextFault};
+pub use line_fields::{FaultKind, ReadFault, TextFault};
 pub use printing::{print_law, print_witness};
 pub use reading::{read_step, read_witness};
+pub use stream::StepReader;

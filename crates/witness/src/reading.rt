@@ -1,18 +1,17 @@
 //! One step, and a whole witness, from bytes.
 
-ghost use Rattle.std.specs.Prelude.{◌<◌, ◌^◌, length, Ok, IfOk};
+ghost use Rattle.std.specs.Prelude.{Ok, IfOk};
 ghost use Rattle.case_forms.specs.declared.steps.Witness.{Witness};
 ghost use Rattle.case_forms.specs.Witnesses.{IsWitness};
 ghost use Rattle.line_fields.specs.Reading.{Gives};
-ghost use Rattle.line_fields.specs.Folding.{read_lines};
 ghost use Rattle.witness.specs.Steps.{step_of};
-ghost use Rattle.witness.specs.WitnessText.{number_after, IsWitnessText, witness_of};
+ghost use Rattle.witness.specs.WitnessText.{IsWitnessText, witness_of};
 
-use crate::first_line::FIRST_LINE;
 use crate::labels::label;
-use bstr::{ByteSlice, LinesWithTerminator};
+use crate::stream::StepReader;
 use case_forms::{Span, Step, Steps, Witness};
-use line_fields::{TextFault, exact_line, fields_of, next_line};
+use counted::Counted;
+use line_fields::{TextFault, fields_of};
 use std::alloc::Global;
 
 // The greatest moment, in microseconds.
@@ -40,30 +39,15 @@ pub fn read_step(alloc: Global, number: u64, raw: &[u8]) -> Result<Step, TextFau
     })
 }
 
-// The steps of these lines, which are numbered from 2 on.
-fn read_steps(alloc: Global, lines: LinesWithTerminator) -> Result<Steps, TextFault>
-    requires { length lines < 2 ^ 63 }
-    ensures { Gives (λ steps. steps) result (read_lines step_of number_after 2 lines.entry) }
-{
-    let mut steps = Steps::new(alloc);
-    let mut number = 2;
-    for raw in lines {
-        let step = read_step(alloc, number, raw)?;
-        steps.push(step)?;
-        number += 1;
-    }
-    Ok(steps)
-}
-
 // The witness of a text.
-#[tactic(auto, unfolding(crate::specs::WitnessText::witness_of))]
 fn read(alloc: Global, text: &[u8]) -> Result<Witness, TextFault>
     ensures { Gives (λ w. w) result (witness_of text.now) }
 {
-    let mut lines = text.lines_with_terminator();
-    let first = next_line(1, &mut lines)?;
-    exact_line(1, FIRST_LINE, first)?;
-    let steps = read_steps(alloc, lines)?;
+    let mut reader = StepReader::new(alloc, Counted::new(text));
+    let mut steps = Steps::new(alloc);
+    while let Some(step) = reader.next()? {
+        steps.push(step)?;
+    }
     Ok(Witness { steps })
 }
 

@@ -2,8 +2,10 @@
 //!
 //! - `vectors`: whole witnesses, read and printed again
 //! - `faults`: the first fault of a text, and its place
+//! - `streams`: witnesses that are read in pieces
 
 mod faults;
+mod streams;
 mod vectors;
 
 use crate::{

@@ -6,7 +6,12 @@ use std::alloc::{AllocError, Global};
 use std::test::Fail;
 
 // A header, then this text, then so many zeros, then this end.
-fn padded(alloc: Global, front: &str, zeros: usize, end: &str) -> Result<Vec<u8>, AllocError> {
+pub(super) fn padded(
+    alloc: Global,
+    front: &str,
+    zeros: usize,
+    end: &str,
+) -> Result<Vec<u8>, AllocError> {
     let mut text = Vec::from_slice(alloc, HEADER.as_bytes())?;
     text.extend_from_slice(front.as_bytes())?;
     for _ in 0..zeros {

@@ -1,15 +1,15 @@
 //! The first fault of a text, and its place.
 
 use crate::{TextFault, read_witness};
-use std::alloc::Global;
+use std::alloc::{AllocError, Global};
 use std::process::Abort;
 use std::test::Fail;
 
 // A text, and its fault: the line, its columns, and the kind.
-type Faulty = (&'static str, &'static str);
+pub(super) type Faulty = (&'static str, &'static str);
 
 // Whole texts.
-const TEXTS: [Faulty; 18] = [
+pub(super) const TEXTS: [Faulty; 18] = [
     ("", "1 0 0 header"),
     ("\n", "1 0 0 header"),
     ("witness 2\n", "1 0 9 header"),
@@ -31,7 +31,7 @@ const TEXTS: [Faulty; 18] = [
 ];
 
 // Steps of line 2: moments, and lines that are taken.
-const LINES: [Faulty; 21] = [
+pub(super) const LINES: [Faulty; 21] = [
     ("10", "2 2 2 field"),
     ("10 ", "2 3 3 field"),
     (" 10 L 7", "2 0 0 field"),
@@ -134,14 +134,20 @@ const RECOVERIES: [Faulty; 7] = [
     ("10 G 0 12", "2 3 4 field"),
 ];
 
+// A fault as it is printed: its line, its columns, and its name.
+pub(super) fn shown(alloc: Global, fault: TextFault) -> Result<String, AllocError> {
+    let span = fault.span;
+    let kind = fault.kind.name();
+    format!(in alloc; "{} {} {} {kind}", span.line, span.start, span.stop)
+}
+
 // A text has this fault.
 fn refuses(rt: &impl Abort, alloc: Global, text: &str, wanted: &str) -> Result<(), Fail> {
     match read_witness(alloc, text.as_bytes()) {
         Ok(_) => panic!(rt; "{wanted} is read"),
-        Err(TextFault { kind, span }) => {
-            let name = kind.name();
-            let fault = format!(in alloc; "{} {} {} {name}", span.line, span.start, span.stop)?;
-            assert_eq!(rt; fault.as_str(), wanted);
+        Err(fault) => {
+            let line = shown(alloc, fault)?;
+            assert_eq!(rt; line.as_str(), wanted);
         }
     }
     Ok(())

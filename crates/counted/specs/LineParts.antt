@@ -1,0 +1,31 @@
+-- What was read of a line.
+use Rattle.std.specs.Prelude.{◌≡◌, ◌≢◌, ◌<◌, ◌+◌, ◌⊎◌, ℕ, Bool, true, false, List, [], ◌∷◌, ◌++◌, length, All, Option, Some, None, OnSome}
+use Rattle.std.specs.Io.KnownBytes.{Consumes, IsAtEnd}
+
+-- no byte is LF
+abbrev pub HasNoFeed : List ℕ → Type 0
+HasNoFeed bytes = All (λ b. b ≢ 10) bytes
+
+-- the last byte is LF, and no other
+abbrev pub EndsAtFeed : List ℕ → Type 0
+EndsAtFeed bytes = (text : List ℕ) × HasNoFeed text × (bytes ≡ text ++ 10 ∷ [])
+
+-- the bytes are of one line, and its LF is among them or not
+abbrev pub IsPart : Bool → List ℕ → Type 0
+IsPart true bytes = EndsAtFeed bytes
+IsPart false bytes = HasNoFeed bytes
+
+-- known bytes lose their first line: up to its LF, or all that is left
+abbrev pub LosesLine : Option (List ℕ) → Option (List ℕ) → List ℕ → Type 0
+LosesLine old new raw = Consumes old new raw × (EndsAtFeed raw ⊎ (HasNoFeed raw × (0 < length raw) × OnSome old (IsAtEnd new)))
+
+-- the last bytes of a line, and those that stand before them: some only where the line has more than `most`
+pub record IsKept (most : ℕ) (front : List ℕ) (before : ℕ) (kept : List ℕ) : Type 0 where
+  pub count : length front ≡ before
+  pub past : 0 < before → most < before + length kept
+  pub begins : 0 < before → (c : ℕ) × (rest : List ℕ) × (kept ≡ c ∷ rest) × (c ≢ 10)
+
+-- a line is read, or the input is at its end
+abbrev pub GivesLine : ℕ → Option (List ℕ) → Option (List ℕ) → Option ℕ → List ℕ → Type 0
+GivesLine most old new None kept = Consumes old new [] × OnSome old (IsAtEnd new)
+GivesLine most old new (Some before) kept = (front : List ℕ) × IsKept most front before kept × LosesLine old new (front ++ kept)

@@ -1,0 +1,105 @@
+//! One line of a reader, a piece at a time.
+
+ghost use Rattle.std.specs.Prelude.{◌≡◌, ◌+◌, ◌≤◌, ◌<◌, ◌⊎◌, ◌^◌, [], OnOk, IfOk, IfSome, OnSome, ◌++◌, true, false, length, take};
+ghost use Rattle.std.specs.Io.{StartsWith, appended_bytes};
+ghost use Rattle.std.specs.Io.KnownBytes.{Consumes, IsAtEnd};
+ghost use Rattle.counted.specs.Counting.{left_of, failures_of, calls_of, one_call_more, one_more};
+ghost use Rattle.counted.specs.LineParts.{HasNoFeed, EndsAtFeed, IsPart, GivesLine};
+
+use crate::ends::{Counted, MOST_CALLS, ReadFault};
+use memchr::memchr;
+use std::io::BufRead;
+
+// How many bytes of a line one read gives at most, so that 2^50 reads can be counted.
+const PIECE: usize = 8192;
+
+// Discards all bytes but the last, and says how many.
+fn keep_last(line: &mut Vec<u8>) -> u64
+    requires { 0 < length line.old.items }
+    ensures count { result + 1 ≡ length line.old.items }
+    ensures last { line.old.items ≡ take result line.old.items ++ line.new.items }
+    ensures one { length line.new.items ≡ 1 }
+{
+    let last = line.len() - 1;
+    line[0] = line[last];
+    line.truncate(1);
+    last as u64
+}
+
+// How many of these bytes are of one line, at most so many, and whether its LF is among them.
+fn line_part(bytes: &[u8], most: usize) -> (usize, bool)
+    ensures within { result.0 ≤ length bytes.now }
+    ensures most { result.0 ≤ most }
+    ensures some { 0 < length bytes.now → 0 < most → 0 < result.0 }
+    ensures part { IsPart result.1 (take result.0 bytes.now) }
+{
+    let part = &bytes[..bytes.len().min(most)];
+    match memchr(b'\n', part) {
+        Some(at) => (at + 1, true),
+        None => (part.len(), false),
+    }
+}
+
+impl<B: BufRead> Counted<B> {
+    /// Appends what one read gives of a line, at most so many bytes, and says whether the line is at its end: behind its
+    /// LF, or at the end of the input, where it gives nothing.
+    pub fn append_line_piece(&mut self, most: usize, buf: &mut Vec<u8>) -> Result<bool, ReadFault>
+        requires { 0 < most }
+        ensures appends { StartsWith buf.new.items buf.old.items }
+        ensures most { length (appended_bytes buf.old.items buf.new.items) ≤ most }
+        ensures bytes { Consumes (left_of B.remaining self.old) (left_of B.remaining self.new) (appended_bytes buf.old.items buf.new.items) }
+        ensures more { result ≡ Ok false → HasNoFeed (appended_bytes buf.old.items buf.new.items) }
+        ensures ended { result ≡ Ok true → EndsAtFeed (appended_bytes buf.old.items buf.new.items)
+            ⊎ ((appended_bytes buf.old.items buf.new.items ≡ []) × OnSome (left_of B.remaining self.old) (IsAtEnd (left_of B.remaining self.new))) }
+        ensures ok { OnOk result (failures_of self.new ≡ failures_of self.old) }
+        ensures read { result ≡ Err ReadFault.Read → failures_of self.new ≡ one_more (failures_of self.old) }
+        ensures memory { result ≡ Err ReadFault.OutOfMemory → failures_of self.new ≡ failures_of self.old }
+        ensures spent { 2 ^ 50 ≤ calls_of self.old → result ≡ Err ReadFault.Read }
+        ensures calls { calls_of self.new ≡ one_call_more (calls_of self.old) }
+    {
+        if !self.may_call() {
+            self.count_failure();
+            return Err(ReadFault::Read);
+        }
+        let available = match self.inner.fill_buf() {
+            Ok(available) => available,
+            Err(_) => {
+                self.count_failure();
+                return Err(ReadFault::Read);
+            }
+        };
+        let (count, is_ended) = line_part(available, most);
+        if buf.extend_from_slice(&available[..count]).is_err() {
+            return Err(ReadFault::OutOfMemory);
+        }
+        self.inner.consume(count);
+        Ok(is_ended || count == 0)
+    }
+
+    /// Reads one line with its LF, or all that is left where none follows. Of a line of more than `most` bytes only the
+    /// last ones may be kept, and the answer is how many bytes stand before those. None at the end of the input.
+    pub fn read_line(&mut self, most: usize, line: &mut Vec<u8>) -> Result<Option<u64>, ReadFault>
+        requires { most < 2 ^ 32 }
+        ensures line { IfOk result (λ before. GivesLine most (left_of B.remaining self.old) (left_of B.remaining self.new) before line.new.items) }
+        ensures fits { IfOk result (λ before. IfSome before (λ n. n + length line.new.items < 2 ^ 64)) }
+        ensures ok { OnOk result (failures_of self.new ≡ failures_of self.old) }
+        ensures read { result ≡ Err ReadFault.Read → failures_of self.new ≡ one_more (failures_of self.old) }
+        ensures memory { result ≡ Err ReadFault.OutOfMemory → failures_of self.new ≡ failures_of self.old }
+    {
+        line.clear();
+        let mut before = 0;
+        for _ in 0..MOST_CALLS {
+            if self.append_line_piece(PIECE, line)? {
+                if before == 0 && line.is_empty() {
+                    return Ok(None);
+                }
+                return Ok(Some(before));
+            }
+            if line.len() > most {
+                before += keep_last(line);
+            }
+        }
+        self.count_failure();
+        Err(ReadFault::Read)
+    }
+}

@@ -1,0 +1,136 @@
+//! The reader of a trace whose lines are read as they are asked for.
+
+ghost use Rattle.std.specs.Prelude.{◌≡◌, ◌≢◌, IfOk, IfSome, Some, None, Err};
+ghost use Rattle.counted.specs.Counting.{one_more};
+ghost use Rattle.line_fields.specs.declared.fault.TextFault.{TextFault};
+ghost use Rattle.line_fields.specs.declared.fault.ReadFault.{ReadFault};
+ghost use Rattle.line_fields.specs.Left.{Yields, FailsLeft};
+ghost use Rattle.trace_reader.specs.EventLines.{behind};
+ghost use Rattle.trace_reader.specs.TraceText.{first_place};
+ghost use Rattle.trace_reader.specs.TraceLeft.{source_of, place_of, fault_of, IsFresh, IsBegun, trace_left, lines_left, Begins, reader_failures, StandsAt};
+
+use crate::events::event_line;
+use crate::header::header;
+use case_forms::{Header, Line};
+use counted::Counted;
+use line_fields::{ReadFault, next_line};
+use std::alloc::Global;
+use std::io::BufRead;
+
+/// A trace whose lines are read as they are asked for, first its header. Of the text one line is kept in memory. After
+/// a fault each later call answers that fault.
+#[derive(Drop)]
+pub struct TraceReader<A> {
+    alloc: Global,
+    source: Counted<A>,
+    // The bytes of the line that was read last.
+    line: Vec<u8>,
+    // The moment of the event line before, 0 before the first.
+    before: u64,
+    // The number of the next line, 1 before the header is read.
+    number: u64,
+    fault: Option<ReadFault>,
+}
+
+impl<A> TraceReader<A> {
+    /// A reader of a whole text, of which nothing is read yet.
+    pub fn new(alloc: Global, source: Counted<A>) -> TraceReader<A>
+        ensures source { source_of result ≡ source }
+        ensures fresh { IsFresh result }
+        ensures open { fault_of result ≡ None }
+    {
+        TraceReader {
+            alloc,
+            source,
+            line: Vec::new(alloc),
+            before: 0,
+            number: 1,
+            fault: None,
+        }
+    }
+
+    /// The source, of which what was asked for is read, and no more.
+    pub fn into_source(self) -> Counted<A>
+        ensures { result ≡ source_of self }
+    {
+        self.source
+    }
+
+    // What was read; a fault is kept for the calls to come.
+    fn keep_fault<T>(&mut self, read: Result<T, ReadFault>) -> Result<T, ReadFault>
+        requires { fault_of self.old ≡ None }
+        ensures read { result ≡ read }
+        ensures source { source_of self.new ≡ source_of self.old }
+        ensures place { place_of self.new ≡ place_of self.old }
+        ensures open { IfOk result (λ x. fault_of self.new ≡ None) }
+        ensures kept { (f : ReadFault) → result ≡ Err f → fault_of self.new ≡ Some f }
+    {
+        if let Err(fault) = &read {
+            self.fault = Some(*fault);
+        }
+        read
+    }
+}
+
+impl<A: BufRead> TraceReader<A> {
+    /// The header, which is read before any line.
+    pub fn header(&mut self) -> Result<Header, ReadFault>
+        requires { IsFresh self.old }
+        ensures header { fault_of self.old ≡ None → IfOk result (Begins (trace_left A.remaining self.old) (lines_left A.remaining self.new)) }
+        ensures place { IfOk result (λ header. place_of self.new ≡ first_place header) }
+        ensures fault { (e : TextFault) → fault_of self.old ≡ None → result ≡ Err (ReadFault.Text e) → FailsLeft e (trace_left A.remaining self.old) }
+        ensures again { (f : ReadFault) → fault_of self.old ≡ Some f → result ≡ Err f }
+        ensures kept { (f : ReadFault) → result ≡ Err f → fault_of self.new ≡ Some f }
+        ensures open { IfOk result (λ header. fault_of self.new ≡ None) }
+        ensures begun { IsBegun self.new }
+        ensures read { fault_of self.old ≡ None → result ≡ Err ReadFault.Read → reader_failures self.new ≡ one_more (reader_failures self.old) }
+        ensures same { result ≢ Err ReadFault.Read → reader_failures self.new ≡ reader_failures self.old }
+    {
+        if let Some(fault) = self.fault {
+            return Err(fault);
+        }
+        let read = header(&mut self.source, &mut self.line);
+        let header = self.keep_fault(read)?;
+        self.number = header.first_event_line();
+        Ok(header)
+    }
+
+    /// The next event line, or none at the end of the text. The header is read before.
+    pub fn next(&mut self) -> Result<Option<Line>, ReadFault>
+        requires { IsBegun self.old }
+        ensures next { fault_of self.old ≡ None → IfOk result (Yields (lines_left A.remaining self.old) (lines_left A.remaining self.new)) }
+        ensures place { IfOk result (λ item. IfSome item (λ line. StandsAt (place_of self.old) line × (place_of self.new ≡ behind (place_of self.old) line))) }
+        ensures fault { (e : TextFault) → fault_of self.old ≡ None → result ≡ Err (ReadFault.Text e) → FailsLeft e (lines_left A.remaining self.old) }
+        ensures again { (f : ReadFault) → fault_of self.old ≡ Some f → result ≡ Err f }
+        ensures kept { (f : ReadFault) → result ≡ Err f → fault_of self.new ≡ Some f }
+        ensures open { IfOk result (λ item. fault_of self.new ≡ None) }
+        ensures begun { IsBegun self.new }
+        ensures read { fault_of self.old ≡ None → result ≡ Err ReadFault.Read → reader_failures self.new ≡ one_more (reader_failures self.old) }
+        ensures same { result ≢ Err ReadFault.Read → reader_failures self.new ≡ reader_failures self.old }
+    {
+        if let Some(fault) = self.fault {
+            return Err(fault);
+        }
+        let read = self.read();
+        self.keep_fault(read)
+    }
+
+    // The next event line, where no fault was met.
+    fn read(&mut self) -> Result<Option<Line>, ReadFault>
+        ensures next { IfOk result (Yields (lines_left A.remaining self.old) (lines_left A.remaining self.new)) }
+        ensures place { IfOk result (λ item. IfSome item (λ line. StandsAt (place_of self.old) line × (place_of self.new ≡ behind (place_of self.old) line))) }
+        ensures end { result ≡ Ok None → place_of self.new ≡ place_of self.old }
+        ensures fault { (e : TextFault) → result ≡ Err (ReadFault.Text e) → FailsLeft e (lines_left A.remaining self.old) }
+        ensures open { fault_of self.new ≡ fault_of self.old }
+        ensures read { result ≡ Err ReadFault.Read → reader_failures self.new ≡ one_more (reader_failures self.old) }
+        ensures same { result ≢ Err ReadFault.Read → reader_failures self.new ≡ reader_failures self.old }
+    {
+        if !next_line(&mut self.source, self.number, &mut self.line)? {
+            return Ok(None);
+        }
+        let line = event_line(self.alloc, self.before, self.number, self.line.as_slice())?;
+        self.before = line.moment;
+        self.number += 1;
+        Ok(Some(line))
+    }
+}

@@ -1,0 +1,155 @@
+//! The reader of a witness whose steps are read as they are asked for.
+
+ghost use Rattle.std.specs.Prelude.{◌≡◌, ◌≢◌, IfOk, OnOk, IfSome, Some, None, Err};
+ghost use Rattle.counted.specs.Counting.{left_of, failures_of, one_more};
+ghost use Rattle.line_fields.specs.declared.fault.TextFault.{TextFault};
+ghost use Rattle.line_fields.specs.declared.fault.ReadFault.{ReadFault};
+ghost use Rattle.line_fields.specs.Rows.{rows_of, rest_alone, Reads};
+ghost use Rattle.line_fields.specs.Left.{Yields, FailsLeft, Remains};
+ghost use Rattle.witness.specs.WitnessText.{number_after};
+ghost use Rattle.witness.specs.StepsLeft.{first_line, source_of, number_read, number_of, fault_of, steps_left, reader_failures, StandsAt};
+
+use crate::first_line::FIRST_LINE;
+use crate::reading::read_step;
+use case_forms::Step;
+use counted::Counted;
+use line_fields::{ReadFault, exact_line, needed_line, next_line};
+use std::alloc::Global;
+use std::io::BufRead;
+
+// The number of the line of the first step.
+const FIRST_STEP: u64 = 2;
+
+/// A witness whose steps are read as they are asked for. Of the text one line is kept in memory. After a fault each
+/// later call answers that fault.
+#[derive(Drop)]
+pub struct StepReader<B> {
+    alloc: Global,
+    source: Counted<B>,
+    // The bytes of the line that was read last.
+    line: Vec<u8>,
+    // The number of the next line, none before the first line is read.
+    number: Option<u64>,
+    fault: Option<ReadFault>,
+}
+
+// The first line, which has to stand as it is.
+fn first_line<B: BufRead>(source: &mut Counted<B>, line: &mut Vec<u8>) -> Result<(), ReadFault>
+    ensures line { Reads rest_alone first_line (rows_of (left_of B.remaining source.old)) (rows_of (left_of B.remaining source.new)) result }
+    ensures read { result ≡ Err ReadFault.Read → failures_of source.new ≡ one_more (failures_of source.old) }
+    ensures same { result ≢ Err ReadFault.Read → failures_of source.new ≡ failures_of source.old }
+{
+    needed_line(source, 1, line)?;
+    exact_line(1, FIRST_LINE, line.as_slice())?;
+    Ok(())
+}
+
+impl<B> StepReader<B> {
+    /// A reader of a whole text, of which nothing is read yet.
+    pub fn new(alloc: Global, source: Counted<B>) -> StepReader<B>
+        ensures source { source_of result ≡ source }
+        ensures fresh { number_read result ≡ None }
+        ensures open { fault_of result ≡ None }
+    {
+        StepReader {
+            alloc,
+            source,
+            line: Vec::new(alloc),
+            number: None,
+            fault: None,
+        }
+    }
+
+    /// The source, of which what was asked for is read, and no more.
+    pub fn into_source(self) -> Counted<B>
+        ensures { result ≡ source_of self }
+    {
+        self.source
+    }
+
+    // What was read; a fault is kept for the calls to come.
+    fn keep_fault(
+        &mut self,
+        read: Result<Option<Step>, ReadFault>,
+    ) -> Result<Option<Step>, ReadFault>
+        requires { fault_of self.old ≡ None }
+        ensures read { result ≡ read }
+        ensures source { source_of self.new ≡ source_of self.old }
+        ensures number { number_read self.new ≡ number_read self.old }
+        ensures open { IfOk result (λ x. fault_of self.new ≡ None) }
+        ensures kept { (f : ReadFault) → result ≡ Err f → fault_of self.new ≡ Some f }
+    {
+        if let Err(fault) = &read {
+            self.fault = Some(*fault);
+        }
+        read
+    }
+}
+
+impl<B: BufRead> StepReader<B> {
+    /// The next step, or none at the end of the text.
+    pub fn next(&mut self) -> Result<Option<Step>, ReadFault>
+        ensures next { fault_of self.old ≡ None → IfOk result (Yields (steps_left B.remaining self.old) (steps_left B.remaining self.new)) }
+        ensures place { IfOk result (λ item. IfSome item (λ step. StandsAt (number_of self.old) step × (number_of self.new ≡ number_after (number_of self.old) step))) }
+        ensures fault { (e : TextFault) → fault_of self.old ≡ None → result ≡ Err (ReadFault.Text e) → FailsLeft e (steps_left B.remaining self.old) }
+        ensures again { (f : ReadFault) → fault_of self.old ≡ Some f → result ≡ Err f }
+        ensures kept { (f : ReadFault) → result ≡ Err f → fault_of self.new ≡ Some f }
+        ensures open { IfOk result (λ item. fault_of self.new ≡ None) }
+        ensures read { fault_of self.old ≡ None → result ≡ Err ReadFault.Read → reader_failures self.new ≡ one_more (reader_failures self.old) }
+        ensures same { result ≢ Err ReadFault.Read → reader_failures self.new ≡ reader_failures self.old }
+    {
+        if let Some(fault) = self.fault {
+            return Err(fault);
+        }
+        let read = self.read();
+        self.keep_fault(read)
+    }
+
+    // The next step, where no fault was met.
+    fn read(&mut self) -> Result<Option<Step>, ReadFault>
+        ensures next { IfOk result (Yields (steps_left B.remaining self.old) (steps_left B.remaining self.new)) }
+        ensures place { IfOk result (λ item. IfSome item (λ step. StandsAt (number_of self.old) step × (number_of self.new ≡ number_after (number_of self.old) step))) }
+        ensures fault { (e : TextFault) → result ≡ Err (ReadFault.Text e) → FailsLeft e (steps_left B.remaining self.old) }
+        ensures open { fault_of self.new ≡ fault_of self.old }
+        ensures read { result ≡ Err ReadFault.Read → reader_failures self.new ≡ one_more (reader_failures self.old) }
+        ensures same { result ≢ Err ReadFault.Read → reader_failures self.new ≡ reader_failures self.old }
+    {
+        let number = self.begin()?;
+        self.read_line(number)
+    }
+
+    // The number of the next line. Before the first step the first line is read.
+    fn begin(&mut self) -> Result<u64, ReadFault>
+        ensures remains { OnOk result (Remains (steps_left B.remaining self.old) (steps_left B.remaining self.new)) }
+        ensures number { IfOk result (λ number. (number_read self.new ≡ Some number) × (number ≡ number_of self.old)) }
+        ensures fault { (e : TextFault) → result ≡ Err (ReadFault.Text e) → FailsLeft e (steps_left B.remaining self.old) }
+        ensures open { fault_of self.new ≡ fault_of self.old }
+        ensures read { result ≡ Err ReadFault.Read → reader_failures self.new ≡ one_more (reader_failures self.old) }
+        ensures same { result ≢ Err ReadFault.Read → reader_failures self.new ≡ reader_failures self.old }
+    {
+        if let Some(number) = self.number {
+            return Ok(number);
+        }
+        first_line(&mut self.source, &mut self.line)?;
+        self.number = Some(FIRST_STEP);
+        Ok(FIRST_STEP)
+    }
+
+    // The step of the next line, which has this number.
+    fn read_line(&mut self, number: u64) -> Result<Option<Step>, ReadFault>
+        requires { number_read self.old ≡ Some number }
+        ensures next { IfOk result (Yields (steps_left B.remaining self.old) (steps_left B.remaining self.new)) }
+        ensures place { IfOk result (λ item. IfSome item (λ step. StandsAt number step × (number_read self.new ≡ Some (number_after number step)))) }
+        ensures fault { (e : TextFault) → result ≡ Err (ReadFault.Text e) → FailsLeft e (steps_left B.remaining self.old) }
+        ensures open { fault_of self.new ≡ fault_of self.old }
+        ensures read { result ≡ Err ReadFault.Read → reader_failures self.new ≡ one_more (reader_failures self.old) }
+        ensures same { result ≢ Err ReadFault.Read → reader_failures self.new ≡ reader_failures self.old }
+    {
+        if !next_line(&mut self.source, number, &mut self.line)? {
+            return Ok(None);
+        }
+        let step = read_step(self.alloc, number, self.line.as_slice())?;
+        self.number = Some(number + 1);
+        Ok(Some(step))
+    }
+}
