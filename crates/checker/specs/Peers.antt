@@ -11,7 +11,7 @@ use Rattle.machine.specs.declared.endpoint.Name.{Name}
 use Rattle.machine.specs.declared.endpoint.Endpoint.{Endpoint}
 use Rattle.machine.specs.declared.endpoint.Emission.{Emission}
 use Rattle.case_forms.specs.declared.steps.TakeChoice.{TakeChoice}
-use Rattle.machine.specs.Meeting.{taker, AtListener, AtEndpoint}
+use Rattle.machine.specs.Arrives.{taker, AtListener, AtEndpoint}
 use Rattle.machine.specs.Machine.{tcp, tcp_shape}
 use Rattle.machine_laws.specs.Runs.{world_at_end}
 use Rattle.machine_laws.specs.Consequences.{find}

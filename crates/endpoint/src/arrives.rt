@@ -1,9 +1,9 @@
 //! A segment arrives (RFC 9293, 3.10.7).
 
+ghost use Rattle.case_forms.specs.States.{is_closed};
+ghost use Rattle.machine.specs.Arrives.{endpoint_taken};
 ghost use Rattle.machine.specs.Bounds.{HasRoom, IsSmallEmission};
 ghost use Rattle.machine.specs.Forgetting.{forget_endpoint};
-ghost use Rattle.machine.specs.Lookups.{is_closed};
-ghost use Rattle.machine.specs.Meeting.{endpoint_taken};
 ghost use Rattle.std.specs.Prelude.{◌≡◌, false, OnOk, OnErr};
 
 pub(crate) mod listen;

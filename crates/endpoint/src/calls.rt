@@ -1,6 +1,7 @@
 //! What socket calls may be answered at one endpoint (RFC 9293, 3.10.1 to 3.10.6).
 
-ghost use Rattle.machine.specs.CallRules.{await_allows, endpoint_allows, is_not_connected, tells, tells_fault, is_closed_answer};
+ghost use Rattle.machine.specs.Calls.Await.{await_allows, is_not_connected, tells, tells_fault, is_closed_answer};
+ghost use Rattle.machine.specs.Calls.{endpoint_allows};
 ghost use Rattle.machine.specs.Same.{same_state};
 ghost use Rattle.std.specs.Prelude.{◌≡◌};
 

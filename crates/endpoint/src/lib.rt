@@ -1,5 +1,5 @@
 //! What one endpoint does at each event of RFC 9293, 3.10. In each file the rules of an event and its effect stand beside each
-//! other; the definitions that their contracts cite stand in the crate `machine`, in `specs/`.
+//! other; the definitions that their contracts cite stand in the crate `machine`, in files of the same names in `specs/`.
 //!
 //! - `calls`: what socket calls may be answered, and what they do (3.10.1 to 3.10.6)
 //! - `makes`: a segment is made (3.8, 3.10)

@@ -2,8 +2,7 @@
 
 ghost use Rattle.endpoint.specs.Small.{IsSmall};
 ghost use Rattle.machine.specs.Bounds.{IsSmallEmission, greatest_position};
-ghost use Rattle.machine.specs.Making.{making_rules};
-ghost use Rattle.machine.specs.MakingEffects.{emission_of, after_making, timed, endpoint_made};
+ghost use Rattle.machine.specs.Makes.{making_rules, emission_of, after_making, timed, endpoint_made};
 ghost use Rattle.std.specs.Prelude.{◌≡◌, IfOk, OnOk, OnErr, ◌≤◌};
 ghost use Rattle.std.specs.Result.{result_err};
 ghost use Rattle.verdict.specs.Rules.{first_broken};

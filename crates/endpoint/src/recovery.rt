@@ -2,7 +2,7 @@
 
 ghost use Rattle.machine.specs.Bounds.{HasRoom};
 ghost use Rattle.machine.specs.Forgetting.{forget_endpoint};
-ghost use Rattle.machine.specs.Timing.{is_bad_recovery, recovery_rules, after_recovery};
+ghost use Rattle.machine.specs.Recovery.{is_bad_recovery, recovery_rules, after_recovery};
 ghost use Rattle.std.specs.Prelude.{◌≡◌};
 ghost use Rattle.std.specs.Result.{result_err};
 ghost use Rattle.verdict.specs.Rules.{first_broken};

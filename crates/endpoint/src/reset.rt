@@ -1,7 +1,7 @@
 //! The reset that answers a segment (RFC 9293, 3.5.2).
 
 ghost use Rattle.machine.specs.Bounds.{IsSmallEmission};
-ghost use Rattle.machine.specs.Resets.{reset_of};
+ghost use Rattle.machine.specs.Reset.{reset_of};
 ghost use Rattle.seqno.specs.Numbers.{number_of};
 ghost use Rattle.std.specs.Prelude.{◌≡◌};
 

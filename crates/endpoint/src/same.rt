@@ -1,7 +1,6 @@
 //! Comparisons that the rules speak of.
 
-ghost use Rattle.machine.specs.Lookups.{same_word};
-ghost use Rattle.machine.specs.Records.{same_name};
+ghost use Rattle.machine.specs.Same.{same_word, same_name};
 ghost use Rattle.std.specs.Prelude.{◌≡◌};
 
 use machine::Name;

@@ -2,9 +2,9 @@
 
 ghost use Rattle.case_forms.specs.declared.timer.Timer.TheVariants.{Giveup};
 ghost use Rattle.machine.specs.Bounds.{HasRoom};
-ghost use Rattle.machine.specs.CallEffects.{shut_down};
+ghost use Rattle.machine.specs.Calls.Close.{shut_down};
 ghost use Rattle.machine.specs.Forgetting.{forget_endpoint};
-ghost use Rattle.machine.specs.Timing.{expiry_rules, is_above, is_off, is_rto, greatest_values, has_more, may_give_up, after_expiry, after_rto, after_persist};
+ghost use Rattle.machine.specs.Timeouts.{expiry_rules, is_above, is_off, is_rto, greatest_values, has_more, may_give_up, after_expiry, after_rto, after_persist};
 ghost use Rattle.machine.specs.declared.endpoint.Fault.TheVariants.{Timeout};
 ghost use Rattle.std.specs.Prelude.{◌≡◌, ◌≢◌, ◌<◌, ◌+◌, ◌^◌, true, Some};
 ghost use Rattle.std.specs.Result.{result_err};

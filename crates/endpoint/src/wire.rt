@@ -2,7 +2,7 @@
 
 ghost use Rattle.machine.specs.Bounds.{IsSmallEmission};
 ghost use Rattle.machine.specs.Same.{same_bytes};
-ghost use Rattle.machine.specs.Wires.{same_flags, shows, same_bool, out_rules, sent, in_rules};
+ghost use Rattle.machine.specs.Wire.{same_flags, shows, same_bool, out_rules, sent, in_rules};
 ghost use Rattle.std.specs.Prelude.{◌≡◌, IfOk, ◌+◌, nat_lt};
 ghost use Rattle.std.specs.Result.{result_err};
 ghost use Rattle.verdict.specs.Rules.{first_broken};

@@ -21,14 +21,20 @@ use Rattle.machine.specs.declared.endpoint.Listener.{Listener}
 use Rattle.machine.specs.declared.endpoint.Thing.{Thing}
 use Rattle.machine.specs.declared.endpoint.Thing.TheVariants.{Listens, Ends}
 use Rattle.case_forms.specs.declared.steps.TakeChoice.{TakeChoice}
-use Rattle.machine.specs.Endpoints.{Body, empty, new_endpoint}
-use Rattle.machine.specs.Lookups.{is_syn_received, place_of, queue_of, thing_of, with_endpoint, at_ports}
-use Rattle.machine.specs.CallRules.{call_allows, endpoint_allows, is_bad_socket, thing_allows}
-use Rattle.machine.specs.CallEffects.{orphaned, without_listener, dead, thing_gone, after_gone, accepted_from, after_accept, change_thing, change, after_send, after_recv, after_shut, after_close, after_abort, after_call}
-use Rattle.machine.specs.MakingEffects.{after_making}
-use Rattle.machine.specs.Timing.{after_expiry, after_recovery}
-use Rattle.machine.specs.TakingRules.{acknowledges_syn}
-use Rattle.machine.specs.Meeting.{Taker, Nobody, AtListener, AtEndpoint, taker, child, endpoint_taken, joined, after_taking}
+use Rattle.machine.specs.Endpoints.{new_endpoint}
+use Rattle.machine.specs.Bodies.{Body, empty, place_of, queue_of, thing_of, with_endpoint, at_ports, dead}
+use Rattle.case_forms.specs.States.{is_syn_received}
+use Rattle.machine.specs.Calls.{call_allows, endpoint_allows, is_bad_socket, thing_allows, change_thing, change, after_call}
+use Rattle.machine.specs.Calls.Send.{after_send}
+use Rattle.machine.specs.Calls.Receive.{after_recv}
+use Rattle.machine.specs.Calls.Close.{orphaned, without_listener, thing_gone, after_gone, after_shut, after_close, after_abort}
+use Rattle.machine.specs.Calls.Accept.{accepted_from, after_accept}
+use Rattle.machine.specs.Makes.{after_making}
+use Rattle.machine.specs.Timeouts.{after_expiry}
+use Rattle.machine.specs.Recovery.{after_recovery}
+use Rattle.machine.specs.Arrives.Otherwise.Ack.{acknowledges_syn}
+use Rattle.machine.specs.Arrives.Listen.{child}
+use Rattle.machine.specs.Arrives.{Taker, Nobody, AtListener, AtEndpoint, taker, endpoint_taken, joined, after_taking}
 use Rattle.machine.specs.Bounds.{IsKept, IsKeptBody}
 use Rattle.machine.specs.Forgetting.{forget_endpoint, forget_body}
 use Rattle.machine.specs.Machine.{Act, Calls, Makes, Takes, Resets, Expires, Recovers, act_rules, act_after}

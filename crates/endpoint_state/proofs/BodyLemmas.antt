@@ -4,7 +4,7 @@ use Rattle.std.specs.List.{All}
 use Rattle.machine.specs.declared.endpoint.Endpoint.{Endpoint}
 use Rattle.machine.specs.declared.endpoint.Listener.{Listener}
 use Rattle.machine.specs.declared.endpoint.Socket.{Socket}
-use Rattle.machine.specs.Records.{Body}
+use Rattle.machine.specs.Bodies.{Body}
 use Rattle.machine.specs.Bounds.{HasRoom}
 use Rattle.machine.specs.Forgetting.{forget_body, forget_endpoint}
 use Rattle.endpoint_state.proofs.Forgotten.{all_same, forget_same, first, later}

@@ -13,9 +13,8 @@ use Rattle.hosts.specs.Tables.{Both, pick, with_host}
 use Rattle.hosts.specs.Hosts.{HostState, World, Turn, Idle, Called, Answered, Effect, turn_of}
 use Rattle.hosts.specs.HostRules.{Permitted, aim_of, call_rules, fresh_rules, open_rules, effect_rules, step_rules}
 use Rattle.hosts.specs.HostSteps.{effect_after, call_after}
-use Rattle.machine.specs.Lookups.{given}
-use Rattle.machine.specs.CallRules.{call_allows, is_bad_socket}
-use Rattle.machine.specs.CallEffects.{after_call}
+use Rattle.machine.specs.Bodies.{given}
+use Rattle.machine.specs.Calls.{call_allows, is_bad_socket, after_call}
 use Rattle.machine.specs.Machine.{tcp, tcp_shape, gives}
 use Rattle.machine.specs.Machine as acts
 use Rattle.machine.specs.Forgetting.{forget}

@@ -9,11 +9,10 @@ use Rattle.hosts.specs.Tables.{Made, on, waiting, unsent}
 use Rattle.hosts.specs.Hosts.{HostState}
 use Rattle.hosts.specs.HostSteps.{inbox_settled}
 use Rattle.machine.specs.declared.endpoint.Emission.{Emission}
-use Rattle.machine.specs.Records.{Body}
-use Rattle.machine.specs.Lookups.{at_ports}
-use Rattle.machine.specs.MakingEffects.{after_making}
-use Rattle.machine.specs.Meeting.{taker, after_taking}
-use Rattle.machine.specs.Resets.{reset_of}
+use Rattle.machine.specs.Bodies.{Body, at_ports}
+use Rattle.machine.specs.Makes.{after_making}
+use Rattle.machine.specs.Arrives.{taker, after_taking}
+use Rattle.machine.specs.Reset.{reset_of}
 use Rattle.machine.specs.Machine.{tcp_shape, act_makes}
 use Rattle.machine.specs.Machine as acts
 use Rattle.machine.specs.Forgetting.{forget_body, forget_host}

@@ -10,12 +10,15 @@ use Rattle.case_forms.specs.declared.timer.Timer.{Timer}
 use Rattle.case_forms.specs.declared.timer.Timer.TheVariants.{Rto, Persist, Msl2, Giveup}
 use Rattle.streams.specs.Received as received
 use Rattle.machine.specs.declared.endpoint.Endpoint.{Endpoint}
-use Rattle.machine.specs.Lookups.{is_closed, is_syn_sent}
-use Rattle.machine.specs.CallRules.{recv_allows}
-use Rattle.machine.specs.CallEffects.{shut_down, ended_state, after_shut, after_close, after_abort, orphaned, after_send, after_recv}
+use Rattle.case_forms.specs.States.{is_closed, is_syn_sent}
+use Rattle.machine.specs.Calls.Receive.{recv_allows, after_recv}
+use Rattle.machine.specs.Calls.Send.{after_send}
+use Rattle.machine.specs.Calls.Close.{shut_down, ended_state, after_shut, after_close, after_abort, orphaned}
 use Rattle.case_forms.specs.declared.steps.SegmentPlan.{SegmentPlan}
-use Rattle.machine.specs.MakingEffects.{endpoint_made, after_making}
-use Rattle.machine.specs.Timing.{Growth, after_expiry, after_recovery}
+use Rattle.machine.specs.Makes.{endpoint_made, after_making}
+use Rattle.case_forms.specs.declared.timer.Growth.{Growth}
+use Rattle.machine.specs.Timeouts.{after_expiry}
+use Rattle.machine.specs.Recovery.{after_recovery}
 use Rattle.endpoint_state.proofs.Forgets.{IsBounded, bounded_later}
 
 -- 1. calls

@@ -7,7 +7,7 @@ use Rattle.streams.specs.Received as received
 use Rattle.streams.proofs.Covers.{length-covered}
 use Rattle.machine.specs.declared.endpoint.Endpoint.{Endpoint}
 use Rattle.machine.specs.Endpoints.{next}
-use Rattle.machine.specs.Lookups.{is_closed, is_syn_sent}
+use Rattle.case_forms.specs.States.{is_closed, is_syn_sent}
 use Rattle.machine.specs.Bounds.{IsForgotten, IsKept}
 use Rattle.machine.specs.Forgetting.{forget_endpoint}
 use Rattle.machine_laws.proofs.ForgetReads.{forget-forget, next-forget}

@@ -22,9 +22,9 @@ use Rattle.hosts.specs.Hosts.{HostState, World, Turn, Idle, Called, Answered, De
 use Rattle.hosts.specs.HostRules.{Permitted, aim_of, call_rules, deed_rules, effect_rules, fresh_rules, just}
 use Rattle.hosts.specs.HostSteps.{act_made, after, call_after, deed_after, effect_after, empty_host, makes, start}
 use Rattle.machine.specs.declared.endpoint.Emission.{Emission}
-use Rattle.machine.specs.Endpoints.{Body}
-use Rattle.machine.specs.Resets.{reset_of}
-use Rattle.machine.specs.Wires.{sent}
+use Rattle.machine.specs.Bodies.{Body}
+use Rattle.machine.specs.Reset.{reset_of}
+use Rattle.machine.specs.Wire.{sent}
 use Rattle.case_forms.specs.declared.steps.TakeChoice.{TakeChoice}
 use Rattle.case_forms.specs.declared.steps.SegmentPlan.{SegmentPlan}
 use Rattle.machine.specs.Machine.{tcp, tcp_shape, Act, act_after, act_makes, act_rules, aim, gives}

@@ -10,13 +10,19 @@ use Rattle.machine.specs.declared.endpoint.Endpoint.{Endpoint}
 use Rattle.machine.specs.declared.endpoint.Emission.{Emission}
 use Rattle.case_forms.specs.declared.steps.SegmentPlan.{SegmentPlan}
 use Rattle.case_forms.specs.declared.steps.TakeChoice.{TakeChoice}
-use Rattle.machine.specs.Lookups.{is_syn_sent}
+use Rattle.case_forms.specs.States.{is_syn_sent}
 use Rattle.machine.specs.Bounds.{HasRoom}
-use Rattle.machine.specs.CallEffects.{shut_down, after_shut, after_close, after_abort, after_send, after_recv}
-use Rattle.machine.specs.MakingEffects.{endpoint_made, after_making}
-use Rattle.machine.specs.TakingEffects.{taken}
-use Rattle.machine.specs.Meeting.{met_peer, was_reset, endpoint_taken}
-use Rattle.machine.specs.Timing.{Growth, after_expiry, after_recovery}
+use Rattle.machine.specs.Calls.Send.{after_send}
+use Rattle.machine.specs.Calls.Receive.{after_recv}
+use Rattle.machine.specs.Calls.Close.{shut_down, after_shut, after_close, after_abort}
+use Rattle.machine.specs.Makes.{endpoint_made, after_making}
+use Rattle.machine.specs.Arrives.Otherwise.{taken}
+use Rattle.machine.specs.Arrives.Otherwise.Reset.{was_reset}
+use Rattle.machine.specs.Arrives.SynSent.{met_peer}
+use Rattle.machine.specs.Arrives.{endpoint_taken}
+use Rattle.case_forms.specs.declared.timer.Growth.{Growth}
+use Rattle.machine.specs.Timeouts.{after_expiry}
+use Rattle.machine.specs.Recovery.{after_recovery}
 use Rattle.machine.specs.Forgetting.{forget_endpoint}
 use Rattle.endpoint_state.specs.Indexes.{IsIndexed}
 use Rattle.endpoint_state.specs.Changes.{Keeps, changed}

@@ -10,7 +10,7 @@ use Rattle.hosts.specs.Tables.{Both, pick, other, with_host, on, waiting, settle
 use Rattle.hosts.specs.Hosts.{HostState, Answers, Deed, Drops, Gets, Sends}
 use Rattle.hosts.specs.HostSteps.{deed_after}
 use Rattle.machine.specs.declared.endpoint.Emission.{Emission}
-use Rattle.machine.specs.Resets.{reset_of}
+use Rattle.machine.specs.Reset.{reset_of}
 use Rattle.machine.specs.Machine.{tcp, tcp_shape}
 use Rattle.machine.specs.Forgetting.{forget_host}
 use Rattle.endpoint_state.specs.Kept.{IsReady}

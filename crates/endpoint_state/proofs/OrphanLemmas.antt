@@ -12,9 +12,9 @@ use Rattle.streams.specs.Lists.{modify}
 use Rattle.streams.proofs.Places.{all_modify}
 use Rattle.machine.specs.declared.endpoint.Endpoint.{Endpoint}
 use Rattle.machine.specs.Bounds.{HasRoom}
-use Rattle.machine.specs.CallEffects.{orphaned, after_abort, resets_at_abort}
+use Rattle.machine.specs.Calls.Close.{orphaned, after_abort, resets_at_abort}
 use Rattle.machine.specs.Forgetting.{forget_endpoint}
-use Rattle.machine.specs.Lookups.{has_ports}
+use Rattle.machine.specs.Bodies.{has_ports}
 use Rattle.endpoint_state.specs.Indexes.{IsIndexed, stands_in, is_child_in}
 use Rattle.endpoint_state.specs.Changes.{orphan_each}
 use Rattle.endpoint_state.proofs.IndexLemmas.{indexed_modify}

@@ -3,8 +3,8 @@ use Rattle.std.proofs.Common.{ℕ, arith}
 use Rattle.case_forms.specs.declared.trace.Wire.{Wire}
 use Rattle.machine.specs.declared.endpoint.Emission.{Emission}
 use Rattle.machine.specs.Bounds.{IsSmallEmission}
-use Rattle.machine.specs.Resets.{reset_of}
-use Rattle.machine.specs.Wires.{sent}
+use Rattle.machine.specs.Reset.{reset_of}
+use Rattle.machine.specs.Wire.{sent}
 
 pub resets_small : (m : Emission) → IsSmallEmission (reset_of m)
 resets_small m = record { pos = omega arith; ack = omega arith; payload = omega arith }

@@ -15,12 +15,11 @@ use Rattle.machine.specs.declared.endpoint.Listener.{Listener}
 use Rattle.machine.specs.declared.endpoint.Socket.{Socket}
 use Rattle.machine.specs.declared.endpoint.Thing.{Thing}
 use Rattle.machine.specs.declared.endpoint.Thing.TheVariants.{Ends}
-use Rattle.machine.specs.Records.{Body}
+use Rattle.machine.specs.Bodies.{Body, queue_of, with_socket}
 use Rattle.machine.specs.Endpoints.{new_endpoint}
 use Rattle.machine.specs.Bounds.{HasRoom}
-use Rattle.machine.specs.Lookups.{queue_of}
-use Rattle.machine.specs.CallRules.{call_allows, thing_allows, is_bad_socket, endpoint_allows}
-use Rattle.machine.specs.CallEffects.{accepted_from, with_socket}
+use Rattle.machine.specs.Calls.{call_allows, thing_allows, is_bad_socket, endpoint_allows}
+use Rattle.machine.specs.Calls.Accept.{accepted_from}
 use Rattle.machine.specs.Forgetting.{forget_body}
 use Rattle.endpoint_state.specs.Changes.{changed}
 use Rattle.endpoint_state.specs.Waiting.{AreWaiting}

@@ -10,7 +10,7 @@ use Rattle.hosts.specs.Tables.{waiting, on}
 use Rattle.hosts.specs.Hosts.{HostState}
 use Rattle.machine.specs.declared.endpoint.Emission.{Emission}
 use Rattle.machine.specs.declared.endpoint.Endpoint.{Endpoint}
-use Rattle.machine.specs.Records.{Body}
+use Rattle.machine.specs.Bodies.{Body}
 use Rattle.machine.specs.Machine.{tcp_shape}
 use Rattle.machine.specs.Forgetting.{forget_endpoint, forget_body, forget_host}
 use Rattle.machine.specs.Bounds.{HasRoom, IsForgotten, IsSmallEmission}

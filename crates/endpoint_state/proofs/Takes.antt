@@ -11,11 +11,16 @@ use Rattle.streams.specs.Cells.{body}
 use Rattle.streams.proofs.Fronts.{next_put_all}
 use Rattle.machine.specs.declared.endpoint.Endpoint.{Endpoint}
 use Rattle.machine.specs.declared.endpoint.Emission.{Emission}
-use Rattle.machine.specs.Lookups.{is_closed, is_syn_sent}
+use Rattle.case_forms.specs.States.{is_closed, is_syn_sent}
 use Rattle.case_forms.specs.declared.steps.TakeChoice.{TakeChoice}
-use Rattle.machine.specs.TakingRules.{is_new_ack, acknowledges_syn, acked, is_duplicate}
-use Rattle.machine.specs.TakingEffects.{fin_acknowledged, acknowledged, finished, kept_start, kept_bytes, keeps_fin, state_taken, taken}
-use Rattle.machine.specs.Meeting.{child, met_peer, was_reset, endpoint_taken}
+use Rattle.machine.specs.Arrives.Otherwise.Ack.{is_new_ack, acknowledges_syn, acked, is_duplicate, fin_acknowledged, acknowledged}
+use Rattle.machine.specs.Arrives.Otherwise.Fin.{finished, keeps_fin}
+use Rattle.machine.specs.Arrives.Otherwise.Text.{kept_start, kept_bytes, state_taken}
+use Rattle.machine.specs.Arrives.Otherwise.{taken}
+use Rattle.machine.specs.Arrives.Otherwise.Reset.{was_reset}
+use Rattle.machine.specs.Arrives.SynSent.{met_peer}
+use Rattle.machine.specs.Arrives.Listen.{child}
+use Rattle.machine.specs.Arrives.{endpoint_taken}
 use Rattle.endpoint_state.proofs.Forgets.{IsBounded, bounded_later}
 
 -- 1. states

@@ -8,8 +8,8 @@ use Rattle.verdict.specs.declared.rule.Rule.{Rule}
 use Rattle.hosts.specs.Tables.{Both, pick}
 use Rattle.hosts.specs.Hosts.{HostState, Aim}
 use Rattle.hosts.specs.HostRules.{aim_of, call_rules}
-use Rattle.machine.specs.Lookups.{given}
-use Rattle.machine.specs.CallRules.{call_allows, is_bad_socket}
+use Rattle.machine.specs.Bodies.{given}
+use Rattle.machine.specs.Calls.{call_allows, is_bad_socket}
 use Rattle.machine.specs.Machine.{tcp, tcp_shape, aim, gives}
 use Rattle.endpoint_state.specs.Worlds.{Progress}
 

@@ -1,6 +1,6 @@
 -- Endpoints of which one changes, and nothing is kept that may be let go.
 use Rattle.std.specs.Prelude.{◌≡◌, ℕ, List, [], ◌∷◌, Some, map}
-use Rattle.machine.specs.CallEffects.{orphaned}
+use Rattle.machine.specs.Calls.Close.{orphaned}
 use Rattle.streams.specs.Lists.{modify}
 use Rattle.machine.specs.declared.endpoint.Endpoint.{Endpoint}
 use Rattle.machine.specs.Forgetting.{forget_endpoint}

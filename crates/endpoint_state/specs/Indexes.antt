@@ -5,7 +5,7 @@ use Rattle.std.specs.Map.{lookup}
 use Rattle.std.specs.Option.{option_map_or, IsSomeAnd}
 use Rattle.machine.specs.declared.endpoint.Endpoint.{Endpoint}
 use Rattle.machine.specs.declared.endpoint.Listener.{Listener}
-use Rattle.machine.specs.Lookups.{last_from, has_ports}
+use Rattle.machine.specs.Bodies.{last_from, has_ports}
 
 -- the two pairs of ports are one
 abbrev pub same_ports : ℕ × ℕ → ℕ × ℕ → Bool

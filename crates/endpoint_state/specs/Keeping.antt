@@ -9,12 +9,12 @@ use Rattle.case_forms.specs.declared.trace.Wire.{Wire}
 use Rattle.verdict.specs.Rules.{first_broken}
 use Rattle.machine.specs.declared.endpoint.Endpoint.{Endpoint}
 use Rattle.machine.specs.declared.endpoint.Emission.{Emission}
-use Rattle.machine.specs.Endpoints.{Body, empty}
+use Rattle.machine.specs.Bodies.{Body, empty}
 use Rattle.machine.specs.Bounds.{HasRoom, IsKept, IsKeptBody, IsSmallEmission, most_steps}
 use Rattle.machine.specs.Forgetting.{forget_body}
 use Rattle.machine.specs.Machine.{Act, Calls, Makes, Takes, Resets, Expires, Recovers, act_rules, act_after}
-use Rattle.machine.specs.Resets.{reset_of}
-use Rattle.machine.specs.Wires.{sent}
+use Rattle.machine.specs.Reset.{reset_of}
+use Rattle.machine.specs.Wire.{sent}
 
 -- before the last step that a case may have, there is room for what one step more may add
 pub record HaveRoom : Type 0 where

@@ -10,13 +10,13 @@ use Rattle.hosts.specs.Tables.{on, unsent, waiting}
 use Rattle.hosts.specs.Hosts.{HostState}
 use Rattle.hosts.specs.HostSteps.{inbox_after, inbox_settled, made_gone_out, wire_after}
 use Rattle.machine.specs.declared.endpoint.Emission.{Emission}
-use Rattle.machine.specs.Lookups.{at_ports}
+use Rattle.machine.specs.Bodies.{at_ports}
 use Rattle.machine.specs.Machine.{act_makes, tcp_shape}
 use Rattle.machine.specs.Machine as acts
-use Rattle.machine.specs.MakingEffects.{after_making}
-use Rattle.machine.specs.Meeting.{after_taking, taker}
-use Rattle.machine.specs.Resets.{reset_of}
-use Rattle.machine.specs.Wires.{sent}
+use Rattle.machine.specs.Makes.{after_making}
+use Rattle.machine.specs.Arrives.{after_taking, taker}
+use Rattle.machine.specs.Reset.{reset_of}
+use Rattle.machine.specs.Wire.{sent}
 
 -- a segment is made, under the fresh number
 abbrev pub made_one : Host → (moment fresh : ℕ) → SegmentPlan → HostState tcp_shape → HostState tcp_shape

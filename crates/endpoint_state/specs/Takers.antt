@@ -1,11 +1,11 @@
 -- Whom a segment finds, by place.
 use Rattle.std.specs.Prelude.{◌≡◌, ◌&&◌, ℕ, false, if◌then◌else◌, Option, None, slice_get}
 use Rattle.std.specs.Option.{option_map_or, IsSomeAnd}
-use Rattle.machine.specs.Endpoints.{Body}
+use Rattle.machine.specs.Bodies.{Body}
 use Rattle.machine.specs.declared.endpoint.Emission.{Emission}
-use Rattle.machine.specs.Lookups.{is_closed, is_syn_received}
-use Rattle.machine.specs.TakingRules.{acknowledges_syn}
-use Rattle.machine.specs.Meeting.{Taker, Nobody, AtListener, AtEndpoint}
+use Rattle.case_forms.specs.States.{is_closed, is_syn_received}
+use Rattle.machine.specs.Arrives.Otherwise.Ack.{acknowledges_syn}
+use Rattle.machine.specs.Arrives.{Taker, Nobody, AtListener, AtEndpoint}
 use Rattle.endpoint_state.specs.declared.body.Found.{Found}
 use Rattle.endpoint_state.specs.declared.body.Found.TheVariants as found
 

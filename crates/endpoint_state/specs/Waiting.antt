@@ -1,10 +1,9 @@
 -- What a call needs that is done.
 use Rattle.std.specs.Prelude.{◌≡◌, ◌≤◌, ℕ, List, Some, length, slice_get}
 use Rattle.streams.specs.Received.{waiting}
-use Rattle.machine.specs.Endpoints.{Body}
+use Rattle.machine.specs.Bodies.{Body, thing_of}
 use Rattle.machine.specs.declared.endpoint.Endpoint.{Endpoint}
 use Rattle.machine.specs.declared.endpoint.Thing.TheVariants.{Ends}
-use Rattle.machine.specs.Lookups.{thing_of}
 
 -- as many bytes wait at the endpoint that a socket number names
 abbrev pub AreWaiting : Body → ℕ → List ℕ → Type 0

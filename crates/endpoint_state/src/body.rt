@@ -2,9 +2,9 @@
 
 ghost use Rattle.std.specs.Prelude.{◌≡◌, slice_get};
 ghost use Rattle.std.specs.Option.{option_copied};
-ghost use Rattle.machine.specs.Records.{empty};
-ghost use Rattle.machine.specs.Lookups.{endpoint_of, given, is_closed, is_connected, if_live, is_listening, listener_on, place_of, thing_of};
-ghost use Rattle.machine.specs.Meeting.{endpoint_taker, listener_taker, taker};
+ghost use Rattle.machine.specs.Bodies.{empty, endpoint_of, given, is_connected, if_live, is_listening, listener_on, place_of, thing_of};
+ghost use Rattle.case_forms.specs.States.{is_closed};
+ghost use Rattle.machine.specs.Arrives.{endpoint_taker, listener_taker, taker};
 ghost use Rattle.endpoint_state.specs.Takers.{taker_found, IsOpen};
 
 use crate::endpoints::Endpoints;
@@ -25,7 +25,7 @@ pub struct Body {
 }
 
 impl Model for Body {
-    ghost use Rattle.machine.specs.Records.{Body};
+    ghost use Rattle.machine.specs.Bodies.{Body};
 
     ghost Value = { Body };
 

@@ -4,12 +4,15 @@ ghost use Rattle.std.specs.Prelude.{◌≡◌, ◌≤◌, false, length, None, O
 ghost use Rattle.std.specs.List.{All};
 ghost use Rattle.std.specs.Option.{option_map, IfSome, IsSomeAnd};
 ghost use Rattle.machine.specs.Bounds.{greatest_position, HasRoom, IsSmallEmission};
-ghost use Rattle.machine.specs.CallEffects.{after_abort, after_close, after_recv, after_send, after_shut};
+ghost use Rattle.machine.specs.Calls.Send.{after_send};
+ghost use Rattle.machine.specs.Calls.Receive.{after_recv};
+ghost use Rattle.machine.specs.Calls.Close.{after_abort, after_close, after_shut};
 ghost use Rattle.machine.specs.Forgetting.{forget_endpoint};
-ghost use Rattle.machine.specs.Lookups.{is_closed};
-ghost use Rattle.machine.specs.MakingEffects.{after_making, emission_of};
-ghost use Rattle.machine.specs.Meeting.{endpoint_taken};
-ghost use Rattle.machine.specs.Timing.{after_expiry, after_recovery};
+ghost use Rattle.case_forms.specs.States.{is_closed};
+ghost use Rattle.machine.specs.Makes.{after_making, emission_of};
+ghost use Rattle.machine.specs.Arrives.{endpoint_taken};
+ghost use Rattle.machine.specs.Timeouts.{after_expiry};
+ghost use Rattle.machine.specs.Recovery.{after_recovery};
 ghost use Rattle.streams.specs.Received.{waiting};
 ghost use Rattle.endpoint_state.specs.Changes.{changed};
 

@@ -2,7 +2,7 @@
 
 ghost use Rattle.std.specs.Prelude.{◌≡◌, ◌+◌, ◌<◌, ◌^◌, ℕ, true, [], ◌∷◌, ◌++◌, None, length, slice_get, OnOk, OnErr};
 ghost use Rattle.std.specs.Option.{option_copied};
-ghost use Rattle.machine.specs.Lookups.{has_ports, last_from};
+ghost use Rattle.machine.specs.Bodies.{has_ports, last_from};
 ghost use Rattle.endpoint_state.specs.Indexes.{is_child_in};
 
 use indexmap::IndexMap;

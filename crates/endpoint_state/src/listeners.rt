@@ -3,7 +3,7 @@
 ghost use Rattle.std.specs.Prelude.{◌≡◌, ◌+◌, ◌-◌, ◌<◌, ◌^◌, false, [], ◌∷◌, ◌++◌, None, length, drop, take, slice_get, OnOk, OnErr};
 ghost use Rattle.std.specs.Option.{option_copied};
 ghost use Rattle.streams.specs.Lists.{modify};
-ghost use Rattle.machine.specs.Lookups.{last_from, listens_on};
+ghost use Rattle.machine.specs.Bodies.{last_from, listens_on};
 
 use indexmap::IndexMap;
 use machine::Listener;

@@ -4,7 +4,7 @@ ghost use Rattle.std.specs.Prelude.{◌≡◌, map};
 ghost use Rattle.std.specs.List.{All};
 ghost use Rattle.streams.specs.Lists.{modify};
 ghost use Rattle.machine.specs.Bounds.{HasRoom};
-ghost use Rattle.machine.specs.CallEffects.{orphaned};
+ghost use Rattle.machine.specs.Calls.Close.{orphaned};
 ghost use Rattle.endpoint_state.specs.Changes.{orphan_each};
 
 use crate::endpoints::Endpoints;

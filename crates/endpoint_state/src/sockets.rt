@@ -7,11 +7,14 @@ ghost use Rattle.indexmap.specs.IndexMap.{insert_entry};
 ghost use Rattle.case_forms.specs.declared.calls.State.TheVariants as states;
 ghost use Rattle.machine.specs.declared.endpoint.Thing.TheVariants.{Listens, Ends};
 ghost use Rattle.machine.specs.Bounds.{HasRoom};
-ghost use Rattle.machine.specs.CallEffects.{accepted_from, after_abort, after_accept, after_call, after_close, after_gone, after_recv, after_send, after_shut, change, dead, with_socket, without_listener};
+ghost use Rattle.machine.specs.Bodies.{dead, with_socket, is_listening, queue_of, thing_of};
+ghost use Rattle.machine.specs.Calls.Send.{after_send};
+ghost use Rattle.machine.specs.Calls.Receive.{after_recv};
+ghost use Rattle.machine.specs.Calls.Close.{after_abort, after_close, after_gone, after_shut, without_listener};
+ghost use Rattle.machine.specs.Calls.Accept.{accepted_from, after_accept};
+ghost use Rattle.machine.specs.Calls.{after_call, change, call_allows};
 ghost use Rattle.machine.specs.Endpoints.{new_endpoint};
 ghost use Rattle.machine.specs.Forgetting.{forget_body};
-ghost use Rattle.machine.specs.Lookups.{is_listening, queue_of, thing_of};
-ghost use Rattle.machine.specs.CallRules.{call_allows};
 ghost use Rattle.endpoint_state.specs.Waiting.{AreWaiting};
 
 use crate::body::Body;

@@ -3,7 +3,7 @@ use Rattle.std.proofs.Common.{◌≡◌, refl, ℕ, true, false, None, Some}
 use Rattle.seqno.specs.declared.word.Word.{Word}
 use Rattle.seqno.specs.Numbers.{number_of}
 use Rattle.seqno.specs.Near.{near_position}
-use Rattle.machine.specs.TakingRules.{reads_as}
+use Rattle.machine.specs.Arrives.Otherwise.Sequence.{reads_as}
 
 abbrev pub word : ℕ → Word
 word n = record { 0 = n }

@@ -1,10 +1,11 @@
 -- What the sums and the counts of code need. Counts that grow by one in a step are at most the steps done, positions stay below a limit, and nothing is kept that may be let go.
-use Rattle.std.specs.Prelude.{◌≡◌, ◌≤◌, ◌<◌, ◌+◌, ◌^◌, ◌*◌, ℕ, true, false, length}
+use Rattle.std.specs.Prelude.{◌≡◌, ◌≤◌, ◌<◌, ℕ, ◌+◌, ◌*◌, ◌^◌, true, false, length}
 use Rattle.std.specs.List.{All}
+use Rattle.case_forms.specs.States.{is_closed, is_syn_sent}
 use Rattle.streams.specs.Forgetting.{below, forgotten, made_below}
 use Rattle.streams.specs.Received as received
-use Rattle.machine.specs.Endpoints.{Endpoint, Emission, Body, next}
-use Rattle.machine.specs.Lookups.{is_closed, is_syn_sent}
+use Rattle.machine.specs.Endpoints.{Endpoint, Emission, next}
+use Rattle.machine.specs.Bodies.{Body}
 
 -- the greatest position that a step may name
 abbrev pub greatest_position : ℕ

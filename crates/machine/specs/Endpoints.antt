@@ -1,10 +1,20 @@
--- Endpoints at their creation, and what is read of one: its positions, its windows, what it has in flight.
+-- Endpoints at their creation, and what is read of one: its positions, its windows, what it has in flight (RFC 9293, 3.3.1).
+pub use Rattle.machine.specs.declared.endpoint.Name.{Name}
+pub use Rattle.machine.specs.declared.endpoint.Stream.{Stream}
+pub use Rattle.machine.specs.declared.endpoint.Window.{Window}
+pub use Rattle.machine.specs.declared.endpoint.Fault.{Fault}
+pub use Rattle.machine.specs.declared.endpoint.Fault.TheVariants.{Refused, Reset, Timeout}
+pub use Rattle.machine.specs.declared.endpoint.Endpoint.{Endpoint}
+pub use Rattle.machine.specs.declared.endpoint.Emission.{Emission}
+pub use Rattle.machine.specs.declared.endpoint.Listener.{Listener}
+pub use Rattle.machine.specs.declared.endpoint.Thing.{Thing}
+pub use Rattle.machine.specs.declared.endpoint.Thing.TheVariants.{Listens, Ends}
+pub use Rattle.machine.specs.declared.endpoint.Socket.{Socket}
 use Rattle.std.specs.Prelude.{ℕ, ◌+◌, ◌-◌, nat_le, Bool, true, false, ◌&&◌, [], length, Option, None}
 use Rattle.case_forms.specs.declared.calls.State.{State}
 use Rattle.streams.specs.Received as received
 use Rattle.window_rules.specs.Windows as windows
 use Rattle.timer_rules.specs.Timers as timers
-pub use Rattle.machine.specs.Records.{Name, same_name, Stream, Window, Fault, Refused, Reset, Timeout, Endpoint, Emission, Listener, Thing, Listens, Ends, Socket, Body, empty}
 
 -- an endpoint at its creation, for the listener that made it (RFC 9293, 3.10.1)
 abbrev pub new_endpoint : (lport rport : ℕ) → Option ℕ → State → Endpoint

@@ -1,8 +1,9 @@
 -- What a host may let go: delivered bytes, and bytes and makings below the oldest position that is not acknowledged. Something fixed stands in their places.
 use Rattle.std.specs.Prelude.{map}
-use Rattle.streams.specs.Forgetting.{forgotten, below, made_below}
+use Rattle.streams.specs.Forgetting.{below, forgotten, made_below}
 use Rattle.hosts.specs.Hosts.{HostState, World}
-use Rattle.machine.specs.Endpoints.{Endpoint, Body}
+use Rattle.machine.specs.Endpoints.{Endpoint}
+use Rattle.machine.specs.Bodies.{Body}
 use Rattle.machine.specs.Machine.{tcp_shape}
 
 abbrev pub forget_endpoint : Endpoint → Endpoint

@@ -1,29 +1,31 @@
 -- The machine of two TCP hosts: what a host does, and all of it as a kernel of two hosts.
-use Rattle.std.specs.Prelude.{ℕ, Bool, true, not, List, [], ◌∷◌, Option, None, Some, slice_get}
-use Rattle.std.specs.Option.{option_map_or, option_map}
-use Rattle.case_forms.specs.declared.trace.Header.{Header}
-use Rattle.case_forms.specs.declared.trace.Wire.{Wire}
-use Rattle.case_forms.specs.declared.calls.Host.{Host}
-use Rattle.case_forms.specs.declared.calls.Call.{Call}
-use Rattle.case_forms.specs.declared.calls.Call.TheVariants as calls
+use Rattle.std.specs.Prelude.{ℕ, Bool, true, not, List, [], ◌∷◌, slice_get, Option, None, Some}
+use Rattle.std.specs.Option.{option_map, option_map_or}
 use Rattle.case_forms.specs.declared.calls.Answer.{Answer}
 use Rattle.case_forms.specs.declared.calls.Answer.TheVariants as answers
+use Rattle.case_forms.specs.declared.calls.Call.{Call}
+use Rattle.case_forms.specs.declared.calls.Call.TheVariants as calls
+use Rattle.case_forms.specs.declared.calls.Host.{Host}
+use Rattle.case_forms.specs.declared.steps.SegmentPlan.{SegmentPlan}
+use Rattle.case_forms.specs.declared.steps.TakeChoice.{TakeChoice}
+use Rattle.case_forms.specs.declared.timer.Expiry.{Expiry}
+use Rattle.case_forms.specs.declared.timer.Growth.{Growth}
+use Rattle.case_forms.specs.declared.timer.Recovery.{Recovery}
+use Rattle.case_forms.specs.declared.trace.Header.{Header}
+use Rattle.case_forms.specs.declared.trace.Wire.{Wire}
 use Rattle.verdict.specs.declared.rule.Rule.{Rule}
 use Rattle.verdict.specs.declared.rule.Rule.TheVariants as rules
-use Rattle.hosts.specs.Hosts.{Shape, Kernel, Aim, ThatHost, ThatSocket}
-use Rattle.machine.specs.Endpoints.{Endpoint, Emission, Body, empty}
-use Rattle.machine.specs.Lookups.{place_of, endpoint_of, at_ports, given}
+use Rattle.hosts.specs.Hosts.{Aim, Kernel, Shape, ThatHost, ThatSocket}
+use Rattle.machine.specs.Endpoints.{Endpoint, Emission}
+use Rattle.machine.specs.Bodies.{Body, empty, place_of, endpoint_of, at_ports, given}
 use Rattle.machine.specs.Same.{same_answer}
-use Rattle.machine.specs.CallRules.{call_allows, is_bad_socket}
-use Rattle.machine.specs.CallEffects.{after_call}
-use Rattle.case_forms.specs.declared.steps.SegmentPlan.{SegmentPlan}
-use Rattle.machine.specs.Making.{making_rules}
-use Rattle.machine.specs.MakingEffects.{emission_of, after_making}
-use Rattle.machine.specs.Wires.{out_rules, sent, in_rules}
-use Rattle.case_forms.specs.declared.steps.TakeChoice.{TakeChoice}
-use Rattle.machine.specs.Meeting.{taker, taker_rules, after_taking}
-use Rattle.machine.specs.Resets.{reset_rules, reset_of}
-use Rattle.machine.specs.Timing.{Expiry, Growth, Recovery, expiry_rules, after_expiry, recovery_rules, after_recovery}
+use Rattle.machine.specs.Calls.{is_bad_socket, call_allows, after_call}
+use Rattle.machine.specs.Makes.{making_rules, emission_of, after_making}
+use Rattle.machine.specs.Arrives.{taker, taker_rules, after_taking}
+use Rattle.machine.specs.Timeouts.{expiry_rules, after_expiry}
+use Rattle.machine.specs.Recovery.{recovery_rules, after_recovery}
+use Rattle.machine.specs.Reset.{reset_rules, reset_of}
+use Rattle.machine.specs.Wire.{out_rules, sent, in_rules}
 
 -- what a host does
 pub data Act : Type 0 where

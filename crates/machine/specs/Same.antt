@@ -1,9 +1,18 @@
--- When two bytes lists, states or answers are the same.
+-- When two names, numbers (RFC 9293, 3.4), lists of bytes, states or answers are the same.
 use Rattle.std.specs.Prelude.{ℕ, ◌==◌, Bool, true, false, ◌&&◌, List, [], ◌∷◌}
-use Rattle.case_forms.specs.declared.calls.State.{State}
-use Rattle.case_forms.specs.declared.calls.State.TheVariants as states
+use Rattle.seqno.specs.declared.word.Word.{Word}
 use Rattle.case_forms.specs.declared.calls.Answer.{Answer}
 use Rattle.case_forms.specs.declared.calls.Answer.TheVariants as answers
+use Rattle.case_forms.specs.declared.calls.State.{State}
+use Rattle.case_forms.specs.declared.calls.State.TheVariants as states
+use Rattle.hosts.specs.Tables.{host_is}
+use Rattle.machine.specs.Endpoints.{Name}
+
+abbrev pub same_name : Name → Name → Bool
+same_name a b = host_is a.host b.host && a.number == b.number
+
+abbrev pub same_word : Word → Word → Bool
+same_word a b = a.0 == b.0
 
 abbrev pub same_bytes : List ℕ → List ℕ → Bool
 same_bytes [] [] = true

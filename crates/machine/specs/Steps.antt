@@ -1,28 +1,28 @@
 -- Which step of the machine a line of a trace, or a label of a witness, asks for; and the first step of a list that breaks a rule.
 use Rattle.std.specs.Prelude.{ℕ, suc, List, [], ◌∷◌, Option, None, Some}
 use Rattle.std.specs.Option.{option_map, option_map_or}
-use Rattle.case_forms.specs.declared.trace.Header.{Header}
-use Rattle.case_forms.specs.declared.trace.Line as lines
-use Rattle.case_forms.specs.declared.timer.Timer.{Timer}
-use Rattle.case_forms.specs.declared.timer.Timer.TheVariants.{Rto, Persist, Msl2, Giveup}
-use Rattle.case_forms.specs.declared.timer.Growth.{Growth}
+use Rattle.case_forms.specs.Naming.{with_line}
+use Rattle.case_forms.specs.TakenLines.{taken_of}
+use Rattle.case_forms.specs.Traces.{line_at}
 use Rattle.case_forms.specs.declared.named_line.NamedLine.{NamedLine}
+use Rattle.case_forms.specs.declared.steps.Label.{Label}
+use Rattle.case_forms.specs.declared.steps.Label.TheVariants as labels
+use Rattle.case_forms.specs.declared.steps.Step as witness
 use Rattle.case_forms.specs.declared.taken_line.Expired.{Expired}
 use Rattle.case_forms.specs.declared.taken_line.Expired.TheVariants as expired
 use Rattle.case_forms.specs.declared.taken_line.TakenLine.{TakenLine}
 use Rattle.case_forms.specs.declared.taken_line.TakenLine.TheVariants as taken
-use Rattle.case_forms.specs.declared.steps.Label.{Label}
-use Rattle.case_forms.specs.declared.steps.Label.TheVariants as labels
-use Rattle.case_forms.specs.declared.steps.Step as witness
-use Rattle.case_forms.specs.Traces.{line_at}
-use Rattle.case_forms.specs.TakenLines.{taken_of}
-use Rattle.case_forms.specs.Naming.{with_line}
-use Rattle.verdict.specs.declared.rule.Rule.{Rule}
+use Rattle.case_forms.specs.declared.timer.Growth.{Growth}
+use Rattle.case_forms.specs.declared.timer.Timer.{Timer}
+use Rattle.case_forms.specs.declared.timer.Timer.TheVariants.{Giveup, Msl2, Persist, Rto}
+use Rattle.case_forms.specs.declared.trace.Header.{Header}
+use Rattle.case_forms.specs.declared.trace.Line as lines
 use Rattle.verdict.specs.Rules.{first_broken}
-use Rattle.hosts.specs.Hosts.{World, Step, Begin, Finish, Effect, At, Does, Expires, Makes, Sends, Gets, Takes, Drops, Answers}
+use Rattle.verdict.specs.declared.rule.Rule.{Rule}
 use Rattle.hosts.specs.HostRules.{step_rules}
 use Rattle.hosts.specs.HostSteps.{after, start}
-use Rattle.machine.specs.Machine.{tcp, tcp_shape}
+use Rattle.hosts.specs.Hosts.{Answers, At, Begin, Does, Drops, Effect, Expires, Finish, Gets, Makes, Sends, Step, Takes, World}
+use Rattle.machine.specs.Machine.{tcp_shape, tcp}
 
 -- the timer that expired
 abbrev pub timer_of : Expired → Timer

@@ -5,12 +5,10 @@
 //! thread and no other host. In code there are only the values of which they speak: endpoints, segments that were made,
 //! listeners with their queues, sockets. What is done with them is in the crates above.
 //!
-//! - `specs/Endpoints`: what a host has
-//! - `specs/Lookups`: how endpoints, listeners and sockets are found
-//! - `specs/CallRules`, `specs/CallEffects`: socket calls
-//! - `specs/Making`: making segments; `specs/Wires`: segments that go out and come in
-//! - `specs/TakingRules`, `specs/TakingEffects`: taking segments; `specs/Resets`: answering them by a reset
-//! - `specs/Timing`: timers that expire, and fast recovery
+//! - `specs/Endpoints`: endpoints; `specs/Bodies`: what a host has, and how it is found; `specs/Same`: comparisons
+//! - `specs/Calls`, `specs/Makes`, `specs/Arrives`, each with its folder: socket calls, making segments, taking segments
+//! - `specs/Timeouts`, `specs/Recovery`, `specs/Reset`, `specs/Wire`: expiries, fast recovery, resets that answer, the wire;
+//!   all these have the names of the modules of `endpoint`, whose code does what they say
 //! - `specs/Machine`: all of it as one machine of two hosts; `specs/Steps`: which step a line of a witness asks for
 //! - `specs/Forgetting`: what may be let go; `specs/Bounds`: what holds of all that is kept after so many steps
 #![tactic(auto)]

@@ -17,14 +17,16 @@ use Rattle.hosts.specs.Tables.{Both, pick, other, on, waiting}
 use Rattle.hosts.specs.Hosts.{HostState, Turn, Idle, Called, Answered, Deed, Does, Expires, Makes, Sends, Gets, Takes, Drops, Answers, Begin, Finish, Effect, At, turn_of}
 use Rattle.hosts.specs.HostRules.{deed_rules, call_rules, effect_rules, fresh_rules, aim_of, just}
 use Rattle.machine.specs.declared.endpoint.Emission.{Emission}
-use Rattle.machine.specs.Endpoints.{Body}
-use Rattle.machine.specs.Lookups.{is_syn_sent, endpoint_of}
+use Rattle.machine.specs.Bodies.{Body, endpoint_of}
+use Rattle.case_forms.specs.States.{is_syn_sent}
 use Rattle.case_forms.specs.declared.steps.TakeChoice.{TakeChoice}
-use Rattle.machine.specs.Meeting.{Taker, Nobody, AtListener, AtEndpoint, taker, taker_rules}
-use Rattle.machine.specs.TakingRules.{syn_sent_rules, connected_rules}
-use Rattle.machine.specs.CallRules.{is_bad_socket}
-use Rattle.machine.specs.Making.{making_rules}
-use Rattle.machine.specs.Timing.{expiry_rules, recovery_rules}
+use Rattle.machine.specs.Arrives.{Taker, Nobody, AtListener, AtEndpoint, taker, taker_rules}
+use Rattle.machine.specs.Arrives.Otherwise.{connected_rules}
+use Rattle.machine.specs.Arrives.SynSent.{syn_sent_rules}
+use Rattle.machine.specs.Calls.{is_bad_socket}
+use Rattle.machine.specs.Makes.{making_rules}
+use Rattle.machine.specs.Timeouts.{expiry_rules}
+use Rattle.machine.specs.Recovery.{recovery_rules}
 use Rattle.machine.specs.Machine.{tcp, tcp_shape, aim, gives, act_rules, Calls}
 use Rattle.machine_laws.specs.Ascending.{rule_number, ascend, IsLeastBroken, RulesAscend}
 use Rattle.machine_laws.proofs.Rules.{both_true, at_most_to}

@@ -28,10 +28,15 @@ use Rattle.machine.specs.declared.endpoint.Thing.{Thing}
 use Rattle.machine.specs.declared.endpoint.Socket.{Socket}
 use Rattle.machine.specs.declared.endpoint.Fault.TheVariants.{Refused, Reset, Timeout}
 use Rattle.machine.specs.declared.endpoint.Thing.TheVariants.{Listens, Ends}
-use Rattle.machine.specs.Endpoints.{Body, new_endpoint}
-use Rattle.machine.specs.Lookups.{is_syn_sent, given, if_live, thing_of, queue_of}
-use Rattle.machine.specs.CallRules.{tells, is_bad_socket, listener_allows, endpoint_allows, thing_allows, socket_allows, call_allows, send_allows, open_send_allows}
-use Rattle.machine.specs.CallEffects.{dead, shut_down, ended_state, after_shut, after_close, after_abort, orphaned, without_listener, thing_gone, accepted_from, after_accept, change_thing, after_send, after_recv, after_call}
+use Rattle.machine.specs.Endpoints.{new_endpoint}
+use Rattle.machine.specs.Bodies.{Body, given, if_live, thing_of, queue_of, dead}
+use Rattle.case_forms.specs.States.{is_syn_sent}
+use Rattle.machine.specs.Calls.Await.{tells}
+use Rattle.machine.specs.Calls.Send.{send_allows, open_send_allows, after_send}
+use Rattle.machine.specs.Calls.Accept.{listener_allows, accepted_from, after_accept}
+use Rattle.machine.specs.Calls.{is_bad_socket, endpoint_allows, thing_allows, socket_allows, call_allows, change_thing, after_call}
+use Rattle.machine.specs.Calls.Receive.{after_recv}
+use Rattle.machine.specs.Calls.Close.{shut_down, ended_state, after_shut, after_close, after_abort, orphaned, without_listener, thing_gone}
 use Rattle.machine_laws.specs.Runs.{endpoint_place, owner, is_socket_of, call_accepted, call_ended}
 use Rattle.machine_laws.proofs.Rules.{map_or_cases, both_true, number_same, number_self, is_not}
 use Rattle.machine_laws.proofs.Later.{Hosts, name, all_cells, Later, GoodStream, GoodEnd}

@@ -10,7 +10,7 @@ use Rattle.streams.proofs.ReadLemmas.{in_order, ended_has_fin}
 use Rattle.machine.specs.declared.endpoint.Name.{Name}
 use Rattle.machine.specs.declared.endpoint.Stream.{Stream}
 use Rattle.machine.specs.declared.endpoint.Endpoint.{Endpoint}
-use Rattle.machine.specs.CallRules.{is_read_out}
+use Rattle.machine.specs.Calls.Receive.{is_read_out}
 use Rattle.machine_laws.specs.Consequences.{find, HasStream}
 use Rattle.machine_laws.proofs.Rules.{both_true, zero_from}
 use Rattle.machine_laws.proofs.Later.{Hosts, Later, AllLater, GoodStream, Good}

@@ -14,16 +14,19 @@ use Rattle.streams.specs.Sent.{piece}
 use Rattle.machine.specs.declared.endpoint.Name.{Name}
 use Rattle.machine.specs.declared.endpoint.Endpoint.{Endpoint}
 use Rattle.machine.specs.declared.endpoint.Emission.{Emission}
-use Rattle.machine.specs.Endpoints.{Body}
-use Rattle.machine.specs.Lookups.{is_closed, is_syn_sent, listener_on, place_of, endpoint_at}
+use Rattle.machine.specs.Bodies.{Body, listener_on, place_of, endpoint_at}
+use Rattle.case_forms.specs.States.{is_closed, is_syn_sent}
 use Rattle.case_forms.specs.declared.steps.SegmentPlan.{SegmentPlan}
-use Rattle.machine.specs.Making.{is_bad_payload, is_bad_place, making_rules}
-use Rattle.machine.specs.MakingEffects.{emission_of, after_making}
+use Rattle.machine.specs.Makes.Payload.{is_bad_payload, is_bad_place}
+use Rattle.machine.specs.Makes.{making_rules, emission_of, after_making}
 use Rattle.case_forms.specs.declared.steps.TakeChoice.{TakeChoice}
-use Rattle.machine.specs.TakingRules.{syn_sent_rules, connected_rules}
-use Rattle.machine.specs.Meeting.{Taker, Nobody, AtListener, AtEndpoint, listener_taker, endpoint_taker, taker, taker_rules, child, endpoint_taken, after_taking}
-use Rattle.machine.specs.Resets.{finds_nothing}
-use Rattle.machine.specs.Timing.{expiry_rules, after_expiry, recovery_rules, after_recovery}
+use Rattle.machine.specs.Arrives.Otherwise.{connected_rules}
+use Rattle.machine.specs.Arrives.SynSent.{syn_sent_rules}
+use Rattle.machine.specs.Arrives.Listen.{child}
+use Rattle.machine.specs.Arrives.{Taker, Nobody, AtListener, AtEndpoint, listener_taker, endpoint_taker, taker, taker_rules, endpoint_taken, after_taking}
+use Rattle.machine.specs.Reset.{finds_nothing}
+use Rattle.machine.specs.Timeouts.{expiry_rules, after_expiry}
+use Rattle.machine.specs.Recovery.{recovery_rules, after_recovery}
 use Rattle.machine.specs.Machine.{Act, Calls, Makes, Takes, Resets, Expires, Recovers, act_rules, act_after, made_at, act_makes}
 use Rattle.machine.specs.Forgetting.{forget_endpoint, forget_body}
 use Rattle.machine_laws.proofs.ForgetReads.{next-forget, piece-forget}

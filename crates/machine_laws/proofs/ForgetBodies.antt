@@ -7,8 +7,7 @@ use Rattle.verdict.specs.declared.rule.Rule.{Rule}
 use Rattle.verdict.specs.declared.rule.Rule.TheVariants as rules
 use Rattle.streams.specs.Lists.{modify}
 use Rattle.machine.specs.declared.endpoint.Endpoint.{Endpoint}
-use Rattle.machine.specs.Endpoints.{Body}
-use Rattle.machine.specs.Lookups.{has_ports, last_from, place_of, endpoint_of, with_endpoint, at_ports}
+use Rattle.machine.specs.Bodies.{Body, has_ports, last_from, place_of, endpoint_of, with_endpoint, at_ports}
 use Rattle.machine.specs.Machine.{rules_at}
 use Rattle.machine.specs.Forgetting.{forget_endpoint, forget_body}
 use Rattle.machine_laws.proofs.ForgetReads.{forget-forget}

@@ -12,10 +12,14 @@ use Rattle.case_forms.specs.declared.calls.State.TheVariants as states
 use Rattle.machine.specs.declared.endpoint.Endpoint.{Endpoint}
 use Rattle.machine.specs.declared.endpoint.Thing.{Thing}
 use Rattle.machine.specs.declared.endpoint.Thing.TheVariants.{Listens, Ends}
-use Rattle.machine.specs.Endpoints.{Body, new_endpoint}
-use Rattle.machine.specs.Lookups.{endpoint_of, is_closed, is_connected, queue_of, thing_of}
-use Rattle.machine.specs.CallRules.{shut_allows, endpoint_allows, thing_allows, socket_allows, gives_or_in_use, is_bad_socket, call_allows}
-use Rattle.machine.specs.CallEffects.{orphaned, thing_gone, after_gone, accepted_from, after_accept, change_thing, change, after_send, after_recv, after_shut, after_close, after_abort, after_call, dead}
+use Rattle.machine.specs.Endpoints.{new_endpoint}
+use Rattle.machine.specs.Bodies.{Body, endpoint_of, is_connected, queue_of, thing_of, dead}
+use Rattle.case_forms.specs.States.{is_closed}
+use Rattle.machine.specs.Calls.Close.{shut_allows, orphaned, thing_gone, after_gone, after_shut, after_close, after_abort}
+use Rattle.machine.specs.Calls.{endpoint_allows, thing_allows, socket_allows, gives_or_in_use, is_bad_socket, call_allows, change_thing, change, after_call}
+use Rattle.machine.specs.Calls.Send.{after_send}
+use Rattle.machine.specs.Calls.Receive.{after_recv}
+use Rattle.machine.specs.Calls.Accept.{accepted_from, after_accept}
 use Rattle.machine.specs.Forgetting.{forget_endpoint, forget_body}
 use Rattle.machine_laws.proofs.ForgetRules.{await-forget, recv-forget}
 use Rattle.machine_laws.proofs.ForgetEffects.{Forgets, abort-forgets, adopted-forgets, close-forgets, orphaned-forgets, recv-forgets, send-forgets, shut-forgets}

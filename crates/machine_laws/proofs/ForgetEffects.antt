@@ -8,12 +8,16 @@ use Rattle.streams.specs.Makings.{once}
 use Rattle.streams.proofs.Covers.{covered-append, covered-covered}
 use Rattle.streams.proofs.Fades.{below-mark, fade-fade}
 use Rattle.machine.specs.declared.endpoint.Endpoint.{Endpoint}
-use Rattle.machine.specs.CallEffects.{shut_down, after_shut, after_close, after_abort, orphaned, after_send, after_recv}
-use Rattle.machine.specs.Lookups.{is_syn_sent}
+use Rattle.machine.specs.Calls.Send.{after_send}
+use Rattle.machine.specs.Calls.Receive.{after_recv}
+use Rattle.machine.specs.Calls.Close.{shut_down, after_shut, after_close, after_abort, orphaned}
+use Rattle.case_forms.specs.States.{is_syn_sent}
 use Rattle.case_forms.specs.declared.steps.SegmentPlan.{SegmentPlan}
-use Rattle.machine.specs.Making.{making_length}
-use Rattle.machine.specs.MakingEffects.{endpoint_made, after_making}
-use Rattle.machine.specs.Timing.{Growth, after_expiry, after_recovery}
+use Rattle.machine.specs.Makes.Payload.{making_length}
+use Rattle.machine.specs.Makes.{endpoint_made, after_making}
+use Rattle.case_forms.specs.declared.timer.Growth.{Growth}
+use Rattle.machine.specs.Timeouts.{after_expiry}
+use Rattle.machine.specs.Recovery.{after_recovery}
 use Rattle.machine.specs.Forgetting.{forget_endpoint}
 use Rattle.machine_laws.proofs.ForgetReads.{next-forget, max_made-forget, forget-forget}
 

@@ -9,13 +9,18 @@ use Rattle.case_forms.specs.declared.calls.Answer.TheVariants as answers
 use Rattle.machine.specs.declared.endpoint.Endpoint.{Endpoint}
 use Rattle.machine.specs.declared.endpoint.Emission.{Emission}
 use Rattle.machine.specs.declared.endpoint.Name.{Name}
-use Rattle.machine.specs.Endpoints.{Body}
-use Rattle.machine.specs.CallRules.{await_allows, recv_allows}
+use Rattle.machine.specs.Bodies.{Body}
+use Rattle.machine.specs.Calls.Await.{await_allows}
+use Rattle.machine.specs.Calls.Receive.{recv_allows}
 use Rattle.case_forms.specs.declared.steps.SegmentPlan.{SegmentPlan}
-use Rattle.machine.specs.Making.{making_rules}
+use Rattle.machine.specs.Makes.{making_rules}
 use Rattle.case_forms.specs.declared.steps.TakeChoice.{TakeChoice}
-use Rattle.machine.specs.TakingRules.{is_acceptable_at, place_taken, syn_sent_rules, connected_rules}
-use Rattle.machine.specs.Timing.{Growth, expiry_rules, recovery_rules}
+use Rattle.machine.specs.Arrives.Otherwise.Sequence.{is_acceptable_at, place_taken}
+use Rattle.machine.specs.Arrives.Otherwise.{connected_rules}
+use Rattle.machine.specs.Arrives.SynSent.{syn_sent_rules}
+use Rattle.case_forms.specs.declared.timer.Growth.{Growth}
+use Rattle.machine.specs.Timeouts.{expiry_rules}
+use Rattle.machine.specs.Recovery.{recovery_rules}
 use Rattle.machine.specs.Forgetting.{forget_endpoint}
 use Rattle.machine_laws.proofs.ForgetReads.{next-forget, max_made-forget, end_of-forget, ended-forget, waiting-forget, again-forget}
 

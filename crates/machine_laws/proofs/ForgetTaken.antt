@@ -14,11 +14,16 @@ use Rattle.streams.proofs.Covers.{covered-covered, get-covered}
 use Rattle.streams.proofs.Fades.{fade-put_all, is_fin-fade, length-front-fade}
 use Rattle.machine.specs.declared.endpoint.Endpoint.{Endpoint}
 use Rattle.machine.specs.declared.endpoint.Emission.{Emission}
-use Rattle.machine.specs.Lookups.{is_syn_sent}
+use Rattle.case_forms.specs.States.{is_syn_sent}
 use Rattle.case_forms.specs.declared.steps.TakeChoice.{TakeChoice}
-use Rattle.machine.specs.TakingRules.{is_new_ack, acknowledges_syn}
-use Rattle.machine.specs.TakingEffects.{acknowledged, kept_start, kept_bytes, keeps_fin, receive_after, state_taken, timeout_taken, timers_taken, taken}
-use Rattle.machine.specs.Meeting.{timers_met, una_met, met_peer, reset_fault, was_reset, endpoint_taken}
+use Rattle.machine.specs.Arrives.Otherwise.Ack.{is_new_ack, acknowledges_syn, acknowledged}
+use Rattle.machine.specs.Arrives.Otherwise.Fin.{keeps_fin}
+use Rattle.machine.specs.Arrives.Otherwise.Text.{kept_start, kept_bytes, receive_after, state_taken}
+use Rattle.machine.specs.Arrives.Otherwise.Timers.{timeout_taken, timers_taken}
+use Rattle.machine.specs.Arrives.Otherwise.{taken}
+use Rattle.machine.specs.Arrives.Otherwise.Reset.{reset_fault, was_reset}
+use Rattle.machine.specs.Arrives.SynSent.{timers_met, una_met, met_peer}
+use Rattle.machine.specs.Arrives.{endpoint_taken}
 use Rattle.machine.specs.Forgetting.{forget_endpoint}
 use Rattle.machine_laws.proofs.ForgetReads.{next-forget, max_made-forget, end_of-forget}
 use Rattle.machine_laws.proofs.ForgetEffects.{Forgets, forgets}

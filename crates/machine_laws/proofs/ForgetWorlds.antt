@@ -16,7 +16,7 @@ use Rattle.hosts.specs.HostSteps.{act_made, deed_after, call_after, effect_after
 use Rattle.machine.specs.declared.endpoint.Emission.{Emission}
 use Rattle.machine.specs.Machine.{Act, aim, gives, tcp, tcp_shape}
 use Rattle.machine.specs.Machine as acts
-use Rattle.machine.specs.Wires as wires
+use Rattle.machine.specs.Wire as wires
 use Rattle.machine.specs.Forgetting.{forget_body, forget_host, forget}
 use Rattle.machine_laws.specs.ForgettingLaws.{IfMaking, MakesPermitted, SameTables, SameBesides}
 use Rattle.machine_laws.proofs.ForgetBodies.{body-forget}

@@ -14,7 +14,7 @@ use Rattle.hosts.specs.Hosts.{HostState}
 use Rattle.machine.specs.declared.endpoint.Name.{Name}
 use Rattle.machine.specs.declared.endpoint.Stream.{Stream}
 use Rattle.machine.specs.declared.endpoint.Endpoint.{Endpoint}
-use Rattle.machine.specs.Lookups.{is_syn_sent}
+use Rattle.case_forms.specs.States.{is_syn_sent}
 use Rattle.machine.specs.Machine.{tcp_shape}
 use Rattle.machine_laws.specs.Consequences.{find, HasStream}
 use Rattle.machine_laws.proofs.Tables.{InTables}

@@ -6,8 +6,8 @@ use Rattle.seqno.specs.Numbers.{number_of}
 use Rattle.machine.specs.declared.endpoint.Endpoint.{Endpoint}
 use Rattle.machine.specs.declared.endpoint.Emission.{Emission}
 use Rattle.machine.specs.Endpoints.{next}
-use Rattle.machine.specs.Lookups.{same_word}
-use Rattle.machine.specs.TakingRules.{is_bad_number, reads_as, place_taken}
+use Rattle.machine.specs.Same.{same_word}
+use Rattle.machine.specs.Arrives.Otherwise.Sequence.{is_bad_number, reads_as, place_taken}
 
 old_unread : (near : ℕ) (base : Option Word) (w : Word) (pos : ℕ) → pos + 2 ^ 31 < near → reads_as near base w pos ≡ false
 old_unread near None w pos old = refl

@@ -11,7 +11,7 @@ use Rattle.verdict.specs.Rules.{first_broken}
 use Rattle.hosts.specs.Tables.{on, host_is}
 use Rattle.hosts.specs.HostRules.{just}
 use Rattle.machine.specs.declared.endpoint.Name.{Name}
-use Rattle.machine.specs.Endpoints.{same_name}
+use Rattle.machine.specs.Same.{same_name}
 
 -- the thing is there, and the rules on it pass
 pub on_passes : {A : Type 0} (o : Option A) (r : Rule) (f : A → List (Rule × Bool)) → first_broken (on o (just r true) f) ≡ None → (x : A) × (o ≡ Some x) × (first_broken (f x) ≡ None)

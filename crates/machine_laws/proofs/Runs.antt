@@ -22,7 +22,9 @@ use Rattle.machine.specs.declared.endpoint.Name.{Name}
 use Rattle.machine.specs.declared.endpoint.Stream.{Stream}
 use Rattle.machine.specs.declared.endpoint.Endpoint.{Endpoint}
 use Rattle.machine.specs.declared.endpoint.Thing.TheVariants.{Ends}
-use Rattle.machine.specs.CallRules.{is_bad_socket, listener_allows, call_allows, recv_allows}
+use Rattle.machine.specs.Calls.Receive.{recv_allows}
+use Rattle.machine.specs.Calls.Accept.{listener_allows}
+use Rattle.machine.specs.Calls.{is_bad_socket, call_allows}
 use Rattle.machine.specs.Machine.{tcp, tcp_shape, aim}
 use Rattle.machine_laws.specs.Runs.{owner, is_socket_of, call_told, call_told_end, call_accepted, call_ended, of_turn, of_effect, told_from, told_end_from, accepted_from, ended_from}
 use Rattle.machine_laws.specs.Consequences.{find, HasStream}

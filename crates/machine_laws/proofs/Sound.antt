@@ -13,9 +13,9 @@ use Rattle.machine.specs.declared.endpoint.Endpoint.{Endpoint}
 use Rattle.machine.specs.declared.endpoint.Listener.{Listener}
 use Rattle.machine.specs.declared.endpoint.Socket.{Socket}
 use Rattle.machine.specs.declared.endpoint.Thing.TheVariants.{Listens, Ends}
-use Rattle.machine.specs.Endpoints.{Body}
-use Rattle.machine.specs.Lookups.{is_syn_sent, is_syn_received, given, queue_of, place_of, at_ports, with_endpoint}
-use Rattle.machine.specs.CallEffects.{dead, with_socket, accepted_from}
+use Rattle.machine.specs.Bodies.{Body, given, queue_of, place_of, at_ports, with_endpoint, dead, with_socket}
+use Rattle.case_forms.specs.States.{is_syn_sent, is_syn_received}
+use Rattle.machine.specs.Calls.Accept.{accepted_from}
 use Rattle.machine_laws.specs.Runs.{endpoint_place, owner}
 use Rattle.machine_laws.proofs.Rules.{map_or_cases, number_same, true_false}
 

@@ -27,16 +27,28 @@ use Rattle.machine.specs.declared.endpoint.Endpoint.{Endpoint}
 use Rattle.machine.specs.declared.endpoint.Emission.{Emission}
 use Rattle.machine.specs.declared.endpoint.Thing.{Thing}
 use Rattle.machine.specs.declared.endpoint.Thing.TheVariants.{Listens, Ends}
-use Rattle.machine.specs.Endpoints.{Body, new_endpoint}
-use Rattle.machine.specs.Lookups.{is_syn_sent, is_syn_received, given, thing_of, queue_of, with_endpoint}
-use Rattle.machine.specs.CallEffects.{shut_down, ended_state, after_shut, after_close, after_abort, orphaned, without_listener, dead, thing_gone, after_gone, accepted_from, after_accept, change_thing, change, after_send, after_recv, after_call}
+use Rattle.machine.specs.Endpoints.{new_endpoint}
+use Rattle.machine.specs.Bodies.{Body, given, thing_of, queue_of, with_endpoint, dead}
+use Rattle.case_forms.specs.States.{is_syn_sent, is_syn_received}
+use Rattle.machine.specs.Calls.Send.{after_send}
+use Rattle.machine.specs.Calls.Receive.{after_recv}
+use Rattle.machine.specs.Calls.Close.{shut_down, ended_state, after_shut, after_close, after_abort, orphaned, without_listener, thing_gone, after_gone}
+use Rattle.machine.specs.Calls.Accept.{accepted_from, after_accept}
+use Rattle.machine.specs.Calls.{change_thing, change, after_call}
 use Rattle.case_forms.specs.declared.steps.SegmentPlan.{SegmentPlan}
-use Rattle.machine.specs.MakingEffects.{endpoint_made, after_making}
+use Rattle.machine.specs.Makes.{endpoint_made, after_making}
 use Rattle.case_forms.specs.declared.steps.TakeChoice.{TakeChoice}
-use Rattle.machine.specs.TakingRules.{is_new_ack, acknowledges_syn}
-use Rattle.machine.specs.TakingEffects.{fin_acknowledged, acknowledged, finished, state_taken, taken}
-use Rattle.machine.specs.Meeting.{Taker, Nobody, AtListener, AtEndpoint, taker, child, met_peer, was_reset, endpoint_taken, after_taking}
-use Rattle.machine.specs.Timing.{Growth, after_expiry, after_recovery}
+use Rattle.machine.specs.Arrives.Otherwise.Ack.{is_new_ack, acknowledges_syn, fin_acknowledged, acknowledged}
+use Rattle.machine.specs.Arrives.Otherwise.Fin.{finished}
+use Rattle.machine.specs.Arrives.Otherwise.Text.{state_taken}
+use Rattle.machine.specs.Arrives.Otherwise.{taken}
+use Rattle.machine.specs.Arrives.Otherwise.Reset.{was_reset}
+use Rattle.machine.specs.Arrives.SynSent.{met_peer}
+use Rattle.machine.specs.Arrives.Listen.{child}
+use Rattle.machine.specs.Arrives.{Taker, Nobody, AtListener, AtEndpoint, taker, endpoint_taken, after_taking}
+use Rattle.case_forms.specs.declared.timer.Growth.{Growth}
+use Rattle.machine.specs.Timeouts.{after_expiry}
+use Rattle.machine.specs.Recovery.{after_recovery}
 use Rattle.machine.specs.Machine.{Calls, tcp, tcp_shape, aim, gives}
 use Rattle.machine_laws.specs.Runs.{owner}
 use Rattle.machine_laws.proofs.Rules.{map_or_cases, on_cases, both_true, neither, not_true, true_false}

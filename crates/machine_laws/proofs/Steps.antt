@@ -22,15 +22,13 @@ use Rattle.hosts.specs.HostSteps.{deed_after, call_after, effect_after, after}
 use Rattle.machine.specs.declared.endpoint.Name.{Name}
 use Rattle.machine.specs.declared.endpoint.Emission.{Emission}
 use Rattle.machine.specs.declared.endpoint.Thing.{Thing}
-use Rattle.machine.specs.Endpoints.{Body}
-use Rattle.machine.specs.Lookups.{given, thing_of}
-use Rattle.machine.specs.CallRules.{is_bad_socket, thing_allows, socket_allows, call_allows}
-use Rattle.machine.specs.CallEffects.{after_call}
+use Rattle.machine.specs.Bodies.{Body, given, thing_of}
+use Rattle.machine.specs.Calls.{is_bad_socket, thing_allows, socket_allows, call_allows, after_call}
 use Rattle.case_forms.specs.declared.steps.SegmentPlan.{SegmentPlan}
-use Rattle.machine.specs.Wires.{sent}
+use Rattle.machine.specs.Wire.{sent}
 use Rattle.case_forms.specs.declared.steps.TakeChoice.{TakeChoice}
-use Rattle.machine.specs.Meeting.{taker, taker_rules}
-use Rattle.machine.specs.Resets.{reset_of}
+use Rattle.machine.specs.Arrives.{taker, taker_rules}
+use Rattle.machine.specs.Reset.{reset_of}
 use Rattle.machine.specs.Machine.{Calls, tcp, tcp_shape, aim, gives}
 use Rattle.machine_laws.specs.Runs.{of_effect, of_turn, call_accepted, call_ended}
 use Rattle.machine_laws.proofs.Rules.{on_passes, option_cases, not_false}

@@ -22,12 +22,19 @@ use Rattle.machine.specs.declared.endpoint.Name.{Name}
 use Rattle.machine.specs.declared.endpoint.Stream.{Stream}
 use Rattle.machine.specs.declared.endpoint.Endpoint.{Endpoint}
 use Rattle.machine.specs.declared.endpoint.Emission.{Emission}
-use Rattle.machine.specs.Endpoints.{Body, flag_count, same_name, max_made}
-use Rattle.machine.specs.Lookups.{is_closed, is_syn_sent, place_of, listener_on}
+use Rattle.machine.specs.Endpoints.{flag_count, max_made}
+use Rattle.machine.specs.Bodies.{Body, place_of, listener_on}
+use Rattle.machine.specs.Same.{same_name}
+use Rattle.case_forms.specs.States.{is_closed, is_syn_sent}
 use Rattle.case_forms.specs.declared.steps.TakeChoice.{TakeChoice}
-use Rattle.machine.specs.TakingRules.{syn_sent_rules, connected_rules, acknowledges_syn}
-use Rattle.machine.specs.TakingEffects.{kept_bytes, keeps_fin, receive_after, fin_acknowledged, acknowledged, finished, taken}
-use Rattle.machine.specs.Meeting.{Taker, Nobody, AtListener, AtEndpoint, listener_taker, endpoint_taker, taker, taker_rules, child, met_peer, was_reset, endpoint_taken, after_taking}
+use Rattle.machine.specs.Arrives.Otherwise.Ack.{acknowledges_syn, fin_acknowledged, acknowledged}
+use Rattle.machine.specs.Arrives.Otherwise.{connected_rules, taken}
+use Rattle.machine.specs.Arrives.SynSent.{syn_sent_rules, met_peer}
+use Rattle.machine.specs.Arrives.Otherwise.Fin.{keeps_fin, finished}
+use Rattle.machine.specs.Arrives.Otherwise.Text.{kept_bytes, receive_after}
+use Rattle.machine.specs.Arrives.Otherwise.Reset.{was_reset}
+use Rattle.machine.specs.Arrives.Listen.{child}
+use Rattle.machine.specs.Arrives.{Taker, Nobody, AtListener, AtEndpoint, listener_taker, endpoint_taker, taker, taker_rules, endpoint_taken, after_taking}
 use Rattle.machine_laws.specs.Consequences.{HasStream}
 use Rattle.machine_laws.proofs.Rules.{not_false, both_true, neither, and_false, is_not, some_name, any_name, at_most_to}
 use Rattle.machine_laws.proofs.Later.{Hosts, name, all_cells, emission_later, GoodEmission, GoodStream, GoodEnd}

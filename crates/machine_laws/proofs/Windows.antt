@@ -31,15 +31,27 @@ use Rattle.machine.specs.declared.endpoint.Endpoint.{Endpoint}
 use Rattle.machine.specs.declared.endpoint.Emission.{Emission}
 use Rattle.machine.specs.declared.endpoint.Thing.{Thing}
 use Rattle.machine.specs.declared.endpoint.Thing.TheVariants.{Listens, Ends}
-use Rattle.machine.specs.Endpoints.{Body, new_endpoint, max_made, flight}
-use Rattle.machine.specs.Lookups.{is_syn_sent, place_of, endpoint_at, endpoint_of, at_ports, with_endpoint, thing_of, queue_of}
-use Rattle.machine.specs.CallEffects.{shut_down, after_shut, after_close, after_abort, orphaned, thing_gone, dead, accepted_from, after_accept, change_thing, after_send, after_recv, after_call}
-use Rattle.machine.specs.MakingEffects.{endpoint_made, after_making}
+use Rattle.machine.specs.Endpoints.{new_endpoint, max_made, flight}
+use Rattle.machine.specs.Bodies.{Body, place_of, endpoint_at, endpoint_of, at_ports, with_endpoint, thing_of, queue_of, dead}
+use Rattle.case_forms.specs.States.{is_syn_sent}
+use Rattle.machine.specs.Calls.Send.{after_send}
+use Rattle.machine.specs.Calls.Receive.{after_recv}
+use Rattle.machine.specs.Calls.Close.{shut_down, after_shut, after_close, after_abort, orphaned, thing_gone}
+use Rattle.machine.specs.Calls.Accept.{accepted_from, after_accept}
+use Rattle.machine.specs.Calls.{change_thing, after_call}
+use Rattle.machine.specs.Makes.{endpoint_made, after_making}
 use Rattle.case_forms.specs.declared.steps.TakeChoice.{TakeChoice}
-use Rattle.machine.specs.TakingRules.{syn_sent_rules, connected_rules, listener_rules, greatest_at_syn, greatest_window}
-use Rattle.machine.specs.TakingEffects.{taken as segment_taken}
-use Rattle.machine.specs.Meeting.{Taker, Nobody, AtListener, AtEndpoint, taker, taker_rules, child, met_peer, was_reset, endpoint_taken, after_taking}
-use Rattle.machine.specs.Timing.{Expiry, Growth, Recovery, greatest_values, expiry_rules, after_expiry, recovery_rules, after_recovery}
+use Rattle.machine.specs.Arrives.Otherwise.Congestion.{greatest_window}
+use Rattle.machine.specs.Arrives.Otherwise.{connected_rules, taken as segment_taken}
+use Rattle.machine.specs.Arrives.SynSent.{syn_sent_rules, greatest_at_syn, met_peer}
+use Rattle.machine.specs.Arrives.Listen.{listener_rules, child}
+use Rattle.machine.specs.Arrives.Otherwise.Reset.{was_reset}
+use Rattle.machine.specs.Arrives.{Taker, Nobody, AtListener, AtEndpoint, taker, taker_rules, endpoint_taken, after_taking}
+use Rattle.case_forms.specs.declared.timer.Expiry.{Expiry}
+use Rattle.case_forms.specs.declared.timer.Growth.{Growth}
+use Rattle.case_forms.specs.declared.timer.Recovery.{Recovery}
+use Rattle.machine.specs.Timeouts.{greatest_values, expiry_rules, after_expiry}
+use Rattle.machine.specs.Recovery.{recovery_rules, after_recovery}
 use Rattle.machine.specs.Machine.{Calls, rules_at, tcp, tcp_shape, aim}
 use Rattle.machine_laws.specs.Consequences.{find}
 use Rattle.machine_laws.specs.Bounds.{greatest_taking, TakesThere, TimesOut, Recovers, Leaves, WindowsFollow}

@@ -13,12 +13,17 @@ use Rattle.machine.specs.declared.endpoint.Name.{Name}
 use Rattle.machine.specs.declared.endpoint.Endpoint.{Endpoint}
 use Rattle.machine.specs.declared.endpoint.Emission.{Emission}
 use Rattle.machine.specs.Endpoints.{max_made, flight}
-use Rattle.machine.specs.Lookups.{is_syn_sent, place_of, endpoint_of}
+use Rattle.case_forms.specs.States.{is_syn_sent}
+use Rattle.machine.specs.Bodies.{place_of, endpoint_of}
 use Rattle.case_forms.specs.declared.steps.SegmentPlan.{SegmentPlan}
 use Rattle.case_forms.specs.declared.steps.TakeChoice.{TakeChoice}
-use Rattle.machine.specs.TakingRules.{greatest_at_syn, greatest_window}
-use Rattle.machine.specs.Meeting.{taker, AtEndpoint}
-use Rattle.machine.specs.Timing.{Expiry, Growth, Recovery, greatest_values}
+use Rattle.machine.specs.Arrives.Otherwise.Congestion.{greatest_window}
+use Rattle.machine.specs.Arrives.SynSent.{greatest_at_syn}
+use Rattle.machine.specs.Arrives.{taker, AtEndpoint}
+use Rattle.case_forms.specs.declared.timer.Expiry.{Expiry}
+use Rattle.case_forms.specs.declared.timer.Growth.{Growth}
+use Rattle.case_forms.specs.declared.timer.Recovery.{Recovery}
+use Rattle.machine.specs.Timeouts.{greatest_values}
 use Rattle.machine.specs.Machine as acts
 use Rattle.machine.specs.Machine.{act_makes, tcp, tcp_shape}
 use Rattle.machine_laws.specs.Consequences.{find}

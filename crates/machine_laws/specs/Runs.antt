@@ -13,7 +13,7 @@ use Rattle.hosts.specs.HostSteps.{after, after_all, start}
 use Rattle.machine.specs.declared.endpoint.Name.{Name}
 use Rattle.machine.specs.declared.endpoint.Thing.{Thing}
 use Rattle.machine.specs.declared.endpoint.Thing.TheVariants.{Listens, Ends}
-use Rattle.machine.specs.Endpoints.{Body}
+use Rattle.machine.specs.Bodies.{Body}
 use Rattle.machine.specs.Machine.{tcp, tcp_shape}
 
 -- the world at the end of a run

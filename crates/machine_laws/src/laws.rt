@@ -9,7 +9,7 @@ ghost use Rattle.hosts.specs.HostSteps.{Lawful, start};
 ghost use Rattle.machine.specs.declared.endpoint.Emission.{Emission};
 ghost use Rattle.machine.specs.declared.endpoint.Endpoint.{Endpoint};
 ghost use Rattle.machine.specs.Endpoints.{next};
-ghost use Rattle.machine.specs.TakingRules.{is_bad_number};
+ghost use Rattle.machine.specs.Arrives.Otherwise.Sequence.{is_bad_number};
 ghost use Rattle.case_forms.specs.declared.steps.SegmentPlan.{SegmentPlan};
 ghost use Rattle.machine.specs.Machine.{tcp, tcp_shape};
 ghost use Rattle.machine_laws.specs.Runs.{world_at_end};

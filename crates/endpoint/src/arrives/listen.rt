@@ -1,7 +1,6 @@
 //! A segment arrives in LISTEN (RFC 9293, 3.10.7.2).
 
-ghost use Rattle.machine.specs.Meeting.{child};
-ghost use Rattle.machine.specs.TakingRules.{listener_rules};
+ghost use Rattle.machine.specs.Arrives.Listen.{child, listener_rules};
 ghost use Rattle.std.specs.Prelude.{◌≡◌};
 ghost use Rattle.std.specs.Result.{result_err};
 ghost use Rattle.verdict.specs.Rules.{first_broken};

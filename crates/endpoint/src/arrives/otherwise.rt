@@ -1,10 +1,9 @@
 //! A segment arrives in any other state (RFC 9293, 3.10.7.4).
 
+ghost use Rattle.machine.specs.Arrives.Otherwise.{taken, rules_with_queue};
 ghost use Rattle.machine.specs.Bounds.{HasRoom, IsSmallEmission};
 ghost use Rattle.machine.specs.Endpoints.{next};
 ghost use Rattle.machine.specs.Forgetting.{forget_endpoint};
-ghost use Rattle.machine.specs.TakingEffects.{taken};
-ghost use Rattle.machine.specs.TakingRules.{rules_with_queue};
 ghost use Rattle.std.specs.Prelude.{◌≡◌, ◌≤◌, OnOk, OnErr};
 ghost use Rattle.std.specs.Result.{result_err};
 ghost use Rattle.verdict.specs.Rules.{first_broken};

@@ -3,9 +3,10 @@
 ghost use Rattle.case_forms.specs.declared.calls.State.TheVariants as states;
 ghost use Rattle.streams.specs.Received as received;
 ghost use Rattle.machine.specs.Forgetting.{forget_endpoint};
-ghost use Rattle.machine.specs.Lookups.{same_word, is_syn_received};
-ghost use Rattle.machine.specs.Meeting.{met_peer, una_met, timers_met};
-ghost use Rattle.machine.specs.TakingRules.{syn_sent_rules, answers_syn, told_smss, greatest_at_syn, acknowledges_syn};
+ghost use Rattle.case_forms.specs.States.{is_syn_received};
+ghost use Rattle.machine.specs.Same.{same_word};
+ghost use Rattle.machine.specs.Arrives.SynSent.{met_peer, una_met, timers_met, syn_sent_rules, answers_syn, told_smss, greatest_at_syn};
+ghost use Rattle.machine.specs.Arrives.Otherwise.Ack.{acknowledges_syn};
 ghost use Rattle.seqno.specs.Numbers.{number_of};
 ghost use Rattle.std.specs.Option.{option_map_or};
 ghost use Rattle.std.specs.Prelude.{◌≡◌, false, ◌&&◌, if◌then◌else◌};

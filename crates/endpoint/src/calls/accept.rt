@@ -1,7 +1,7 @@
 //! What may be answered at a listener, and an endpoint that is accepted.
 
 ghost use Rattle.machine.specs.Bounds.{HasRoom};
-ghost use Rattle.machine.specs.CallRules.{listener_allows};
+ghost use Rattle.machine.specs.Calls.Accept.{listener_allows};
 ghost use Rattle.machine.specs.Forgetting.{forget_endpoint};
 ghost use Rattle.std.specs.Prelude.{◌≡◌, None};
 

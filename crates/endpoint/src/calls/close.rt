@@ -1,8 +1,7 @@
 //! CLOSE and ABORT: what they may be answered, and the endpoint then.
 
 ghost use Rattle.machine.specs.Bounds.{HasRoom};
-ghost use Rattle.machine.specs.CallEffects.{after_shut, after_close, shut_down, after_abort, orphaned, ended_state, resets_at_abort};
-ghost use Rattle.machine.specs.CallRules.{shut_allows};
+ghost use Rattle.machine.specs.Calls.Close.{after_shut, after_close, shut_down, after_abort, orphaned, ended_state, resets_at_abort, shut_allows};
 ghost use Rattle.machine.specs.Forgetting.{forget_endpoint};
 ghost use Rattle.std.specs.Prelude.{◌≡◌};
 

@@ -1,8 +1,7 @@
 //! RECEIVE: what it may be answered, and the endpoint then.
 
 ghost use Rattle.machine.specs.Bounds.{HasRoom};
-ghost use Rattle.machine.specs.CallEffects.{after_recv};
-ghost use Rattle.machine.specs.CallRules.{is_read_out, recv_allows};
+ghost use Rattle.machine.specs.Calls.Receive.{after_recv, is_read_out, recv_allows};
 ghost use Rattle.machine.specs.Forgetting.{forget_endpoint};
 ghost use Rattle.std.specs.Prelude.{◌≡◌, ◌≤◌, length};
 ghost use Rattle.streams.specs.Received.{waiting};

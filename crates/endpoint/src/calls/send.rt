@@ -1,8 +1,7 @@
 //! SEND: what it may be answered, and the endpoint then.
 
 ghost use Rattle.machine.specs.Bounds.{HasRoom};
-ghost use Rattle.machine.specs.CallEffects.{after_send};
-ghost use Rattle.machine.specs.CallRules.{sends_some, open_send_allows, send_allows};
+ghost use Rattle.machine.specs.Calls.Send.{after_send, sends_some, open_send_allows, send_allows};
 ghost use Rattle.machine.specs.Forgetting.{forget_endpoint};
 ghost use Rattle.std.specs.Prelude.{◌≡◌, OnOk, OnErr, take};
 

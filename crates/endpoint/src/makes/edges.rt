@@ -2,8 +2,8 @@
 
 ghost use Rattle.endpoint.specs.Small.{IsSmall};
 ghost use Rattle.machine.specs.Endpoints.{next};
-ghost use Rattle.machine.specs.Making.{is_bad_ack, is_beyond_offer, is_congesting};
-ghost use Rattle.machine.specs.MakingEffects.{word_zero, numbered};
+ghost use Rattle.machine.specs.Makes.Edges.{is_bad_ack, is_beyond_offer, is_congesting};
+ghost use Rattle.machine.specs.Makes.Kind.{word_zero, numbered};
 ghost use Rattle.std.specs.Prelude.{◌≡◌, ◌<◌, ◌^◌, if◌then◌else◌, ◌+◌, max};
 
 use crate::makes::kind::numbered;

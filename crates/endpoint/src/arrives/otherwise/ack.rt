@@ -1,9 +1,9 @@
 //! Fifth, the ACK field.
 
 ghost use Rattle.case_forms.specs.declared.calls.State.TheVariants as states;
+ghost use Rattle.machine.specs.Arrives.Otherwise.Ack.{acknowledged, una_after, fin_acknowledged, is_bad_ack_range, is_new_ack, acknowledges_syn, acked, is_duplicate, may_sample};
+ghost use Rattle.machine.specs.Arrives.Otherwise.Window.{opens};
 ghost use Rattle.machine.specs.Endpoints.{max_made};
-ghost use Rattle.machine.specs.TakingEffects.{acknowledged, una_after, fin_acknowledged, opens};
-ghost use Rattle.machine.specs.TakingRules.{is_bad_ack_range, is_new_ack, acknowledges_syn, acked, is_duplicate, may_sample};
 ghost use Rattle.std.specs.Prelude.{◌≡◌, ◌||◌, not, ◌<◌, ◌+◌, ◌^◌, if◌then◌else◌, ◌&&◌, is_some};
 ghost use Rattle.streams.specs.Makings.{made_again};
 

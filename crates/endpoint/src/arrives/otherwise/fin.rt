@@ -1,7 +1,7 @@
 //! Eighth, the FIN bit.
 
+ghost use Rattle.machine.specs.Arrives.Otherwise.Fin.{fin_place, keeps_fin, finished};
 ghost use Rattle.machine.specs.Bounds.{IsSmallEmission};
-ghost use Rattle.machine.specs.TakingEffects.{fin_place, keeps_fin, finished};
 ghost use Rattle.std.specs.Prelude.{◌≡◌};
 
 use crate::arrives::otherwise::text::first_byte;

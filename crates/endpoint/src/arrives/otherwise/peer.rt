@@ -1,7 +1,7 @@
 //! Whose segment it is.
 
-ghost use Rattle.machine.specs.Records.{same_name};
-ghost use Rattle.machine.specs.TakingRules.{is_from_peer};
+ghost use Rattle.machine.specs.Arrives.Otherwise.Peer.{is_from_peer};
+ghost use Rattle.machine.specs.Same.{same_name};
 ghost use Rattle.std.specs.Option.{option_map_or};
 ghost use Rattle.std.specs.Prelude.{◌≡◌, false, true};
 

@@ -1,6 +1,6 @@
 //! First, the sequence number.
 
-ghost use Rattle.machine.specs.TakingRules.{place_taken, is_bad_number, reads_as, is_acceptable, is_acceptable_at, is_in_window};
+ghost use Rattle.machine.specs.Arrives.Otherwise.Sequence.{place_taken, is_bad_number, reads_as, is_acceptable, is_acceptable_at, is_in_window};
 ghost use Rattle.std.specs.Prelude.{◌≡◌, ◌&&◌, ◌+◌, ◌^◌, nat_le, nat_lt};
 
 use crate::same::same_word;

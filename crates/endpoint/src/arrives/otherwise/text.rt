@@ -1,8 +1,9 @@
 //! Seventh, the segment text.
 
+ghost use Rattle.machine.specs.Arrives.Otherwise.Fin.{first_byte};
+ghost use Rattle.machine.specs.Arrives.Otherwise.Text.{kept_bytes, kept_start, receive_after};
 ghost use Rattle.machine.specs.Bounds.{IsSmallEmission, greatest_position};
 ghost use Rattle.machine.specs.Endpoints.{next};
-ghost use Rattle.machine.specs.TakingEffects.{kept_bytes, kept_start, receive_after, first_byte};
 ghost use Rattle.std.specs.Prelude.{◌≡◌, ◌≤◌, IfOk, OnOk, OnErr, ◌+◌};
 ghost use Rattle.streams.specs.Forgetting.{forgotten};
 ghost use Rattle.streams.specs.Received.{is_ended};

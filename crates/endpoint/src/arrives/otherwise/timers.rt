@@ -1,8 +1,9 @@
 //! The timers then.
 
+ghost use Rattle.machine.specs.Arrives.Otherwise.Ack.{una_after, acknowledges_syn, is_new_ack};
+ghost use Rattle.machine.specs.Arrives.Otherwise.Timers.{rto_taken, since_made, state_timers, timeout_taken};
+ghost use Rattle.machine.specs.Arrives.Otherwise.Window.{persist_taken, takes_window};
 ghost use Rattle.machine.specs.Endpoints.{max_made};
-ghost use Rattle.machine.specs.TakingEffects.{persist_taken, rto_taken, since_made, state_timers, takes_window, timeout_taken, una_after};
-ghost use Rattle.machine.specs.TakingRules.{acknowledges_syn, is_new_ack};
 ghost use Rattle.std.specs.Prelude.{◌≡◌, ◌==◌, ◌&&◌, if◌then◌else◌};
 
 use crate::arrives::otherwise::ack::{acknowledges_syn, is_new_ack, una_after};

@@ -1,6 +1,6 @@
 //! The send window then.
 
-ghost use Rattle.machine.specs.TakingEffects.{takes_window, window_taken, opens, persist_taken};
+ghost use Rattle.machine.specs.Arrives.Otherwise.Window.{takes_window, window_taken, opens, persist_taken};
 ghost use Rattle.std.specs.Prelude.{◌≡◌, ◌&&◌, not};
 
 use crate::arrives::otherwise::ack::{acknowledges_syn, opens};

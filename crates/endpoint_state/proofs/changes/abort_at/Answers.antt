@@ -1,5 +1,5 @@
 use Rattle.std.proofs.Common.{arith}
-use Rattle.machine.specs.CallEffects.{after_abort}
+use Rattle.machine.specs.Calls.Close.{after_abort}
 use Rattle.endpoint_state.proofs.Forgotten.{forgot_at, forgot_past}
 use Rattle.endpoint_state.proofs.changes.abort_at.Goals as goal
 

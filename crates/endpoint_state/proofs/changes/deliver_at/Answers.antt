@@ -1,5 +1,5 @@
 use Rattle.std.proofs.Common.{arith}
-use Rattle.machine.specs.CallEffects.{after_recv}
+use Rattle.machine.specs.Calls.Receive.{after_recv}
 use Rattle.endpoint_state.proofs.Forgotten.{forgot_at, forgot_past}
 use Rattle.endpoint_state.proofs.changes.deliver_at.Goals as goal
 

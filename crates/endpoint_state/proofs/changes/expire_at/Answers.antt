@@ -1,5 +1,5 @@
 use Rattle.std.proofs.Common.{arith}
-use Rattle.machine.specs.Timing.{after_expiry}
+use Rattle.machine.specs.Timeouts.{after_expiry}
 use Rattle.endpoint_state.proofs.Forgotten.{forgot_at, forgot_past}
 use Rattle.endpoint_state.proofs.changes.expire_at.Goals as goal
 

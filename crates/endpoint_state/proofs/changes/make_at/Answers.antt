@@ -2,7 +2,7 @@ use Rattle.std.proofs.Common.{arith, sym, ap}
 use Rattle.std.specs.Option.{option_map}
 use Rattle.std.proofs.lemmas.Option.{slice_get_past}
 use Rattle.machine.specs.declared.endpoint.Endpoint.{Endpoint}
-use Rattle.machine.specs.MakingEffects.{after_making, emission_of}
+use Rattle.machine.specs.Makes.{after_making, emission_of}
 use Rattle.endpoint_state.proofs.Forgotten.{forgot_at, forgot_past}
 use Rattle.endpoint_state.proofs.changes.make_at.Goals as goal
 

@@ -1,5 +1,5 @@
 use Rattle.std.proofs.Common.{arith}
-use Rattle.machine.specs.Timing.{after_recovery}
+use Rattle.machine.specs.Recovery.{after_recovery}
 use Rattle.endpoint_state.proofs.Forgotten.{forgot_at, forgot_past}
 use Rattle.endpoint_state.proofs.changes.recover_at.Goals as goal
 

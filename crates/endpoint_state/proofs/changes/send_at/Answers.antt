@@ -1,5 +1,5 @@
 use Rattle.std.proofs.Common.{arith}
-use Rattle.machine.specs.CallEffects.{after_send}
+use Rattle.machine.specs.Calls.Send.{after_send}
 use Rattle.endpoint_state.proofs.Forgotten.{forgot_at, forgot_past}
 use Rattle.endpoint_state.proofs.changes.send_at.Goals as goal
 

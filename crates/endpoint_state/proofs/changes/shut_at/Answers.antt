@@ -1,5 +1,5 @@
 use Rattle.std.proofs.Common.{arith}
-use Rattle.machine.specs.CallEffects.{after_shut}
+use Rattle.machine.specs.Calls.Close.{after_shut}
 use Rattle.endpoint_state.proofs.Forgotten.{forgot_at, forgot_past}
 use Rattle.endpoint_state.proofs.changes.shut_at.Goals as goal
 

@@ -1,5 +1,5 @@
 use Rattle.std.proofs.Common.{arith}
-use Rattle.machine.specs.Meeting.{endpoint_taken}
+use Rattle.machine.specs.Arrives.{endpoint_taken}
 use Rattle.endpoint_state.proofs.PlaceLemmas.{unchanged_at, on_err}
 use Rattle.endpoint_state.proofs.Forgotten.{forgot_at, forgot_past}
 use Rattle.endpoint_state.proofs.changes.take_at.Goals as goal

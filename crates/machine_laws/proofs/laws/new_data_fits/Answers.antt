@@ -10,10 +10,10 @@ use Rattle.hosts.specs.Tables.{pick}
 use Rattle.machine.specs.declared.endpoint.Endpoint.{Endpoint}
 use Rattle.machine.specs.declared.endpoint.Emission.{Emission}
 use Rattle.machine.specs.Endpoints.{max_made}
-use Rattle.machine.specs.Lookups.{place_of}
+use Rattle.machine.specs.Bodies.{place_of}
 use Rattle.case_forms.specs.declared.steps.SegmentPlan.{SegmentPlan}
-use Rattle.machine.specs.Making.{making_rules, has_new_bytes}
-use Rattle.machine.specs.MakingEffects.{emission_of}
+use Rattle.machine.specs.Makes.Payload.{has_new_bytes}
+use Rattle.machine.specs.Makes.{making_rules, emission_of}
 use Rattle.machine.specs.Machine.{made_at}
 use Rattle.machine_laws.specs.Bounds.{InBothWindows}
 use Rattle.machine_laws.proofs.Rules.{and_false, at_most_from, less_to}

@@ -7,9 +7,8 @@ use Rattle.machine.specs.declared.endpoint.Thing.TheVariants.{Ends}
 use Rattle.indexmap.specs.IndexMap.{insert_entry}
 use Rattle.streams.specs.Lists.{modify}
 use Rattle.endpoint_state.specs.Changes.{changed}
-use Rattle.machine.specs.Records.{Body}
+use Rattle.machine.specs.Bodies.{Body, queue_of}
 use Rattle.machine.specs.Bounds.{HasRoom}
-use Rattle.machine.specs.Lookups.{queue_of}
 use Rattle.machine.specs.Forgetting.{forget_body}
 use Rattle.endpoint_state.proofs.BodyLemmas.{body_same}
 use Rattle.endpoint_state.proofs.SocketLemmas.{accepted_none, accepted_first}

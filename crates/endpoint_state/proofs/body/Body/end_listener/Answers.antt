@@ -1,8 +1,8 @@
 use Rattle.std.proofs.Common.{◌∙◌, false, map, sym, ap}
 use Rattle.streams.specs.Lists.{modify}
 use Rattle.machine.specs.declared.endpoint.Listener.{Listener}
-use Rattle.machine.specs.Records.{Body}
-use Rattle.machine.specs.CallEffects.{orphaned, dead}
+use Rattle.machine.specs.Bodies.{Body, dead}
+use Rattle.machine.specs.Calls.Close.{orphaned}
 use Rattle.endpoint_state.proofs.BodyLemmas.{body_is}
 use Rattle.endpoint_state.proofs.OrphanLemmas.{orphans_forgotten}
 use Rattle.endpoint_state.proofs.body.Body.end_listener.Goals as goal

@@ -2,7 +2,7 @@ use Rattle.std.proofs.Common.{List, subst, sym}
 use Rattle.std.specs.List.{All}
 use Rattle.machine.specs.declared.endpoint.Endpoint.{Endpoint}
 use Rattle.machine.specs.Bounds.{HasRoom}
-use Rattle.machine.specs.CallEffects.{after_recv}
+use Rattle.machine.specs.Calls.Receive.{after_recv}
 use Rattle.endpoint_state.specs.Indexes.{find_ports, is_child_in}
 use Rattle.endpoint_state.proofs.Keeps.{indexed_changed, keeps_received}
 use Rattle.endpoint_state.proofs.endpoints.Endpoints.deliver.Goals as goal

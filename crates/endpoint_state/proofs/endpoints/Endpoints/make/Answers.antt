@@ -2,7 +2,7 @@ use Rattle.std.proofs.Common.{List, subst, sym}
 use Rattle.std.specs.List.{All}
 use Rattle.machine.specs.declared.endpoint.Endpoint.{Endpoint}
 use Rattle.machine.specs.Bounds.{HasRoom}
-use Rattle.machine.specs.MakingEffects.{after_making}
+use Rattle.machine.specs.Makes.{after_making}
 use Rattle.endpoint_state.specs.Indexes.{find_ports, is_child_in}
 use Rattle.endpoint_state.proofs.Keeps.{indexed_tried, keeps_made}
 use Rattle.endpoint_state.proofs.endpoints.Endpoints.make.Goals as goal

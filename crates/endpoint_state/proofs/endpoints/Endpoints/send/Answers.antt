@@ -2,7 +2,7 @@ use Rattle.std.proofs.Common.{List, subst, sym}
 use Rattle.std.specs.List.{All}
 use Rattle.machine.specs.declared.endpoint.Endpoint.{Endpoint}
 use Rattle.machine.specs.Bounds.{HasRoom}
-use Rattle.machine.specs.CallEffects.{after_send}
+use Rattle.machine.specs.Calls.Send.{after_send}
 use Rattle.endpoint_state.specs.Indexes.{find_ports, is_child_in}
 use Rattle.endpoint_state.proofs.Keeps.{indexed_tried, keeps_sent}
 use Rattle.endpoint_state.proofs.endpoints.Endpoints.send.Goals as goal

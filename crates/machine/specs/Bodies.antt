@@ -1,14 +1,20 @@
--- How endpoints, listeners and sockets are found.
-use Rattle.std.specs.Prelude.{ℕ, suc, ◌==◌, nat_eq, Bool, true, false, not, ◌&&◌, if◌then◌else◌, List, [], ◌∷◌, Option, None, Some, is_some, slice_get}
+-- What a host has: endpoints in the order of creation, listeners, and the sockets that name them; and how they are found (RFC 9293, 3.3.1 and 3.9.1.1).
+use Rattle.std.specs.Prelude.{ℕ, suc, ◌==◌, nat_eq, Bool, true, false, not, ◌&&◌, if◌then◌else◌, List, [], ◌∷◌, slice_get, Option, None, Some, is_some}
 use Rattle.std.specs.Map.{lookup}
 use Rattle.std.specs.Option.{option_map_or}
+use Rattle.indexmap.specs.IndexMap.{insert_entry}
+use Rattle.case_forms.specs.States.{is_closed}
 use Rattle.streams.specs.Lists.{modify}
-pub use Rattle.case_forms.specs.States.{is_closed, is_syn_sent, is_syn_received}
-use Rattle.seqno.specs.declared.word.Word.{Word}
-use Rattle.machine.specs.Endpoints.{Endpoint, Listener, Thing, Socket, Body}
+use Rattle.machine.specs.Endpoints.{Endpoint, Listener, Thing, Socket}
 
-abbrev pub same_word : Word → Word → Bool
-same_word a b = a.0 == b.0
+-- what a host has
+pub record Body : Type 0 where
+  pub endpoints : List Endpoint
+  pub listeners : List Listener
+  pub sockets : List (ℕ × Socket)
+
+abbrev pub empty : Body
+empty = record { endpoints = []; listeners = []; sockets = [] }
 
 -- the endpoint is that of these ports
 abbrev pub has_ports : ℕ → ℕ → Endpoint → Bool
@@ -67,3 +73,11 @@ if_live s = if s.live then Some s.thing else None
 -- what a live socket number names
 abbrev pub thing_of : Body → ℕ → Option Thing
 thing_of b n = option_map_or if_live (lookup (nat_eq n) b.sockets) None
+
+-- a socket number is given
+abbrev pub with_socket : Body → ℕ → Thing → Body
+with_socket b n thing = record b { sockets = insert_entry nat_eq b.sockets n (record { thing = thing; live = true }) }
+
+-- the socket number is no longer live
+abbrev pub dead : List (ℕ × Socket) → ℕ → List (ℕ × Socket)
+dead sockets n = option_map_or (λ s. insert_entry nat_eq sockets n (record s { live = false })) (lookup (nat_eq n) sockets) sockets

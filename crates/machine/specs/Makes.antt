@@ -1,24 +1,29 @@
--- The segment that is made, and its endpoint then.
-use Rattle.std.specs.Prelude.{ℕ, ◌+◌, nat_lt, max, false, not, ◌&&◌, if◌then◌else◌, [], Option, None, is_some}
-use Rattle.std.specs.Option.{option_map_or, option_or}
-use Rattle.case_forms.specs.declared.timer.Timer.TheVariants.{Rto}
-use Rattle.seqno.specs.declared.word.Word.{Word}
-use Rattle.seqno.specs.Numbers.{number_of}
-use Rattle.streams.specs.Sent.{piece}
-use Rattle.streams.specs.Makings.{made}
-use Rattle.timer_rules.specs.declared.timers.Timers.{Timers}
-use Rattle.timer_rules.specs.Timers.{armed}
-use Rattle.machine.specs.Endpoints.{Name, Endpoint, Emission, next}
-use Rattle.machine.specs.CallEffects.{shut_down}
+-- A segment is made: all rules in their order, the segment, and its endpoint then (RFC 9293, 3.8 and 3.10).
+pub mod Kind
+pub mod Payload
+pub mod Edges
+use Rattle.std.specs.Prelude.{ℕ, ◌+◌, nat_lt, max, Bool, false, not, ◌&&◌, if◌then◌else◌, List, [], ◌∷◌, None, is_some}
+use Rattle.std.specs.Option.{option_or}
 use Rattle.case_forms.specs.declared.steps.SegmentPlan.{SegmentPlan}
-use Rattle.machine.specs.Making.{making_length, has_new_bytes}
+use Rattle.case_forms.specs.declared.timer.Timer.TheVariants.{Rto}
+use Rattle.verdict.specs.declared.rule.Rule.{Rule}
+use Rattle.verdict.specs.declared.rule.Rule.TheVariants as rules
+use Rattle.streams.specs.Makings.{made}
+use Rattle.streams.specs.Sent.{piece}
+use Rattle.timer_rules.specs.Timers.{armed}
+use Rattle.timer_rules.specs.declared.timers.Timers.{Timers}
+use Rattle.machine.specs.Endpoints.{Name, Endpoint, Emission, next}
+use Rattle.machine.specs.Calls.Close.{shut_down}
+use Rattle.machine.specs.Makes.Kind.{may_make, makes_nothing, is_bad_iss, word_zero, numbered}
+use Rattle.machine.specs.Makes.Payload.{making_length, has_new_bytes, is_bad_payload, is_bad_place}
+use Rattle.machine.specs.Makes.Edges.{is_bad_ack, is_beyond_offer, is_congesting}
 
-abbrev pub word_zero : Word
-word_zero = record { 0 = 0 }
-
--- the number of a position, where the number of position 0 is known
-abbrev pub numbered : Option Word → ℕ → Word
-numbered base pos = option_map_or (λ b. number_of b pos) base word_zero
+-- the rules of making, at the endpoint of the ports
+abbrev pub making_rules : Endpoint → SegmentPlan → List (Rule × Bool)
+making_rules e m =
+    (rules.NoEndpoint, makes_nothing e m) ∷ (rules.State, not (may_make e m)) ∷ (rules.Iss, is_bad_iss e m)
+    ∷ (rules.PayloadRange, is_bad_payload e m) ∷ (rules.AckField, is_bad_ack e m) ∷ (rules.OldData, is_bad_place e m)
+    ∷ (rules.Offered, is_beyond_offer e m) ∷ (rules.Congestion, is_congesting e m) ∷ (rules.Size, nat_lt e.congestion.smss m.len) ∷ []
 
 -- the segment: the accepted bytes at its position, the next position expected as its acknowledgment, both also as numbers
 abbrev pub emission_of : Name → Endpoint → SegmentPlan → Emission

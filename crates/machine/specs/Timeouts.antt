@@ -1,20 +1,17 @@
--- Timers that expire, and fast recovery (RFC 6298, 5; RFC 9293, 3.8.6.1 and 3.6.1; RFC 5681, 3.2).
+-- A timer expires: which may, and the endpoint then (RFC 9293, 3.10.8, 3.6.1 and 3.8.6.1; RFC 6298, 5).
 use Rattle.std.specs.Prelude.{ℕ, ◌+◌, ◌==◌, nat_le, nat_lt, Bool, true, false, not, ◌&&◌, ◌||◌, List, [], ◌∷◌, Some, is_some}
-use Rattle.case_forms.specs.declared.trace.Header.{Header}
-use Rattle.case_forms.specs.States.{is_fin_wait_2}
+use Rattle.case_forms.specs.States.{is_closed, is_fin_wait_2}
+use Rattle.case_forms.specs.declared.timer.Growth.{Growth}
 use Rattle.case_forms.specs.declared.timer.Timer.{Timer}
-use Rattle.case_forms.specs.declared.timer.Timer.TheVariants.{Rto, Persist, Msl2, Giveup}
-pub use Rattle.case_forms.specs.declared.timer.Expiry.{Expiry}
-pub use Rattle.case_forms.specs.declared.timer.Growth.{Growth}
-pub use Rattle.case_forms.specs.declared.timer.Recovery.{Recovery}
+use Rattle.case_forms.specs.declared.timer.Timer.TheVariants.{Giveup, Msl2, Persist, Rto}
+use Rattle.case_forms.specs.declared.trace.Header.{Header}
 use Rattle.verdict.specs.declared.rule.Rule.{Rule}
 use Rattle.verdict.specs.declared.rule.Rule.TheVariants as rules
 use Rattle.streams.specs.Sent.{end_of}
-use Rattle.window_rules.specs.Losses.{on_timeout, halved, recovery_window}
-use Rattle.timer_rules.specs.Timers.{is_armed, is_early, expired}
-use Rattle.machine.specs.Endpoints.{Timeout, Endpoint, max_made, flight, flag_count, is_up}
-use Rattle.machine.specs.Lookups.{is_closed}
-use Rattle.machine.specs.CallEffects.{shut_down}
+use Rattle.window_rules.specs.Losses.{on_timeout}
+use Rattle.timer_rules.specs.Timers.{expired, is_armed, is_early}
+use Rattle.machine.specs.Endpoints.{Timeout, Endpoint, max_made, flight, is_up, flag_count}
+use Rattle.machine.specs.Calls.Close.{shut_down}
 
 -- the SYN is pending; the timer expired before
 abbrev pub greatest_values : Endpoint → ℕ × ℕ
@@ -68,15 +65,3 @@ after_expiry e Rto growth moment = after_rto e growth moment
 after_expiry e Persist growth moment = after_persist e moment
 after_expiry e Msl2 growth moment = shut_down e
 after_expiry e Giveup growth moment = record (shut_down e) { fault = Some Timeout; reset_due = true }
-
--- fast recovery begins with the third duplicate acknowledgment (RFC 5681, 3.2, steps 2 and 3)
-abbrev pub is_bad_recovery : Endpoint → (cwnd ssthresh : ℕ) → Bool
-is_bad_recovery e cwnd ssthresh =
-    nat_lt e.congestion.dup 3 || e.congestion.fast || e.stream.una == max_made e
-    || nat_lt (halved e.congestion (flight e)) ssthresh || nat_lt (recovery_window e.congestion ssthresh) cwnd
-
-abbrev pub recovery_rules : Endpoint → (cwnd ssthresh : ℕ) → List (Rule × Bool)
-recovery_rules e cwnd ssthresh = (rules.NoEndpoint, is_closed e.state) ∷ (rules.State, not (is_up e)) ∷ (rules.Recovery, is_bad_recovery e cwnd ssthresh) ∷ []
-
-abbrev pub after_recovery : Endpoint → (cwnd ssthresh : ℕ) → Endpoint
-after_recovery e cwnd ssthresh = record e { congestion = record e.congestion { cwnd = cwnd; ssthresh = ssthresh; fast = true }; recover = max_made e }

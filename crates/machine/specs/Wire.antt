@@ -1,16 +1,15 @@
--- Segments that go out and come in, as bytes on the wire (RFC 9293, 3.1).
+-- Segments that go out and come in, as bytes on the wire (RFC 9293, 3.1 and 3.4.2).
 use Rattle.std.specs.Prelude.{ℕ, ◌+◌, ◌==◌, nat_lt, Bool, not, ◌&&◌, ◌||◌, if◌then◌else◌, List, [], ◌∷◌}
+use Rattle.segment.specs.Flags.{has_flag}
+use Rattle.segment.specs.declared.fields.Segment.{Segment}
+use Rattle.segment.specs.declared.flag.Flag.TheVariants.{Ack, Fin, Rst, Syn}
+use Rattle.case_forms.specs.declared.steps.Flags.{Flags}
 use Rattle.case_forms.specs.declared.trace.Header.{Header}
 use Rattle.case_forms.specs.declared.trace.Wire.{Wire}
-use Rattle.case_forms.specs.declared.steps.Flags.{Flags}
-use Rattle.segment.specs.declared.fields.Segment.{Segment}
-use Rattle.segment.specs.declared.flag.Flag.TheVariants.{Ack, Rst, Syn, Fin}
-use Rattle.segment.specs.Flags.{has_flag}
 use Rattle.verdict.specs.declared.rule.Rule.{Rule}
 use Rattle.verdict.specs.declared.rule.Rule.TheVariants as rules
 use Rattle.machine.specs.Endpoints.{Emission}
-use Rattle.machine.specs.Lookups.{same_word}
-use Rattle.machine.specs.Same.{same_bytes}
+use Rattle.machine.specs.Same.{same_word, same_bytes}
 
 abbrev pub same_bool : Bool → Bool → Bool
 same_bool a b = if a then b else not b

@@ -1,13 +1,15 @@
--- Answering a segment by a reset (RFC 9293, 3.10.7.1 and 3.5.2).
+-- The reset that answers a segment (RFC 9293, 3.5.2 and 3.10.7.1).
 use Rattle.std.specs.Prelude.{Bool, true, false, not, ◌&&◌, ◌||◌, if◌then◌else◌, List, [], ◌∷◌, None}
 use Rattle.std.specs.Option.{option_map_or}
+use Rattle.seqno.specs.Numbers.{number_of}
+use Rattle.case_forms.specs.States.{is_syn_received, is_syn_sent}
 use Rattle.verdict.specs.declared.rule.Rule.{Rule}
 use Rattle.verdict.specs.declared.rule.Rule.TheVariants as rules
-use Rattle.seqno.specs.Numbers.{number_of}
-use Rattle.machine.specs.Endpoints.{Endpoint, Emission, Body, segment_length}
-use Rattle.machine.specs.Lookups.{is_syn_sent, is_syn_received, same_word}
-use Rattle.machine.specs.MakingEffects.{word_zero}
-use Rattle.machine.specs.Meeting.{Taker, Nobody, AtListener, AtEndpoint, taker}
+use Rattle.machine.specs.Endpoints.{Endpoint, Emission, segment_length}
+use Rattle.machine.specs.Bodies.{Body}
+use Rattle.machine.specs.Same.{same_word}
+use Rattle.machine.specs.Makes.Kind.{word_zero}
+use Rattle.machine.specs.Arrives.{Taker, Nobody, AtListener, AtEndpoint, taker}
 
 -- before the connection stands, an acknowledgment of another number than the own SYN's
 abbrev pub is_stray_ack : Endpoint → Emission → Bool

@@ -1,0 +1,57 @@
+-- A segment arrives in any other state: all rules in their order, and the endpoint then (RFC 9293, 3.10.7.4; the tests as worded are this profile's own).
+pub mod Peer
+pub mod Sequence
+pub mod Reset
+pub mod Ack
+pub mod Congestion
+pub mod Window
+pub mod Fin
+pub mod Text
+pub mod Timers
+use Rattle.std.specs.Prelude.{ℕ, ◌+◌, nat_le, nat_lt, Bool, false, not, ◌&&◌, if◌then◌else◌, List, [], ◌∷◌, length, slice_get, is_some}
+use Rattle.std.specs.Option.{option_map_or}
+use Rattle.case_forms.specs.States.{is_syn_received}
+use Rattle.case_forms.specs.declared.steps.TakeChoice.{TakeChoice}
+use Rattle.case_forms.specs.declared.trace.Header.{Header}
+use Rattle.verdict.specs.declared.rule.Rule.{Rule}
+use Rattle.verdict.specs.declared.rule.Rule.TheVariants as rules
+use Rattle.machine.specs.Endpoints.{Name, Endpoint, Emission, max_made}
+use Rattle.machine.specs.Bodies.{Body}
+use Rattle.machine.specs.Arrives.Otherwise.Peer.{is_from_peer}
+use Rattle.machine.specs.Arrives.Otherwise.Sequence.{is_bad_number, is_acceptable}
+use Rattle.machine.specs.Arrives.Otherwise.Ack.{is_bad_ack_range, is_new_ack, may_sample}
+use Rattle.machine.specs.Arrives.Otherwise.Congestion.{greatest_window, congestion_taken}
+use Rattle.machine.specs.Arrives.Otherwise.Window.{window_taken, opens}
+use Rattle.machine.specs.Arrives.Otherwise.Text.{stream_taken, state_taken}
+use Rattle.machine.specs.Arrives.Otherwise.Timers.{timers_taken}
+
+-- the child would join a full queue (this profile's own: `extra` more than the backlog)
+abbrev pub is_queue_full : Header → Body → ℕ → Bool
+is_queue_full h b l = option_map_or (λ x. nat_le (x.backlog + h.extra) (length x.queue)) (slice_get b.listeners l) false
+
+abbrev pub joins_full_queue : Header → Body → Endpoint → Emission → Bool
+joins_full_queue h b e m = is_syn_received e.state && not m.flags.rst && option_map_or (is_queue_full h b) e.listener false
+
+-- the rules in the other states, where it is known whether the child would join a full queue
+abbrev pub rules_with_queue : (full : Bool) → Name → Endpoint → TakeChoice → Emission → List (Rule × Bool)
+rules_with_queue full me e how m =
+    (rules.NotPeer, not (is_from_peer me e m)) ∷ (rules.Number, is_bad_number e m) ∷ (rules.Unacceptable, not (is_acceptable e m))
+    ∷ (rules.AckRange, is_bad_ack_range e m) ∷ (rules.QueueFull, full)
+    ∷ (rules.Growth, nat_lt (greatest_window e m) how.cwnd) ∷ (rules.Sample, how.sample && not (may_sample e m)) ∷ []
+
+abbrev pub connected_rules : Header → Body → Name → Endpoint → TakeChoice → Emission → List (Rule × Bool)
+connected_rules h b me e how m = rules_with_queue (joins_full_queue h b e m) me e how m
+
+-- a segment without RST is taken, in all states but SYN-SENT
+abbrev pub taken : Header → Endpoint → TakeChoice → Emission → ℕ → Endpoint
+taken h e how m moment = record e {
+  state = state_taken e how m;
+  stream = stream_taken e how m;
+  window = window_taken e m;
+  congestion = congestion_taken e how m;
+  recover = if opens e m && is_some e.timers.persist_armed then max_made e else e.recover;
+  probe_due = e.probe_due && not (opens e m);
+  timers = timers_taken h e how m moment;
+  tries = 0;
+  backs = if is_new_ack e m then 0 else e.backs;
+}

@@ -1,0 +1,18 @@
+-- The acknowledgment of a segment that is made, and the windows in which its bytes end (RFC 9293, 3.8.6; RFC 5681, 3.1).
+use Rattle.std.specs.Prelude.{◌+◌, ◌==◌, nat_le, nat_lt, Bool, not, ◌&&◌, if◌then◌else◌}
+use Rattle.case_forms.specs.declared.steps.SegmentPlan.{SegmentPlan}
+use Rattle.window_rules.specs.Windows.{congestion_edge, offered_edge}
+use Rattle.machine.specs.Endpoints.{Endpoint, next}
+use Rattle.machine.specs.Makes.Payload.{has_new_bytes}
+
+-- an acknowledgment once the peer's SYN is taken, and not before; a reset may do without (RFC 9293, 3.10.7.4)
+abbrev pub is_bad_ack : Endpoint → SegmentPlan → Bool
+is_bad_ack e m = if m.flags.ack then next e == 0 else not m.flags.rst && nat_le 1 (next e)
+
+-- new bytes end above the window that the peer offers (RFC 9293, 3.8.6)
+abbrev pub is_beyond_offer : Endpoint → SegmentPlan → Bool
+is_beyond_offer e m = has_new_bytes e m && nat_lt (offered_edge e.stream.una e.window.wnd e.probe_due) (m.pos + m.len)
+
+-- new bytes end above the congestion window (RFC 5681, 3.1)
+abbrev pub is_congesting : Endpoint → SegmentPlan → Bool
+is_congesting e m = has_new_bytes e m && nat_lt (congestion_edge e.stream.una e.congestion) (m.pos + m.len)
