@@ -224,13 +224,7 @@ fn make_one(
     Ok(emission)
 }
 
-fn expire_at(
-    endpoints: &mut Vec<Endpoint>,
-    place: usize,
-    timer: Timer,
-    growth: Growth,
-    moment: u64,
-)
+fn expire_at(endpoints: &mut Vec<Endpoint>, place: usize, timer: Timer, growth: Growth, moment: u64)
     requires { All HasRoom endpoints.old.items }
     ensures { endpoints.new.items ≡ changed endpoints.old.items place (λ e. after_expiry e timer growth moment) }
 {

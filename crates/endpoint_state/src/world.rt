@@ -215,7 +215,14 @@ impl World {
         ensures err { OnErr result (self.new ≡ self.old) }
     {
         let fresh = self.count + 1;
-        host::make(self.alloc, host, self.hosts.side(host), making, moment, fresh)?;
+        host::make(
+            self.alloc,
+            host,
+            self.hosts.side(host),
+            making,
+            moment,
+            fresh,
+        )?;
         self.count = fresh;
         self.steps += 1;
         Ok(())
@@ -275,7 +282,14 @@ impl World {
         ensures ok { OnOk result (self.new ≡ after self.old moment (At host (Takes line how))) }
         ensures err { OnErr result (self.new ≡ self.old) }
     {
-        host::take(self.alloc, &self.header, self.hosts.side(host), line, how, moment)?;
+        host::take(
+            self.alloc,
+            &self.header,
+            self.hosts.side(host),
+            line,
+            how,
+            moment,
+        )?;
         self.steps += 1;
         Ok(())
     }
