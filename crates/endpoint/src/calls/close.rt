@@ -73,7 +73,15 @@ pub(crate) fn ended_state(state: State) -> State
     match state {
         State::Established => State::FinWait1,
         State::CloseWait => State::LastAck,
-        _ => state,
+        State::Closed
+        | State::Listen
+        | State::SynSent
+        | State::SynReceived
+        | State::FinWait1
+        | State::FinWait2
+        | State::Closing
+        | State::LastAck
+        | State::TimeWait => state,
     }
 }
 

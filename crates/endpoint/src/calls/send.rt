@@ -28,7 +28,13 @@ pub(crate) fn open_send_allows(state: State, bytes: &[u8], answer: &Answer) -> b
             is_not_connected(answer) || sends_some(bytes, answer)
         }
         State::Established | State::CloseWait => sends_some(bytes, answer),
-        _ => is_closed_answer(answer),
+        State::Closed
+        | State::Listen
+        | State::FinWait1
+        | State::FinWait2
+        | State::Closing
+        | State::LastAck
+        | State::TimeWait => is_closed_answer(answer),
     }
 }
 
