@@ -1,5 +1,5 @@
 -- A line that is read piece by piece.
-use Rattle.std.proofs.Common.{◌≡◌, ◌≢◌, ◌<◌, ◌≤◌, ◌+◌, ◌⊎◌, inl, inr, refl, sym, ap, subst, ◌∙◌, arith, ℕ, List, [], ◌∷◌, ◌++◌, Option, None, Some, OnSome, length, take, drop, append_assoc, append-nil, length-append}
+use Rattle.std.proofs.Common.{◌==◌, false, ◌≡◌, ◌≢◌, ◌<◌, ◌≤◌, ◌+◌, ◌⊎◌, inl, inr, refl, sym, ap, subst, ◌∙◌, arith, ℕ, zero, suc, List, [], ◌∷◌, ◌++◌, Option, None, Some, OnSome, length, take, drop, append_assoc, append-nil, length-append}
 use Rattle.std.proofs.lemmas.List.Elements.{All-append, All-head, All-tail}
 use Rattle.std.specs.Io.{StartsWith}
 use Rattle.std.specs.Io.KnownBytes.{Consumes, IsAtEnd}
@@ -78,6 +78,10 @@ line_ended most before line next a b c s starts took ended some =
         ],
       ),
     )
+
+pub not_zero : (n : ℕ) → false ≡ (n == 0) → 0 < n
+not_zero zero h = absurd cc
+not_zero (suc n) h = omega arith
 
 -- nothing was read, and nothing is left
 pub none_read : (most : ℕ) (line next : List ℕ) (a b c : Option (List ℕ)) → SoFar most 0 line a b → StartsWith next line → Consumes b c (drop (length line) next)

@@ -3,7 +3,7 @@
 ghost use Rattle.std.specs.Prelude.{◌≡◌, ◌+◌, ◌≤◌, ◌<◌, ◌⊎◌, ◌^◌, [], OnOk, IfOk, IfSome, OnSome, ◌++◌, true, false, length, take};
 ghost use Rattle.std.specs.Io.{StartsWith, appended_bytes};
 ghost use Rattle.std.specs.Io.KnownBytes.{Consumes, IsAtEnd};
-ghost use Rattle.counted.specs.Counting.{left_of, failures_of, calls_of, one_call_more, one_more};
+ghost use Rattle.counted.specs.Counting.{left_of, failures_of, one_more};
 ghost use Rattle.counted.specs.LineParts.{HasNoFeed, EndsAtFeed, IsPart, GivesLine};
 
 use crate::ends::{Counted, MOST_CALLS, ReadFault};
@@ -41,9 +41,9 @@ fn line_part(bytes: &[u8], most: usize) -> (usize, bool)
 }
 
 impl<B: BufRead> Counted<B> {
-    /// Appends what one read gives of a line, at most so many bytes, and says whether the line is at its end: behind its
-    /// LF, or at the end of the input, where it gives nothing.
-    pub fn append_line_piece(&mut self, most: usize, buf: &mut Vec<u8>) -> Result<bool, ReadFault>
+    // Appends what one read gives of a line, at most so many bytes, and says whether the line is at its end: behind its
+    // LF, or at the end of the input, where it gives nothing.
+    fn append_line_piece(&mut self, most: usize, buf: &mut Vec<u8>) -> Result<bool, ReadFault>
         requires { 0 < most }
         ensures appends { StartsWith buf.new.items buf.old.items }
         ensures most { length (appended_bytes buf.old.items buf.new.items) ≤ most }
@@ -54,8 +54,6 @@ impl<B: BufRead> Counted<B> {
         ensures ok { OnOk result (failures_of self.new ≡ failures_of self.old) }
         ensures read { result ≡ Err ReadFault.Read → failures_of self.new ≡ one_more (failures_of self.old) }
         ensures memory { result ≡ Err ReadFault.OutOfMemory → failures_of self.new ≡ failures_of self.old }
-        ensures spent { 2 ^ 50 ≤ calls_of self.old → result ≡ Err ReadFault.Read }
-        ensures calls { calls_of self.new ≡ one_call_more (calls_of self.old) }
     {
         if !self.may_call() {
             self.count_failure();

@@ -39,7 +39,8 @@ FailsAt read e None = Unit {0}
 FailsAt read e (Some known) = Fails e.kind e (read known)
 
 -- the first of known lines are read as this value, which is seen with the lines behind them; or with this fault
-abbrev pub Reads : {X Y : Type 0} → (X → List (List ℕ) → Y) → (List (List ℕ) → Result Y TextFault) → Option (List (List ℕ)) → Option (List (List ℕ)) → Result X ReadFault → Type 0
+abbrev pub Reads : {X Y : Type 0} → (X → List (List ℕ) → Y) → (List (List ℕ) → Result Y TextFault)
+    → Option (List (List ℕ)) → Option (List (List ℕ)) → Result X ReadFault → Type 0
 Reads view read None new r = Unit {0}
 Reads view read (Some raws) None (Ok x) = ⊥
 Reads view read (Some raws) (Some rest) (Ok x) = read raws ≡ Ok (view x rest)

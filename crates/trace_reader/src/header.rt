@@ -65,7 +65,8 @@ fn next_number<A: BufRead>(
     least: u64,
     most: u64,
 ) -> Result<u64, ReadFault>
-    ensures value { Reads with_rest (next_number number name.now least most) (rows_of (left_of A.remaining source.old)) (rows_of (left_of A.remaining source.new)) result }
+    ensures value { Reads with_rest (next_number number name.now least most)
+        (rows_of (left_of A.remaining source.old)) (rows_of (left_of A.remaining source.new)) result }
     ensures range { IfOk result (λ n. (least ≤ n) × (n ≤ most)) }
     ensures read { result ≡ Err ReadFault.Read → failures_of source.new ≡ one_more (failures_of source.old) }
     ensures same { result ≢ Err ReadFault.Read → failures_of source.new ≡ failures_of source.old }

@@ -90,7 +90,8 @@ impl<B: BufRead> StepReader<B> {
     /// The next step, or none at the end of the text.
     pub fn next(&mut self) -> Result<Option<Step>, ReadFault>
         ensures next { fault_of self.old ≡ None → IfOk result (Yields (steps_left B.remaining self.old) (steps_left B.remaining self.new)) }
-        ensures place { IfOk result (λ item. IfSome item (λ step. StandsAt (number_of self.old) step × (number_of self.new ≡ number_after (number_of self.old) step))) }
+        ensures place { IfOk result (λ item. IfSome item (λ step. StandsAt (number_of self.old) step
+            × (number_of self.new ≡ number_after (number_of self.old) step))) }
         ensures fault { (e : TextFault) → fault_of self.old ≡ None → result ≡ Err (ReadFault.Text e) → FailsLeft e (steps_left B.remaining self.old) }
         ensures again { (f : ReadFault) → fault_of self.old ≡ Some f → result ≡ Err f }
         ensures kept { (f : ReadFault) → result ≡ Err f → fault_of self.new ≡ Some f }
@@ -108,7 +109,8 @@ impl<B: BufRead> StepReader<B> {
     // The next step, where no fault was met.
     fn read(&mut self) -> Result<Option<Step>, ReadFault>
         ensures next { IfOk result (Yields (steps_left B.remaining self.old) (steps_left B.remaining self.new)) }
-        ensures place { IfOk result (λ item. IfSome item (λ step. StandsAt (number_of self.old) step × (number_of self.new ≡ number_after (number_of self.old) step))) }
+        ensures place { IfOk result (λ item. IfSome item (λ step. StandsAt (number_of self.old) step
+            × (number_of self.new ≡ number_after (number_of self.old) step))) }
         ensures fault { (e : TextFault) → result ≡ Err (ReadFault.Text e) → FailsLeft e (steps_left B.remaining self.old) }
         ensures open { fault_of self.new ≡ fault_of self.old }
         ensures read { result ≡ Err ReadFault.Read → reader_failures self.new ≡ one_more (reader_failures self.old) }
