@@ -28,4 +28,7 @@ pub use laws::{
     losses_are_greatest, recovery_is_greatest,
 };
 pub use losses::{on_fast, on_timeout, recovery_window};
-pub use windows::{GREATEST_WINDOW, congestion_edge, initial_window, offered_edge};
+pub use windows::{
+    GREATEST_WINDOW, congestion_edge, initial_window, initial_window_6928, offered_edge,
+    scaled_window,
+};

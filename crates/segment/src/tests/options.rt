@@ -20,20 +20,24 @@ fn with_options(alloc: Global, options: &[u8]) -> Result<Vec<u8>, AllocError> {
 
 #[test]
 fn reads_lists_of_options(rt: HostRuntime) -> Result<(), Fail> {
-    let table: [(&[u8], Option<u16>); 9] = [
-        (b"\x00\x02\x04\x01", None),
-        (b"\x01\x01\x01\x01", None),
-        (b"\x02\x04\x03\xe8", Some(1000)),
-        (b"\x02\x03\x05\x01", None),
-        (b"\x02\x02\x01\x00", None),
-        (b"\x03\x03\x07\x01", None),
-        (b"\x01\x01\x02\x04\x00\x00\x00\x05", Some(0)),
-        (b"\x02\x04\x00\x01\x02\x04\x00\x02", Some(2)),
-        (b"\x02\x04\x00\x01\x02\x03\x09\x00", Some(1)),
+    let table: [(&[u8], Option<u16>, Option<u8>); 12] = [
+        (b"\x00\x02\x04\x01", None, None),
+        (b"\x01\x01\x01\x01", None, None),
+        (b"\x02\x04\x03\xe8", Some(1000), None),
+        (b"\x02\x03\x05\x01", None, None),
+        (b"\x02\x02\x01\x00", None, None),
+        (b"\x03\x03\x07\x01", None, Some(7)),
+        (b"\x03\x04\x07\x01", None, None),
+        (b"\x01\x01\x02\x04\x00\x00\x00\x05", Some(0), None),
+        (b"\x02\x04\x00\x01\x02\x04\x00\x02", Some(2), None),
+        (b"\x02\x04\x00\x01\x02\x03\x09\x00", Some(1), None),
+        (b"\x03\x03\x0e\x01\x03\x03\xff\x00", None, Some(255)),
+        (b"\x02\x04\x05\xb4\x01\x03\x03\x00", Some(1460), Some(0)),
     ];
-    for (options, mss) in table {
+    for (options, mss, scale) in table {
         let segment = decode(rt.alloc(), &with_options(rt.alloc(), options)?)?;
         assert_eq!(rt; segment.mss, mss, "{options:?}");
+        assert_eq!(rt; segment.scale, scale, "{options:?}");
         assert_eq!(rt; segment.options.as_slice(), options);
         assert_eq!(rt; segment.payload.as_slice(), DATA);
     }
