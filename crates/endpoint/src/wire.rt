@@ -2,7 +2,7 @@
 
 ghost use Rattle.machine.specs.Bounds.{IsSmallEmission};
 ghost use Rattle.machine.specs.Same.{same_bytes};
-ghost use Rattle.machine.specs.Wire.{same_flags, shows, shows_shift, is_shown, out_rules, sent, in_rules};
+ghost use Rattle.machine.specs.Wire.{same_flags, shows, shows_shift, is_shown, sent, in_rules};
 ghost use Rattle.std.specs.Prelude.{◌≡◌, IfOk, ◌+◌, nat_lt};
 ghost use Rattle.std.specs.Result.{result_err};
 ghost use Rattle.verdict.specs.Rules.{first_broken};
@@ -60,16 +60,6 @@ pub fn is_shown(header: &Header, wire: &Wire, m: &Emission) -> bool
     ensures { result ≡ is_shown header.now wire.now m.now }
 {
     shows(&wire.seg, m) && (!(header.version.scales() && m.flags.syn) || shows_shift(&wire.seg, m))
-}
-
-/// Whether what goes out is the made segment. An error is the rule that is broken.
-pub fn admits_out(header: &Header, wire: &Wire, m: &Emission) -> Result<(), Rule>
-    ensures { result_err result ≡ first_broken (out_rules header.now wire.now m.now) }
-{
-    if !is_shown(header, wire, m) {
-        return Err(Rule::BytesDiffer);
-    }
-    Ok(())
 }
 
 /// The made segment once it went out, at a moment in microseconds: with its bytes, and the MSS and the shift that they
