@@ -13,6 +13,26 @@ use verdict::Verdict;
 // How many threads check the cases of one input.
 const WORKERS: &str = "4";
 
+// Inputs with lines that end a case and lines that don't, and for each what is printed and the status.
+const ENDS: [(&str, &str); 10] = [
+    ("", "0"),
+    ("end\n", "bad trace 1 0 0 header\n2"),
+    (
+        "end\nend\n",
+        "bad trace 1 0 0 header\nbad trace 1 0 0 header\n2",
+    ),
+    (
+        "end\r\nend\n",
+        "bad trace 1 0 0 header\nbad trace 1 0 0 header\n2",
+    ),
+    ("end\nend", "bad trace 1 0 0 header\nbad trace 1 0 3 cut\n2"),
+    ("end", "bad trace 1 0 3 cut\n2"),
+    ("end\r", "bad trace 1 0 4 cut\n2"),
+    ("end\r\r\n", "bad trace 1 0 4 header\n2"),
+    ("end \n", "bad trace 1 0 4 header\n2"),
+    ("END\n", "bad trace 1 0 3 header\n2"),
+];
+
 /// Asks for each case by itself, by `check_case` and by the word `check`.
 pub fn ask_each(
     alloc: Global,
@@ -40,6 +60,23 @@ pub fn ask_many<H: Threads + Wait + Sync>(
     for case in cases.iter().filter(|case| !case.is_ended()) {
         let found = by_many(rt, alloc, case.text.as_slice())?;
         compare(alloc, case, "many, alone", found.as_str(), differing)?;
+    }
+    Ok(())
+}
+
+/// Asks for inputs of `many` that are all ends.
+pub fn ask_ends<H: Threads + Wait + Sync>(
+    rt: &H,
+    alloc: Global,
+    differing: &mut Vec<String>,
+) -> Result<(), AllocError> {
+    for (input, wanted) in &ENDS {
+        let found = by_many(rt, alloc, input.as_bytes())?;
+        if found.as_str() != *wanted {
+            differing.push(format!(in alloc;
+                "many of {input:?}: wanted {wanted:?}, found {found:?}"
+            )?)?;
+        }
     }
     Ok(())
 }

@@ -24,8 +24,6 @@ mod many_laws;
 mod many_words;
 mod running;
 mod segment_line;
-#[cfg(test)]
-mod tests;
 mod words;
 
 pub use given::given_words;

@@ -24,8 +24,6 @@ mod makings;
 mod receive;
 mod runs;
 mod send;
-#[cfg(test)]
-mod tests;
 
 pub use cell::Cell;
 pub use laws::{forgetting_makings, forgetting_streams, starts_are_prefixes, streams_in_order};

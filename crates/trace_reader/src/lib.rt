@@ -28,6 +28,3 @@ pub use line_fields::{FaultKind, ReadFault, SegFault, Span, TextFault, Token};
 pub use printing::{print_law, print_trace};
 pub use reading::read_trace;
 pub use stream::TraceReader;
-
-#[cfg(test)]
-mod tests;

@@ -22,8 +22,6 @@ mod parts;
 mod printing;
 mod reading;
 mod stream;
-#[cfg(test)]
-mod tests;
 
 pub use case_forms::{
     Extras, Flags, Label, NamedLine, OutOfMemory, Recovery, SegmentPlan, Span, Step, Steps,

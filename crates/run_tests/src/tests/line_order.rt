@@ -1,0 +1,67 @@
+//! Many lines that wait at once.
+
+ghost use Rattle.std.specs.Prelude.{◌≡◌};
+
+use case_forms::{Call, Event, Header, Line, OutOfMemory, Span};
+use interval_order::Window;
+use std::alloc::Global;
+
+const HEADER: Header = Header {
+    skew: 5,
+    msl: 1,
+    grain: 0,
+    minrto: 0,
+    extra: 0,
+};
+
+fn line(number: u64, moment: u64, thread: u32) -> Line
+    ensures number { result.number ≡ number }
+    ensures moment { result.moment ≡ moment }
+{
+    Line {
+        number,
+        moment,
+        thread,
+        event: Event::CallBegin(Call::Close(2)),
+        span: Span {
+            line: number,
+            start: 0,
+            stop: 0,
+        },
+    }
+}
+
+// The window with these lines, each a moment and a thread, as long as the moments don't fall.
+fn window_of(alloc: Global, lines: &[(u64, u32)]) -> Result<Window, OutOfMemory> {
+    let mut window = Window::new(alloc, &HEADER);
+    let mut number = HEADER.first_event_line();
+    let mut since = 0;
+    for (moment, thread) in lines {
+        if *moment < since || number > 1_000_000 {
+            return Ok(window);
+        }
+        since = *moment;
+        window.offer(line(number, since, *thread))?;
+        number += 1;
+    }
+    Ok(window)
+}
+
+// A step takes no time that grows with the lines.
+#[test]
+fn many_lines_wait_at_once(rt: HostRuntime) {
+    let mut lines = Vec::new(rt.alloc());
+    for place in 0..200_000u32 {
+        lines.push((100, place % 20_000)).expect(&rt, "memory");
+    }
+    let mut window = window_of(rt.alloc(), &lines).expect(&rt, "memory");
+    let mut placed = 0u32;
+    for place in 0..180_000u64 {
+        if window.place(7 + place, 0, 100).is_ok() {
+            placed = placed.saturating_add(1);
+        }
+    }
+    assert!(rt;
+        placed == 180_000 && window.held() == 20_000 && window.first_left() == Some(180_007)
+    );
+}
