@@ -6,7 +6,7 @@ use std::alloc::{AllocError, Global};
 use std::test::Fail;
 
 #[test]
-fn writes_fields_and_the_mss(rt: HostRuntime) -> Result<(), Fail> {
+fn writes_fields_and_options(rt: HostRuntime) -> Result<(), Fail> {
     let alloc = rt.alloc();
     let mut segment = plain(alloc, (80, 4000, 100, 4_294_967_295, 0x12), b"hi")?;
     let bytes =
@@ -16,6 +16,10 @@ fn writes_fields_and_the_mss(rt: HostRuntime) -> Result<(), Fail> {
     segment.options = Bytes::from_slice(alloc, b"\x01\x01\x01\x00")?;
     let bytes =
         b"\x00\x50\x0f\xa0\x00\x00\x00\x64\xff\xff\xff\xff\x60\x12\xff\xff\x00\x00\x00\x00\x02\x04\x03\xe8hi";
+    assert_eq!(rt; encode(alloc, &segment)?.as_slice(), bytes.as_slice());
+    segment.scale = Some(7);
+    let bytes =
+        b"\x00\x50\x0f\xa0\x00\x00\x00\x64\xff\xff\xff\xff\x70\x12\xff\xff\x00\x00\x00\x00\x02\x04\x03\xe8\x01\x03\x03\x07hi";
     assert_eq!(rt; encode(alloc, &segment)?.as_slice(), bytes.as_slice());
     Ok(())
 }
