@@ -7,6 +7,7 @@ mod forms;
 mod header_faults;
 mod limits;
 mod streams;
+mod versions;
 mod whole_traces;
 
 use crate::{TextFault, read_trace};

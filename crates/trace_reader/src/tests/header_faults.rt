@@ -8,7 +8,7 @@ const FAULTS: [(&str, &str); 17] = [
     ("trace 1", "1 0 7 cut"),
     ("trace 01\n", "1 0 8 header"),
     ("trace  1\n", "1 0 8 header"),
-    ("trace 2\n", "1 0 7 header"),
+    ("trace 3\n", "1 0 7 header"),
     ("Trace 1\n", "1 0 7 header"),
     ("trace 1\n", "2 0 0 header"),
     ("trace 1\nskew\n", "2 0 4 header"),

@@ -21,7 +21,7 @@ const LINES: &str = "10 1 B listen 1 80 4\n\
 // A second fault stands behind the first.
 const FAULTS: [(&str, &str); 4] = [
     ("", "1 0 0 header"),
-    ("trace 2\nskew x\n", "1 0 7 header"),
+    ("trace 3\nskew x\n", "1 0 7 header"),
     ("trace 1\r\nskew x\r\nmsl 0\n", "2 5 6 number"),
     ("trace 1\nskew 0\n", "3 0 0 header"),
 ];
