@@ -9,8 +9,8 @@ mod streams;
 mod vectors;
 
 use crate::{
-    Extras, Flags, Label, NamedLine, Recovery, SegmentPlan, Step, TakeChoice, begins_witness,
-    read_step,
+    Extras, Flags, Label, NamedLine, Recovery, SegmentPlan, Step, TakeChoice, Version,
+    begins_witness, read_step,
 };
 use case_forms::{Answer, Host, Span, State};
 use segment::Bytes;
@@ -19,7 +19,7 @@ use std::alloc::Global;
 use std::process::Abort;
 use std::test::Fail;
 
-// A step is read so, from its first column to its last, and not the end.
+// A step of version 2 is read so, from its first column to its last, and not the end.
 fn reads(
     rt: &impl Abort,
     alloc: Global,
@@ -34,7 +34,7 @@ fn reads(
         stop,
     };
     let raw = format!(in alloc; "{text}\r\n")?;
-    let step = read_step(alloc, 9, raw.as_bytes())?;
+    let step = read_step(alloc, Version::Two, 9, raw.as_bytes())?;
     let wanted = Step {
         moment,
         label,
@@ -102,6 +102,7 @@ fn reads_segments(rt: HostRuntime) -> Result<(), Fail> {
                 flags: syn,
                 window: 65535,
                 iss: Some(Word(4_294_967_294)),
+                shift: None,
             },
         ),
         (
@@ -116,10 +117,11 @@ fn reads_segments(rt: HostRuntime) -> Result<(), Fail> {
                 flags: all,
                 window: 0,
                 iss: None,
+                shift: None,
             },
         ),
         (
-            "2 M 1 80 4000 1 5 - 9 0",
+            "2 M 1 80 4000 1 5 - 9 0 14",
             2,
             Host::One,
             SegmentPlan {
@@ -130,6 +132,7 @@ fn reads_segments(rt: HostRuntime) -> Result<(), Fail> {
                 flags: none,
                 window: 9,
                 iss: Some(Word(0)),
+                shift: Some(14),
             },
         ),
     ];
@@ -211,6 +214,12 @@ fn knows_the_first_line(rt: HostRuntime) {
         ("witness 2\n", false),
     ];
     for (raw, begins) in table {
-        assert_eq!(rt; begins_witness(raw.as_bytes()), begins, "at {raw:?}");
+        assert_eq!(rt;
+            begins_witness(Version::One, raw.as_bytes()),
+            begins,
+            "at {raw:?}"
+        );
     }
+    assert!(rt; begins_witness(Version::Two, b"witness 2\n"));
+    assert!(rt; !begins_witness(Version::Two, b"witness 1\n"));
 }

@@ -12,7 +12,7 @@ pub(super) type Faulty = (&'static str, &'static str);
 pub(super) const TEXTS: [Faulty; 18] = [
     ("", "1 0 0 header"),
     ("\n", "1 0 0 header"),
-    ("witness 2\n", "1 0 9 header"),
+    ("witness 3\n", "1 0 9 header"),
     ("witness 01\n", "1 0 10 header"),
     ("witness  1\n", "1 0 10 header"),
     ("witness 1 \n", "1 0 10 header"),
@@ -104,6 +104,14 @@ const SEGMENTS: [Faulty; 22] = [
     ("10 M 0 4000 80 0 0 SA 65536", "2 19 21 field"),
 ];
 
+// Shifts, in version 2. Behind the shift nothing stands.
+const SHIFTS: [Faulty; 4] = [
+    ("10 M 0 4000 80 0 0 S 65535 1 15", "2 29 31 number"),
+    ("10 M 0 4000 80 0 0 S 65535 1 07", "2 29 31 number"),
+    ("10 M 0 4000 80 0 0 S 65535 1 7 8", "2 31 32 field"),
+    ("10 M 0 4000 80 0 0 S 65535 1 ", "2 29 29 field"),
+];
+
 // Inbox entries that are taken, dropped and answered by a reset.
 const INBOX: [Faulty; 15] = [
     ("10 T 0 12 0 2 0", "2 12 13 number"),
@@ -161,12 +169,17 @@ fn names_the_first_fault_of_a_text(rt: HostRuntime) -> Result<(), Fail> {
     Ok(())
 }
 
-// Each step has its fault as line 2 of a witness, with either end.
-fn refuses_steps(rt: &impl Abort, alloc: Global, steps: &[Faulty]) -> Result<(), Fail> {
+// Each step has its fault as line 2 of a witness of this version, with either end.
+fn refuses_steps(
+    rt: &impl Abort,
+    alloc: Global,
+    version: &str,
+    steps: &[Faulty],
+) -> Result<(), Fail> {
     for (step, wanted) in steps {
-        let text = format!(in alloc; "witness 1\n{step}\n10 L x\n")?;
+        let text = format!(in alloc; "witness {version}\n{step}\n10 L x\n")?;
         refuses(rt, alloc, text.as_str(), wanted)?;
-        let other = format!(in alloc; "witness 1\r\n{step}\r\n")?;
+        let other = format!(in alloc; "witness {version}\r\n{step}\r\n")?;
         refuses(rt, alloc, other.as_str(), wanted)?;
     }
     Ok(())
@@ -175,11 +188,12 @@ fn refuses_steps(rt: &impl Abort, alloc: Global, steps: &[Faulty]) -> Result<(),
 #[test]
 fn names_the_first_fault_of_a_step(rt: HostRuntime) -> Result<(), Fail> {
     let alloc = rt.alloc();
-    refuses_steps(&rt, alloc, &LINES)?;
-    refuses_steps(&rt, alloc, &EFFECTS)?;
-    refuses_steps(&rt, alloc, &SEGMENTS)?;
-    refuses_steps(&rt, alloc, &INBOX)?;
-    refuses_steps(&rt, alloc, &RECOVERIES)
+    refuses_steps(&rt, alloc, "1", &LINES)?;
+    refuses_steps(&rt, alloc, "1", &EFFECTS)?;
+    refuses_steps(&rt, alloc, "1", &SEGMENTS)?;
+    refuses_steps(&rt, alloc, "2", &SHIFTS)?;
+    refuses_steps(&rt, alloc, "1", &INBOX)?;
+    refuses_steps(&rt, alloc, "1", &RECOVERIES)
 }
 
 // What stands in line 2, and its fault, where so many digits of a number stand before its end.

@@ -136,6 +136,14 @@ const OTHER_FORMS: &str = "witness 1
 3 M 1 65535 1 0 0 RF 0
 ";
 
+// Shifts, which version 2 has.
+const SHIFTS: &str = "witness 2
+30 M 0 4000 80 0 0 S 65535 4294967294 7
+50 M 1 80 4000 0 0 AS 65535 100 0
+70 M 0 4001 80 0 0 S 65535 1 14
+90 M 0 4002 80 0 0 S 65535 1
+";
+
 // The witness of a text is printed so.
 fn prints(rt: &impl Abort, alloc: Global, text: &str, wanted: &str) -> Result<(), Fail> {
     let witness = read_witness(alloc, text.as_bytes())?;
@@ -146,7 +154,14 @@ fn prints(rt: &impl Abort, alloc: Global, text: &str, wanted: &str) -> Result<()
 
 #[test]
 fn reads_and_prints_again(rt: HostRuntime) -> Result<(), Fail> {
-    for text in [HANDSHAKE, QUEUE_FULL, PROBE, OTHER_FORMS, "witness 1\n"] {
+    for text in [
+        HANDSHAKE,
+        QUEUE_FULL,
+        PROBE,
+        OTHER_FORMS,
+        SHIFTS,
+        "witness 1\n",
+    ] {
         prints(&rt, rt.alloc(), text, text)?;
     }
     Ok(())
