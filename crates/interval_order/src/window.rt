@@ -242,14 +242,16 @@ fn is_past(from: u64, skew: u64, moment: u64) -> bool
 #[cfg(test)]
 mod tests {
     use super::*;
-    use case_forms::{Call, Span};
+    use case_forms::{Call, Initial, Span, Version};
 
     const HEADER: Header = Header {
+        version: Version::One,
         skew: 5,
         msl: 1,
         grain: 0,
         minrto: 0,
         extra: 0,
+        initial: Initial::Rfc5681,
     };
 
     fn line(number: u64, moment: u64, thread: u32) -> Line
