@@ -217,10 +217,15 @@ impl HostState {
     }
 
     /// Whether what goes out is the segment that was made under this number. An error is the first rule that is broken.
-    pub(crate) fn admits_sending(&self, number: u32, wire: &Wire) -> Result<(), Rule>
-        ensures { result_err result ≡ first_broken (sending_rules out_rules self.now.made number wire.now) }
+    pub(crate) fn admits_sending(
+        &self,
+        header: &Header,
+        number: u32,
+        wire: &Wire,
+    ) -> Result<(), Rule>
+        ensures { result_err result ≡ first_broken (sending_rules (out_rules header.now) self.now.made number wire.now) }
     {
-        admits_sending(&self.made, number, wire)
+        admits_sending(header, &self.made, number, wire)
     }
 
     /// Whether what comes in at a moment at the other host is a copy of what this one put on its wire with the line `copied`. An

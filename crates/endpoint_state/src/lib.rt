@@ -39,8 +39,6 @@ mod orphans;
 mod rules;
 mod sending;
 mod sockets;
-#[cfg(test)]
-mod tests;
 mod threads;
 mod turn;
 mod world;

@@ -145,14 +145,14 @@ impl Body {
             return Err(Rule::NoEndpoint);
         };
         if endpoint.state.is_syn_sent() {
-            return endpoint::admits_syn_sent(endpoint, how, m);
+            return endpoint::admits_syn_sent(header.initial, endpoint, how, m);
         }
         let full = self.joins_full_queue(header, endpoint, m);
         let me = Name {
             host,
             number: place,
         };
-        endpoint::admits_connected(full, me, endpoint, how, m)
+        endpoint::admits_connected(header.initial, full, me, endpoint, how, m)
     }
 
     // The endpoint is a child that would join a full queue.

@@ -99,7 +99,9 @@ impl World {
     pub fn admits_sending(&self, host: Host, number: u32, wire: &Wire) -> Result<(), Rule>
         ensures { result_err result ≡ first_broken (step_rules (tcp self.now.header) 0 self.now.world (At host (Sends 0 number wire.now))) }
     {
-        self.hosts.near(host).admits_sending(number, wire)
+        self.hosts
+            .near(host)
+            .admits_sending(&self.header, number, wire)
     }
 
     /// Whether a copy of the other host's line `copied` may come in so, at a moment in microseconds. An error is the first

@@ -16,5 +16,7 @@
 mod endpoint;
 mod queue;
 
-pub use endpoint::{Emission, Endpoint, Fault, Listener, Name, Socket, Stream, Thing, Window};
+pub use endpoint::{
+    Emission, Endpoint, Fault, Listener, Name, Socket, Stream, Thing, Window, window_in,
+};
 pub use queue::Queue;

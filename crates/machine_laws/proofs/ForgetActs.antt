@@ -76,9 +76,9 @@ taker_rules-forget h me b how m (AtEndpoint i e) = by (is_syn_sent e.state)
     name : Name
     name = record { host = me; number = i }
 
-    by : (sent : Bool) → (if sent then syn_sent_rules (forget_endpoint e) how m else connected_rules h (forget_body b) name (forget_endpoint e) how m)
-        ≡ (if sent then syn_sent_rules e how m else connected_rules h b name e how m)
-    by true = syn_sent_rules-forget e how m
+    by : (sent : Bool) → (if sent then syn_sent_rules h.initial (forget_endpoint e) how m else connected_rules h (forget_body b) name (forget_endpoint e) how m)
+        ≡ (if sent then syn_sent_rules h.initial e how m else connected_rules h b name e how m)
+    by true = syn_sent_rules-forget h.initial e how m
     by false = connected_rules-forget h b name e how m
 
 nothing-forget : (m : Emission) (t : Taker) → finds_nothing m (forget_taker t) ≡ finds_nothing m t

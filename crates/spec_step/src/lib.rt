@@ -13,8 +13,6 @@ mod expired;
 mod hidden;
 mod line;
 mod step;
-#[cfg(test)]
-mod tests;
 
 pub use hidden::apply_hidden;
 pub use line::apply_line;

@@ -51,7 +51,7 @@ pub(crate) fn is_duplicate(endpoint: &Endpoint, m: &Emission) -> bool
         && m.length() == 0
         && !m.flags.rst
         && m.ack == endpoint.stream.una
-        && m.window == endpoint.window.wnd
+        && endpoint.peer_window(m) == endpoint.window.wnd
 }
 
 /// Whether a round trip may be measured by it: it acknowledges what was not acknowledged before, and all of that was
