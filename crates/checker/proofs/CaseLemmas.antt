@@ -79,7 +79,7 @@ module _ (v : Version) where
   -- the parts, where the place of the cut is known
   parts_at : (text : List ℕ) (front left : List (List ℕ)) → front ++ left ≡ lines_of text → cut_place v (front ++ left) ≡ length front → (trace_part v text ≡ concat front) × (witness_part v text ≡ concat left)
   parts_at text front left lines place =
-      let same : cut_place v (lines_of text) ≡ length front = ap cut_place v (sym lines) ∙ place in (
+      let same : cut_place v (lines_of text) ≡ length front = ap (cut_place v) (sym lines) ∙ place in (
         ap (λ (n : ℕ). concat (take n (lines_of text))) same ∙ ap (λ (raws : List (List ℕ)). concat (take (length front) raws)) (sym lines) ∙ ap concat (take_at front left (length front) refl),
         ap (λ (n : ℕ). concat (drop n (lines_of text))) same ∙ ap (λ (raws : List (List ℕ)). concat (drop (length front) raws)) (sym lines) ∙ ap concat (drop_at front left (length front) refl),
       )
@@ -92,7 +92,7 @@ module _ (v : Version) where
 
   pub cut_end : (text : List ℕ) (at : ℕ) → IsCutSoFar text at [] → (take at text ≡ trace_part v text) × (drop at text ≡ witness_part v text)
   cut_end text at c =
-      let parts = parts_at text c.front [] c.lines (ap cut_place v (append-nil c.front) ∙ place_end c.front c.none) in
+      let parts = parts_at text c.front [] c.lines (ap (cut_place v) (append-nil c.front) ∙ place_end c.front c.none) in
       let here = front_is text at [] c in
       (here.0 ∙ sym parts.0, here.1 ∙ sym parts.1)
 
