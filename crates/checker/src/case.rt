@@ -1,7 +1,7 @@
 //! A case in one text: cut, read and judged.
 //!
-//! The text of the trace ends before the first line that begins a witness; the witness's text is the rest. A fault of the
-//! trace comes before one of the witness, and both before any verdict.
+//! The text of the trace ends before the first line that begins a witness of its version; the witness's text is the rest. A
+//! fault of the trace comes before one of the witness, and both before any verdict.
 
 ghost use Rattle.std.specs.Prelude.{◌≡◌, ◌≢◌, Err};
 ghost use Rattle.checker.specs.Cases.{trace_part, witness_part, case_fault, case_result, GivesCase};
@@ -11,9 +11,9 @@ use bstr::ByteSlice;
 use line_fields::{FaultKind, TextFault};
 use std::alloc::{AllocError, Global};
 use thiserror::Error;
-use trace_reader::read_trace;
+use trace_reader::{Version, read_trace, version_named};
 use verdict::Verdict;
-use witness::{begins_witness, read_witness};
+use witness::{begins_witness, read_witness_for};
 
 /// Why a case has no verdict.
 #[derive(Clone, Copy, Debug, PartialEq, Eq, Error)]
@@ -49,12 +49,13 @@ pub fn check_case(alloc: Global, text: &[u8]) -> Result<Verdict, CaseFault>
     ensures exact { GivesCase result (case_result text.now) }
     ensures unread { result ≢ Err CaseFault.Read }
 {
-    let (trace_text, witness_text) = cut(text);
+    let version = version_named(text);
+    let (trace_text, witness_text) = cut(version, text);
     let trace = match read_trace(alloc, trace_text) {
         Ok(trace) => trace,
         Err(fault) => return Err(trace_fault(fault)),
     };
-    let witness = match read_witness(alloc, witness_text) {
+    let witness = match read_witness_for(alloc, version, witness_text) {
         Ok(witness) => witness,
         Err(fault) => return Err(witness_fault(fault)),
     };
@@ -62,14 +63,14 @@ pub fn check_case(alloc: Global, text: &[u8]) -> Result<Verdict, CaseFault>
     Ok(verdict)
 }
 
-// The text of the trace, and that of its witness.
-fn cut(text: &[u8]) -> (&[u8], &[u8])
-    ensures trace { result.0.now ≡ trace_part text.now }
-    ensures witness { result.1.now ≡ witness_part text.now }
+// The text of the trace, and that of its witness, in a case of this version.
+fn cut(version: Version, text: &[u8]) -> (&[u8], &[u8])
+    ensures trace { result.0.now ≡ trace_part version text.now }
+    ensures witness { result.1.now ≡ witness_part version text.now }
 {
     let mut at = 0;
     for raw in text.lines_with_terminator() {
-        if begins_witness(raw) {
+        if begins_witness(version, raw) {
             return text.split_at(at);
         }
         at += raw.len();

@@ -32,13 +32,14 @@ use spec_step::{StepFault, apply_hidden, apply_line};
 use std::alloc::{AllocError, Global};
 use verdict::{Rule, Verdict};
 
-/// The verdict on a witness for a trace that some text stands for.
+/// The verdict on a witness for a trace of its version, where some texts stand for both.
 ///
 /// Yes with the counts of lines and of hidden steps exactly where the steps explain the trace; else no at the first
 /// step that breaks a rule, with the least rule that it breaks, or, where none does, with the least line left over.
 pub fn check(alloc: Global, trace: &Trace, witness: &Witness) -> Result<Verdict, OutOfMemory>
     requires trace { IsTrace trace.now }
     requires witness { IsWitness witness.now }
+    requires versions { trace.now.header.version ≡ witness.now.version }
     ensures exact { IfOk result (λ v. v ≡ verdict trace.now witness.now) }
 
     // What the verdict says of the two lists, in places.

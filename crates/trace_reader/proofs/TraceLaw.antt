@@ -1,5 +1,5 @@
 -- A text is read as a trace exactly where it stands for it.
-use Rattle.std.proofs.Common.{◌≡◌, ℕ, ◌+◌, List, [], ◌∷◌, ◌++◌, Result, Ok, Err, refl, sym, ap, subst, ◌∙◌, inl, arith}
+use Rattle.std.proofs.Common.{◌≡◌, ℕ, ◌+◌, List, [], ◌∷◌, ◌++◌, Result, Ok, Err, refl, sym, ap, subst, ◌∙◌, append_assoc, inl, arith}
 use Rattle.std.specs.Prelude.{map, IfOk}
 use Rattle.std.specs.List.{concat, AllByRecursion}
 use Rattle.std.proofs.lemmas.List.Folds.{concat-append}
@@ -18,12 +18,12 @@ use Rattle.line_fields.proofs.Readers.{bind_ok, ok_is}
 use Rattle.line_fields.proofs.Written.{written_len, printed_written}
 use Rattle.line_fields.proofs.Texts.{lines_of-concat}
 use Rattle.line_fields.proofs.Loop.{spelled_takes, spelled_again, spelled_raws}
-use Rattle.trace_reader.specs.Headers.{AreLines, header_words, header_of}
+use Rattle.trace_reader.specs.Headers.{AreLines, header_words, version_named, header_of}
 use Rattle.trace_reader.specs.EventLines.{Place, behind, line_pieces, IsEventLine, line_of}
 use Rattle.trace_reader.specs.TraceText.{first_place, IsTraceText, events_of, trace_of}
 use Rattle.trace_reader.specs.Printed.{trace_text}
 use Rattle.trace_reader.proofs.EventLineLaw.{reads_line, line_is_raw}
-use Rattle.trace_reader.proofs.HeaderLaw.{header_takes, header_again, header_raw}
+use Rattle.trace_reader.proofs.HeaderLaw.{header_takes, header_again, header_raw, header_named}
 
 abbrev done_with : Header → List Line → Result Trace TextFault
 done_with h ls = Ok (record { header = h; lines = ls })
@@ -55,6 +55,13 @@ trace_again text t s =
     let header = ap header_of cut ∙ header_again t.header s.headers s.events s.limits s.are_headers in
     let lines = spelled_again line_of behind IsEventLine reads_line (first_place t.header) t.lines s.events s.are_events in
     rw (header, lines) refl
+
+-- a text that begins with that of a trace names its version
+pub trace_named : (t : Trace) (text more : List ℕ) → IsTraceText t text → version_named (lines_of (text ++ more)) ≡ t.header.version
+trace_named t text more s =
+    let parts : text ++ more ≡ concat s.headers ++ (concat s.events ++ more) =
+    ap (λ (x : List ℕ). x ++ more) (s.joined ∙ concat-append s.headers s.events) ∙ append_assoc (concat s.headers) (concat s.events) more in
+    ap (λ (x : List ℕ). version_named (lines_of x)) parts ∙ header_named t.header s.headers (concat s.events ++ more) s.are_headers
 
 are_recorded : (place : Place) (lines : List Line) (raws : List (List ℕ)) → AreSpelled IsEventLine behind place lines raws → IsRecorded place.1 place.0 lines
 are_recorded place [] raws h = tt
