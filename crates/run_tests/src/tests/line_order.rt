@@ -2,16 +2,18 @@
 
 ghost use Rattle.std.specs.Prelude.{◌≡◌};
 
-use case_forms::{Call, Event, Header, Line, OutOfMemory, Span};
+use case_forms::{Call, Event, Header, Initial, Line, OutOfMemory, Span, Version};
 use interval_order::Window;
 use std::alloc::Global;
 
 const HEADER: Header = Header {
+    version: Version::One,
     skew: 5,
     msl: 1,
     grain: 0,
     minrto: 0,
     extra: 0,
+    initial: Initial::Rfc5681,
 };
 
 fn line(number: u64, moment: u64, thread: u32) -> Line

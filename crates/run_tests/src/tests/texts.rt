@@ -7,11 +7,11 @@ use counted::Counted;
 use line_fields::ReadFault;
 use std::alloc::{AllocError, Global};
 use std::test::Fail;
-use trace_reader::{Lines, TextFault, Trace, TraceReader, event_line, print_trace};
+use trace_reader::{Lines, TextFault, Trace, TraceReader, Version, event_line, print_trace};
 use witness::{StepReader, Steps, Witness, print_witness};
 
 // Each kind of line, each call, and each form of an answer.
-const TRACE: &str = "trace 1\nskew 0\nmsl 120000000\ngrain 1000\nminrto 1000000\nextra 0\n\
+const TRACE: &str = "trace 2\nskew 0\nmsl 120000000\ngrain 1000\nminrto 1000000\nextra 0\ninitial 6928\n\
 10 1 B listen 1 80 4\n\
 11 1 E ok 5\n\
 20 2 B open 0 4000 80\n\
@@ -32,7 +32,7 @@ const TRACE: &str = "trace 1\nskew 0\nmsl 120000000\ngrain 1000\nminrto 1000000\
 70 9 T 1 4000 80 2msl\n";
 
 // Each label, and each form of its fields.
-const WITNESS: &str = "witness 1\n\
+const WITNESS: &str = "witness 2\n\
 10 L 7\n\
 10 L 11 1\n\
 1000000000000000000 L 4294967295 0 4294967295\n\
@@ -44,6 +44,7 @@ const WITNESS: &str = "witness 1\n\
 4 F 1 1 65535 0 4294967295\n\
 3 M 1 65535 1 1000000000000000000 65515 ARSF 0 0\n\
 3 M 1 65535 1 0 0 - 0\n\
+3 M 0 4000 80 0 0 S 65535 4294967294 14\n\
 2 T 1 16 2144 0 1\n";
 
 // All lines, of which there are at most a hundred.
@@ -80,17 +81,20 @@ fn all_steps(alloc: Global, reader: &mut StepReader<Source<'_>>) -> Result<Witne
     for _ in 0..100 {
         match reader.next()? {
             Some(step) => steps.push(step).map_err(TextFault::from)?,
-            None => return Ok(Witness { steps }),
+            None => break,
         }
     }
-    Ok(Witness { steps })
+    Ok(Witness {
+        version: Version::Two,
+        steps,
+    })
 }
 
 #[test]
 fn a_witness_is_the_same_in_pieces(rt: HostRuntime) -> Result<(), Fail> {
     for size in [1, 7, 4096] {
         let source = Counted::new(Source::new(WITNESS.as_bytes(), size, 0));
-        let mut reader = StepReader::new(rt.alloc(), source);
+        let mut reader = StepReader::new(rt.alloc(), Version::Two, source);
         let witness = all_steps(rt.alloc(), &mut reader)?;
         let printed = print_witness(rt.alloc(), &witness)?;
         assert!(rt; printed.as_slice() == WITNESS.as_bytes());
@@ -145,7 +149,7 @@ fn a_trace_is_read_up_to_a_failure(rt: HostRuntime) -> Result<(), Fail> {
 // What is read of a witness of one step, then how many calls failed.
 fn witness_read(alloc: Global, fails_at: u32) -> Result<String, AllocError> {
     let source = Counted::new(Source::new(b"witness 1\n10 L 7\n", 4096, fails_at));
-    let mut reader = StepReader::new(alloc, source);
+    let mut reader = StepReader::new(alloc, Version::One, source);
     let mut told = String::new(alloc);
     told.push_str(word(&reader.next()))?;
     told.push_str(word(&reader.next()))?;
