@@ -1,6 +1,6 @@
 //! One endpoint of a host changes in its place.
 
-ghost use Rattle.std.specs.Prelude.{◌≡◌, ◌≤◌, false, length, None, OnOk, OnErr, IfOk, slice_get};
+ghost use Rattle.std.specs.Prelude.{◌≡◌, ◌≤◌, false, true, length, None, Some, is_some, OnOk, OnErr, IfOk, slice_get};
 ghost use Rattle.std.specs.List.{All};
 ghost use Rattle.std.specs.Option.{option_map, IfSome, IsSomeAnd};
 ghost use Rattle.machine.specs.Bounds.{greatest_position, HasRoom, IsSmallEmission};
@@ -11,44 +11,45 @@ ghost use Rattle.machine.specs.Forgetting.{forget_endpoint};
 ghost use Rattle.case_forms.specs.States.{is_closed};
 ghost use Rattle.machine.specs.Makes.{after_making, emission_of};
 ghost use Rattle.machine.specs.Arrives.{endpoint_taken};
+ghost use Rattle.machine.specs.Steps.{growth_of, timer_of};
 ghost use Rattle.machine.specs.Timeouts.{after_expiry};
 ghost use Rattle.machine.specs.Recovery.{after_recovery};
 ghost use Rattle.streams.specs.Received.{waiting};
 ghost use Rattle.endpoint_state.specs.Changes.{changed};
 
 use crate::endpoints::Endpoints;
-use case_forms::{Growth, Header, SegmentPlan, TakeChoice, Timer};
+use case_forms::{Expired, Header, SegmentPlan, TakeChoice};
 use endpoint::take_segment;
 use machine::{Emission, Endpoint, Name};
 use segment::OutOfMemory;
 use std::alloc::Global;
 
 impl Endpoints {
-    /// The endpoint of this name makes a segment, at a moment in microseconds. None: there is none at its place. Where
-    /// memory runs out nothing is changed.
+    /// The endpoint of this name makes a segment, at a moment in microseconds. Where memory runs out nothing is changed.
     pub fn make(
         &mut self,
         alloc: Global,
         me: Name,
         making: &SegmentPlan,
         moment: u64,
-    ) -> Result<Option<Emission>, OutOfMemory>
+    ) -> Result<Emission, OutOfMemory>
         requires kept { All HasRoom self.old }
         requires small { making.now.pos ≤ greatest_position }
-        ensures made { IfOk result (λ m. m ≡ option_map (λ e. emission_of me e making.now) (slice_get self.old me.number)) }
-        ensures small { IfOk result (λ m. IfSome m IsSmallEmission) }
+        requires there { is_some (slice_get self.old me.number) ≡ true }
+        ensures made { IfOk result (λ m. option_map (λ e. emission_of me e making.now) (slice_get self.old me.number) ≡ Some m) }
+        ensures small { IfOk result IsSmallEmission }
         ensures ok { OnOk result (self.new ≡ changed self.old me.number (λ e. after_making e making.now moment)) }
         ensures err { OnErr result (self.new ≡ self.old) }
     {
         make_at(&mut self.all, alloc, me, making, moment)
     }
 
-    /// A timer of the endpoint at a place expires, at a moment in microseconds, with this choice of what it has then.
-    pub fn expire(&mut self, place: u32, timer: Timer, growth: Growth, moment: u64)
+    /// A timer of the endpoint at a place expires, at a moment in microseconds.
+    pub fn expire(&mut self, place: u32, expired: Expired, moment: u64)
         requires { All HasRoom self.old }
-        ensures { self.new ≡ changed self.old place (λ e. after_expiry e timer growth moment) }
+        ensures { self.new ≡ changed self.old place (λ e. after_expiry e (timer_of expired) (growth_of expired) moment) }
     {
-        expire_at(&mut self.all, place as usize, timer, growth, moment);
+        expire_at(&mut self.all, place as usize, expired, moment);
     }
 
     /// Fast recovery begins at the endpoint at a place, with this congestion window and slow start threshold (in bytes).
@@ -187,11 +188,12 @@ fn make_at(
     me: Name,
     making: &SegmentPlan,
     moment: u64,
-) -> Result<Option<Emission>, OutOfMemory>
+) -> Result<Emission, OutOfMemory>
     requires kept { All HasRoom endpoints.old.items }
     requires small { making.now.pos ≤ greatest_position }
-    ensures made { IfOk result (λ m. m ≡ option_map (λ e. emission_of me e making.now) (slice_get endpoints.old.items me.number)) }
-    ensures small { IfOk result (λ m. IfSome m IsSmallEmission) }
+    requires there { is_some (slice_get endpoints.old.items me.number) ≡ true }
+    ensures made { IfOk result (λ m. option_map (λ e. emission_of me e making.now) (slice_get endpoints.old.items me.number) ≡ Some m) }
+    ensures small { IfOk result IsSmallEmission }
     ensures ok { OnOk result (endpoints.new.items ≡ changed endpoints.old.items me.number (λ e. after_making e making.now moment)) }
     ensures err { OnErr result (endpoints.new.items ≡ endpoints.old.items) }
 {
@@ -199,9 +201,9 @@ fn make_at(
     if place < endpoints.len() {
         let endpoint = &mut endpoints[place];
         let emission = make_one(alloc, endpoint, me, making, moment)?;
-        return Ok(Some(emission));
+        return Ok(emission);
     }
-    Ok(None)
+    unreachable!()
 }
 
 fn make_one(
@@ -224,13 +226,13 @@ fn make_one(
     Ok(emission)
 }
 
-fn expire_at(endpoints: &mut Vec<Endpoint>, place: usize, timer: Timer, growth: Growth, moment: u64)
+fn expire_at(endpoints: &mut Vec<Endpoint>, place: usize, expired: Expired, moment: u64)
     requires { All HasRoom endpoints.old.items }
-    ensures { endpoints.new.items ≡ changed endpoints.old.items place (λ e. after_expiry e timer growth moment) }
+    ensures { endpoints.new.items ≡ changed endpoints.old.items place (λ e. after_expiry e (timer_of expired) (growth_of expired) moment) }
 {
     if place < endpoints.len() {
         let endpoint = &mut endpoints[place];
-        endpoint::expire(endpoint, timer, growth, moment);
+        endpoint::expire(endpoint, expired, moment);
     }
 }
 

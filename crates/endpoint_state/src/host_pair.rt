@@ -6,7 +6,6 @@ ghost use Rattle.hosts.specs.Tables.{Both, other, pick, with_host};
 ghost use Rattle.hosts.specs.HostSteps.{empty_host};
 ghost use Rattle.machine.specs.Machine.{tcp};
 ghost use Rattle.machine.specs.Calls.{after_call, call_allows};
-ghost use Rattle.endpoint_state.specs.Kinds.{got_one};
 ghost use Rattle.endpoint_state.specs.Sides.{AreReady, forget_hosts};
 ghost use Rattle.endpoint_state.specs.Lending.{LendsSide};
 
@@ -63,17 +62,6 @@ impl Hosts {
         match host {
             Host::Zero => &mut self.zero,
             Host::One => &mut self.one,
-        }
-    }
-
-    /// A copy of what the other host put on its wire comes in at a host with this line.
-    pub(crate) fn get(&mut self, host: Host, line: u64, copied: u64) -> Result<(), OutOfMemory>
-        ensures ok { OnOk result (self.new ≡ with_host self.old host (got_one (pick self.old (other host)).wire line copied (pick self.old host))) }
-        ensures err { OnErr result (self.new ≡ self.old) }
-    {
-        match host {
-            Host::Zero => host::get(&mut self.zero, &self.one, line, copied),
-            Host::One => host::get(&mut self.one, &self.zero, line, copied),
         }
     }
 

@@ -24,26 +24,25 @@
 //! - `laws`: what counts and positions may become
 #![tactic(auto)]
 
-mod acts;
 mod arriving;
 mod body;
 mod calls;
 mod changes;
 mod endpoints;
+mod fault;
 mod host;
 mod host_pair;
 mod laws;
 mod listeners;
 mod made;
 mod orphans;
-mod rules;
 mod sending;
-mod sockets;
 mod threads;
 mod turn;
 mod world;
 
 pub use calls::{admits_effect, call_allowed, do_call};
+pub use fault::StepFault;
 pub use laws::{acts_keep, emissions_are_small, have_room, kept_longer};
 pub use machine::{Endpoint, Listener};
 pub use world::World;

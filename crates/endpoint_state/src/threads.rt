@@ -9,8 +9,10 @@ ghost use Rattle.verdict.specs.Rules.{first_broken};
 ghost use Rattle.hosts.specs.HostRules.{begin_rules, end_rules, pending_rules};
 ghost use Rattle.hosts.specs.Hosts.{Answered, Called, Idle, turn_of};
 ghost use Rattle.machine.specs.Same.{same_answer};
+ghost use Rattle.endpoint_state.specs.Faults.{fault_rule};
 ghost use Rattle.endpoint_state.specs.Turns.{turn_shown};
 
+use crate::fault::StepFault;
 use crate::turn::{Place, Turn};
 use case_forms::{Answer, Call, OutOfMemory};
 use indexmap::IndexMap;
@@ -57,21 +59,30 @@ pub fn open_call(threads: &IndexMap<u32, Turn>, thread: u32) -> Result<&Call, Ru
     }
 }
 
-/// A thread begins a call. Where memory runs out nothing is changed.
-pub fn begin(threads: &mut IndexMap<u32, Turn>, thread: u32, call: &Call) -> Result<(), OutOfMemory>
+/// A thread begins a call. An error is the rule that is broken, or that memory ran out; nothing is changed then.
+pub fn begin(threads: &mut IndexMap<u32, Turn>, thread: u32, call: &Call) -> Result<(), StepFault>
+    ensures fault { fault_rule result ≡ first_broken (begin_rules (turn_of thread threads.old.entries)) }
     ensures ok { OnOk result (threads.new.entries ≡ insert_entry nat_eq threads.old.entries thread (Called call.now)) }
     ensures err { OnErr result (threads.new.entries ≡ threads.old.entries) }
 {
-    put(threads, thread, Place::Called(call.copy()?))
+    admits_begin(threads, thread)?;
+    put(threads, thread, Place::Called(call.copy()?))?;
+    Ok(())
 }
 
-/// A thread's call ends. Where memory runs out nothing is changed; a thread that called before takes none.
-pub fn finish(threads: &mut IndexMap<u32, Turn>, thread: u32) -> Result<(), OutOfMemory>
+/// A thread's call ends. An error is the first rule that is broken, or that memory ran out; nothing is changed then.
+pub fn finish(
+    threads: &mut IndexMap<u32, Turn>,
+    thread: u32,
+    answer: &Answer,
+) -> Result<(), StepFault>
+    ensures fault { fault_rule result ≡ first_broken (end_rules (λ given answer. not (same_answer given answer)) (turn_of thread threads.old.entries) answer.now) }
     ensures ok { OnOk result (threads.new.entries ≡ insert_entry nat_eq threads.old.entries thread Idle) }
     ensures err { OnErr result (threads.new.entries ≡ threads.old.entries) }
-    ensures absent { OnErr result (is_some (lookup (nat_eq thread) threads.old.entries) ≡ false) }
 {
-    put(threads, thread, Place::Idle)
+    admits_end(threads, thread, answer)?;
+    put(threads, thread, Place::Idle)?;
+    Ok(())
 }
 
 /// A thread's call has its effect, with this answer. Where memory runs out nothing is changed; a thread that called before

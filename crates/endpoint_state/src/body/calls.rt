@@ -1,4 +1,4 @@
-//! What a host has once a call got its answer (RFC 9293, 3.9.1 and 3.10).
+//! Socket calls (RFC 9293, 3.9.1 and 3.10): which answers they may have, and what a host has then.
 
 ghost use Rattle.std.specs.Prelude.{◌≡◌, ◌≤◌, ◌<◌, ◌+◌, ◌^◌, None, Some, false, true, length, drop, [], ◌∷◌, ◌++◌, OnOk, OnErr, nat_eq, slice_get};
 ghost use Rattle.std.specs.List.{All};
@@ -11,20 +11,65 @@ ghost use Rattle.machine.specs.Bodies.{dead, with_socket, is_listening, queue_of
 ghost use Rattle.machine.specs.Calls.Send.{after_send};
 ghost use Rattle.machine.specs.Calls.Receive.{after_recv};
 ghost use Rattle.machine.specs.Calls.Close.{after_abort, after_close, after_gone, after_shut, without_listener};
-ghost use Rattle.machine.specs.Calls.Accept.{accepted_from, after_accept};
-ghost use Rattle.machine.specs.Calls.{after_call, change, call_allows};
+ghost use Rattle.machine.specs.Calls.Accept.{accepted_from, after_accept, listener_allows};
+ghost use Rattle.machine.specs.Calls.{after_call, call_allows, change, gives_or_in_use, socket_allows, thing_allows};
 ghost use Rattle.machine.specs.Endpoints.{new_endpoint};
 ghost use Rattle.machine.specs.Forgetting.{forget_body};
 ghost use Rattle.endpoint_state.specs.Waiting.{AreWaiting};
 
 use crate::body::Body;
 use case_forms::{Answer, Call, State};
+use endpoint::{endpoint_allows, listener_allows};
 use indexmap::IndexMap;
 use machine::{Endpoint, Listener, Queue, Socket, Thing};
 use segment::OutOfMemory;
 use std::alloc::Global;
 
 impl Body {
+    /// Whether a call may have this answer (RFC 9293, 3.9.1 and 3.10).
+    pub(crate) fn allows(&self, call: &Call, answer: &Answer) -> bool
+        ensures { result ≡ call_allows self.now call.now answer.now }
+    {
+        match call {
+            Call::Listen(_, port, _) => gives_or_in_use(self.is_listening(*port), answer),
+            Call::Connect(_, lport, rport) => {
+                gives_or_in_use(self.is_connected(*lport, *rport), answer)
+            }
+            Call::Await(number) => self.socket_allows(*number, call, answer),
+            Call::Accept(number) => self.socket_allows(*number, call, answer),
+            Call::Send(number, _) => self.socket_allows(*number, call, answer),
+            Call::Recv(number, _) => self.socket_allows(*number, call, answer),
+            Call::Shut(number) => self.socket_allows(*number, call, answer),
+            Call::Close(number) => self.socket_allows(*number, call, answer),
+            Call::Abort(number) => self.socket_allows(*number, call, answer),
+            Call::Status(number) => self.socket_allows(*number, call, answer),
+        }
+    }
+
+    fn socket_allows(&self, number: u32, call: &Call, answer: &Answer) -> bool
+        ensures { result ≡ socket_allows self.now number call.now answer.now }
+    {
+        match self.thing(number) {
+            Some(thing) => self.thing_allows(call, answer, thing),
+            None => matches!(answer, Answer::BadSocket),
+        }
+    }
+
+    fn thing_allows(&self, call: &Call, answer: &Answer, thing: Thing) -> bool
+        ensures { result ≡ thing_allows self.now call.now answer.now thing }
+    {
+        match thing {
+            Thing::Listens(place) => match self.listener_at(place) {
+                Some(listener) => listener_allows(&listener.queue, call, answer),
+                None => childless_allows(call, answer),
+            },
+            Thing::Ends(place) => match self.endpoint_at(place) {
+                Some(endpoint) => endpoint_allows(endpoint, call, answer),
+                None => false,
+            },
+        }
+    }
+
     // `listen`: a listener is opened, on a port with no open listener.
     fn listen(
         &mut self,
@@ -189,7 +234,7 @@ impl Body {
     /// What this host has once a call got an answer that it may have (RFC 9293, 3.9.1 and 3.10). Where memory runs out
     /// nothing is changed.
     #[tactic(auto, using(crate::proofs::BodyLemmas::body_same))]
-    pub fn do_call(
+    pub(crate) fn do_call(
         &mut self,
         alloc: Global,
         call: &Call,
@@ -231,6 +276,30 @@ impl Body {
             }
             _ => Ok(()),
         }
+    }
+}
+
+fn gives_or_in_use(used: bool, answer: &Answer) -> bool
+    ensures { result ≡ gives_or_in_use used answer.now }
+{
+    match answer {
+        Answer::Given(_) => !used,
+        Answer::InUse => used,
+        _ => false,
+    }
+}
+
+// A call on a listener with no child.
+fn childless_allows(call: &Call, answer: &Answer) -> bool
+    ensures { result ≡ listener_allows [] call.now answer.now }
+{
+    match (call, answer) {
+        (Call::Accept(_), Answer::Again) => true,
+        (Call::Await(_) | Call::Send(_, _) | Call::Recv(_, _) | Call::Shut(_), Answer::NotConn) =>
+            true,
+        (Call::Close(_) | Call::Abort(_), Answer::Done) => true,
+        (Call::Status(_), Answer::State(State::Listen)) => true,
+        _ => false,
     }
 }
 
