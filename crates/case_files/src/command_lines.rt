@@ -11,7 +11,7 @@ use std::sync::Wait;
 use std::thread::Threads;
 
 // What stands in the input. Only `check` and `many` read it, and the fault of its first line is their answer.
-const INPUT: &[u8] = b"trace 2\nend\n";
+const INPUT: &[u8] = b"trace 9\nend\n";
 
 // A command line of these words, behind the program's name.
 #[derive(Drop)]
