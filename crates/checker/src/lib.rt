@@ -12,9 +12,14 @@
 //!   first n steps, that the verdict stays where the trace is printed and read again, and that a trace may have two witnesses
 #![tactic(auto)]
 
+mod ahead;
 mod case;
 mod laws;
+mod offering;
 mod replay;
+mod steps;
+mod turns;
+mod two_texts;
 
 pub use case::{CaseFault, check_case};
 pub use laws::{
@@ -23,3 +28,4 @@ pub use laws::{
     yes_counts_all_lines,
 };
 pub use replay::check;
+pub use two_texts::check_streams;

@@ -79,7 +79,7 @@ whole_begins text = sym (nothing_in_front (steps_from None (lines_of text)))
 pub whole_on : (total : Steps) (front : List Step) (step : Step) (left rest : Steps) → total ≡ with_front front left → left ≡ in_front step rest → total ≡ with_front (front ++ step ∷ []) rest
 whole_on total front step left rest so_far is = so_far ∙ ap (λ (l : Steps). with_front front l) is ∙ regroup front step rest
 
-whole_err : (read : Result Witness TextFault) (e : TextFault) → steps_of read ≡ Err e → read ≡ Err e
+pub whole_err : (read : Result Witness TextFault) (e : TextFault) → steps_of read ≡ Err e → read ≡ Err e
 whole_err (Ok w) e is = let h = is in absurd cc
 whole_err (Err d) e is = let h = is in cc
 
