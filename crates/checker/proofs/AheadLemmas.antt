@@ -1,80 +1,23 @@
 -- A trace that is read one line ahead.
-use Rattle.std.proofs.Common.{◌≡◌, ◌≤◌, ◌+◌, ◌-◌, ℕ, List, [], ◌∷◌, ◌++◌, Option, None, Some, IfSome, Result, Ok, Err, refl, sym, ap, subst, ◌∙◌, arith, append_assoc, length, length-append}
-use Rattle.std.specs.Option.{option_map}
-use Rattle.case_forms.specs.declared.trace.Header.{Header}
+use Rattle.std.proofs.Common.{◌≡◌, ◌≤◌, ◌+◌, ℕ, List, [], ◌∷◌, ◌++◌, Option, None, Some, IfSome, Result, Ok, Err, refl, sym, ap, subst, ◌∙◌, arith, append_assoc, length, length-append}
 use Rattle.case_forms.specs.declared.trace.Line.{Line}
-use Rattle.case_forms.specs.declared.trace.Trace.{Trace}
-use Rattle.line_fields.specs.declared.fault.FaultKind.{FaultKind}
-use Rattle.line_fields.specs.declared.fault.FaultKind.TheVariants as kinds
 use Rattle.line_fields.specs.declared.fault.TextFault.{TextFault}
-use Rattle.line_fields.specs.Reading.{◌>>=◌, Fails}
-use Rattle.trace_reader.specs.TraceLeft.{Begins, with_header}
-use Rattle.line_fields.specs.Left.{in_front, Yields, FailsLeft}
+use Rattle.line_fields.specs.Reading.{◌>>=◌}
+use Rattle.line_fields.specs.Left.{Yields}
 use Rattle.checker.specs.declared.case.CaseFault.{CaseFault}
 use Rattle.checker.specs.declared.case.CaseFault.TheVariants as faults
 use Rattle.std.specs.List.{enumerate_from}
 use Rattle.std.proofs.lemmas.List.Elements.{All-append, All-cons, All-nil}
-use Rattle.std.specs.Prelude.{true, All, Bool}
+use Rattle.std.specs.Prelude.{true, Bool}
 use Rattle.interval_order.specs.Orders.{Order, with_line}
 use Rattle.interval_order.specs.Later.{with_lines}
 use Rattle.interval_order.proofs.LaterLemmas.{enumerate_append}
-use Rattle.std.proofs.Common.{inl, inr, ◌||◌, ◌==◌, false, ◌<◌}
+use Rattle.std.proofs.Common.{inl, ◌||◌, ◌==◌, false, ◌<◌}
 use Rattle.std.proofs.lemmas.List.Folds.{list_any-append}
 use Rattle.verdict.specs.declared.rule.Rule.{Rule}
-use Rattle.verdict.specs.declared.rule.Rule.TheVariants.{LineRange}
 use Rattle.interval_order.specs.Later.{is_among, late_by}
-use Rattle.checker.specs.Cases.{case_fault}
 use Rattle.checker.specs.Streaming.{Between, IsLate, IsWhole}
-use Rattle.checker.specs.Ahead.{left_with, Passes, Skips, IsAll, TraceFails, WitnessFails, Follows, IsInStep}
-
-pub yields_ahead : (line : Line) (next : Option Line) (a b : Option (Result (List Line) TextFault)) → Yields a b next → Yields (left_with (Some line) a) (left_with next b) (Some line)
-yields_ahead line next None b y = tt
-yields_ahead line next (Some l) None y = absurd y
-yields_ahead line None (Some l) (Some r) y = ap (in_front line) y.0
-yields_ahead line (Some n) (Some l) (Some r) y = ap (in_front line) y
-
--- the first line is read ahead behind the header
-pub begins_ahead : (h : Header) (whole : Option (Result Trace TextFault)) (first : Option Line) (a b : Option (Result (List Line) TextFault)) → Begins whole a h → Yields a b first → Begins whole (left_with first b) h
-begins_ahead h None first a b begins y = tt
-begins_ahead h (Some t) first None b begins y = absurd begins
-begins_ahead h (Some t) first (Some l) None begins y = absurd y
-begins_ahead h (Some t) None (Some l) (Some r) begins y = begins ∙ ap (with_header h) y.0
-begins_ahead h (Some t) (Some line) (Some l) (Some r) begins y = begins ∙ ap (with_header h) y
-
--- a fault of a line behind the header is that of the whole trace
-pub begins_fails : (h : Header) (whole : Option (Result Trace TextFault)) (a : Option (Result (List Line) TextFault)) (e : CaseFault) → Begins whole a h → TraceFails e a → TraceFails e whole
-begins_fails h None a (faults.Trace f) begins fails = tt
-begins_fails h (Some t) None (faults.Trace f) begins fails = absurd begins
-begins_fails h (Some t) (Some l) (faults.Trace f) begins fails = begins ∙ ap (with_header h) fails
-begins_fails h whole a (faults.Witness f) begins fails = absurd fails
-begins_fails h whole a faults.Read begins fails = tt
-begins_fails h whole a faults.OutOfMemory begins fails = tt
-
--- ---- faults that a reader meets
-
--- the fault of a text is that of the case, unless memory ran out
-kind_says : {X : Type 0} (P : CaseFault → Type 0) (c : CaseFault) (f : TextFault) (a : Option (Result X TextFault)) (kind : FaultKind)
-    → P faults.OutOfMemory → (IfSome a (λ read. read ≡ Err f) → P c) → IfSome a (λ read. Fails kind f read) → P (case_fault kind c)
-kind_says P c f a kinds.Header memory told fails = told fails
-kind_says P c f a kinds.Field memory told fails = told fails
-kind_says P c f a kinds.Number memory told fails = told fails
-kind_says P c f a kinds.Hex memory told fails = told fails
-kind_says P c f a (kinds.Segment why) memory told fails = told fails
-kind_says P c f a kinds.MomentFalls memory told fails = told fails
-kind_says P c f a kinds.LineTooLong memory told fails = told fails
-kind_says P c f a kinds.Cut memory told fails = told fails
-kind_says P c f a kinds.TooManyLines memory told fails = told fails
-kind_says P c f a kinds.OutOfMemory memory told fails = memory
-
-left_says : {X : Type 0} (f : TextFault) (a : Option (Result X TextFault)) → FailsLeft f a → IfSome a (λ read. Fails f.kind f read)
-left_says f None fails = tt
-left_says f (Some read) fails = fails
-
-pub trace_fault_says : {X : Type 0} (f : TextFault) (a : Option (Result X TextFault)) (c : CaseFault) → c ≡ case_fault f.kind (faults.Trace f) → FailsLeft f a → TraceFails c a
-trace_fault_says f a c is fails = subst (λ (d : CaseFault). TraceFails d a) (sym is) (kind_says (λ d. TraceFails d a) (faults.Trace f) f a f.kind tt (λ told. told) (left_says f a fails))
-
-pub witness_fault_says : {X : Type 0} (f : TextFault) (a : Option (Result X TextFault)) (c : CaseFault) → c ≡ case_fault f.kind (faults.Witness f) → FailsLeft f a → WitnessFails c a
-witness_fault_says f a c is fails = subst (λ (d : CaseFault). WitnessFails d a) (sym is) (kind_says (λ d. WitnessFails d a) (faults.Witness f) f a f.kind tt (λ told. told) (left_says f a fails))
+use Rattle.checker.specs.Ahead.{Passes, Skips, IsAll, TraceFails, WitnessFails, Follows, IsInStep}
 
 -- ---- items that are passed
 
@@ -151,6 +94,7 @@ lines_more o n m items line so_far one =
   where
     further : o.next + length items + 1 ≡ o.next + length (items ++ line ∷ [])
     further = omega (arith, length-append items (line ∷ []))
+
     entries : (o.held ++ enumerate_from o.next items) ++ (o.next + length items, line) ∷ [] ≡ o.held ++ enumerate_from o.next (items ++ line ∷ [])
     entries = append_assoc o.held (enumerate_from o.next items) ((o.next + length items, line) ∷ []) ∙ ap (λ (es : List (ℕ × Line)). o.held ++ es) (sym (enumerate_append o.next items (line ∷ [])))
 
@@ -158,11 +102,12 @@ pub step_more : (o m : Order) (line : Line) (ahead : Option Line) → IsInStep o
 step_more o m line None step one follows = tt
 step_more o m line (Some next) step one follows =
     let later : line.moment ≤ next.moment = follows.1 in
-    subst (λ (q : Order). IsInStep q (Some next)) (sym one)
-    (follows.0 ∙ ap (λ (n : ℕ). n + 1) step.0,
-    All-append (λ (e : ℕ × Line). e.1.moment ≤ next.moment) o.held ((o.next, line) ∷ [])
-    (λ k d lt. let held = step.1 k d lt in omega (arith, held, later))
-    (All-cons (λ (e : ℕ × Line). e.1.moment ≤ next.moment) (o.next, line) [] later (All-nil (λ (e : ℕ × Line). e.1.moment ≤ next.moment))))
+    subst (λ (q : Order). IsInStep q (Some next)) (sym one) (
+      follows.0 ∙ ap (λ (n : ℕ). n + 1) step.0,
+      All-append (λ (e : ℕ × Line). e.1.moment ≤ next.moment) o.held ((o.next, line) ∷ [])
+          (λ k d lt. let held = step.1 k d lt in omega (arith, held, later))
+          (All-cons (λ (e : ℕ × Line). e.1.moment ≤ next.moment) (o.next, line) [] later (All-nil (λ (e : ℕ × Line). e.1.moment ≤ next.moment))),
+    )
 
 -- ---- a line that is named before it is reached
 
@@ -206,11 +151,3 @@ pub late_found : (o : Order) (a b c : Option (Result (List Line) TextFault)) (li
     → Between o a b (Some line) noted number moment between → Yields b c (Some line) → line.number ≡ number → rule ≡ late_by o (noted line.thread) line extras moment → IsLate o a c number extras moment rule
 late_found o a b c line noted number extras moment between rule h y is said =
     inl (between, line, one_passed a b c between line h.passed y, sym is ∙ h.next.0, h.next.1, said ∙ ap (λ (n : Bool). late_by o n line extras moment) (h.threads line.thread))
-
-pub late_beyond : (o : Order) (a b c : Option (Result (List Line) TextFault)) (noted : ℕ → Bool) (number extras moment : ℕ) (between : List Line)
-    → Between o a b None noted number moment between → b ≡ Some (Ok []) → Yields b c None → IsLate o a c number extras moment LineRange
-late_beyond o a None c noted number extras moment between h is y = absurd cc
-late_beyond o a (Some l) None noted number extras moment between h is y = absurd y
-late_beyond o a (Some l) (Some r) noted number extras moment between h is y =
-    let left : l ≡ Ok [] = cc in
-    inr (between, subst (λ (s : Result (List Line) TextFault). Passes a (Some s) between) (left ∙ sym y.1) h.passed, ap (λ (s : Result (List Line) TextFault). Some s) y.1, h.low, refl)

@@ -1,18 +1,11 @@
 -- A case, cut at its first line that begins a witness, and its first fault.
-use Rattle.std.proofs.Common.{◌≡◌, ◌+◌, ℕ, true, false, List, [], ◌∷◌, ◌++◌, length, take, drop, refl, sym, ap, ◌∙◌, arith, append-nil, append_assoc, length-append, Result, Ok, Err}
+use Rattle.std.proofs.Common.{◌≡◌, ◌+◌, ℕ, true, false, List, [], ◌∷◌, ◌++◌, length, take, drop, refl, sym, ap, ◌∙◌, arith, append-nil, append_assoc, length-append}
 use Rattle.std.specs.List.{AllByRecursion, concat}
 use Rattle.std.proofs.lemmas.List.{take_at, drop_at}
 use Rattle.bstr.specs.Text.{lines_of}
 use Rattle.bstr.proofs.lemmas.RestLemmas.{concat-lines_of}
-use Rattle.case_forms.specs.declared.trace.Trace.{Trace}
-use Rattle.case_forms.specs.declared.steps.Witness.{Witness}
-use Rattle.line_fields.specs.declared.fault.FaultKind.{FaultKind}
-use Rattle.line_fields.specs.declared.fault.FaultKind.TheVariants as kinds
-use Rattle.line_fields.specs.declared.fault.TextFault.{TextFault}
-use Rattle.line_fields.specs.Reading.{Fails}
 use Rattle.witness.specs.FirstLine.{begins_witness}
-use Rattle.checker.specs.declared.case.CaseFault.TheVariants as faults
-use Rattle.checker.specs.Cases.{cut_place, trace_part, witness_part, case_fault, judged, GivesCase}
+use Rattle.checker.specs.Cases.{cut_place, trace_part, witness_part}
 
 -- lines of which none begins a witness
 abbrev pub AreTraceLines : List (List ℕ) → Type 0
@@ -89,29 +82,3 @@ cut_end text at c =
     let parts = parts_at text c.front [] c.lines (ap cut_place (append-nil c.front) ∙ place_end c.front c.none) in
     let here = front_is text at [] c in
     (here.0 ∙ sym parts.0, here.1 ∙ sym parts.1)
-
--- ---- the first fault
-
-pub trace_fails : (kind : FaultKind) (fault : TextFault) (read : Result Trace TextFault) (w : Result Witness TextFault) → Fails kind fault read → GivesCase (Err (case_fault kind (faults.Trace fault))) (judged read w)
-trace_fails kinds.Header fault read w h = ap (λ (r : Result Trace TextFault). judged r w) (sym h)
-trace_fails kinds.Field fault read w h = ap (λ (r : Result Trace TextFault). judged r w) (sym h)
-trace_fails kinds.Number fault read w h = ap (λ (r : Result Trace TextFault). judged r w) (sym h)
-trace_fails kinds.Hex fault read w h = ap (λ (r : Result Trace TextFault). judged r w) (sym h)
-trace_fails (kinds.Segment why) fault read w h = ap (λ (r : Result Trace TextFault). judged r w) (sym h)
-trace_fails kinds.MomentFalls fault read w h = ap (λ (r : Result Trace TextFault). judged r w) (sym h)
-trace_fails kinds.LineTooLong fault read w h = ap (λ (r : Result Trace TextFault). judged r w) (sym h)
-trace_fails kinds.Cut fault read w h = ap (λ (r : Result Trace TextFault). judged r w) (sym h)
-trace_fails kinds.TooManyLines fault read w h = ap (λ (r : Result Trace TextFault). judged r w) (sym h)
-trace_fails kinds.OutOfMemory fault read w h = tt
-
-pub witness_fails : (kind : FaultKind) (fault : TextFault) (t : Trace) (read : Result Witness TextFault) → Fails kind fault read → GivesCase (Err (case_fault kind (faults.Witness fault))) (judged (Ok t) read)
-witness_fails kinds.Header fault t read h = ap (λ (r : Result Witness TextFault). judged (Ok t) r) (sym h)
-witness_fails kinds.Field fault t read h = ap (λ (r : Result Witness TextFault). judged (Ok t) r) (sym h)
-witness_fails kinds.Number fault t read h = ap (λ (r : Result Witness TextFault). judged (Ok t) r) (sym h)
-witness_fails kinds.Hex fault t read h = ap (λ (r : Result Witness TextFault). judged (Ok t) r) (sym h)
-witness_fails (kinds.Segment why) fault t read h = ap (λ (r : Result Witness TextFault). judged (Ok t) r) (sym h)
-witness_fails kinds.MomentFalls fault t read h = ap (λ (r : Result Witness TextFault). judged (Ok t) r) (sym h)
-witness_fails kinds.LineTooLong fault t read h = ap (λ (r : Result Witness TextFault). judged (Ok t) r) (sym h)
-witness_fails kinds.Cut fault t read h = ap (λ (r : Result Witness TextFault). judged (Ok t) r) (sym h)
-witness_fails kinds.TooManyLines fault t read h = ap (λ (r : Result Witness TextFault). judged (Ok t) r) (sym h)
-witness_fails kinds.OutOfMemory fault t read h = tt

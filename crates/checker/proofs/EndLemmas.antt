@@ -1,28 +1,25 @@
 -- The start and the end of the loop that replays a witness while the lines of the trace are read.
-use Rattle.std.proofs.Common.{◌≡◌, ◌≤◌, ◌+◌, ℕ, Bool, true, false, List, [], ◌∷◌, ◌++◌, length, Option, Some, None, Result, Ok, Err, IfSome, refl, sym, ap, subst, ◌∙◌, arith, append_assoc, append-nil}
+use Rattle.std.proofs.Common.{◌≡◌, ◌+◌, ℕ, Bool, true, false, List, [], ◌∷◌, ◌++◌, Option, Some, None, Result, Ok, Err, IfSome, refl, sym, ap, ◌∙◌, arith, append_assoc, append-nil}
 use Rattle.std.specs.Prelude.{count_by, not, cond}
-use Rattle.std.specs.Option.{option_map}
 use Rattle.std.specs.List.{enumerate_from}
-use Rattle.std.proofs.lemmas.List.Elements.{All-nil}
 use Rattle.std.proofs.lemmas.List.Sums.{sum_by-cons, sum_by-append}
 use Rattle.case_forms.specs.declared.trace.Header.{Header}
 use Rattle.case_forms.specs.declared.trace.Line.{Line}
 use Rattle.case_forms.specs.declared.steps.Step.{Step}
-use Rattle.case_forms.specs.Traces.{first_event_line}
 use Rattle.verdict.specs.declared.rule.Rule.{Rule}
 use Rattle.verdict.specs.declared.rule.Rule.TheVariants.{Unplaced}
 use Rattle.verdict.specs.declared.report.Verdict.{Verdict}
 use Rattle.verdict.specs.declared.report.Verdict.TheVariants.{Yes, No}
 use Rattle.line_fields.specs.declared.fault.TextFault.{TextFault}
-use Rattle.line_fields.specs.Left.{in_front, Yields}
+use Rattle.line_fields.specs.Left.{Yields}
 use Rattle.interval_order.specs.Orders.{Order, order_of}
 use Rattle.endpoint_state.specs.Worlds.{Progress, start}
 use Rattle.checker.specs.declared.case.CaseFault.{CaseFault}
 use Rattle.checker.specs.declared.case.CaseFault.TheVariants as faults
 use Rattle.checker.specs.declared.turns.Tally.{Tally}
 use Rattle.checker.specs.Verdicts.{takes_line, verdict_left}
-use Rattle.checker.specs.Ahead.{left_with, Passes, IsInStep, IsAll, TraceFails, WitnessFails}
-use Rattle.checker.specs.Streaming.{SoFar, Tallied, Ends, IsWhole, CaseFails, verdict_on, first_of_both}
+use Rattle.checker.specs.Ahead.{left_with, IsInStep, IsAll, TraceFails, WitnessFails}
+use Rattle.checker.specs.Streaming.{SoFar, Tallied, Ends, CaseFails, verdict_on, first_of_both}
 use Rattle.checker.specs.Turns.{IsBroken, counted_with}
 use Rattle.checker.proofs.CheckLemmas.{begun}
 use Rattle.checker.proofs.AheadLemmas.{none_passed, one_passed, all_passed, whole_of_rest, trace_fails_before, witness_fails_before}
@@ -41,14 +38,7 @@ starts header lines steps o p offered is = record {
   told = λ all whole rest. refl;
 }
 
-pub first_in_step : (header : Header) (o : Order) (ahead : Option Line) → o ≡ order_of header [] [] → IfSome ahead (λ line. line.number ≡ first_event_line header) → IsInStep o ahead
-first_in_step header o None is first = tt
-first_in_step header o (Some line) is first = subst (λ (q : Order). IsInStep q (Some line)) (sym is) (first, All-nil (λ (e : ℕ × Line). e.1.moment ≤ line.moment))
-
 -- ---- one step more is counted
-
-pub tally_none : Tallied [] 0 0
-tally_none = record { taken_are = refl; hidden_are = refl }
 
 pub tally_more : (earlier : List Step) (s : Step) (t : Tally) → Tallied earlier t.lines t.hidden
     → Tallied (earlier ++ s ∷ []) (counted_with t (takes_line s.label)).lines (counted_with t (takes_line s.label)).hidden
@@ -56,10 +46,13 @@ tally_more earlier s t h = by_test (takes_line s.label) refl
   where
     both : (test : Step → Bool) → count_by test (earlier ++ s ∷ []) ≡ count_by test earlier + (cond (test s) 1 0 + count_by test [])
     both test = sum_by-append (λ x. cond (test x) 1 0) earlier (s ∷ []) ∙ ap (λ (n : ℕ). count_by test earlier + n) (sum_by-cons (λ x. cond (test x) 1 0) s [])
+
     more : (test : Step → Bool) → test s ≡ true → count_by test (earlier ++ s ∷ []) ≡ count_by test earlier + 1
     more test is = both test ∙ ap (λ (b : Bool). count_by test earlier + (cond b 1 0 + 0)) is
+
     same : (test : Step → Bool) → test s ≡ false → count_by test (earlier ++ s ∷ []) ≡ count_by test earlier
     same test is = let all = both test ∙ ap (λ (b : Bool). count_by test earlier + (cond b 1 0 + 0)) is in omega (arith, all)
+
     by_test : (b : Bool) → takes_line s.label ≡ b → Tallied (earlier ++ s ∷ []) (counted_with t b).lines (counted_with t b).hidden
     by_test true is = record {
       taken_are = ap (λ (n : ℕ). n + 1) h.taken_are ∙ sym (more (λ s. takes_line s.label) is);
@@ -116,9 +109,13 @@ ends_when header (Some l) None (Some s) ahead next o p offered earlier items v f
 ends_when header (Some l) (Some r) (Some s) ahead next o p offered earlier items v f y all is =
     let here : Some r ≡ Some (Ok items) = ap (λ (x : Result (List Line) TextFault). Some x) all in
     let whole = whole_of_rest (Some l) (Some r) offered items f.passed all in
-    let done = all_passed (Some s) ahead next earlier f.done y in
-    (offered ++ items, earlier ++ [], whole, done,
-    sym (f_told ∙ all_done header (Some l) (Some s) (Some r) ahead o p offered earlier items f here (offered ++ items) (ap (λ (x : Result (List Line) TextFault). Some x) whole) ∙ is here))
+    let done = all_passed (Some s) ahead next earlier f.done y in (
+      offered ++ items,
+      earlier ++ [],
+      whole,
+      done,
+      sym (f_told ∙ all_done header (Some l) (Some s) (Some r) ahead o p offered earlier items f here (offered ++ items) (ap (λ (x : Result (List Line) TextFault). Some x) whole) ∙ is here),
+    )
   where
     f_told : verdict_on header (offered ++ items) [] (earlier ++ []) ≡ verdict_on header (offered ++ items) [] earlier
     f_told = ap (verdict_on header (offered ++ items) []) (append-nil earlier)
@@ -142,9 +139,13 @@ refused_ends header None left steps next place named rule items rest b all done 
 refused_ends header (Some l) left None next place named rule items rest b all done = tt
 refused_ends header (Some l) left (Some s) next place named rule items rest (earlier, ahead, step, passed, before, took, through, told) all done =
     let whole = whole_of_rest (Some l) left passed items through all in
-    let steps_done = whole_of_rest (Some s) next (earlier ++ step ∷ []) rest (one_passed (Some s) ahead next earlier step before took) done in
-    (passed ++ items, (earlier ++ step ∷ []) ++ rest, whole, steps_done,
-    sym (ap (verdict_on header (passed ++ items) []) (append_assoc earlier (step ∷ []) rest) ∙ told (passed ++ items) (ap (λ (x : Result (List Line) TextFault). Some x) whole) rest))
+    let steps_done = whole_of_rest (Some s) next (earlier ++ step ∷ []) rest (one_passed (Some s) ahead next earlier step before took) done in (
+      passed ++ items,
+      (earlier ++ step ∷ []) ++ rest,
+      whole,
+      steps_done,
+      sym (ap (verdict_on header (passed ++ items) []) (append_assoc earlier (step ∷ []) rest) ∙ told (passed ++ items) (ap (λ (x : Result (List Line) TextFault). Some x) whole) rest),
+    )
 
 -- a fault of the lines that are left
 pub lines_fail : (header : Header) (lines left : Option (Result (List Line) TextFault)) (steps next : Option (Result (List Step) TextFault)) (place named : ℕ) (rule : Rule) (e : CaseFault)

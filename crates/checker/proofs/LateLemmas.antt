@@ -1,12 +1,11 @@
 -- Lines that are offered later matter to no step before.
-use Rattle.std.proofs.Common.{◌≡◌, ℕ, ◌+◌, ◌<◌, ◌≤◌, suc, Bool, true, false, cond, not, ◌||◌, List, [], ◌∷◌, ◌++◌, length, refl, sym, ap, subst, ◌∙◌, arith, Option, Some, None, length-append}
+use Rattle.std.proofs.Common.{◌≡◌, ℕ, ◌+◌, ◌<◌, ◌≤◌, Bool, true, false, ◌||◌, List, [], ◌∷◌, ◌++◌, length, refl, sym, ap, subst, ◌∙◌, arith, Some, None}
 use Rattle.std.proofs.lemmas.Bool.Decides.{nat_tests}
 use Rattle.std.proofs.lemmas.List.Folds.{list_any-append}
 use Rattle.std.proofs.lemmas.List.{map-append}
-use Rattle.std.specs.Prelude.{nat_eq, nat_lt, ◌⊎◌}
-use Rattle.std.proofs.Common.{inl, inr}
-use Rattle.std.specs.Option.{option_map, option_map_or}
-use Rattle.std.specs.List.{list_any, cons_option}
+use Rattle.std.specs.Prelude.{nat_eq, nat_lt}
+use Rattle.std.specs.Option.{option_map_or}
+use Rattle.std.specs.List.{cons_option}
 use Rattle.case_forms.specs.declared.trace.Header.{Header}
 use Rattle.case_forms.specs.declared.trace.Line.{Line}
 use Rattle.case_forms.specs.declared.trace.Span.{Span}
@@ -15,18 +14,16 @@ use Rattle.case_forms.specs.declared.steps.Label.TheVariants.{L, D, M, T, K, R, 
 use Rattle.case_forms.specs.declared.steps.Step.{Step}
 use Rattle.case_forms.specs.declared.named_line.NamedLine.{NamedLine}
 use Rattle.case_forms.specs.Steps.{extras_count}
-use Rattle.case_forms.specs.Traces.{first_event_line, line_at, IsRecorded}
-use Rattle.verdict.specs.declared.rule.Rule.{Rule}
+use Rattle.case_forms.specs.Traces.{first_event_line}
 use Rattle.verdict.specs.declared.rule.Rule.TheVariants as rules
 use Rattle.verdict.specs.Rules.{first_broken}
 use Rattle.verdict.proofs.RuleLemmas.{first_broken-append_some}
-use Rattle.interval_order.specs.Orders.{Order, Move, taking, passing, is_placed, order_of, with_line, is_offered}
+use Rattle.interval_order.specs.Orders.{Order, Move, taking, passing, is_placed, order_of}
 use Rattle.interval_order.specs.OrderRules.{order_rules}
-use Rattle.interval_order.specs.Later.{TakesBelow, AreLater, with_lines, late_rule}
-use Rattle.interval_order.proofs.LaterLemmas.{order_with, passing_same, taking_same, beyond_is, not_offered, late_line, line_at-front, line_at-beyond}
-use Rattle.hosts.specs.Hosts.{World, Stamped}
-use Rattle.machine.specs.Machine.{tcp, tcp_shape}
-use Rattle.machine.specs.Steps.{label_step, line_step}
+use Rattle.interval_order.specs.Later.{TakesBelow, AreLater, late_rule}
+use Rattle.interval_order.proofs.LaterLemmas.{order_with, passing_same, taking_same, beyond_is, not_offered, late_line, line_at-front}
+use Rattle.hosts.specs.Hosts.{World}
+use Rattle.machine.specs.Machine.{tcp_shape}
 use Rattle.checker.specs.Seen.{move_of, moves, act_of, stamped}
 use Rattle.checker.specs.Verdicts.{act_rules, broken}
 use Rattle.checker.specs.Streaming.{NamesBelow}
@@ -146,8 +143,10 @@ first_below next s rest takes = (at s.moment s.label s.span (λ n le. (parts n l
     either : (a b : Bool) → (a || b) ≡ false → (a ≡ false) × (b ≡ false)
     either false b is = (refl, is)
     either true b is = absurd cc
+
     parts : (n : ℕ) → next ≤ n → (is_placed (move_of s ∷ []) n ≡ false) × (is_placed (moves rest) n ≡ false)
     parts n le = let p = either _ (is_placed (moves rest) n) (takes n le) in (rw p.0 refl, p.1)
+
     at : (moment : ℕ) (label : Label NamedLine) (span : Span) → TakesBelow next (move_of (record { moment = moment; label = label; span = span }) ∷ []) → NamesBelow next label
     at moment (L named) span none = by_test (nat_lt named.number next) refl
       where

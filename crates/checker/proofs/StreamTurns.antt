@@ -1,9 +1,7 @@
 -- The turns of the loop that replays a witness while the lines of the trace are read.
-use Rattle.std.proofs.Common.{inl, inr, ◌≡◌, ℕ, ◌+◌, ◌<◌, ◌≤◌, Bool, true, false, List, [], ◌∷◌, ◌++◌, length, refl, sym, ap, subst, ◌∙◌, arith, Option, Some, None, Result, Ok, Err, IfSome, append_assoc, length-append, append-nil}
-use Rattle.std.specs.Prelude.{count_by, not}
-use Rattle.std.specs.Option.{option_map, option_map_or, IfNone}
-use Rattle.std.specs.List.{AllByRecursion, enumerate_from}
-use Rattle.std.proofs.lemmas.List.{map-append}
+use Rattle.std.proofs.Common.{inl, inr, ◌≡◌, ℕ, ◌+◌, ◌<◌, ◌≤◌, List, [], ◌∷◌, ◌++◌, length, refl, sym, ap, subst, ◌∙◌, arith, Option, Some, None, Result, Ok, Err, IfSome, append_assoc, length-append, append-nil}
+use Rattle.std.specs.Option.{option_map}
+use Rattle.std.specs.List.{enumerate_from}
 use Rattle.case_forms.specs.declared.trace.Header.{Header}
 use Rattle.case_forms.specs.declared.trace.Line.{Line}
 use Rattle.case_forms.specs.declared.trace.Span.{Span}
@@ -11,23 +9,19 @@ use Rattle.case_forms.specs.declared.steps.Step.{Step}
 use Rattle.case_forms.specs.declared.named_line.NamedLine.{NamedLine}
 use Rattle.case_forms.specs.declared.steps.Label.TheVariants.{L}
 use Rattle.case_forms.specs.Steps.{extras_count}
-use Rattle.case_forms.specs.Traces.{first_event_line, numbered}
+use Rattle.case_forms.specs.Traces.{first_event_line}
 use Rattle.verdict.specs.declared.rule.Rule.{Rule}
-use Rattle.verdict.specs.declared.rule.Rule.TheVariants.{Unplaced, LineRange}
-use Rattle.verdict.specs.declared.report.Verdict.{Verdict}
+use Rattle.verdict.specs.declared.rule.Rule.TheVariants.{LineRange}
 use Rattle.verdict.specs.declared.report.Verdict.TheVariants.{No}
 use Rattle.line_fields.specs.declared.fault.TextFault.{TextFault}
-use Rattle.line_fields.specs.Reading.{◌>>=◌}
-use Rattle.line_fields.specs.Left.{in_front, Yields}
-use Rattle.interval_order.specs.Orders.{Order, order_of, order_after, unplaced}
+use Rattle.line_fields.specs.Left.{Yields}
+use Rattle.interval_order.specs.Orders.{Order, order_after, unplaced}
 use Rattle.interval_order.specs.Later.{TakesBelow, AreLater, with_lines, late_rule}
 use Rattle.interval_order.proofs.LaterLemmas.{order_with}
-use Rattle.hosts.specs.Hosts.{World}
-use Rattle.machine.specs.Machine.{tcp_shape}
 use Rattle.machine.specs.Forgetting.{forget}
 use Rattle.machine_laws.specs.Runs.{world_at_end}
 use Rattle.endpoint_state.specs.Worlds.{Progress}
-use Rattle.checker.specs.Seen.{move_of, moves, stamped}
+use Rattle.checker.specs.Seen.{move_of, moves}
 use Rattle.checker.specs.Kept.{kept_broken, kept_progress}
 use Rattle.checker.specs.Verdicts.{broken, next_world, line_named, verdict_from, verdict_left, refused_or}
 use Rattle.counted.specs.Counting.{left_of}
@@ -43,7 +37,7 @@ use Rattle.checker.specs.declared.ahead.Ahead.{Ahead}
 use Rattle.checker.specs.Ahead.{Passes, left_with, left_ahead, line_ahead, IsAhead}
 use Rattle.checker.specs.Streaming.{NamesBelow, HasCome, whole, verdict_on, AllLater, IsWhole, SoFar, IsDone, IsRefused}
 use Rattle.checker.proofs.AheadLemmas.{passed_on, rest_of_whole}
-use Rattle.checker.proofs.LateLemmas.{broken_more, broken_late, broken_beyond, names_below, takes_more, takes_raised, stamped_more}
+use Rattle.checker.proofs.LateLemmas.{broken_more, broken_late, broken_beyond, takes_more, takes_raised, stamped_more}
 use Rattle.checker.proofs.CheckLemmas.{verdict_more, come_more, rule_is}
 
 module _ (header : Header) (lines : Option (Result (List Line) TextFault)) (steps : Option (Result (List Step) TextFault)) where

@@ -25,7 +25,7 @@ use Rattle.checker.specs.Cases.{judged}
 use Rattle.checker.specs.Verdicts.{verdict}
 use Rattle.checker.specs.Ahead.{TraceFails, source_ahead, trace_ahead}
 use Rattle.checker.specs.declared.ahead.Ahead.{Ahead}
-use Rattle.checker.specs.Streaming.{Tells, Ends, CaseFails}
+use Rattle.checker.specs.Streaming.{Tells}
 use Rattle.checker.specs.Texts.{GivesTexts, AreOf}
 
 -- a fault of the trace alone

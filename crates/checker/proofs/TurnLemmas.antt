@@ -1,6 +1,6 @@
 -- What one turn of the loop has come to.
-use Rattle.std.proofs.Common.{◌≡◌, ◌≤◌, ◌<◌, ◌+◌, ℕ, Bool, true, false, List, [], ◌∷◌, ◌++◌, length, Option, Some, None, Result, Ok, Err, IfSome, refl, sym, ap, subst, ◌∙◌, arith, length-append, append-nil}
-use Rattle.std.specs.Prelude.{All, not, ◌==◌, MatchOption, count_by, cond}
+use Rattle.std.proofs.Common.{◌≡◌, ◌≤◌, ◌<◌, ◌+◌, ℕ, List, [], ◌∷◌, ◌++◌, Option, Some, None, Result, IfSome, refl, sym, ap, subst, arith}
+use Rattle.std.specs.Prelude.{All, not, ◌==◌, MatchOption}
 use Rattle.std.specs.Option.{IfNone}
 use Rattle.std.proofs.lemmas.List.Elements.{All-filter}
 use Rattle.case_forms.specs.declared.trace.Header.{Header}
@@ -8,7 +8,6 @@ use Rattle.case_forms.specs.declared.trace.Line.{Line}
 use Rattle.case_forms.specs.declared.steps.Step.{Step}
 use Rattle.verdict.specs.declared.rule.Rule.{Rule}
 use Rattle.line_fields.specs.declared.fault.TextFault.{TextFault}
-use Rattle.line_fields.specs.Reading.{◌>>=◌}
 use Rattle.line_fields.specs.Left.{Yields}
 use Rattle.interval_order.specs.Orders.{Move, Order, Take, order_after, held_after}
 use Rattle.interval_order.specs.Later.{with_lines}
@@ -21,11 +20,10 @@ use Rattle.checker.specs.declared.turns.Turn.TheVariants as turns
 use Rattle.checker.specs.Seen.{move_of}
 use Rattle.checker.specs.Verdicts.{takes_line, line_named}
 use Rattle.checker.specs.Kept.{held_act, kept_progress}
-use Rattle.checker.specs.Ahead.{left_ahead, line_ahead, IsAhead, IsInStep, Passes, TraceFails, IsAll}
+use Rattle.checker.specs.Ahead.{left_ahead, line_ahead, IsAhead, IsInStep, Passes, TraceFails}
 use Rattle.checker.specs.Streaming.{SoFar, CaseFails, IsDone, IsRefused}
-use Rattle.checker.specs.Turns.{AfterTurn, IsMore, IsOnward}
+use Rattle.checker.specs.Turns.{AfterTurn, IsOnward}
 use Rattle.checker.proofs.KeptLemmas.{next_steps}
-use Rattle.checker.proofs.AheadLemmas.{err_before, trace_fails_before, whole_of_rest}
 use Rattle.checker.proofs.StreamTurns.{left_later, turn_goes, turn_refuses, turn_passes}
 
 -- ---- faults
@@ -36,19 +34,6 @@ trace_first (faults.Trace f) lines steps fails = fails
 trace_first (faults.Witness f) lines steps fails = absurd fails
 trace_first faults.Read lines steps fails = tt
 trace_first faults.OutOfMemory lines steps fails = tt
-
--- the fault of what is left of both is that of both
-pub case_fails_before : (e : CaseFault) (lines left : Option (Result (List Line) TextFault)) (steps ahead : Option (Result (List Step) TextFault)) (offered : List Line) (earlier : List Step)
-    → Passes lines left offered → Passes steps ahead earlier → CaseFails e left ahead → CaseFails e lines steps
-case_fails_before (faults.Trace f) lines left steps ahead offered earlier p q fails = err_before lines left offered f p fails
-case_fails_before (faults.Witness f) lines left steps ahead offered earlier p q fails = (all_before lines left p fails.0, err_before steps ahead earlier f q fails.1)
-  where
-    all_before : (lines left : Option (Result (List Line) TextFault)) → Passes lines left offered → IfSome left (λ l. (all : List Line) × (l ≡ Ok all)) → IfSome lines (λ l. (all : List Line) × (l ≡ Ok all))
-    all_before None left p is = tt
-    all_before (Some l) None p is = absurd p
-    all_before (Some l) (Some r) p is = (offered ++ is.0, p ∙ ap (λ (x : Result (List Line) TextFault). x >>= λ more. Ok (offered ++ more)) is.1)
-case_fails_before faults.Read lines left steps ahead offered earlier p q fails = tt
-case_fails_before faults.OutOfMemory lines left steps ahead offered earlier p q fails = tt
 
 -- ---- a turn that is done or refused
 
@@ -61,9 +46,13 @@ pub turn_is : {A : Type 0} (known : A → Option (List ℕ)) (header : Header) (
     → AfterTurn header t (left_ahead known d) s ahead next m q offered earlier r
 turn_is known header t s offered earlier a b c d ahead next o n m p q more step None r f same took passed is h late done refused said =
     let before = subst (λ (e : Ahead _). Passes (left_ahead known e) (left_ahead known c) more) same passed in
-    subst (AfterTurn header t (left_ahead known d) s ahead next m q offered earlier) (sym said)
-    (more, step, subst (λ (e : Ahead _). SoFar header t (left_ahead known e) s next m q (offered ++ more) (earlier ++ step ∷ [])) (sym done.1)
-    (turn_goes header t s (left_ahead known a) (left_ahead known c) ahead next o n p offered more earlier step f before is (left_later known c step.moment h late) m q took done.0), refl)
+    subst (AfterTurn header t (left_ahead known d) s ahead next m q offered earlier) (sym said) (
+      more,
+      step,
+      subst (λ (e : Ahead _). SoFar header t (left_ahead known e) s next m q (offered ++ more) (earlier ++ step ∷ [])) (sym done.1)
+          (turn_goes header t s (left_ahead known a) (left_ahead known c) ahead next o n p offered more earlier step f before is (left_later known c step.moment h late) m q took done.0),
+      refl,
+    )
 turn_is known header t s offered earlier a b c d ahead next o n m p q more step (Some rule) r f same took passed is h late done refused said =
     let before = subst (λ (e : Ahead _). Passes (left_ahead known e) (left_ahead known c) more) same passed in
     let through = turn_passes header t s (left_ahead known a) (left_ahead known c) ahead next o n p offered more earlier step f before is (left_later known c step.moment h late) (left_ahead known d) rule refused in

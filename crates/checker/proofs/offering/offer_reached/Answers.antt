@@ -1,4 +1,4 @@
-use Rattle.std.proofs.Common.{◌≡◌, Some, List, ◌++◌, ◌∷◌, [], ap, subst, sym, ◌∙◌, rules, Option}
+use Rattle.std.proofs.Common.{◌≡◌, Some, ◌++◌, ◌∷◌, [], subst, sym, ◌∙◌, rules, Option}
 use Rattle.case_forms.specs.declared.trace.Line.{Line}
 use Rattle.line_fields.specs.Left.{Yields}
 use Rattle.checker.specs.Ahead.{left_ahead, line_ahead, IsInStep}

@@ -1,4 +1,4 @@
-use Rattle.std.proofs.Common.{◌≡◌, ◌-◌, List, ℕ}
+use Rattle.std.proofs.Common.{◌≡◌, List}
 use Rattle.case_forms.specs.declared.trace.Line.{Line}
 use Rattle.interval_order.specs.Later.{with_lines}
 use Rattle.counted.specs.Counting.{failures_of}

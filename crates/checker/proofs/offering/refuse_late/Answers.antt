@@ -1,4 +1,4 @@
-use Rattle.std.proofs.Common.{◌≡◌, Some, List, ◌++◌, ◌∷◌, [], ap, subst, sym, ◌∙◌, rules, refl, Option, ℕ, is_some, nat_eq}
+use Rattle.std.proofs.Common.{◌≡◌, Some, ◌++◌, ◌∷◌, [], subst, sym, ◌∙◌, rules, refl, Option, is_some, nat_eq}
 use Rattle.indexmap.specs.IndexMap.{get}
 use Rattle.case_forms.specs.declared.trace.Line.{Line}
 use Rattle.line_fields.specs.Left.{Yields}

@@ -1,4 +1,4 @@
-use Rattle.std.proofs.Common.{◌≡◌, List, ℕ, is_some, nat_eq}
+use Rattle.std.proofs.Common.{◌≡◌, List, is_some, nat_eq}
 use Rattle.indexmap.specs.IndexMap.{get}
 use Rattle.case_forms.specs.declared.trace.Line.{Line}
 use Rattle.counted.specs.Counting.{failures_of}

@@ -1,4 +1,4 @@
-use Rattle.std.proofs.Common.{◌≡◌, Bool, subst, rules}
+use Rattle.std.proofs.Common.{Bool, subst, rules}
 use Rattle.witness.specs.StepsLeft.{steps_left}
 use Rattle.checker.specs.Ahead.{Skips}
 use Rattle.checker.proofs.AheadLemmas.{skipped}

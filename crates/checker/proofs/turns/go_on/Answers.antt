@@ -1,10 +1,8 @@
-use Rattle.std.proofs.Common.{◌≡◌, Some, subst, Option}
+use Rattle.std.proofs.Common.{subst, Option}
 use Rattle.case_forms.specs.declared.steps.Step.{Step}
 use Rattle.line_fields.specs.Left.{Yields}
 use Rattle.witness.specs.StepsLeft.{steps_left}
-use Rattle.checker.specs.Ahead.{left_ahead, Passes}
-use Rattle.checker.proofs.AheadLemmas.{trace_fails_before, passed_on}
-use Rattle.checker.proofs.TurnLemmas.{turn_is, more_in_step, more_steps, trace_first, case_fails_before}
+use Rattle.checker.proofs.TurnLemmas.{turn_is, more_in_step, more_steps}
 use Rattle.checker.proofs.turns.go_on.Goals as goal
 
 pub returns-clause-tells : goal.returns-clause-tells

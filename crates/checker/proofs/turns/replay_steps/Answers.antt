@@ -1,4 +1,4 @@
-use Rattle.std.proofs.Common.{◌≡◌, ◌∙◌, ◌+◌, ◌++◌, ◌∷◌, [], ap, arith, length, length-append, ℕ, refl, rules, subst, sym, Bool}
+use Rattle.std.proofs.Common.{◌≡◌, ◌∙◌, ◌+◌, ◌++◌, ◌∷◌, [], ap, arith, length-append, ℕ, rules, subst, sym}
 use Rattle.std.proofs.lemmas.Result.{err_from_is_err_and}
 use Rattle.verdict.specs.declared.report.Verdict.TheVariants.{No}
 use Rattle.witness.specs.StepsLeft.{steps_left}
@@ -42,10 +42,13 @@ loop-takes_line-preserved g c =
           let after = rw c.in-More.is at (c.in_ok-takes_line.ensures.tells header t s so_far.0 so_far.1 so_far.2) in
           let len = length-append so_far.1 (after.1 ∷ []) in
           let long = so_far.4 in
-          let told : c.with-tally.result ≡ counted_with c.loop-takes_line.tally (takes_line after.1.label) = c.with-tally.ensures ∙ ap (counted_with c.loop-takes_line.tally) after.3 in
-          (so_far.0 ++ after.0, so_far.1 ++ after.1 ∷ [], after.2,
-          subst (λ (x : Tally). Tallied (so_far.1 ++ after.1 ∷ []) x.lines x.hidden) (sym told) (tally_more so_far.1 after.1 c.loop-takes_line.tally so_far.3),
-          omega (arith, len, long, sum));
+          let told : c.with-tally.result ≡ counted_with c.loop-takes_line.tally (takes_line after.1.label) = c.with-tally.ensures ∙ ap (counted_with c.loop-takes_line.tally) after.3 in (
+            so_far.0 ++ after.0,
+            so_far.1 ++ after.1 ∷ [],
+            after.2,
+            subst (λ (x : Tally). Tallied (so_far.1 ++ after.1 ∷ []) x.lines x.hidden) (sym told) (tally_more so_far.1 after.1 c.loop-takes_line.tally so_far.3),
+            omega (arith, len, long, sum),
+          );
     }
 
 pub returns-in-End-clause-tells : goal.returns-in-End-clause-tells
@@ -57,6 +60,13 @@ returns-in-End-clause-tells g c = λ header t s begun.
 pub returns-in-Refused-clause-tells : goal.returns-in-Refused-clause-tells
 returns-in-Refused-clause-tells g c = λ header t s begun.
     let so_far = c.loop-takes_line.invariant.goes header t s begun in
-    let after = rw c.in-Refused.is at (c.in_ok-takes_line.ensures.tells header t s so_far.0 so_far.1 so_far.2) in
-    (so_far.1, steps_left g.B.Read.remaining c.loop-takes_line.steps, after.0, after.1, so_far.2.done, after.2, after.3,
-    λ all whole rest. after.4 all whole rest ∙ ap (λ (n : ℕ). No (n + 2) c.in-Refused.named c.in-Refused.rule) so_far.4)
+    let after = rw c.in-Refused.is at (c.in_ok-takes_line.ensures.tells header t s so_far.0 so_far.1 so_far.2) in (
+      so_far.1,
+      steps_left g.B.Read.remaining c.loop-takes_line.steps,
+      after.0,
+      after.1,
+      so_far.2.done,
+      after.2,
+      after.3,
+      λ all whole rest. after.4 all whole rest ∙ ap (λ (n : ℕ). No (n + 2) c.in-Refused.named c.in-Refused.rule) so_far.4,
+    )

@@ -1,5 +1,4 @@
-use Rattle.std.proofs.Common.{refl}
-use Rattle.checker.specs.Ahead.{left_ahead, line_ahead}
+use Rattle.checker.specs.Ahead.{left_ahead}
 use Rattle.witness.specs.StepsLeft.{steps_left}
 use Rattle.checker.proofs.EndLemmas.{starts}
 use Rattle.checker.proofs.two_texts.judge.Goals as goal

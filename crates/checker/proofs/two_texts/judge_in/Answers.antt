@@ -1,4 +1,4 @@
-use Rattle.std.proofs.Common.{◌≡◌, sym, subst}
+use Rattle.std.proofs.Common.{sym, subst}
 use Rattle.std.proofs.lemmas.Result.{err_from_is_err_and}
 use Rattle.witness.specs.StepsLeft.{steps_left}
 use Rattle.checker.specs.declared.case.CaseFault.{CaseFault}
