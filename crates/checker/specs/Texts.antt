@@ -19,6 +19,10 @@ GivesBoth given None w = Unit {0}
 GivesBoth given (Some t) None = Unit {0}
 GivesBoth given (Some t) (Some w) = given ≡ judged t w
 
+-- what a trace's text and a witness's text give
+abbrev pub texts_result : List ℕ → List ℕ → Result Verdict CaseFault
+texts_result trace witness = judged (trace_of trace) (witness_of witness)
+
 -- what both texts give, where their bytes are known
 abbrev pub GivesTexts : Result Verdict CaseFault → Option (List ℕ) → Option (List ℕ) → Type 0
 GivesTexts given trace witness = GivesBoth given (option_map trace_of trace) (option_map witness_of witness)
