@@ -1,17 +1,24 @@
-//! The three ways in which a case is asked for.
+//! The ways in which a case is asked for.
 
 use crate::table::Case;
+use bstr::ByteSlice;
 use checker::{CaseFault, check_case};
-use cli::{run, run_all};
+use cli::{run, run_all, run_files};
 use counted::Counted;
 use line_fields::TextFault;
 use std::alloc::{AllocError, Global};
+use std::io::BufReader;
 use std::sync::Wait;
 use std::thread::Threads;
+use trace_reader::version_named;
 use verdict::Verdict;
+use witness::begins_witness;
 
 // How many threads check the cases of one input.
 const WORKERS: &str = "4";
+
+// How many bytes of each of two texts are read at once.
+const PIECES: [usize; 3] = [1, 7, 4096];
 
 // Inputs with lines that end a case and lines that don't, and for each what is printed and the status.
 const ENDS: [(&str, &str); 10] = [
@@ -33,7 +40,7 @@ const ENDS: [(&str, &str); 10] = [
     ("END\n", "bad trace 1 0 3 header\n2"),
 ];
 
-/// Asks for each case by itself, by `check_case` and by the word `check`.
+/// Asks for each case by itself: by `check_case`, by the word `check`, and by its two texts in pieces of several sizes.
 pub fn ask_each(
     alloc: Global,
     cases: &[Case],
@@ -44,6 +51,10 @@ pub fn ask_each(
         compare(alloc, case, "check_case", found.as_str(), differing)?;
         let found = by_check(alloc, case.text.as_slice())?;
         compare(alloc, case, "check", found.as_str(), differing)?;
+        for size in PIECES {
+            let found = by_two_texts(alloc, case.text.as_slice(), size)?;
+            compare(alloc, case, "two texts", found.as_str(), differing)?;
+        }
     }
     Ok(())
 }
@@ -165,6 +176,40 @@ fn by_check(alloc: Global, text: &[u8]) -> Result<String, AllocError> {
     let status = run(alloc, &["check"], &mut reader, &mut writer);
     let printed = String::from_utf8_lossy(alloc, output.as_slice())?;
     format!(in alloc; "{printed}{status}")
+}
+
+// What is printed for the trace and the witness of a case as two texts, which are read in pieces, then the status.
+fn by_two_texts(alloc: Global, text: &[u8], size: usize) -> Result<String, AllocError> {
+    let (trace, witness) = text.split_at(witness_begins(text));
+    let (Ok(trace), Ok(witness)) = (
+        BufReader::with_capacity(alloc, size, trace),
+        BufReader::with_capacity(alloc, size, witness),
+    ) else {
+        return Err(AllocError);
+    };
+    let mut output = Vec::new(alloc);
+    let mut writer = Counted::new(&mut output);
+    let (status, _, _) = run_files(
+        alloc,
+        Counted::new(trace),
+        Counted::new(witness),
+        &mut writer,
+    );
+    let printed = String::from_utf8_lossy(alloc, output.as_slice())?;
+    format!(in alloc; "{printed}{status}")
+}
+
+// How many bytes of a case stand before its witness.
+fn witness_begins(text: &[u8]) -> usize {
+    let version = version_named(text);
+    let mut at = 0usize;
+    for raw in text.lines_with_terminator() {
+        if begins_witness(version, raw) {
+            break;
+        }
+        at = at.saturating_add(raw.len());
+    }
+    at.min(text.len())
 }
 
 // What the words of `many` print for an input, then the status.

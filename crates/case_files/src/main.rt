@@ -1,4 +1,4 @@
-//! Asks for the answer to every case file, in three ways, and holds each answer to the line that is wanted.
+//! Asks for the answer to every case file, in several ways, and holds each answer to the line that is wanted.
 //!
 //! The case of each name is `data/NAME.case`, and `data/expected.txt` has the line that `tcpwit check` must print for it
 //! (`data/README.md`). Beside the files, each beginning of two of them is asked for, lines of the greatest length, inputs of
@@ -10,7 +10,7 @@
 //! - `table`: cases, and those of the files
 //! - `beginnings`: each beginning of a case
 //! - `long_lines`: lines of the greatest length, and one byte longer
-//! - `asking`: by `check_case`, by the word `check`, and by the words of `many`
+//! - `asking`: by `check_case`, by the word `check`, as two texts in pieces, and by the words of `many`
 //! - `command_lines`: by words, as the program is given them
 #![tactic(auto)]
 

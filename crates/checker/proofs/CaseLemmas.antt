@@ -1,22 +1,22 @@
 -- A case, cut at its first line that begins a witness, and its first fault.
-use Rattle.std.proofs.Common.{◌≡◌, ◌+◌, ℕ, true, false, List, [], ◌∷◌, ◌++◌, length, take, drop, refl, sym, ap, ◌∙◌, arith, append-nil, append_assoc, length-append, Result, Ok, Err}
+use Rattle.std.proofs.Common.{◌≡◌, ◌+◌, ℕ, true, false, List, [], ◌∷◌, ◌++◌, length, take, drop, refl, sym, ap, ◌∙◌, arith, append-nil, append_assoc, length-append, Option, Some, Result, Ok, Err}
 use Rattle.std.specs.List.{AllByRecursion, concat}
 use Rattle.std.proofs.lemmas.List.{take_at, drop_at, take-append-drop}
 use Rattle.bstr.specs.Text.{lines_of}
 use Rattle.bstr.proofs.lemmas.RestLemmas.{concat-lines_of}
 use Rattle.case_forms.specs.declared.trace.Trace.{Trace}
-use Rattle.case_forms.specs.declared.steps.Witness.{Witness}
 use Rattle.case_forms.specs.declared.version.Version.{Version}
-use Rattle.line_fields.specs.declared.fault.FaultKind.{FaultKind}
-use Rattle.line_fields.specs.declared.fault.FaultKind.TheVariants as kinds
 use Rattle.line_fields.specs.declared.fault.TextFault.{TextFault}
-use Rattle.line_fields.specs.Reading.{Fails}
 use Rattle.trace_reader.specs.Headers.{version_named}
-use Rattle.trace_reader.specs.TraceText.{IsTraceText}
-use Rattle.trace_reader.proofs.TraceLaw.{trace_named}
+use Rattle.trace_reader.specs.TraceText.{IsTraceText, trace_of}
+use Rattle.trace_reader.proofs.TraceLaw.{trace_named, trace_takes}
+use Rattle.witness.specs.WitnessText.{witness_for}
 use Rattle.witness.specs.FirstLine.{begins_witness}
 use Rattle.checker.specs.declared.case.CaseFault.TheVariants as faults
-use Rattle.checker.specs.Cases.{cut_place, trace_part, witness_part, case_fault, judged, GivesCase}
+use Rattle.verdict.specs.declared.report.Verdict.{Verdict}
+use Rattle.checker.specs.declared.case.CaseFault.{CaseFault}
+use Rattle.checker.specs.Cases.{cut_place, trace_part, witness_part, judged, case_of, case_result, GivesCase}
+use Rattle.checker.specs.Texts.{GivesTexts, texts_result, witness_behind}
 
 concat_both : (xs ys : List (List ℕ)) → concat (xs ++ ys) ≡ concat xs ++ concat ys
 concat_both [] ys = refl
@@ -107,28 +107,24 @@ module _ (v : Version) where
   same_version text t spelled =
       sym (trace_named t (trace_part v text) (witness_part v text) spelled) ∙ ap (λ (x : List ℕ). version_named (lines_of x)) (parts_whole text)
 
--- ---- the first fault
+-- a case's two parts, read one behind the other, give the case's answer
+pub case_is : (text : List ℕ) (given : Result Verdict CaseFault) → let v = version_named (lines_of text) in GivesTexts given (Some (trace_part v text)) (Some (witness_part v text)) → GivesCase given (case_result text)
+unfolding case_result
+case_is text given gives = by given gives
+  where
+    v : Version
+    v = version_named (lines_of text)
 
-pub trace_fails : (kind : FaultKind) (fault : TextFault) (read : Result Trace TextFault) (w : Result Witness TextFault) → Fails kind fault read → GivesCase (Err (case_fault kind (faults.Trace fault))) (judged read w)
-trace_fails kinds.Header fault read w h = ap (λ (r : Result Trace TextFault). judged r w) (sym h)
-trace_fails kinds.Field fault read w h = ap (λ (r : Result Trace TextFault). judged r w) (sym h)
-trace_fails kinds.Number fault read w h = ap (λ (r : Result Trace TextFault). judged r w) (sym h)
-trace_fails kinds.Hex fault read w h = ap (λ (r : Result Trace TextFault). judged r w) (sym h)
-trace_fails (kinds.Segment why) fault read w h = ap (λ (r : Result Trace TextFault). judged r w) (sym h)
-trace_fails kinds.MomentFalls fault read w h = ap (λ (r : Result Trace TextFault). judged r w) (sym h)
-trace_fails kinds.LineTooLong fault read w h = ap (λ (r : Result Trace TextFault). judged r w) (sym h)
-trace_fails kinds.Cut fault read w h = ap (λ (r : Result Trace TextFault). judged r w) (sym h)
-trace_fails kinds.TooManyLines fault read w h = ap (λ (r : Result Trace TextFault). judged r w) (sym h)
-trace_fails kinds.OutOfMemory fault read w h = tt
+    same : texts_result (trace_part v text) (witness_part v text) ≡ case_of v text
+    same = go (trace_of (trace_part v text)) refl
+      where
+        go : (read : Result Trace TextFault) → trace_of (trace_part v text) ≡ read → judged read (witness_behind read (witness_part v text)) ≡ judged read (witness_for v (witness_part v text))
+        go (Err e) is = refl
+        go (Ok t) is = ap (λ (u : Version). judged (Ok t) (witness_for u (witness_part v text))) (same_version v text t (trace_takes (trace_part v text) t is))
 
-pub witness_fails : (kind : FaultKind) (fault : TextFault) (t : Trace) (read : Result Witness TextFault) → Fails kind fault read → GivesCase (Err (case_fault kind (faults.Witness fault))) (judged (Ok t) read)
-witness_fails kinds.Header fault t read h = ap (λ (r : Result Witness TextFault). judged (Ok t) r) (sym h)
-witness_fails kinds.Field fault t read h = ap (λ (r : Result Witness TextFault). judged (Ok t) r) (sym h)
-witness_fails kinds.Number fault t read h = ap (λ (r : Result Witness TextFault). judged (Ok t) r) (sym h)
-witness_fails kinds.Hex fault t read h = ap (λ (r : Result Witness TextFault). judged (Ok t) r) (sym h)
-witness_fails (kinds.Segment why) fault t read h = ap (λ (r : Result Witness TextFault). judged (Ok t) r) (sym h)
-witness_fails kinds.MomentFalls fault t read h = ap (λ (r : Result Witness TextFault). judged (Ok t) r) (sym h)
-witness_fails kinds.LineTooLong fault t read h = ap (λ (r : Result Witness TextFault). judged (Ok t) r) (sym h)
-witness_fails kinds.Cut fault t read h = ap (λ (r : Result Witness TextFault). judged (Ok t) r) (sym h)
-witness_fails kinds.TooManyLines fault t read h = ap (λ (r : Result Witness TextFault). judged (Ok t) r) (sym h)
-witness_fails kinds.OutOfMemory fault t read h = tt
+    by : (r : Result Verdict CaseFault) → GivesTexts r (Some (trace_part v text)) (Some (witness_part v text)) → GivesCase r (case_of v text)
+    by (Ok verdict) is = is ∙ same
+    by (Err (faults.Trace f)) is = is ∙ same
+    by (Err (faults.Witness f)) is = is ∙ same
+    by (Err faults.Read) is = tt
+    by (Err faults.OutOfMemory) is = tt

@@ -36,7 +36,7 @@ gone o moment n extras none = by_test (is_offered o n) refl
     by_test false is = (rules.LineRange, λ rest. simp (none, is) refl)
 
 -- what the machine is asked to do, where that is found for the line
-abbrev line_act : ℕ → NamedLine → Option Line → Option (Stamped tcp_shape)
+abbrev pub line_act : ℕ → NamedLine → Option Line → Option (Stamped tcp_shape)
 line_act moment named found = option_map (λ step. record { moment = moment; step = step }) (label_step (λ n. found) (L named))
 
 module _ (header : Header) (lines : List Line) (earlier : List Step) where

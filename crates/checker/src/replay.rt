@@ -122,8 +122,12 @@ fn offer_all(alloc: Global, header: &Header, lines: &[Line]) -> Result<Window, O
     Ok(window)
 }
 
-// Does a step, or says which rule it breaks.
-fn replay(window: &mut Window, world: &mut World, step: &Step) -> Result<Option<Rule>, OutOfMemory>
+/// Does a step, or says which rule it breaks.
+pub(crate) fn replay(
+    window: &mut Window,
+    world: &mut World,
+    step: &Step,
+) -> Result<Option<Rule>, OutOfMemory>
     requires steps { world.old.steps < most_steps }
     requires label { IsWithinLimits step.now.label }
     ensures rule { IfOk result (λ r. r ≡ kept_broken world.old.header window.old world.old.world step.now) }
@@ -195,14 +199,15 @@ fn counted(steps: &[Step]) -> Verdict
     }
 }
 
-fn takes_line(label: &Label<NamedLine>) -> bool
+/// Whether a step takes a line; else it is hidden.
+pub(crate) fn takes_line(label: &Label<NamedLine>) -> bool
     ensures { result ≡ takes_line label.now }
 {
     matches!(label, Label::L(_))
 }
 
-// The line that a label names, 0 for a hidden step.
-fn line_named(label: &Label<NamedLine>) -> u64
+/// The line that a label names, 0 for a hidden step.
+pub(crate) fn line_named(label: &Label<NamedLine>) -> u64
     ensures { result ≡ line_named label.now }
 {
     match label {

@@ -15,6 +15,7 @@ ghost use Rattle.std.specs.Result.{result_err};
 ghost use Rattle.case_forms.specs.Traces.{first_event_line};
 ghost use Rattle.verdict.specs.Rules.{first_broken};
 ghost use Rattle.interval_order.specs.Orders.{taking, passing, held_line, is_offered, with_line, order_after};
+ghost use Rattle.interval_order.specs.Later.{waits, late_by};
 ghost use Rattle.interval_order.specs.OrderRules.{extras_of, has_earlier, thread_order, order_rules, has_overdue, first_overdue};
 
 use case_forms::{Event, Header, Line, OutOfMemory, Timer};
@@ -141,6 +142,40 @@ impl Window {
     {
         let (number, waiting) = self.waiting.first_key_value()?;
         is_past(waiting.line.moment, self.header.skew, moment).then_some(*number)
+    }
+
+    /// Whether a line of this thread waits.
+    pub fn waits(&self, thread: u32) -> bool
+        ensures { result ≡ waits self.now thread }
+    {
+        match self.latest.get(&thread) {
+            Some(last) => self.waiting.contains_key(last),
+            None => false,
+        }
+    }
+
+    /// The least rule that a step breaks which takes this line, where the line is not offered yet and the step's moment
+    /// is below the line's. `is_behind` says whether a line of its thread stands before it that is not offered either.
+    pub fn late_rule(&self, line: &Line, is_behind: bool, extras: u8, moment: u64) -> Rule
+        ensures { result ≡ late_by self.now is_behind line.now extras moment }
+    {
+        if extras != extras_of(&line.event) {
+            return Rule::LineRange;
+        }
+        if self.waits(line.thread) || is_behind {
+            return Rule::ThreadOrder;
+        }
+        if moment < self.last {
+            return Rule::MomentFalls;
+        }
+        Rule::MomentOff
+    }
+
+    /// The number of the next line that is to be offered.
+    pub fn next_number(&self) -> u64
+        ensures { result ≡ self.now.next }
+    {
+        self.next
     }
 
     /// The number of the first line that waits, if one does.

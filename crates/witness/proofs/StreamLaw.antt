@@ -84,7 +84,7 @@ whole_begins v text = sym (nothing_in_front (steps_from v None (lines_of text)))
 pub whole_on : (total : Steps) (front : List Step) (step : Step) (left rest : Steps) → total ≡ with_front front left → left ≡ in_front step rest → total ≡ with_front (front ++ step ∷ []) rest
 whole_on total front step left rest so_far is = so_far ∙ ap (λ (l : Steps). with_front front l) is ∙ regroup front step rest
 
-whole_err : (read : Result Witness TextFault) (e : TextFault) → steps_of read ≡ Err e → read ≡ Err e
+pub whole_err : (read : Result Witness TextFault) (e : TextFault) → steps_of read ≡ Err e → read ≡ Err e
 whole_err (Ok w) e is = let h = is in absurd cc
 whole_err (Err d) e is = let h = is in cc
 
@@ -93,7 +93,7 @@ whole_fails read front left e so_far fails = Fails-map e.kind e left read (λ is
 
 -- ---- all steps were read
 
-whole_ok : (v : Version) (text : List ℕ) (steps : List Step) (read : Result Witness TextFault) → witness_for v text ≡ read → steps_of read ≡ Ok steps → read ≡ Ok (record { version = v; steps = steps })
+pub whole_ok : (v : Version) (text : List ℕ) (steps : List Step) (read : Result Witness TextFault) → witness_for v text ≡ read → steps_of read ≡ Ok steps → read ≡ Ok (record { version = v; steps = steps })
 whole_ok v text steps (Ok w) is e =
     let version = (text_takes v w text is).0 in
     let same : w.steps ≡ steps = let h = e in cc in
