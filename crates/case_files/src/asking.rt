@@ -1,5 +1,7 @@
 //! The ways in which a case is asked for.
 
+ghost use Rattle.std.specs.Prelude.{◌≤◌, length};
+
 use crate::table::Case;
 use bstr::ByteSlice;
 use checker::{CaseFault, check_case};
@@ -200,7 +202,9 @@ fn by_two_texts(alloc: Global, text: &[u8], size: usize) -> Result<String, Alloc
 }
 
 // How many bytes of a case stand before its witness.
-fn witness_begins(text: &[u8]) -> usize {
+fn witness_begins(text: &[u8]) -> usize
+    ensures { result ≤ length text.now }
+{
     let version = version_named(text);
     let mut at = 0usize;
     for raw in text.lines_with_terminator() {
