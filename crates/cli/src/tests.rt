@@ -135,7 +135,7 @@ fn flushes_each_line(rt: HostRuntime) {
     for fails in [false, true] {
         let table: [(&[&str], u8); 3] = [(&["check"], 2), (&["segment", "0"], 2), (&["many"], 3)];
         for (words, status) in table {
-            let input: &[u8] = b"trace 2\n";
+            let input: &[u8] = b"trace 3\n";
             let mut reader = Counted::new(input);
             let mut end = Flushed { flushes: 0, fails };
             let mut writer = Counted::new(&mut end);

@@ -25,7 +25,7 @@ fn takes_each_spelling_of_a_number(rt: HostRuntime) -> Result<(), Fail> {
     ];
     for words in table {
         let mut out = Vec::new(rt.alloc());
-        let input: &[u8] = b"trace 2\nend\n";
+        let input: &[u8] = b"trace 3\nend\n";
         let mut reader = Counted::new(input);
         let mut writer = Counted::new(&mut out);
         let status = run_all(&rt, rt.alloc(), words, &mut reader, &mut writer);
