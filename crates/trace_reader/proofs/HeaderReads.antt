@@ -1,5 +1,5 @@
 -- The header of a text whose lines are read as they are asked for: each line behind those before it.
-use Rattle.std.proofs.Common.{◌≡◌, List, ℕ, Option, None, Some, Result, Ok, Err}
+use Rattle.std.proofs.Common.{◌≡◌, Option, None, Some, Result, Ok, Err}
 use Rattle.case_forms.specs.declared.trace.Header.{Header}
 use Rattle.line_fields.specs.declared.fault.TextFault.{TextFault}
 use Rattle.line_fields.specs.declared.fault.ReadFault.{ReadFault}
