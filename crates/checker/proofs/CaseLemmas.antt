@@ -1,5 +1,5 @@
 -- A case, cut at its first line that begins a witness, and its first fault.
-use Rattle.std.proofs.Common.{◌≡◌, ◌+◌, ℕ, true, false, List, [], ◌∷◌, ◌++◌, length, take, drop, refl, sym, ap, ◌∙◌, arith, append-nil, append_assoc, length-append, Option, Some, Result, Ok, Err}
+use Rattle.std.proofs.Common.{◌≡◌, ◌≢◌, ◌+◌, ℕ, true, false, List, [], ◌∷◌, ◌++◌, length, take, drop, refl, sym, ap, ◌∙◌, arith, append-nil, append_assoc, length-append, Option, Some, Result, Ok, Err}
 use Rattle.std.specs.List.{AllByRecursion, concat}
 use Rattle.std.proofs.lemmas.List.{take_at, drop_at, take-append-drop}
 use Rattle.bstr.specs.Text.{lines_of}
@@ -108,9 +108,9 @@ module _ (v : Version) where
       sym (trace_named t (trace_part v text) (witness_part v text) spelled) ∙ ap (λ (x : List ℕ). version_named (lines_of x)) (parts_whole text)
 
 -- a case's two parts, read one behind the other, give the case's answer
-pub case_is : (text : List ℕ) (given : Result Verdict CaseFault) → let v = version_named (lines_of text) in GivesTexts given (Some (trace_part v text)) (Some (witness_part v text)) → GivesCase given (case_result text)
+pub case_is : (text : List ℕ) (given : Result Verdict CaseFault) → let v = version_named (lines_of text) in GivesTexts given (Some (trace_part v text)) (Some (witness_part v text)) → given ≢ Err faults.Read → GivesCase given (case_result text)
 unfolding case_result
-case_is text given gives = by given gives
+case_is text given gives unread = by given gives unread
   where
     v : Version
     v = version_named (lines_of text)
@@ -122,9 +122,9 @@ case_is text given gives = by given gives
         go (Err e) is = refl
         go (Ok t) is = ap (λ (u : Version). judged (Ok t) (witness_for u (witness_part v text))) (same_version v text t (trace_takes (trace_part v text) t is))
 
-    by : (r : Result Verdict CaseFault) → GivesTexts r (Some (trace_part v text)) (Some (witness_part v text)) → GivesCase r (case_of v text)
-    by (Ok verdict) is = is ∙ same
-    by (Err (faults.Trace f)) is = is ∙ same
-    by (Err (faults.Witness f)) is = is ∙ same
-    by (Err faults.Read) is = tt
-    by (Err faults.OutOfMemory) is = tt
+    by : (r : Result Verdict CaseFault) → GivesTexts r (Some (trace_part v text)) (Some (witness_part v text)) → r ≢ Err faults.Read → GivesCase r (case_of v text)
+    by (Ok verdict) is unread = is ∙ same
+    by (Err (faults.Trace f)) is unread = is ∙ same
+    by (Err (faults.Witness f)) is unread = is ∙ same
+    by (Err faults.Read) is unread = absurd (unread refl)
+    by (Err faults.OutOfMemory) is unread = tt

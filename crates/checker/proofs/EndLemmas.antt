@@ -4,6 +4,7 @@ use Rattle.std.specs.Prelude.{count_by, not, cond}
 use Rattle.std.specs.List.{enumerate_from}
 use Rattle.std.proofs.lemmas.List.Sums.{sum_by-cons, sum_by-append}
 use Rattle.case_forms.specs.declared.trace.Header.{Header}
+use Rattle.case_forms.specs.Traces.{first_event_line}
 use Rattle.case_forms.specs.declared.trace.Line.{Line}
 use Rattle.case_forms.specs.declared.steps.Step.{Step}
 use Rattle.verdict.specs.declared.rule.Rule.{Rule}
@@ -29,11 +30,11 @@ use Rattle.checker.proofs.StreamTurns.{all_done}
 -- ---- the start
 
 pub starts : (header : Header) (lines : Option (Result (List Line) TextFault)) (steps : Option (Result (List Step) TextFault)) (o : Order) (p : Progress)
-    → o ≡ order_of header [] [] → p ≡ start header → SoFar header lines lines steps steps o p [] []
+    → o ≡ record { header = header; next = first_event_line header; held = []; last = 0 } → p ≡ start header → SoFar header lines lines steps steps o p [] []
 starts header lines steps o p offered is = record {
   passed = none_passed lines;
   done = none_passed steps;
-  come = begun header [] o p offered is;
+  come = begun header [] o p (offered ∙ ap (λ n. let x : Order = record { header = header; next = n; held = []; last = 0 } in x) (omega arith)) is;
   below = λ n le. refl;
   told = λ all whole rest. refl;
 }
