@@ -31,8 +31,7 @@ ghost use Rattle.endpoint_state.specs.Kinds.{answered_one, dropped_one, made_one
 use crate::arriving::{admitted_arrival, settle, waiting};
 use crate::body::Body;
 use crate::fault::StepFault;
-use crate::made::Made;
-use crate::sending::{admitted_sending, send};
+use crate::made::{Made, admitted_sending, send};
 use case_forms::{
     Answer, Call, Expired, Header, Host, Ports, Recovery, SegmentPlan, TakeChoice, Wire,
 };
