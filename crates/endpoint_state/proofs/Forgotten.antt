@@ -1,4 +1,4 @@
--- Changing one endpoint in its place, where of the others there is nothing to let go.
+-- Changing one endpoint in its place, where of the others there is nothing to discard.
 use Rattle.std.proofs.Common.{◌≡◌, ℕ, zero, suc, ◌<◌, ◌≤◌, true, true≢false, List, [], ◌∷◌, length, get_or, map, Option, Some, refl, ap, sym, subst, ◌∙◌, arith}
 use Rattle.std.proofs.lemmas.Option.{slice_get_past, slice_get_read}
 use Rattle.std.specs.Prelude.{is_some, slice_get, slice_set}

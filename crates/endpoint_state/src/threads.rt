@@ -127,7 +127,8 @@ pub(crate) fn finish(
     thread: u32,
     answer: &Answer,
 ) -> Result<(), StepFault>
-    ensures fault { fault_rule result ≡ first_broken (end_rules (λ given answer. not (same_answer given answer)) (turn_of thread threads.old.entries) answer.now) }
+    ensures fault { fault_rule result ≡ first_broken (end_rules
+        (λ given answer. not (same_answer given answer)) (turn_of thread threads.old.entries) answer.now) }
     ensures ok { OnOk result (threads.new.entries ≡ insert_entry nat_eq threads.old.entries thread Idle) }
     ensures err { OnErr result (threads.new.entries ≡ threads.old.entries) }
 {
