@@ -33,7 +33,7 @@ judged (Err fault) read = Err (faults.Trace fault)
 judged (Ok t) (Err fault) = Err (faults.Witness fault)
 judged (Ok t) (Ok w) = Ok (verdict t w)
 
--- the fault of a case that a fault of a text is: want of memory has no place in a text
+-- the fault of a case that a fault of a text is: running out of memory has no place in a text
 abbrev pub case_fault : FaultKind → CaseFault → CaseFault
 case_fault kinds.OutOfMemory fault = faults.OutOfMemory
 case_fault kind fault = fault

@@ -1,24 +1,17 @@
 //! What one host has, and what it does. Moments are in microseconds, windows and thresholds in bytes. Where memory runs out
 //! nothing is changed.
 
-ghost use Rattle.std.specs.Prelude.{◌≡◌, ◌≤◌, true, Some, [], nat_eq, IfOk, OnOk, OnErr};
+ghost use Rattle.std.specs.Prelude.{◌≡◌, ◌≤◌, true, Some, nat_eq, IfOk, OnOk, OnErr};
 ghost use Rattle.std.specs.Map.{lookup};
 ghost use Rattle.indexmap.specs.IndexMap.{insert_entry};
-ghost use Rattle.verdict.specs.declared.rule.Rule.TheVariants as rule_names;
-ghost use Rattle.hosts.specs.Tables.{on, waiting};
 ghost use Rattle.std.specs.Option.{IfSome};
 ghost use Rattle.std.specs.Result.{result_err};
 ghost use Rattle.verdict.specs.Rules.{first_broken};
 ghost use Rattle.hosts.specs.HostSteps.{empty_host};
-ghost use Rattle.hosts.specs.HostRules.{arrival_rules, just, sending_rules};
+ghost use Rattle.hosts.specs.HostRules.{arrival_rules, sending_rules};
 ghost use Rattle.machine.specs.Wire.{in_rules, out_rules};
-ghost use Rattle.machine.specs.Bodies.{at_ports, given};
+ghost use Rattle.machine.specs.Bodies.{given};
 ghost use Rattle.machine.specs.Makes.{making_rules};
-ghost use Rattle.machine.specs.Arrives.{taker, taker_rules};
-ghost use Rattle.machine.specs.Reset.{reset_rules};
-ghost use Rattle.machine.specs.Steps.{growth_of, timer_of};
-ghost use Rattle.machine.specs.Timeouts.{after_expiry, expiry_rules};
-ghost use Rattle.machine.specs.Recovery.{after_recovery, recovery_rules};
 ghost use Rattle.machine.specs.Calls.{call_allows, after_call};
 ghost use Rattle.machine.specs.Machine.{act_makes, rules_at, tcp};
 ghost use Rattle.machine.specs.Machine as acts;
@@ -26,13 +19,13 @@ ghost use Rattle.machine.specs.Forgetting.{forget_host};
 ghost use Rattle.machine.specs.Bounds.{greatest_position, IsSmallEmission};
 ghost use Rattle.endpoint_state.specs.Kept.{IsReady};
 ghost use Rattle.endpoint_state.specs.Faults.{fault_rule};
-ghost use Rattle.endpoint_state.specs.Kinds.{answered_one, dropped_one, made_one, sent_one, taken_one};
+ghost use Rattle.endpoint_state.specs.Kinds.{answered_one, dropped_one, made_one, sent_one, taken_one, answering_rules, dropping_rules, expired_body};
+ghost use Rattle.endpoint_state.specs.Kinds.{expiring_rules, recovered_body, recovering_rules, taking_rules};
 
 use crate::arriving::{admitted_arrival, settle, waiting};
 use crate::body::Body;
 use crate::fault::StepFault;
-use crate::made::Made;
-use crate::sending::{admitted_sending, send};
+use crate::made::{Made, admitted_sending, send};
 use case_forms::{
     Answer, Call, Expired, Header, Host, Ports, Recovery, SegmentPlan, TakeChoice, Wire,
 };
@@ -135,7 +128,7 @@ pub(crate) fn take(
     moment: u64,
 ) -> Result<(), StepFault>
     requires ready { IsReady host.old }
-    ensures fault { fault_rule result ≡ first_broken (on (waiting line host.old.inbox) (just rule_names.Inbox true) (λ m. taker_rules header.now me host.old.body how m (taker host.old.body m))) }
+    ensures fault { fault_rule result ≡ first_broken (taking_rules header.now me line how host.old) }
     ensures ok { OnOk result (host.new ≡ forget_host (taken_one header.now moment line how host.old)) }
     ensures err { OnErr result (host.new ≡ host.old) }
 {
@@ -149,7 +142,7 @@ pub(crate) fn take(
 
 /// The segment that waits under this line is dropped. An error is the rule that nothing waits; nothing is changed then.
 pub(crate) fn drop_waiting(host: &mut HostState, line: u64) -> Result<(), Rule>
-    ensures rule { result_err result ≡ first_broken (on (waiting line host.old.inbox) (just rule_names.Inbox true) (λ m. [])) }
+    ensures rule { result_err result ≡ first_broken (dropping_rules line host.old) }
     ensures ok { OnOk result (host.new ≡ dropped_one line host.old) }
     ensures err { OnErr result (host.new ≡ host.old) }
 {
@@ -166,7 +159,7 @@ pub(crate) fn answer(
     line: u64,
     fresh: u32,
 ) -> Result<(), StepFault>
-    ensures fault { fault_rule result ≡ first_broken (on (waiting line host.old.inbox) (just rule_names.Inbox true) (λ m. reset_rules host.old.body m)) }
+    ensures fault { fault_rule result ≡ first_broken (answering_rules line host.old) }
     ensures ok { OnOk result (host.new ≡ answered_one line fresh host.old) }
     ensures err { OnErr result (host.new ≡ host.old) }
 {
@@ -189,8 +182,8 @@ pub(crate) fn expire(
     moment: u64,
 ) -> Result<(), Rule>
     requires { IsReady host.old }
-    ensures rule { result_err result ≡ first_broken (rules_at host.old.body ports.lport ports.rport (λ e. expiry_rules header.now moment e (timer_of expired) (growth_of expired))) }
-    ensures ok { OnOk result (host.new ≡ forget_host (record host.old { body = at_ports host.old.body ports.lport ports.rport (λ e. after_expiry e (timer_of expired) (growth_of expired) moment) })) }
+    ensures rule { result_err result ≡ first_broken (expiring_rules header.now moment ports expired host.old.body) }
+    ensures ok { OnOk result (host.new ≡ forget_host (record host.old { body = expired_body moment ports expired host.old.body })) }
     ensures err { OnErr result (host.new ≡ host.old) }
 {
     host.body.expire(header, ports, expired, moment)
@@ -199,8 +192,8 @@ pub(crate) fn expire(
 /// Fast recovery begins. An error is the first rule that is broken; nothing is changed then.
 pub(crate) fn recover(host: &mut HostState, recovery: Recovery) -> Result<(), Rule>
     requires { IsReady host.old }
-    ensures rule { result_err result ≡ first_broken (rules_at host.old.body recovery.lport recovery.rport (λ e. recovery_rules e recovery.cwnd recovery.ssthresh)) }
-    ensures ok { OnOk result (host.new ≡ forget_host (record host.old { body = at_ports host.old.body recovery.lport recovery.rport (λ e. after_recovery e recovery.cwnd recovery.ssthresh) })) }
+    ensures rule { result_err result ≡ first_broken (recovering_rules recovery host.old.body) }
+    ensures ok { OnOk result (host.new ≡ forget_host (record host.old { body = recovered_body recovery host.old.body })) }
     ensures err { OnErr result (host.new ≡ host.old) }
 {
     host.body.recover(recovery)
@@ -294,7 +287,7 @@ impl HostState {
         line: u64,
         how: TakeChoice,
     ) -> Result<(), Rule>
-        ensures { result_err result ≡ first_broken (on (waiting line self.now.inbox) (just rule_names.Inbox true) (λ m. taker_rules header.now me self.now.body how m (taker self.now.body m))) }
+        ensures { result_err result ≡ first_broken (taking_rules header.now me line how self.now) }
     {
         let Some(m) = waiting(&self.inbox, line) else {
             return Err(Rule::Inbox);
@@ -305,7 +298,7 @@ impl HostState {
 
     /// Whether it may drop what waits under this line. An error is the rule that nothing does.
     pub(crate) fn admits_dropping(&self, line: u64) -> Result<(), Rule>
-        ensures { result_err result ≡ first_broken (on (waiting line self.now.inbox) (just rule_names.Inbox true) (λ m. [])) }
+        ensures { result_err result ≡ first_broken (dropping_rules line self.now) }
     {
         match waiting(&self.inbox, line) {
             Some(_) => Ok(()),
@@ -315,7 +308,7 @@ impl HostState {
 
     /// Whether it may answer by a reset the segment that waits under this line. An error is the first rule that is broken.
     pub(crate) fn admits_reset(&self, line: u64) -> Result<(), Rule>
-        ensures { result_err result ≡ first_broken (on (waiting line self.now.inbox) (just rule_names.Inbox true) (λ m. reset_rules self.now.body m)) }
+        ensures { result_err result ≡ first_broken (answering_rules line self.now) }
     {
         match waiting(&self.inbox, line) {
             Some(m) => self.body.admits_reset(m),
@@ -331,7 +324,7 @@ impl HostState {
         expired: Expired,
         moment: u64,
     ) -> Result<(), Rule>
-        ensures { result_err result ≡ first_broken (rules_at self.now.body ports.lport ports.rport (λ e. expiry_rules header.now moment e (timer_of expired) (growth_of expired))) }
+        ensures { result_err result ≡ first_broken (expiring_rules header.now moment ports expired self.now.body) }
     {
         self.body.admitted_expiry(header, ports, expired, moment)?;
         Ok(())
@@ -339,7 +332,7 @@ impl HostState {
 
     /// Whether fast recovery may begin. An error is the first rule that is broken.
     pub(crate) fn admits_recovery(&self, recovery: Recovery) -> Result<(), Rule>
-        ensures { result_err result ≡ first_broken (rules_at self.now.body recovery.lport recovery.rport (λ e. recovery_rules e recovery.cwnd recovery.ssthresh)) }
+        ensures { result_err result ≡ first_broken (recovering_rules recovery self.now.body) }
     {
         self.body.admitted_recovery(recovery)?;
         Ok(())

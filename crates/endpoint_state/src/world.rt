@@ -15,8 +15,7 @@ ghost use Rattle.endpoint_state.specs.Sides.{AreReady};
 use crate::fault::StepFault;
 use crate::host;
 use crate::host_pair::Hosts;
-use crate::threads::{admits_begin, admits_end, begin, finish};
-use crate::turn::Turn;
+use crate::threads::{Turn, admits_begin, admits_end, begin, finish};
 use case_forms::{
     Answer, Call, Expired, Header, Host, Ports, Recovery, SegmentPlan, TakeChoice, Wire,
 };

@@ -1,4 +1,4 @@
--- Forgetting is free: what may be let go matters to no rule, and to nothing that is kept; over one step, and over whole runs.
+-- Forgetting is free: what may be discarded matters to no rule, and to nothing that is kept; over one step, and over whole runs.
 use Rattle.std.specs.Prelude.{◌≡◌, ◌↔◌, ℕ, suc, List, [], ◌∷◌, Option, None, Some}
 use Rattle.std.specs.Option.{option_map_or}
 use Rattle.case_forms.specs.declared.calls.Host.{Host}
@@ -25,7 +25,7 @@ IfMaking (Takes line how) holds = Unit {0}
 IfMaking (Drops line) holds = Unit {0}
 IfMaking (Answers line) holds = Unit {0}
 
--- the step is permitted, if it makes a segment of an endpoint's stream: its bytes are copied, and where it is permitted none of them was let go
+-- the step is permitted, if it makes a segment of an endpoint's stream: its bytes are copied, and where it is permitted none of them was discarded
 abbrev pub MakesPermitted : Header → ℕ → World tcp_shape → Step tcp_shape → Type 0
 MakesPermitted h moment w (Begin line t call) = Unit {0}
 MakesPermitted h moment w (Finish line t answer) = Unit {0}

@@ -215,7 +215,8 @@ impl Body {
         requires kept { All HasRoom self.old.endpoints }
         requires small { IsSmallEmission m.now }
         requires open { IsOpen self.old (found.Endpoint place) }
-        ensures ok { OnOk result (self.new ≡ forget_body (after_taking header.now self.old how m.now moment (taker_found self.old (Some (found.Endpoint place))))) }
+        ensures ok { OnOk result (self.new
+            ≡ forget_body (after_taking header.now self.old how m.now moment (taker_found self.old (Some (found.Endpoint place))))) }
         ensures err { OnErr result (self.new ≡ self.old) }
     {
         match self.joins_at(m, place) {
@@ -237,7 +238,12 @@ impl Body {
         requires kept { All HasRoom self.old.endpoints }
         requires small { IsSmallEmission m.now }
         requires open { IsOpen self.old (found.Endpoint place) }
-        ensures ok { OnOk result (self.new ≡ record self.old { endpoints = changed self.old.endpoints place (λ e. endpoint_taken header.now e how m.now moment); listeners = modify self.old.listeners listener (λ x. record x { queue = x.queue ++ place ∷ [] }) }) }
+        ensures ok { OnOk result (self.new ≡ record self.old {
+          endpoints = changed self.old.endpoints place (λ e. endpoint_taken header.now e how m.now moment);
+          listeners = modify self.old.listeners listener (λ x. record x {
+            queue = x.queue ++ place ∷ [];
+          });
+        }) }
         ensures err { OnErr result (self.new ≡ self.old) }
     {
         self.listeners.join(listener, place)?;

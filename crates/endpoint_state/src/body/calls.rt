@@ -80,7 +80,9 @@ impl Body {
     ) -> Result<(), OutOfMemory>
         requires room { length self.old.listeners + 1 < 2 ^ 32 }
         requires free { is_listening self.old port ≡ false }
-        ensures ok { OnOk result (self.new ≡ with_socket (record self.old { listeners = self.old.listeners ++ record { port = port; backlog = backlog; is_open = true; queue = [] } ∷ [] }) number (Listens (length self.old.listeners))) }
+        ensures ok { OnOk result (self.new ≡ with_socket (record self.old {
+          listeners = self.old.listeners ++ record { port = port; backlog = backlog; is_open = true; queue = [] } ∷ [];
+        }) number (Listens (length self.old.listeners))) }
         ensures err { OnErr result (self.new ≡ self.old) }
     {
         let place = self.listeners.len() as u32;
@@ -105,7 +107,9 @@ impl Body {
         rport: u16,
     ) -> Result<(), OutOfMemory>
         requires room { length self.old.endpoints + 1 < 2 ^ 32 }
-        ensures ok { OnOk result (self.new ≡ with_socket (record self.old { endpoints = self.old.endpoints ++ new_endpoint lport rport None states.SynSent ∷ [] }) number (Ends (length self.old.endpoints))) }
+        ensures ok { OnOk result (self.new ≡ with_socket (record self.old {
+          endpoints = self.old.endpoints ++ new_endpoint lport rport None states.SynSent ∷ [];
+        }) number (Ends (length self.old.endpoints))) }
         ensures err { OnErr result (self.new ≡ self.old) }
     {
         let place = self.endpoints.len() as u32;
@@ -125,7 +129,7 @@ impl Body {
     {
         match self.thing(number) {
             Some(Thing::Ends(place)) => self.endpoints.send(place, bytes, count),
-            _ => Ok(()),
+            Some(Thing::Listens(_)) | None => Ok(()),
         }
     }
 
@@ -203,7 +207,7 @@ impl Body {
     {
         match self.thing(number) {
             Some(Thing::Listens(place)) => self.accept_from(place, child_number),
-            _ => Ok(()),
+            Some(Thing::Ends(_)) | None => Ok(()),
         }
     }
 
@@ -274,7 +278,19 @@ impl Body {
                 self.abort(*number);
                 Ok(())
             }
-            _ => Ok(()),
+            (
+                Call::Listen(_, _, _)
+                | Call::Connect(_, _, _)
+                | Call::Await(_)
+                | Call::Accept(_)
+                | Call::Send(_, _)
+                | Call::Recv(_, _)
+                | Call::Shut(_)
+                | Call::Close(_)
+                | Call::Abort(_)
+                | Call::Status(_),
+                _,
+            ) => Ok(()),
         }
     }
 }
@@ -285,7 +301,17 @@ fn gives_or_in_use(used: bool, answer: &Answer) -> bool
     match answer {
         Answer::Given(_) => !used,
         Answer::InUse => used,
-        _ => false,
+        Answer::Done
+        | Answer::Bytes(_)
+        | Answer::Again
+        | Answer::Eof
+        | Answer::Closed
+        | Answer::NotConn
+        | Answer::Refused
+        | Answer::Reset
+        | Answer::Timeout
+        | Answer::BadSocket
+        | Answer::State(_) => false,
     }
 }
 
@@ -293,13 +319,14 @@ fn gives_or_in_use(used: bool, answer: &Answer) -> bool
 fn childless_allows(call: &Call, answer: &Answer) -> bool
     ensures { result ≡ listener_allows [] call.now answer.now }
 {
-    match (call, answer) {
-        (Call::Accept(_), Answer::Again) => true,
-        (Call::Await(_) | Call::Send(_, _) | Call::Recv(_, _) | Call::Shut(_), Answer::NotConn) =>
-            true,
-        (Call::Close(_) | Call::Abort(_), Answer::Done) => true,
-        (Call::Status(_), Answer::State(State::Listen)) => true,
-        _ => false,
+    match call {
+        Call::Accept(_) => matches!(answer, Answer::Again),
+        Call::Await(_) | Call::Send(_, _) | Call::Recv(_, _) | Call::Shut(_) => {
+            matches!(answer, Answer::NotConn)
+        }
+        Call::Close(_) | Call::Abort(_) => matches!(answer, Answer::Done),
+        Call::Status(_) => matches!(answer, Answer::State(State::Listen)),
+        Call::Listen(_, _, _) | Call::Connect(_, _, _) => false,
     }
 }
 

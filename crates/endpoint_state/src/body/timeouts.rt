@@ -4,12 +4,10 @@ ghost use Rattle.std.specs.Prelude.{◌≡◌, Some, IfOk, OnOk, OnErr};
 ghost use Rattle.std.specs.List.{All};
 ghost use Rattle.std.specs.Result.{result_err};
 ghost use Rattle.verdict.specs.Rules.{first_broken};
-ghost use Rattle.machine.specs.Bodies.{at_ports, place_of};
+ghost use Rattle.machine.specs.Bodies.{place_of};
 ghost use Rattle.machine.specs.Bounds.{HasRoom};
 ghost use Rattle.machine.specs.Forgetting.{forget_body};
-ghost use Rattle.machine.specs.Machine.{rules_at};
-ghost use Rattle.machine.specs.Steps.{growth_of, timer_of};
-ghost use Rattle.machine.specs.Timeouts.{after_expiry, expiry_rules};
+ghost use Rattle.endpoint_state.specs.Kinds.{expired_body, expiring_rules};
 
 use crate::body::Body;
 use case_forms::{Expired, Header, Ports};
@@ -26,7 +24,7 @@ impl Body {
         expired: Expired,
         moment: u64,
     ) -> Result<u32, Rule>
-        ensures rule { result_err result ≡ first_broken (rules_at self.now ports.lport ports.rport (λ e. expiry_rules header.now moment e (timer_of expired) (growth_of expired))) }
+        ensures rule { result_err result ≡ first_broken (expiring_rules header.now moment ports expired self.now) }
         ensures place { IfOk result (λ place. place_of self.now ports.lport ports.rport ≡ Some place) }
     {
         let Some(place) = self.place_of(ports.lport, ports.rport) else {
@@ -50,8 +48,8 @@ impl Body {
         moment: u64,
     ) -> Result<(), Rule>
         requires { All HasRoom self.old.endpoints }
-        ensures rule { result_err result ≡ first_broken (rules_at self.old ports.lport ports.rport (λ e. expiry_rules header.now moment e (timer_of expired) (growth_of expired))) }
-        ensures ok { OnOk result (self.new ≡ forget_body (at_ports self.old ports.lport ports.rport (λ e. after_expiry e (timer_of expired) (growth_of expired) moment))) }
+        ensures rule { result_err result ≡ first_broken (expiring_rules header.now moment ports expired self.old) }
+        ensures ok { OnOk result (self.new ≡ forget_body (expired_body moment ports expired self.old)) }
         ensures err { OnErr result (self.new ≡ self.old) }
     {
         let place = self.admitted_expiry(header, ports, expired, moment)?;

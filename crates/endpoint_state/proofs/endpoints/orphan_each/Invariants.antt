@@ -2,7 +2,7 @@ use Rattle.std.proofs.Common.{◌≡◌, drop}
 use Rattle.std.specs.List.{All}
 use Rattle.machine.specs.Bounds.{HasRoom}
 use Rattle.endpoint_state.specs.Changes.{orphan_each}
-use Rattle.endpoint_state.proofs.orphans.orphan_each.Given as goal
+use Rattle.endpoint_state.proofs.endpoints.orphan_each.Given as goal
 
 abbrev pub invariant-loop-child : goal.invariant-loop-child
 invariant-loop-child l = record {

@@ -5,7 +5,7 @@ use Rattle.machine.specs.Bounds.{HasRoom}
 use Rattle.machine.specs.Calls.Close.{orphaned}
 use Rattle.endpoint_state.proofs.PlaceLemmas.{modified_past}
 use Rattle.endpoint_state.proofs.OrphanLemmas.{orphaned_at, room_orphaned, all_modified}
-use Rattle.endpoint_state.proofs.orphans.orphan_at.Goals as goal
+use Rattle.endpoint_state.proofs.endpoints.orphan_at.Goals as goal
 
 pub returns-then-place-len-clause-items : goal.returns-then-place-len-clause-items
 returns-then-place-len-clause-items c = orphaned_at c.args.listener c.args.endpoints.now.items c.args.place c.index_mut-endpoint.result.now c.orphan.new.endpoint c.requires (let ok = c.args.endpoints.now.ok in omega arith) c.index_mut-endpoint.ensures.value c.orphan.ensures
