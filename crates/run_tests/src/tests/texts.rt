@@ -11,7 +11,8 @@ use trace_reader::{Lines, TextFault, Trace, TraceReader, Version, event_line, pr
 use witness::{StepReader, Steps, Witness, print_witness};
 
 // Each kind of line, each call, and each form of an answer.
-const TRACE: &str = "trace 2\nskew 0\nmsl 120000000\ngrain 1000\nminrto 1000000\nextra 0\ninitial 6928\n\
+const TRACE: &str =
+    "trace 2\nskew 0\nmsl 120000000\ngrain 1000\nminrto 1000000\nextra 0\ninitial 6928\n\
 10 1 B listen 1 80 4\n\
 11 1 E ok 5\n\
 20 2 B open 0 4000 80\n\
