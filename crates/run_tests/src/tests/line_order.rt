@@ -1,10 +1,9 @@
 //! Many lines that wait at once.
 
-ghost use Rattle.std.specs.Prelude.{◌≡◌};
+ghost use Rattle.std.specs.Prelude.{◌≡◌, []};
 
 use case_forms::{Call, Event, Header, Initial, Line, OutOfMemory, Span, Version};
 use interval_order::Window;
-use std::alloc::Global;
 
 const HEADER: Header = Header {
     version: Version::One,
@@ -33,20 +32,21 @@ fn line(number: u64, moment: u64, thread: u32) -> Line
     }
 }
 
-// The window with these lines, each a moment and a thread, as long as the moments don't fall.
-fn window_of(alloc: Global, lines: &[(u64, u32)]) -> Result<Window, OutOfMemory> {
-    let mut window = Window::new(alloc, &HEADER);
-    let mut number = HEADER.first_event_line();
+// Offers these lines, each a moment and a thread, as long as the moments don't fall.
+fn offer_all(window: &mut Window, lines: &[(u64, u32)]) -> Result<(), OutOfMemory>
+    requires { window.old.held ≡ [] }
+{
+    let mut number = window.next_number();
     let mut since = 0;
     for (moment, thread) in lines {
         if *moment < since || number > 1_000_000 {
-            return Ok(window);
+            return Ok(());
         }
         since = *moment;
         window.offer(line(number, since, *thread))?;
         number += 1;
     }
-    Ok(window)
+    Ok(())
 }
 
 // A step takes no time that grows with the lines.
@@ -56,7 +56,8 @@ fn many_lines_wait_at_once(rt: HostRuntime) {
     for place in 0..200_000u32 {
         lines.push((100, place % 20_000)).expect(&rt, "memory");
     }
-    let mut window = window_of(rt.alloc(), &lines).expect(&rt, "memory");
+    let mut window = Window::new(rt.alloc(), &HEADER);
+    offer_all(&mut window, &lines).expect(&rt, "memory");
     let mut placed = 0u32;
     for place in 0..180_000u64 {
         if window.place(7 + place, 0, 100).is_ok() {

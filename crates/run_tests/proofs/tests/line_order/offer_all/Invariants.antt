@@ -1,5 +1,5 @@
 use Rattle.std.proofs.Common.{◌≡◌, ◌≤◌, All}
-use Rattle.run_tests.proofs.tests.line_order.window_of.Given as goal
+use Rattle.run_tests.proofs.tests.line_order.offer_all.Given as goal
 
 -- the lines are numbered on, and their moments don't fall
 abbrev pub invariant-loop-moment : goal.invariant-loop-moment
