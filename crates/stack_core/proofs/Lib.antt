@@ -8,3 +8,4 @@ pub mod Same
 pub mod Shown
 pub mod OutgoingLemmas
 pub mod MadeLemmas
+pub mod TimerLemmas

@@ -368,7 +368,7 @@ same_ports : (l r : ℕ) (e : Endpoint) → has_ports l r e ≡ true → (e.lpor
 same_ports l r e is = let both = both_hold (e.lport == l) (e.rport == r) is in (is_same e.lport l both.0, is_same e.rport r both.1)
 
 -- the endpoint of ports has them
-of_ports : (b : Body) (l r : ℕ) (e : Endpoint) → endpoint_of b l r ≡ Some e → (i : ℕ) × (slice_get b.endpoints i ≡ Some e) × (e.lport ≡ l) × (e.rport ≡ r)
+pub of_ports : (b : Body) (l r : ℕ) (e : Endpoint) → endpoint_of b l r ≡ Some e → (i : ℕ) × (slice_get b.endpoints i ≡ Some e) × (e.lport ≡ l) × (e.rport ≡ r)
 of_ports b l r e found = by (place_of b l r) refl found
   where
     by : (o : Option ℕ) → place_of b l r ≡ o → option_map_or (λ i. slice_get b.endpoints i) o None ≡ Some e → (i : ℕ) × (slice_get b.endpoints i ≡ Some e) × (e.lport ≡ l) × (e.rport ≡ r)

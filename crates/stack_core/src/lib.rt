@@ -14,6 +14,7 @@ mod outgoing;
 mod pump;
 mod recording;
 mod tick;
+mod timers;
 
 pub use answered::Answered;
 pub use entry::Entry;

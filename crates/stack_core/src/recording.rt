@@ -1,6 +1,6 @@
 //! What one host recorded, and the world to which it leads.
 
-ghost use Rattle.std.specs.Prelude.{◌≡◌, ◌<◌, [], nat_eq, OnOk, OnErr};
+ghost use Rattle.std.specs.Prelude.{◌≡◌, ◌<◌, ◌≤◌, [], length, nat_eq, OnOk, OnErr};
 ghost use Rattle.std.specs.Map.{lookup};
 ghost use Rattle.std.specs.Option.{IfSome, option_copied};
 ghost use Rattle.std.specs.Result.{result_err};
@@ -144,6 +144,13 @@ impl Recording {
         ensures { result.now ≡ forget_body (pick (world_left self.now).hosts self.now.me).body }
     {
         self.world.body(self.me)
+    }
+
+    // A host has at most as many endpoints as there were steps: a call that does nothing, whose contract says it.
+    pub(crate) fn few_endpoints(&self)
+        ensures { length (forget_body (pick (world_left self.now).hosts self.now.me).body).endpoints ≤ steps_in self.now.entries }
+    {
+        self.world.is_kept();
     }
 
     /// A step joins at a tick. The error is that memory ran out, and then nothing is changed.
