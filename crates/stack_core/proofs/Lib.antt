@@ -9,3 +9,4 @@ pub mod Shown
 pub mod OutgoingLemmas
 pub mod MadeLemmas
 pub mod TimerLemmas
+pub mod ArriveLemmas

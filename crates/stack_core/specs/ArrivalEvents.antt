@@ -20,7 +20,15 @@ brought c tick f = with_item (opened c tick) (Bring f)
 abbrev pub came : Core → Tick → Flying tcp_shape → Wire → Core
 came c tick f wire = with_step (brought c tick f) (At c.recorded.me (Gets (line_to_come c) f.line wire))
 
--- what waits under a line may be taken, with its bytes
+-- in an event that began: it is brought, and comes in
+abbrev pub IsCameIn : Core → Flying tcp_shape → Core → Type 0
+IsCameIn c f d = (wire : Wire) × (wire.bytes ≡ f.emission.bytes) × (d ≡ with_step (with_item c (Bring f)) (At c.recorded.me (Gets (line_to_come c) f.line wire)))
+
+-- what waits under a line may be dropped: it is there
+abbrev pub MayDrop : Core → ℕ → Type 0
+MayDrop c n = Permitted (tcp c.recorded.header) c.last.moment (world c) (At c.recorded.me (Drops n))
+
+-- it may be taken, with its bytes
 abbrev pub MayTake : Core → ℕ → Type 0
 MayTake c n = Permitted (tcp c.recorded.header) c.last.moment (world c) (At c.recorded.me (Takes n (record { cwnd = 0; keep = true; sample = false })))
 
@@ -41,6 +49,10 @@ pub data IsSettled (c : Core) (n : ℕ) (ports : Ports) (d : Core) : Type 0 wher
   Taken : (choice : TakeChoice) (keep : choice.keep ≡ true) (may : MayTake c n) (recovered : IsRecovered (with_step c (At c.recorded.me (Takes n choice))) ports d) → IsSettled c n ports d
   Reset : (not_taken : MayTake c n → ⊥) (may : MayReset c n) (row : d ≡ with_step c (At c.recorded.me (Answers n))) → IsSettled c n ports d
   Dropped : (not_taken : MayTake c n → ⊥) (no_reset : MayReset c n → ⊥) (row : d ≡ with_step c (At c.recorded.me (Drops n))) → IsSettled c n ports d
+
+-- what memory may leave of it: nothing, or that it was taken
+abbrev pub IsSettledShort : Core → ℕ → Core → Type 0
+IsSettledShort c n d = (d ≡ c) ⊎ ((choice : TakeChoice) × (d ≡ with_step c (At c.recorded.me (Takes n choice))))
 
 -- the ports of the endpoint that a segment is for
 abbrev pub ports_of : Emission → Ports

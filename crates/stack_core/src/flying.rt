@@ -57,4 +57,11 @@ impl Flying {
     {
         &self.emission
     }
+
+    // How it looks on the wire.
+    pub(crate) fn wire(&self) -> &Wire
+        ensures bytes { result.now.bytes ≡ self.now.emission.bytes }
+    {
+        &self.wire
+    }
 }

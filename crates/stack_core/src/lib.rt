@@ -3,6 +3,7 @@
 
 mod answered;
 mod answers;
+mod arrive;
 mod attempt;
 mod begin;
 mod entry;
