@@ -1,6 +1,6 @@
 -- A segment that is brought comes in, and waits.
 use Rattle.std.proofs.Common.{◌≡◌, ◌<◌, ◌+◌, ◌*◌, ℕ, Bool, true, false, List, [], ◌∷◌, Option, None, Some, refl, ap, sym, ◌∙◌, subst, inl, inr, nat_eq, nat_lt, arith}
-use Rattle.std.specs.Prelude.{◌⊎◌, cond, not, Err, Ok, OnErr, Result}
+use Rattle.std.specs.Prelude.{◌⊎◌, cond, Err, Ok, OnErr, Result}
 use Rattle.std.specs.Map.{lookup}
 use Rattle.std.proofs.lemmas.Bool.Decides.{nat_tests}
 use Rattle.indexmap.specs.IndexMap.{insert_entry}
@@ -20,13 +20,12 @@ use Rattle.hosts.specs.HostSteps.{after, start}
 use Rattle.hosts.proofs.Entries.{lookup_insert}
 use Rattle.machine.specs.declared.endpoint.Emission.{Emission}
 use Rattle.machine.specs.Machine.{tcp, tcp_shape}
-use Rattle.machine.specs.Same.{same_bytes}
 use Rattle.machine.specs.Wire.{in_rules}
 use Rattle.recordings.specs.Books.{Bring, Flying, bring}
 use Rattle.recordings.proofs.Growing.{end_more}
 use Rattle.recordings.proofs.Lines.{next_more}
 use Rattle.stack_core.specs.declared.tick.Tick.{Tick}
-use Rattle.stack_core.specs.ArrivalEvents.{Brought, Came, Dropped, Taken, Ticked, Took, IsArrived, IsArrivedShort, IsCameIn, IsRecovered, IsSettled, IsSettledShort, MayDrop, MayTake, brought, came, ports_of}
+use Rattle.stack_core.specs.ArrivalEvents.{Brought, Came, Dropped, Taken, Ticked, Took, IsArrived, IsArrivedShort, IsCameIn, IsRecovered, IsSettled, IsSettledShort, MayDrop, MayTake, came, ports_of}
 use Rattle.stack_core.specs.Cores.{Core, Fits, line_to_come, opened, with_item, with_step, world}
 use Rattle.stack_core.specs.Entries.{entry_at, steps_in}
 use Rattle.stack_core.proofs.Cores.{leads}

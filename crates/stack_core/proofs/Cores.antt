@@ -19,7 +19,7 @@ use Rattle.stack_core.specs.declared.tick.Tick.{Tick}
 use Rattle.stack_core.specs.Keys.{key_of}
 use Rattle.stack_core.specs.Entries.{entry_at, steps_in}
 use Rattle.stack_core.specs.Recordings.{Joins, Recorded, with_entry, world_left}
-use Rattle.stack_core.specs.Cores.{Core, IsAfter, IsBelow, IsCore, IsOrderly, IsOwn, lines_taken, with_item, with_step, world}
+use Rattle.stack_core.specs.Cores.{Core, IsAfter, IsBelow, IsCore, IsOrderly, IsOwn, lines_taken, with_step, world}
 use Rattle.stack_core.proofs.Growing.{steps_more}
 use Rattle.stack_core.proofs.Owned.{own_brought, own_step}
 

@@ -1,5 +1,5 @@
 -- A segment that was made waits to go out, and goes out.
-use Rattle.std.proofs.Common.{◌≡◌, ◌≤◌, ℕ, zero, suc, Bool, true, false, List, [], ◌∷◌, ◌++◌, length, take, drop, Option, None, Some, refl, ap, sym, ◌∙◌, subst, nat_eq, arith}
+use Rattle.std.proofs.Common.{◌≡◌, ◌≤◌, ℕ, zero, suc, Bool, true, List, [], ◌∷◌, ◌++◌, length, take, drop, Option, None, Some, refl, ap, sym, ◌∙◌, subst, nat_eq, arith}
 use Rattle.std.specs.Prelude.{cond, slice_get, ◌-◌}
 use Rattle.std.specs.Map.{lookup}
 use Rattle.std.specs.Option.{option_map, option_map_or}
@@ -12,9 +12,9 @@ use Rattle.case_forms.specs.declared.trace.Header.{Header}
 use Rattle.case_forms.specs.declared.trace.Wire.{Wire}
 use Rattle.verdict.specs.Rules.{first_broken}
 use Rattle.verdict.specs.declared.rule.Rule.TheVariants as rules
-use Rattle.hosts.specs.Tables.{Made, on, pick, unsent, gone_out}
-use Rattle.hosts.specs.Hosts.{HostState, World, At, Makes, Sends, Step}
-use Rattle.hosts.specs.HostRules.{Permitted, just, sending_rules}
+use Rattle.hosts.specs.Tables.{Made, on, pick, unsent}
+use Rattle.hosts.specs.Hosts.{World, At, Makes, Sends, Step}
+use Rattle.hosts.specs.HostRules.{Permitted, just}
 use Rattle.hosts.specs.HostSteps.{after}
 use Rattle.hosts.proofs.Entries.{lookup_insert}
 use Rattle.machine.specs.Bodies.{Body, place_of}
@@ -24,9 +24,8 @@ use Rattle.machine.specs.Machine.{act_makes, act_rules, made_at, tcp, tcp_shape}
 use Rattle.machine.specs.Machine as acts
 use Rattle.machine.specs.Makes.{emission_of, making_rules}
 use Rattle.machine.specs.Wire.{out_rules, sent, shows}
-use Rattle.recordings.specs.Books.{Do, Flying}
+use Rattle.recordings.specs.Books.{Flying}
 use Rattle.stack_core.specs.Cores.{Core, Fits, line_to_come, with_step, world}
-use Rattle.stack_core.specs.Keys.{key_of}
 use Rattle.stack_core.specs.Outgoing.{GoesOut, MayGo, WaitsToGo, greatest_payload}
 use Rattle.stack_core.proofs.Cores.{leads}
 

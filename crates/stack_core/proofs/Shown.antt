@@ -1,7 +1,6 @@
 -- What goes out shows the made segment.
-use Rattle.std.proofs.Common.{◌≡◌, ℕ, ◌+◌, Bool, true, false, Option, refl, ap, subst, sym, arith}
-use Rattle.std.specs.Prelude.{if◌then◌else◌, ◌==◌, ◌||◌, not}
-use Rattle.std.proofs.lemmas.Bool.Decides.{nat_tests}
+use Rattle.std.proofs.Common.{◌≡◌, ℕ, Bool, true, false, Option, refl}
+use Rattle.std.specs.Prelude.{◌||◌, not}
 use Rattle.case_forms.specs.declared.steps.Flags.{Flags}
 use Rattle.segment.specs.declared.fields.Segment.{Segment}
 use Rattle.segment.specs.Encoding.{as_written}

@@ -1,6 +1,6 @@
 -- Where any timer's line is permitted, the timer is at an endpoint that was asked, with the least values.
-use Rattle.std.proofs.Common.{◌≡◌, ◌<◌, ℕ, zero, suc, Bool, true, false, List, [], ◌∷◌, map, Option, None, Some, refl, ap, sym, ◌∙◌, subst, nat_lt, arith}
-use Rattle.std.specs.Prelude.{IfNone, slice_get, ◌&&◌, ◌||◌}
+use Rattle.std.proofs.Common.{◌≡◌, ℕ, zero, suc, Bool, true, false, List, [], ◌∷◌, map, Option, None, Some, refl, ap, sym, ◌∙◌, subst, nat_lt, arith}
+use Rattle.std.specs.Prelude.{slice_get, ◌&&◌, ◌||◌}
 use Rattle.std.specs.Option.{option_map_or}
 use Rattle.std.proofs.lemmas.Bool.Decides.{nat_tests}
 use Rattle.std.proofs.lemmas.Option.{none-some, same_Some}
@@ -10,17 +10,16 @@ use Rattle.case_forms.specs.declared.timer.Growth.{Growth}
 use Rattle.case_forms.specs.declared.timer.Timer.{Timer}
 use Rattle.case_forms.specs.declared.timer.Timer.TheVariants.{Giveup, Msl2, Persist, Rto}
 use Rattle.case_forms.specs.declared.calls.Host.{Host}
-use Rattle.case_forms.specs.declared.calls.Host.TheVariants.{Zero, One}
 use Rattle.case_forms.specs.declared.trace.Header.{Header}
 use Rattle.verdict.specs.Rules.{first_broken}
 use Rattle.verdict.specs.declared.rule.Rule.TheVariants as rules
 use Rattle.verdict.proofs.RuleLemmas.{none_all, all_none}
 use Rattle.hosts.specs.Tables.{pick}
-use Rattle.hosts.specs.Hosts.{At, Expires, World}
+use Rattle.hosts.specs.Hosts.{At, Expires}
 use Rattle.hosts.specs.HostRules.{Permitted}
 use Rattle.machine.specs.Bodies.{Body, endpoint_of}
 use Rattle.machine.specs.Forgetting.{forget_body, forget_endpoint}
-use Rattle.machine.specs.Machine.{tcp, tcp_shape}
+use Rattle.machine.specs.Machine.{tcp}
 use Rattle.machine.specs.Timeouts.{expiry_rules, greatest_values, is_rto}
 use Rattle.machine.specs.declared.endpoint.Endpoint.{Endpoint}
 use Rattle.stack_core.specs.Recordings.{Recorded, world_left}

@@ -8,9 +8,9 @@ use Rattle.case_forms.specs.declared.calls.Call.{Call}
 use Rattle.case_forms.specs.declared.calls.Call.TheVariants as calls
 use Rattle.hosts.specs.Tables.{lane, other, pick}
 use Rattle.hosts.specs.Hosts.{Deed, Does, Drops, Expires, Gets, Makes, Sends, Takes, Answers, At, Begin, Called, Effect, Finish, Idle, Answered, Step, Turn, World, turn_of}
-use Rattle.recordings.specs.Books.{Aims, Do, Bring, FitsItem, Flying, Item, Key, step_line}
+use Rattle.recordings.specs.Books.{Aims, Do, FitsItem, Item, Key, step_line}
 use Rattle.recordings.specs.Keys.{EachEntry, If}
-use Rattle.recordings.specs.Recordings.{next_line, world_of}
+use Rattle.recordings.specs.Recordings.{next_line}
 use Rattle.machine.specs.Bodies.{Body, given}
 use Rattle.machine.specs.Machine.{aim, gives, tcp, tcp_shape}
 use Rattle.stack_core.specs.declared.tick.Tick.{Tick}

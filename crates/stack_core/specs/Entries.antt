@@ -1,8 +1,6 @@
 -- The entries of a recording, as code has them, in the words of two hosts' books.
 use Rattle.std.specs.Prelude.{ℕ, suc, List, [], ◌∷◌}
 use Rattle.case_forms.specs.declared.calls.Host.{Host}
-use Rattle.case_forms.specs.declared.steps.Label.{Label}
-use Rattle.case_forms.specs.declared.taken_line.TakenLine.{TakenLine}
 use Rattle.recordings.specs.Books as books
 use Rattle.recordings.specs.Recordings.{TcpEntry}
 use Rattle.machine.specs.Machine.{tcp_shape}

@@ -3,7 +3,6 @@ use Rattle.segment.specs.declared.fields.Segment.{Segment}
 use Rattle.segment.specs.Encoding.{as_written}
 use Rattle.segment.specs.Layout.{IsSegment}
 use Rattle.machine.specs.Wire.{shows}
-use Rattle.stack_core.specs.Outgoing.{segment_of}
 use Rattle.stack_core.proofs.Shown.{shown}
 use Rattle.stack_core.proofs.outgoing.wire_of.Goals as goal
 
