@@ -257,7 +257,7 @@ syn_place e true una max = refl
 syn_place e false una max = rw (una, not_above 0 (max_made e) (omega arith), not_above (max_made e) 0 max) refl
 
 pub syn_may : (e : Endpoint) (pos len window w : ℕ) (ack fin : Bool) (iss : Option Word) (new : Word) → first_broken (making_rules e (synned e pos len ack fin window iss)) ≡ None
-    → max_made e < pos + making_length (synned e pos len ack fin window iss) → first_broken (making_rules e (syn_of e new w)) ≡ None
+    → max_made e < pos + making_length (synned e pos len ack fin window iss) → (max_made e ≤ 0) × (first_broken (making_rules e (syn_of e new w)) ≡ None)
 syn_may e pos len window w ack fin iss new h past =
     let t = none_all (making_rules e (synned e pos len ack fin window iss)) h in
     let acks : nat_le 1 (next e) ≡ ack = ack_is (next e) ack t.1.1.1.1.0 in
@@ -269,26 +269,28 @@ syn_may e pos len window w ack fin iss new h past =
     let pos_is : pos ≡ 0 = is_same pos 0 empty.0 in
     let len_is : len ≡ 0 = is_same len 0 empty.1 in
     let past2 : max_made e < pos + (len + 1 + 0) = subst (λ (b : Bool). max_made e < pos + (len + 1 + flag_count b)) (not_true fin fins.1) past in
-    let max : max_made e ≤ 0 = omega arith in
-    all_none (making_rules e (syn_of e new w)) (
-      rw (left_false (is_closed e.state) t.0) refl,
-      (
-        rw (acks, at_zero.0, at_zero.1) refl,
+    let max : max_made e ≤ 0 = omega arith in (
+      max,
+      all_none (making_rules e (syn_of e new w)) (
+        rw (left_false (is_closed e.state) t.0) refl,
         (
-          iss_good (is_some e.iss) new,
+          rw (acks, at_zero.0, at_zero.1) refl,
           (
-            refl,
+            iss_good (is_some e.iss) new,
             (
-              ack_good (next e),
+              refl,
               (
-                syn_place e (nat_le 1 (next e)) una max,
+                ack_good (next e),
                 (
-                  refl,
+                  syn_place e (nat_le 1 (next e)) una max,
                   (
                     refl,
                     (
-                      not_above 0 e.congestion.smss (omega arith),
-                      tt,
+                      refl,
+                      (
+                        not_above 0 e.congestion.smss (omega arith),
+                        tt,
+                      ),
                     ),
                   ),
                 ),
@@ -306,7 +308,7 @@ by_test true yes_ no_ = yes_ refl
 by_test false yes_ no_ = no_ refl
 
 abbrev pub OneMay : Endpoint → Word → ℕ → Type 0
-OneMay e new w = (first_broken (making_rules e (syn_of e new w)) ≡ None) ⊎ ((first_broken (making_rules e (bytes_of e 1 w)) ≡ None) ⊎ (first_broken (making_rules e (fin_of e w)) ≡ None))
+OneMay e new w = ((max_made e ≤ 0) × (first_broken (making_rules e (syn_of e new w)) ≡ None)) ⊎ ((first_broken (making_rules e (bytes_of e 1 w)) ≡ None) ⊎ (first_broken (making_rules e (fin_of e w)) ≡ None))
 
 -- so many positions, with the counts of SYN and FIN
 abbrev pub reach : SegmentPlan → Bool → Bool → ℕ
@@ -404,7 +406,7 @@ nothing h me w new window tried m e rst found past permitted = refute (one_may e
     back c l r is = subst (λ (o : Option Endpoint). first_broken (option_map_or (λ x. making_rules x c) o ((rules.NoEndpoint, true) ∷ [])) ≡ None) (sym (subst (λ (p : ℕ). endpoint_of b p c.rport ≡ Some e) (sym l) (subst (λ (q : ℕ). endpoint_of b e.lport q ≡ Some e) (sym r) found2))) is
 
     refute : OneMay e new window → ⊥
-    refute (inl is) = t.syn (back (syn_of e new window) refl refl is)
+    refute (inl (low, is)) = t.syn low (back (syn_of e new window) refl refl is)
     refute (inr (inl is)) = t.byte (back (bytes_of e 1 window) refl refl is)
     refute (inr (inr is)) = t.fin (back (fin_of e window) refl refl is)
 
@@ -433,9 +435,9 @@ far h me w m fin all some above ends permitted = by (endpoint_of (pick w.hosts m
         too_far e (short_at IsShort (pick w.hosts me).body.endpoints place.0 e place.1 all) (room e m.pos m.len m.flags.ack fin m.window m.iss may some)
 
 -- an endpoint with more than that was tried where its SYN was
-pub tried_far : (h : Header) (me : Host) (w : World tcp_shape) (iss : Word) (window : ℕ) (e : Endpoint) → All (λ e. IsShort e) (pick w.hosts me).body.endpoints → greatest_position < max_made e → Refuses h me w (syn_of e iss window) → IsTried h me w iss window e
-tried_far h me w iss window e all above syn = record {
-  syn = syn;
+pub tried_far : (h : Header) (me : Host) (w : World tcp_shape) (iss : Word) (window : ℕ) (e : Endpoint) → All (λ e. IsShort e) (pick w.hosts me).body.endpoints → greatest_position < max_made e → IsTried h me w iss window e
+tried_far h me w iss window e all above = record {
+  syn = λ low. absurd (omega arith);
   byte = far h me w (bytes_of e 1 window) false all (omega arith) above (λ is. absurd (omega arith));
   fin = far h me w (fin_of e window) true all (omega arith) above (λ is. refl);
 }
@@ -483,3 +485,10 @@ pub none_whole : (p : Progress) (r : Recorded) (me : Host) → p.header ≡ r.he
     → IfNone o (NothingToMake p.header me p.world) → IfNone o (NothingToMake r.header r.me (forget (world_left r)))
 none_whole p r me header left is (Some m) f = tt
 none_whole p r me header left is None f = subst (λ (h : Header). NothingToMake h r.me (forget (world_left r))) header (subst (λ (w : World tcp_shape). NothingToMake p.header r.me w) left (subst (λ (x : Host). NothingToMake p.header x p.world) is f))
+
+-- 7. all three were tried
+
+pub all_tried : (h : Header) (me : Host) (w : World tcp_shape) (iss : Word) (window : ℕ) (e : Endpoint) (byte fin : SegmentPlan) (o : Option SegmentPlan) → (max_made e ≤ 0 → Refuses h me w (syn_of e iss window)) → byte ≡ bytes_of e 1 window → Refuses h me w byte
+    → fin ≡ fin_of e window → IfNone o (Refuses h me w fin) → IfNone o (IsTried h me w iss window e)
+all_tried h me w iss window e byte fin (Some m) syn byte_is no_byte fin_is no_fin = tt
+all_tried h me w iss window e byte fin None syn byte_is no_byte fin_is no_fin = record { syn = syn; byte = subst (λ (m : SegmentPlan). Refuses h me w m) byte_is no_byte; fin = subst (λ (m : SegmentPlan). Refuses h me w m) fin_is no_fin }

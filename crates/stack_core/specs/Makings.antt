@@ -1,5 +1,5 @@
 -- What a core tries to make at an endpoint, of what takes new positions.
-use Rattle.std.specs.Prelude.{◌≡◌, ◌+◌, ◌<◌, ℕ, nat_le, true, false, if◌then◌else◌, None, Some, is_some}
+use Rattle.std.specs.Prelude.{◌≡◌, ◌+◌, ◌<◌, ◌≤◌, ℕ, nat_le, true, false, if◌then◌else◌, None, Some, is_some}
 use Rattle.seqno.specs.declared.word.Word.{Word}
 use Rattle.case_forms.specs.declared.calls.Host.{Host}
 use Rattle.case_forms.specs.declared.steps.SegmentPlan.{SegmentPlan}
@@ -28,9 +28,9 @@ fin_of e window = record { lport = e.lport; rport = e.rport; pos = max_made e; l
 abbrev pub Refuses : Header → Host → World tcp_shape → SegmentPlan → Type 0
 Refuses h me w plan = Permitted (tcp h) 0 w (At me (Makes plan)) → ⊥
 
--- none of the three may be made for this endpoint
+-- none of the three may be made for this endpoint; the SYN takes a new position where nothing was made before
 pub record IsTried (h : Header) (me : Host) (w : World tcp_shape) (iss : Word) (window : ℕ) (e : Endpoint) : Type 0 where
-  pub syn : Refuses h me w (syn_of e iss window)
+  pub syn : max_made e ≤ 0 → Refuses h me w (syn_of e iss window)
   pub byte : Refuses h me w (bytes_of e 1 window)
   pub fin : Refuses h me w (fin_of e window)
 

@@ -8,6 +8,7 @@ ghost use Rattle.hosts.specs.Hosts.{At, Makes};
 ghost use Rattle.hosts.specs.HostRules.{Permitted};
 ghost use Rattle.streams.specs.Sent.{end_of};
 ghost use Rattle.machine.specs.Bounds.{greatest_position, most_steps};
+ghost use Rattle.machine.specs.Endpoints.{max_made};
 ghost use Rattle.machine.specs.Machine.{tcp};
 ghost use Rattle.stack_core.specs.Outgoing.{greatest_payload};
 ghost use Rattle.stack_core.specs.Makings.{IsTried, NothingToMake, Refuses, bytes_of, fin_of, syn_of};
@@ -49,7 +50,7 @@ fn try_endpoint(
     ensures some { IfSome result (λ m. (m.pos ≤ greatest_position) × (m.len ≤ greatest_payload) × Permitted (tcp world.now.header) 0 world.now.world (At me (Makes m))) }
     ensures none { IfNone result (IsTried world.now.header me world.now.world iss window endpoint.now) }
 {
-    if let Some(plan) = ask(world, me, syn_of(endpoint, iss, window)) {
+    if let Some(plan) = try_syn(world, me, endpoint, iss, window) {
         return Some(plan);
     }
     // Above the greatest position stands no byte that was accepted, nor an end behind one.
@@ -60,6 +61,24 @@ fn try_endpoint(
         return Some(plan);
     }
     ask(world, me, fin_of(endpoint, window))
+}
+
+// The SYN, if nothing was made before and it may be made.
+fn try_syn(
+    world: &World,
+    me: Host,
+    endpoint: &Endpoint,
+    iss: Word,
+    window: u16,
+) -> Option<SegmentPlan>
+    requires steps { world.now.steps < most_steps }
+    ensures some { IfSome result (λ m. (m.pos ≤ greatest_position) × (m.len ≤ greatest_payload) × Permitted (tcp world.now.header) 0 world.now.world (At me (Makes m))) }
+    ensures none { IfNone result (max_made endpoint.now ≤ 0 → Refuses world.now.header me world.now.world (syn_of endpoint.now iss window)) }
+{
+    if endpoint.makings.end() > 0 {
+        return None;
+    }
+    ask(world, me, syn_of(endpoint, iss, window))
 }
 
 // The segment, if it may be made.
