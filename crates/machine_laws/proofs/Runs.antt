@@ -18,6 +18,7 @@ use Rattle.hosts.specs.Tables.{pick}
 use Rattle.hosts.specs.Hosts.{Turn, Idle, Called, Answered, World, Step, Begin, Finish, Effect, At, Stamped, turn_of}
 use Rattle.hosts.specs.HostRules.{aim_of, effect_rules, Permitted}
 use Rattle.hosts.specs.HostSteps.{after, after_all, start, Lawful}
+use Rattle.case_forms.specs.Versions.{is_half}
 use Rattle.machine.specs.declared.endpoint.Name.{Name}
 use Rattle.machine.specs.declared.endpoint.Stream.{Stream}
 use Rattle.machine.specs.declared.endpoint.Endpoint.{Endpoint}
@@ -39,18 +40,19 @@ use Rattle.machine_laws.proofs.Ends.{HasAll, end_told, all_stays}
 
 -- 1. what holds of every world of a run
 
-pub record Fine (a : Hosts) : Type 0 where
+pub record Fine (h : Header) (a : Hosts) : Type 0 where
+  pub whole : is_half h.version ≡ false
   pub good : Good a
   pub sound : (x : Host) → Sound (pick a x).body
   pub apart : Apart a
 
-pub fine_step : (h : Header) (s : ℕ) (w : World tcp_shape) (step : Step tcp_shape) → Fine w.hosts → Permitted (tcp h) s w step → Fine (after (tcp h) s w step).hosts
+pub fine_step : (h : Header) (s : ℕ) (w : World tcp_shape) (step : Step tcp_shape) → Fine h w.hosts → Permitted (tcp h) s w step → Fine h (after (tcp h) s w step).hosts
 fine_step h s w step g may =
     let x = sound_step h s w step g.sound g.apart may in
-    record { good = (kept_step h s w step g.good g.apart may).good; sound = x.sound; apart = x.apart }
+    record { whole = g.whole; good = (kept_step h g.whole s w step g.good g.apart may).good; sound = x.sound; apart = x.apart }
 
-pub fine_start : (h : Header) → Fine (start (tcp h)).hosts
-fine_start h = record { good = good; sound = sound; apart = λ n z o. absurd cc }
+pub fine_start : (h : Header) → is_half h.version ≡ false → Fine h (start (tcp h)).hosts
+fine_start h whole = record { whole = whole; good = good; sound = sound; apart = λ n z o. absurd cc }
   where
     good : Good (start (tcp h)).hosts
     good Zero = record { endpoints = λ i e x. absurd (none-some e x); tables = record { made = λ n x e. absurd (none-some x e); wire = λ n x e. absurd (none-some x e); inbox = λ n m e. absurd (none-some m e) } }
@@ -60,18 +62,18 @@ fine_start h = record { good = good; sound = sound; apart = λ n z o. absurd cc 
     sound Zero = record { named = λ n i e. absurd (none-some i e); alone = λ m n i e f. absurd (none-some i e); queued = λ l k i e. absurd (none-some i e); once = λ l j k i e f. absurd (none-some i e) }
     sound One = record { named = λ n i e. absurd (none-some i e); alone = λ m n i e f. absurd (none-some i e); queued = λ l k i e. absurd (none-some i e); once = λ l j k i e f. absurd (none-some i e) }
 
-pub fine_run : (h : Header) (w : World tcp_shape) (steps : List (Stamped tcp_shape)) → Fine w.hosts → Lawful (tcp h) w steps → Fine (after_all (tcp h) w steps).hosts
+pub fine_run : (h : Header) (w : World tcp_shape) (steps : List (Stamped tcp_shape)) → Fine h w.hosts → Lawful (tcp h) w steps → Fine h (after_all (tcp h) w steps).hosts
 fine_run h w [] g may = g
 fine_run h w (x ∷ xs) g may = fine_run h (after (tcp h) x.moment w x.step) xs (fine_step h x.moment w x.step g may.0) may.1
 
-later_run : (h : Header) (w : World tcp_shape) (steps : List (Stamped tcp_shape)) → Fine w.hosts → Lawful (tcp h) w steps → AllLater w.hosts (after_all (tcp h) w steps).hosts
+later_run : (h : Header) (w : World tcp_shape) (steps : List (Stamped tcp_shape)) → Fine h w.hosts → Lawful (tcp h) w steps → AllLater w.hosts (after_all (tcp h) w steps).hosts
 later_run h w [] g may = λ me e at. (e, at, same e.stream)
 later_run h w (x ∷ xs) g may =
     let v = after (tcp h) x.moment w x.step in
-    all_trans w.hosts v.hosts (after_all (tcp h) v xs).hosts (kept_step h x.moment w x.step g.good g.apart may.0).later (later_run h v xs (fine_step h x.moment w x.step g may.0) may.1)
+    all_trans w.hosts v.hosts (after_all (tcp h) v xs).hosts (kept_step h g.whole x.moment w x.step g.good g.apart may.0).later (later_run h v xs (fine_step h x.moment w x.step g may.0) may.1)
 
 -- socket numbers name what they named
-stays_run : (h : Header) (w : World tcp_shape) (steps : List (Stamped tcp_shape)) → Fine w.hosts → Lawful (tcp h) w steps → (x : Host) (n i : ℕ) → owner (pick w.hosts x).body n ≡ Some i → owner (pick (after_all (tcp h) w steps).hosts x).body n ≡ Some i
+stays_run : (h : Header) (w : World tcp_shape) (steps : List (Stamped tcp_shape)) → Fine h w.hosts → Lawful (tcp h) w steps → (x : Host) (n i : ℕ) → owner (pick w.hosts x).body n ≡ Some i → owner (pick (after_all (tcp h) w steps).hosts x).body n ≡ Some i
 stays_run h w [] g may x n i e = e
 stays_run h w (y ∷ ys) g may x n i e = stays_run h (after (tcp h) y.moment w y.step) ys (fine_step h y.moment w y.step g may.0) may.1 x n i ((sound_step h y.moment w y.step g.sound g.apart may.0).stays x n i e)
 
@@ -122,7 +124,7 @@ socket_owner a n me e =
     let x = map_or_true (owner (pick a me.host).body n) (λ i. i == me.number) e in
     x.1 ∙ ap (λ k. Some k) (number_same x.0 me.number x.2)
 
-no_socket : (a : Hosts) (me : Name) → Fine a → find a me ≡ None → (n : ℕ) → is_socket_of a n me ≡ false
+no_socket : {h : Header} (a : Hosts) (me : Name) → Fine h a → find a me ≡ None → (n : ℕ) → is_socket_of a n me ≡ false
 no_socket a me g is n = is_not (is_socket_of a n me) (λ e. let x = (g.sound me.host).named n me.number (socket_owner a n me e) in none-some x.0 (sym is ∙ x.1))
 
 call_adds_none : (a : Hosts) (call : Call) (answer : Answer) (me : Name) → ((n : ℕ) → is_socket_of a n me ≡ false) → call_adds a call answer me ≡ nothing
@@ -132,7 +134,7 @@ call_adds_none a (calls.Shut n) answers.Done me none = ap (λ (c : Bool). record
 call_adds_none a (calls.Close n) answers.Done me none = ap (λ (c : Bool). record { told = []; accepted = []; ended = c }) (none n)
 call_adds_none a call answer me none = refl
 
-step_adds_none : (h : Header) (w : World tcp_shape) (step : Step tcp_shape) (me : Name) → Fine w.hosts → find w.hosts me ≡ None → step_adds h w step me ≡ nothing
+step_adds_none : (h : Header) (w : World tcp_shape) (step : Step tcp_shape) (me : Name) → Fine h w.hosts → find w.hosts me ≡ None → step_adds h w step me ≡ nothing
 step_adds_none h w (Begin line t call) me g is = refl
 step_adds_none h w (Finish line t answer) me g is = refl
 step_adds_none h w (At host d) me g is = refl
@@ -175,11 +177,11 @@ logged_same a x y e g = record {
   missing = λ me at. sym (e me) ∙ g.missing me at;
 }
 
-logged_run : (h : Header) (w : World tcp_shape) (steps : List (Stamped tcp_shape)) (log : Name → Added) → Fine w.hosts → Logged w.hosts log → Lawful (tcp h) w steps → Logged (after_all (tcp h) w steps).hosts (λ me. join (log me) (log_from h w steps me))
+logged_run : (h : Header) (w : World tcp_shape) (steps : List (Stamped tcp_shape)) (log : Name → Added) → Fine h w.hosts → Logged w.hosts log → Lawful (tcp h) w steps → Logged (after_all (tcp h) w steps).hosts (λ me. join (log me) (log_from h w steps me))
 logged_run h w [] log g l may = logged_same w.hosts log (λ me. join (log me) nothing) (λ me. join-nothing (log me)) l
 logged_run h w (x ∷ xs) log g l may =
     let v = after (tcp h) x.moment w x.step in
-    let one = logged_step w.hosts v.hosts log (step_adds h w x.step) l (kept_step h x.moment w x.step g.good g.apart may.0) (λ me is. step_adds_none h w x.step me g is) in
+    let one = logged_step w.hosts v.hosts log (step_adds h w x.step) l (kept_step h g.whole x.moment w x.step g.good g.apart may.0) (λ me is. step_adds_none h w x.step me g is) in
     logged_same (after_all (tcp h) v xs).hosts (λ me. join (join (log me) (step_adds h w x.step me)) (log_from h v xs me)) (λ me. join (log me) (join (step_adds h w x.step me) (log_from h v xs me)))
     (λ me. join-join (log me) (step_adds h w x.step me) (log_from h v xs me))
     (logged_run h v xs (λ me. join (log me) (step_adds h w x.step me)) (fine_step h x.moment w x.step g may.0) one may.1)
@@ -192,10 +194,10 @@ logged_start h = record { there = λ me e at. absurd (nowhere me.host me.number 
     nowhere One i e at = none-some e at
 
 -- over a whole run
-pub matches_run : (h : Header) (steps : List (Stamped tcp_shape)) → Lawful (tcp h) (start (tcp h)) steps → (me : Name) (e : Endpoint) → find (after_all (tcp h) (start (tcp h)) steps).hosts me ≡ Some e
+pub matches_run : (h : Header) → is_half h.version ≡ false → (steps : List (Stamped tcp_shape)) → Lawful (tcp h) (start (tcp h)) steps → (me : Name) (e : Endpoint) → find (after_all (tcp h) (start (tcp h)) steps).hosts me ≡ Some e
     → (name_told_from h me (start (tcp h)) steps ≡ received e.stream.receive) × (accepted_from h me (start (tcp h)) steps ≡ e.stream.accepted) × (ended_from h me (start (tcp h)) steps ≡ e.stream.ended)
-matches_run h steps may me e at =
-    let x = (logged_run h (start (tcp h)) steps (λ me. nothing) (fine_start h) (logged_start h) may).there me e at in
+matches_run h whole steps may me e at =
+    let x = (logged_run h (start (tcp h)) steps (λ me. nothing) (fine_start h whole) (logged_start h) may).there me e at in
     (x.told, x.accepted, x.ended)
 
 -- 3. a socket number's reads are those of its endpoint
@@ -210,13 +212,13 @@ reads_at h s a n most answer (Some x) good refused may =
     (x, y.0, (owner_of (pick a x).body n (Ends y.0) y.1).0, y.2, y.3, y.4)
 
 -- a number of two endpoints
-one_owner : (z : Hosts) → Fine z → (x y : Host) (n i j : ℕ) → owner (pick z x).body n ≡ Some i → owner (pick z y).body n ≡ Some j → name x i ≡ name y j
+one_owner : {h : Header} (z : Hosts) → Fine h z → (x y : Host) (n i j : ℕ) → owner (pick z x).body n ≡ Some i → owner (pick z y).body n ≡ Some j → name x i ≡ name y j
 one_owner z g Zero Zero n i j e f = ap (name Zero) (same_Some i j (sym e ∙ f))
 one_owner z g One One n i j e f = ap (name One) (same_Some i j (sym e ∙ f))
 one_owner z g Zero One n i j e f = absurd (g.apart n (owner_given z.zero.body n i e) (owner_given z.one.body n j f))
 one_owner z g One Zero n i j e f = absurd (g.apart n (owner_given z.zero.body n j f) (owner_given z.one.body n i e))
 
-told_call : (h : Header) (s : ℕ) (a z : Hosts) (socket : ℕ) (me : Name) → Fine z → ((x : Host) (n i : ℕ) → owner (pick a x).body n ≡ Some i → owner (pick z x).body n ≡ Some i) → owner (pick z me.host).body socket ≡ Some me.number
+told_call : (h : Header) (s : ℕ) (a z : Hosts) (socket : ℕ) (me : Name) → Fine h z → ((x : Host) (n i : ℕ) → owner (pick a x).body n ≡ Some i → owner (pick z x).body n ≡ Some i) → owner (pick z me.host).body socket ≡ Some me.number
     → (call : Call) (answer : Answer) (o : Option Host) → option_map_or (λ host. call_allows (pick a host).body call answer) o (is_bad_socket answer) ≡ true → call_told call answer socket ≡ name_told a call answer me
 told_call h s a z socket me g stays own (calls.Recv n most) (answers.Bytes bytes) o may =
     let x = reads_at h s a n most (answers.Bytes bytes) o refl (λ queue. refused queue) may in
@@ -235,7 +237,7 @@ told_call h s a z socket me g stays own (calls.Recv n most) (answers.Bytes bytes
         number_other n socket is ((g.sound me.host).alone n socket me.number (stays me.host n me.number (socket_owner a n me y)) own)))
 told_call h s a z socket me g stays own call answer o may = refl
 
-told_step : (h : Header) (s : ℕ) (w : World tcp_shape) (z : Hosts) (socket : ℕ) (me : Name) → Fine z → ((x : Host) (n i : ℕ) → owner (pick w.hosts x).body n ≡ Some i → owner (pick z x).body n ≡ Some i) → owner (pick z me.host).body socket ≡ Some me.number
+told_step : (h : Header) (s : ℕ) (w : World tcp_shape) (z : Hosts) (socket : ℕ) (me : Name) → Fine h z → ((x : Host) (n i : ℕ) → owner (pick w.hosts x).body n ≡ Some i → owner (pick z x).body n ≡ Some i) → owner (pick z me.host).body socket ≡ Some me.number
     → (step : Step tcp_shape) → Permitted (tcp h) s w step → of_effect h w step [] (λ call answer. call_told call answer socket) ≡ of_effect h w step [] (λ call answer. name_told w.hosts call answer me)
 told_step h s w z socket me g stays own (Begin line t call) may = refl
 told_step h s w z socket me g stays own (Finish line t answer) may = refl
@@ -247,7 +249,7 @@ told_step h s w z socket me g stays own (Effect t answer) may = go (turn_of t w.
     go (Called call) may = told_call h s w.hosts z socket me g stays own call answer (aim_of (tcp h) w.hosts (aim call)) (effect_allowed h s w.hosts call answer (aim_of (tcp h) w.hosts (aim call)) may).1
     go (Answered x) may = refl
 
-pub told_run : (h : Header) (w : World tcp_shape) (steps : List (Stamped tcp_shape)) (socket : ℕ) (me : Name) → Fine w.hosts → Lawful (tcp h) w steps → owner (pick (after_all (tcp h) w steps).hosts me.host).body socket ≡ Some me.number
+pub told_run : (h : Header) (w : World tcp_shape) (steps : List (Stamped tcp_shape)) (socket : ℕ) (me : Name) → Fine h w.hosts → Lawful (tcp h) w steps → owner (pick (after_all (tcp h) w steps).hosts me.host).body socket ≡ Some me.number
     → told_from h socket w steps ≡ name_told_from h me w steps
 told_run h w [] socket me g may own = refl
 told_run h w (x ∷ xs) socket me g may own =
@@ -288,7 +290,7 @@ whole_step h s w socket g (Effect t answer) may e = go (turn_of t w.threads) may
     go (Called call) may e = whole_call h s w.hosts socket g call answer (aim_of (tcp h) w.hosts (aim call)) (effect_allowed h s w.hosts call answer (aim_of (tcp h) w.hosts (aim call)) may).1 e
     go (Answered x) may e = absurd cc
 
-pub whole_run : (h : Header) (w : World tcp_shape) (steps : List (Stamped tcp_shape)) (socket : ℕ) → Fine w.hosts → Lawful (tcp h) w steps → told_end_from h socket w steps ≡ true → Whole (after_all (tcp h) w steps).hosts socket
+pub whole_run : (h : Header) (w : World tcp_shape) (steps : List (Stamped tcp_shape)) (socket : ℕ) → Fine h w.hosts → Lawful (tcp h) w steps → told_end_from h socket w steps ≡ true → Whole (after_all (tcp h) w steps).hosts socket
 whole_run h w [] socket g may e = absurd cc
 whole_run h w (x ∷ xs) socket g may e = go (of_effect h w x.step false (λ call answer. call_told_end call answer socket)) refl e (whole_run h (after (tcp h) x.moment w x.step) xs socket (fine_step h x.moment w x.step g may.0) may.1)
   where

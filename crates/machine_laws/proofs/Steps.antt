@@ -5,6 +5,7 @@ use Rattle.std.specs.Option.{option_map_or}
 use Rattle.std.specs.Map.{lookup}
 use Rattle.std.proofs.lemmas.Option.{none-some, same_Some}
 use Rattle.indexmap.specs.IndexMap.{insert_entry}
+use Rattle.case_forms.specs.Versions.{is_half}
 use Rattle.case_forms.specs.declared.trace.Header.{Header}
 use Rattle.case_forms.specs.declared.trace.Wire.{Wire}
 use Rattle.case_forms.specs.declared.calls.Host.{Host}
@@ -16,8 +17,8 @@ use Rattle.verdict.specs.declared.rule.Rule.TheVariants as rules
 use Rattle.verdict.specs.Rules.{first_broken}
 use Rattle.verdict.proofs.RuleLemmas.{none_all, none_both}
 use Rattle.hosts.specs.Tables.{pick, other, with_host, on, Made, unsent, gone_out, waiting, settled}
-use Rattle.hosts.specs.Hosts.{HostState, Turn, Idle, Called, Answered, World, Deed, Does, Expires, Makes, Sends, Gets, Takes, Drops, Answers, Step, Begin, Finish, Effect, At, turn_of}
-use Rattle.hosts.specs.HostRules.{aim_of, fresh_rules, call_rules, effect_rules, Permitted}
+use Rattle.hosts.specs.Hosts.{HostState, Turn, Idle, Called, Answered, World, Deed, Does, Expires, Makes, Sends, Gets, Hears, Takes, Drops, Answers, Step, Begin, Finish, Effect, At, turn_of}
+use Rattle.hosts.specs.HostRules.{aim_of, just, fresh_rules, call_rules, effect_rules, Permitted}
 use Rattle.hosts.specs.HostSteps.{deed_after, call_after, effect_after, after}
 use Rattle.machine.specs.declared.endpoint.Name.{Name}
 use Rattle.machine.specs.declared.endpoint.Emission.{Emission}
@@ -105,15 +106,15 @@ kept_answers h s w host line g = let a = w.hosts in let k = pick a host in
       inbox = inbox_settled (GoodEmission c) k.inbox line t.inbox;
     }))
 
-kept_takes : (h : Header) (s : ℕ) (w : World tcp_shape) (host : Host) (line : ℕ) (how : TakeChoice) → Good w.hosts → Permitted (tcp h) s w (At host (Takes line how)) → Kept all_silent w.hosts (after (tcp h) s w (At host (Takes line how))).hosts
-kept_takes h s w host line how g may = let a = w.hosts in let k = pick a host in
+kept_takes : (h : Header) → is_half h.version ≡ false → (s : ℕ) (w : World tcp_shape) (host : Host) (line : ℕ) (how : TakeChoice) → Good w.hosts → Permitted (tcp h) s w (At host (Takes line how)) → Kept all_silent w.hosts (after (tcp h) s w (At host (Takes line how))).hosts
+kept_takes h whole s w host line how g may = let a = w.hosts in let k = pick a host in
     option_cases (λ (o : Option Emission). Kept all_silent a (with_host a host (record k { body = on o k.body (λ m. (tcp h).act_after host s k.body ((tcp h).takes how m)); inbox = on o k.inbox (λ m. settled line k.inbox) })))
     (waiting line k.inbox) (kept_same a host g)
     (λ m e.
     let t = on_passes (waiting line k.inbox) rules.Inbox (λ x. taker_rules h host k.body how x (taker k.body x)) may in
     let one : t.0 ≡ m = same_Some t.0 m (sym t.1 ∙ e) in
     kept_host a host (deed_taken m) all_silent g
-    (moves_taking a h host k.body how m s (ends a host g) ((g host).tables.inbox line m e) (subst (λ (x : Emission). first_broken (taker_rules h host k.body how x (taker k.body x)) ≡ None) one t.2)) (λ i. refl)
+    (moves_taking a h whole host k.body how m s (ends a host g) ((g host).tables.inbox line m e) (subst (λ (x : Emission). first_broken (taker_rules h host k.body how x (taker k.body x)) ≡ None) one t.2)) (λ i. refl)
     (λ c later t. record { made = t.made; wire = t.wire; inbox = inbox_settled (GoodEmission c) k.inbox line t.inbox }))
   where
     deed_taken : Emission → HostState tcp_shape
@@ -128,17 +129,22 @@ kept_makes h s w host m g may = let a = w.hosts in let k = pick a host in
       inbox = t.inbox;
     })
 
-kept_deed : (h : Header) (s : ℕ) (w : World tcp_shape) (host : Host) (d : Deed tcp_shape) → Good w.hosts → Permitted (tcp h) s w (At host d) → Kept all_silent w.hosts (after (tcp h) s w (At host d)).hosts
-kept_deed h s w host (Does x) g may = let k = pick w.hosts host in
+-- at a whole case nothing is heard of a host that is not recorded
+heard_nothing : (h : Header) → is_half h.version ≡ false → first_broken (just rules.NoEmission (not (is_half h.version))) ≡ None → ⊥
+heard_nothing h whole may = let e : first_broken (just rules.NoEmission true) ≡ None = subst (λ (b : Bool). first_broken (just rules.NoEmission (not b)) ≡ None) whole may in absurd cc
+
+kept_deed : (h : Header) → is_half h.version ≡ false → (s : ℕ) (w : World tcp_shape) (host : Host) (d : Deed tcp_shape) → Good w.hosts → Permitted (tcp h) s w (At host d) → Kept all_silent w.hosts (after (tcp h) s w (At host d)).hosts
+kept_deed h whole s w host (Does x) g may = let k = pick w.hosts host in
     kept_host w.hosts host (deed_after (tcp h) host s (suc w.count) (pick w.hosts (other host)).wire k (Does x)) all_silent g (moves_recovery w.hosts host k.body x (ends w.hosts host g)) (λ i. refl) (λ c later t. record { made = t.made; wire = t.wire; inbox = t.inbox })
-kept_deed h s w host (Expires line x growth) g may = let k = pick w.hosts host in
+kept_deed h whole s w host (Expires line x growth) g may = let k = pick w.hosts host in
     kept_host w.hosts host (deed_after (tcp h) host s (suc w.count) (pick w.hosts (other host)).wire k (Expires line x growth)) all_silent g (moves_expiry w.hosts host k.body x growth s (ends w.hosts host g)) (λ i. refl) (λ c later t. record { made = t.made; wire = t.wire; inbox = t.inbox })
-kept_deed h s w host (Makes m) g may = kept_makes h s w host m g may
-kept_deed h s w host (Sends line number wire) g may = kept_sends h s w host line number wire g
-kept_deed h s w host (Gets line copied wire) g may = kept_gets h s w host line copied wire g
-kept_deed h s w host (Takes line how) g may = kept_takes h s w host line how g may
-kept_deed h s w host (Drops line) g may = kept_drops h s w host line g
-kept_deed h s w host (Answers line) g may = kept_answers h s w host line g
+kept_deed h whole s w host (Makes m) g may = kept_makes h s w host m g may
+kept_deed h whole s w host (Sends line number wire) g may = kept_sends h s w host line number wire g
+kept_deed h whole s w host (Gets line copied wire) g may = kept_gets h s w host line copied wire g
+kept_deed h whole s w host (Hears line wire) g may = absurd (heard_nothing h whole may)
+kept_deed h whole s w host (Takes line how) g may = kept_takes h whole s w host line how g may
+kept_deed h whole s w host (Drops line) g may = kept_drops h s w host line g
+kept_deed h whole s w host (Answers line) g may = kept_answers h s w host line g
 
 -- 2. calls
 
@@ -215,8 +221,8 @@ kept_effect h s w t answer g apart may = go (turn_of t w.threads) may
     go (Called call) may = by call (aim_of (tcp h) w.hosts (aim call)) (effect_allowed h s w.hosts call answer (aim_of (tcp h) w.hosts (aim call)) may).1
     go (Answered x) may = kept_not w.hosts g
 
-pub kept_step : (h : Header) (s : ℕ) (w : World tcp_shape) (step : Step tcp_shape) → Good w.hosts → Apart w.hosts → Permitted (tcp h) s w step → Kept (step_adds h w step) w.hosts (after (tcp h) s w step).hosts
-kept_step h s w (Begin line t call) g apart may = kept_not w.hosts g
-kept_step h s w (Finish line t answer) g apart may = kept_not w.hosts g
-kept_step h s w (Effect t answer) g apart may = kept_effect h s w t answer g apart may
-kept_step h s w (At host d) g apart may = kept_deed h s w host d g may
+pub kept_step : (h : Header) → is_half h.version ≡ false → (s : ℕ) (w : World tcp_shape) (step : Step tcp_shape) → Good w.hosts → Apart w.hosts → Permitted (tcp h) s w step → Kept (step_adds h w step) w.hosts (after (tcp h) s w step).hosts
+kept_step h whole s w (Begin line t call) g apart may = kept_not w.hosts g
+kept_step h whole s w (Finish line t answer) g apart may = kept_not w.hosts g
+kept_step h whole s w (Effect t answer) g apart may = kept_effect h s w t answer g apart may
+kept_step h whole s w (At host d) g apart may = kept_deed h whole s w host d g may

@@ -15,7 +15,8 @@ use Rattle.verdict.proofs.RuleLemmas.{none_all}
 use Rattle.streams.specs.declared.cell.Cell.{Cell}
 use Rattle.streams.specs.declared.cell.Cell.TheVariants.{Syn}
 use Rattle.streams.specs.Cells.{Taken, body, bytes_of, front, put, put_all}
-use Rattle.streams.specs.Received.{Receiving, next, arrived, received, kept}
+use Rattle.streams.specs.Received.{Receiving, arrived, body_kept, kept, next, received}
+use Rattle.streams.proofs.Keeping.{kept_within}
 use Rattle.streams.proofs.Fronts.{all_put_all, next_put_all, syn_taken, front_put_all, bytes_of-append}
 use Rattle.streams.proofs.Pieces.{carried_in}
 use Rattle.machine.specs.declared.endpoint.Name.{Name}
@@ -30,6 +31,9 @@ use Rattle.case_forms.specs.declared.steps.TakeChoice.{TakeChoice}
 use Rattle.machine.specs.Arrives.Otherwise.Ack.{acknowledges_syn, fin_acknowledged, acknowledged}
 use Rattle.machine.specs.Arrives.Otherwise.{connected_rules, taken}
 use Rattle.machine.specs.Arrives.SynSent.{syn_sent_rules, met_peer}
+use Rattle.machine.specs.Heard.{as_read, read_at}
+use Rattle.case_forms.specs.Versions.{is_half}
+use Rattle.machine.specs.Arrives.Otherwise.Peer.{is_from_peer}
 use Rattle.machine.specs.Arrives.Otherwise.Fin.{keeps_fin, finished}
 use Rattle.machine.specs.Arrives.Otherwise.Text.{kept_bytes, receive_after}
 use Rattle.machine.specs.Arrives.Otherwise.Reset.{was_reset}
@@ -84,14 +88,14 @@ kept_taken b e how m peer good old =
     let start = max (next r) (m.pos + flag_count m.flags.syn) in
     all_put_all (λ p c. (q : Name) × (e.stream.peer ≡ Some q) × HasStream b q (λ t. slice_get (all_cells t) p ≡ Some c)) r.taken start _ old
     (λ k c x.
-    let at = kept_cell m.payload how.keep m.flags.fin m.flags.syn m.pos (next r) e.window.edge k c x in
+    let at = kept_cell m.payload how.keep m.flags.fin m.flags.syn m.pos (next r) e.window.edge k c (kept_within r.taken start (kept_bytes e how m) (keeps_fin e how m) k c x) in
     (m.maker, peer, subst (λ p. HasStream b m.maker (λ t. slice_get (all_cells t) p ≡ Some c)) at.1 (good.sent at.0 c at.2)))
 
 -- what was received stays, and the next position doesn't fall
 pub kept_told : (r : Receiving) (position : ℕ) (bytes : List ℕ) (fin : Bool) → next r ≤ position → r.delivered ≤ length (arrived r)
     → (received r ≡ received (kept r position bytes fin)) × (r.delivered ≤ length (arrived (kept r position bytes fin)))
 kept_told r position bytes fin le d =
-    let more = front_put_all (front r.taken) r.taken position (body bytes fin) ([], append-nil (front r.taken)) le in
+    let more = front_put_all (front r.taken) r.taken position (body_kept r.taken position bytes fin) ([], append-nil (front r.taken)) le in
     let all : arrived r ++ bytes_of more.0 ≡ arrived (kept r position bytes fin) = sym (bytes_of-append (front r.taken) more.0) ∙ ap bytes_of more.1 in (
       sym (take-append-le r.delivered (arrived r) (bytes_of more.0) d) ∙ ap (λ (l : List ℕ). take r.delivered l) all,
       (let longer = ap length all in omega (arith, length-append (arrived r) (bytes_of more.0), longer)),
@@ -160,11 +164,15 @@ record FromPeer (me : Name) (e : Endpoint) (m : Emission) : Type 0 where
   pub plain : m.answers ≡ false
   pub knew : (q : Name) → m.knew ≡ Some q → m.knew ≡ Some me
 
-from_peer : (a : Hosts) (h : Header) (b : Body) (me : Name) (e : Endpoint) (how : TakeChoice) (m : Emission) → GoodEmission a m → m.flags.rst ≡ false → first_broken (connected_rules h b me e how m) ≡ None → FromPeer me e m
-from_peer a h b me e how m good r may =
+-- at a whole case the maker is looked at
+whole_case : (h : Header) → is_half h.version ≡ false → (b : Bool) → (not (is_half h.version) && not b) ≡ false → not b ≡ false
+whole_case h whole b e = subst (λ (c : Bool). (not c && not b) ≡ false) whole e
+
+from_peer : (a : Hosts) (h : Header) → is_half h.version ≡ false → (b : Body) (me : Name) (e : Endpoint) (how : TakeChoice) (m : Emission) → GoodEmission a m → m.flags.rst ≡ false → first_broken (connected_rules h b me e how m) ≡ None → FromPeer me e m
+from_peer a h whole b me e how m good r may =
     let t = none_all (connected_rules h b me e how m) may in
     let plain : m.answers ≡ false = is_not m.answers (λ x. let y = good.resets x in cc) in
-    let from = both_true (option_map_or (λ peer. same_name peer m.maker) e.stream.peer false) _ (other m.answers plain (not_false _ t.0)) in
+    let from = both_true (option_map_or (λ peer. same_name peer m.maker) e.stream.peer false) _ (other m.answers plain (not_false _ (whole_case h whole (is_from_peer me e m) t.0))) in
     let acks = neither (not m.flags.ack || nat_lt (max_made e) m.ack) _ (and_false (not m.flags.rst) _ t.1.1.1.0 (flip m.flags.rst r)) in
     record {
       peer = some_name e.stream.peer m.maker from.0;
@@ -187,7 +195,7 @@ changes_taken a h me e how m moment g good f up =
     let r = e.stream.receive in
     let told = kept_told r (max (next r) (m.pos + flag_count m.flags.syn)) (kept_bytes e how m) (keeps_fin e how m) (omega arith) g.stream.delivered in
     record {
-      later = record { peer = λ q p. p; cells = λ p c y. y; next = next_put_all r.taken (max (next r) (m.pos + flag_count m.flags.syn)) (body (kept_bytes e how m) (keeps_fin e how m)); told = ([], append-nil (received r) ∙ told.0); ended = λ x. (x, refl) };
+      later = record { peer = λ q p. p; cells = λ p c y. y; next = next_put_all r.taken (max (next r) (m.pos + flag_count m.flags.syn)) (body_kept r.taken (max (next r) (m.pos + flag_count m.flags.syn)) (kept_bytes e how m) (keeps_fin e how m)); told = ([], append-nil (received r) ∙ told.0); ended = λ x. (x, refl) };
       adds = record { told = append-nil (received r) ∙ told.0; accepted = (adds_nothing e.stream).accepted; ended = (adds_nothing e.stream).ended };
       una = acked_in a good g.stream;
       good = λ c later was.
@@ -197,7 +205,7 @@ changes_taken a h me e how m moment g good f up =
               taken = kept_taken c e how m f.peer good' was.stream.taken;
               una = acked_in c good' was.stream;
               peer = was.stream.peer;
-              begun = λ q p. let first = was.stream.begun q p in put_all_zero r.taken (max (next r) (m.pos + flag_count m.flags.syn)) (body (kept_bytes e how m) (keeps_fin e how m)) (Some Syn) (let some = front_some r.taken Syn first in omega arith) first;
+              begun = λ q p. let first = was.stream.begun q p in put_all_zero r.taken (max (next r) (m.pos + flag_count m.flags.syn)) (body_kept r.taken (max (next r) (m.pos + flag_count m.flags.syn)) (kept_bytes e how m) (keeps_fin e how m)) (Some Syn) (let some = front_some r.taken Syn first in omega arith) first;
               delivered = (kept_told r (max (next r) (m.pos + flag_count m.flags.syn)) (kept_bytes e how m) (keeps_fin e how m) (omega arith) was.stream.delivered).1;
             };
             waits = λ y. absurd (let back = acknowledged_waits e.state e m (finished_waits (acknowledged e.state e m) _ y) in cc);
@@ -252,15 +260,15 @@ changes_met a h me e how m moment g good waits =
     met_state true y = cc
     met_state false y = cc
 
-changes_endpoint : (a : Hosts) (h : Header) (b : Body) (me : Name) (e : Endpoint) (how : TakeChoice) (m : Emission) (moment : ℕ) → GoodEnd a me e → GoodEmission a m
+changes_endpoint : (a : Hosts) (h : Header) → is_half h.version ≡ false → (b : Body) (me : Name) (e : Endpoint) (how : TakeChoice) (m : Emission) (moment : ℕ) → GoodEnd a me e → GoodEmission a m
     → first_broken (if is_syn_sent e.state then syn_sent_rules h.initial e how m else connected_rules h b me e how m) ≡ None → Changes a me nothing e (endpoint_taken h e how m moment)
-changes_endpoint a h b me e how m moment g good may = go m.flags.rst (is_syn_sent e.state) refl refl may
+changes_endpoint a h whole b me e how m moment g good may = go m.flags.rst (is_syn_sent e.state) refl refl may
   where
     go : (r s : Bool) → m.flags.rst ≡ r → is_syn_sent e.state ≡ s → first_broken (if s then syn_sent_rules h.initial e how m else connected_rules h b me e how m) ≡ None
         → Changes a me nothing e (if r then was_reset e how else if s then met_peer h e how m moment else taken h e how m moment)
     go true s is x may = changes_plain a me e (was_reset e how) g refl (λ y. absurd cc)
     go false true is x may = changes_met a h me e how m moment g good x
-    go false false is x may = changes_taken a h me e how m moment g good (from_peer a h b me e how m good is may) x
+    go false false is x may = changes_taken a h me e how m moment g good (from_peer a h whole b me e how m good is may) x
 
 -- 5. who takes it
 
@@ -286,9 +294,13 @@ taker_there b m i e x = go (place_of b m.rport m.lport) x
     go None x = absurd (no_endpoint (listener_on b m.rport) i e x)
     go (Some j) x = inner j (slice_get b.endpoints j) refl x
 
-pub moves_taking : (a : Hosts) (h : Header) (host : Host) (b : Body) (how : TakeChoice) (m : Emission) (moment : ℕ) → GoodEnds a host b.endpoints → GoodEmission a m
+-- at a whole case a segment is read as what it is
+reads_itself : (h : Header) → is_half h.version ≡ false → (e : Endpoint) (m : Emission) → as_read h.version e m ≡ m
+reads_itself h whole e m = ap (λ (b : Bool). if b then read_at e m else m) whole
+
+pub moves_taking : (a : Hosts) (h : Header) → is_half h.version ≡ false → (host : Host) (b : Body) (how : TakeChoice) (m : Emission) (moment : ℕ) → GoodEnds a host b.endpoints → GoodEmission a m
     → first_broken (taker_rules h host b how m (taker b m)) ≡ None → Moves a host silent b.endpoints (after_taking h b how m moment (taker b m)).endpoints
-moves_taking a h host b how m moment g good may = go (taker b m) refl may
+moves_taking a h whole host b how m moment g good may = go (taker b m) refl may
   where
     go : (t : Taker) → taker b m ≡ t → first_broken (taker_rules h host b how m t) ≡ None → Moves a host silent b.endpoints (after_taking h b how m moment t).endpoints
     go Nobody is may = moves_not a host silent b.endpoints (λ i. refl) g
@@ -298,8 +310,8 @@ moves_taking a h host b how m moment g good may = go (taker b m) refl may
       good = λ c later. record { stream = met_good c _ m.maker (child l how m moment).stream (emission_later a c later m good).there refl refl (λ more. omega arith); waits = λ y. absurd cc };
     })
     go (AtEndpoint i e) is may = let at = taker_there b m i e is in
-        moves_one a host silent b.endpoints i (λ x. endpoint_taken h x how m moment) g (λ j n. refl)
+        moves_one a host silent b.endpoints i (λ x. endpoint_taken h x how (as_read h.version e m) moment) g (λ j n. refl)
         (λ x there.
         let one : e ≡ x = same_Some e x (sym at ∙ there) in
-        changes_endpoint a h b (name host i) x how m moment (g i x there) good
-        (subst (λ (y : Endpoint). first_broken (if is_syn_sent y.state then syn_sent_rules h.initial y how m else connected_rules h b (name host i) y how m) ≡ None) one may))
+        changes_endpoint a h whole b (name host i) x how (as_read h.version e m) moment (g i x there) (subst (GoodEmission a) (sym (reads_itself h whole e m)) good)
+        (subst (λ (y : Endpoint). first_broken (if is_syn_sent y.state then syn_sent_rules h.initial y how (as_read h.version e m) else connected_rules h b (name host i) y how (as_read h.version e m)) ≡ None) one may))
