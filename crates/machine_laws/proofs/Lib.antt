@@ -1,7 +1,9 @@
 pub mod Rules
 pub mod Tables
+pub mod Ordered
 pub mod Later
 pub mod Moves
+pub mod Grows
 pub mod Makes
 pub mod Takes
 pub mod Reading
