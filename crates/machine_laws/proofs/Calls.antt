@@ -1,5 +1,5 @@
 -- A call: what its answer says, and what the endpoints of the host become.
-use Rattle.std.proofs.Common.{◌≡◌, ℕ, zero, suc, Bool, true, false, List, [], ◌∷◌, ◌++◌, length, take, Option, Some, None, refl, ap, sym, subst, ◌∙◌, arith, nat_eq}
+use Rattle.std.proofs.Common.{◌≡◌, ℕ, zero, suc, Bool, true, false, List, [], ◌∷◌, ◌++◌, length, take, Option, Some, None, refl, ap, sym, subst, ◌∙◌, inl, arith, nat_eq}
 use Rattle.std.specs.Prelude.{if◌then◌else◌, ◌==◌, ◌&&◌, ◌||◌, nat_le, slice_get, is_some}
 use Rattle.std.specs.Option.{option_map_or}
 use Rattle.std.specs.Map.{lookup}
@@ -41,6 +41,8 @@ use Rattle.machine_laws.specs.Runs.{endpoint_place, owner, is_socket_of, call_ac
 use Rattle.machine_laws.proofs.Rules.{map_or_cases, both_true, number_same, number_self, is_not}
 use Rattle.machine_laws.proofs.Later.{Hosts, name, all_cells, Later, GoodStream, GoodEnd}
 use Rattle.machine_laws.proofs.Moves.{Added, nothing, Adds, adds_nothing, UnaIn, una_in, Changes, Fresh, GoodEnds, Moves, moves_not, moves_one, moves_plain, moves_map, moves_push, silent}
+use Rattle.streams.specs.declared.cell.Cell.{Cell}
+use Rattle.machine_laws.proofs.Grows.{Own, Stays, Gains, Grows, Bare, Plain, plain_same, plain_either, own_sends, waiting_own, Coming, OwnEnds, Grown, grown_not, grown_one, grown_plain, grown_map, grown_push}
 use Rattle.machine_laws.proofs.Makes.{either_stream, either_waits}
 use Rattle.machine_laws.proofs.Reading.{waiting_is, read_fits, read_more}
 
@@ -299,3 +301,135 @@ moves_call a host (calls.Abort h) answers.Done g may = let b = (pick a host).bod
     go (Listens l) = moves_listener a host (pick a host).body l g
     go (Ends i) = moves_plain a host (pick a host).body.endpoints i after_abort g (λ e. refl) (λ e x. absurd cc)
 moves_call a host call answer g may = moves_not a host silent (pick a host).body.endpoints (λ i. refl) g
+
+-- 7. endpoints by themselves
+
+grown_quiet : (comes : Coming) (host : Host) (adds : ℕ → Added) (es fs : List Endpoint) → ((i : ℕ) → adds i ≡ nothing) → Grown comes host silent es fs → Grown comes host adds es fs
+grown_quiet comes host adds es fs quiet m = record {
+  onward = λ i e at. let h = m.onward i e at in (h.0, h.1, subst (λ (x : Added). Grows (comes (name host i)) x e h.0) (sym (quiet i)) h.2);
+  back = m.back;
+}
+
+grown_socket : (comes : Coming) (a : Hosts) (host : Host) (n i : ℕ) (f : Endpoint → Endpoint) (F : Bool → Added) → F false ≡ nothing → owner (pick a host).body n ≡ Some i → OwnEnds (pick a host).body.endpoints
+    → ((e : Endpoint) → slice_get (pick a host).body.endpoints i ≡ Some e → Grows (comes (name host i)) (F true) e (f e))
+    → Grown comes host (λ j. F (is_socket_of a n (name host j))) (pick a host).body.endpoints (modify (pick a host).body.endpoints i f)
+grown_socket comes a host n i f F none own g new = grown_one comes host (λ j. F (is_socket_of a n (name host j))) (pick a host).body.endpoints i f g
+    (λ j h. ap F (socket_other a host n i j own h) ∙ none)
+    (λ e at. subst (λ b. Grows (comes (name host i)) (F b) e (f e)) (sym (socket_here a host n i own)) (new e at))
+
+grows_send : (comes : ℕ → Cell → Type 0) (e : Endpoint) (bytes : List ℕ) (n : ℕ) → Own e → e.stream.ended ≡ false → Grows comes (record { told = []; accepted = take n bytes; ended = false }) e (after_send bytes n e)
+grows_send comes e bytes n g open' = record {
+  own = own_sends e (after_send bytes n e) (e.stream.accepted ++ take n bytes) e.stream.ended g refl refl (λ x. x);
+  later = accept_later e.stream (take n bytes) open';
+  adds = record { told = append-nil (received e.stream.receive); accepted = refl; ended = (adds_nothing e.stream).ended };
+  stays = λ p c x. x;
+  gains = λ p c x some. inl x;
+}
+
+-- sending is ended
+grows_ended : (comes : ℕ → Cell → Type 0) (e f : Endpoint) → Own e → f.stream ≡ record e.stream { ended = true } → f.irs ≡ e.irs → (is_syn_sent f.state ≡ true → is_syn_sent e.state ≡ true) → Grows comes (record { told = []; accepted = []; ended = true }) e f
+grows_ended comes e f g is irs waits = record {
+  own = own_sends e f e.stream.accepted true g is irs waits;
+  later = subst (λ (s : Stream). Later e.stream s) (sym is) (ended_later e.stream);
+  adds = subst (λ (s : Stream). Adds (record { told = []; accepted = []; ended = true }) e.stream s) (sym is) (record { told = append-nil (received e.stream.receive); accepted = append-nil e.stream.accepted; ended = or_true e.stream.ended });
+  stays = subst (λ (s : Stream). Stays e.stream s) (sym is) (λ p c x. x);
+  gains = subst (λ (s : Stream). Gains comes e.stream s) (sym is) (λ p c x some. inl x);
+}
+
+grows_shut : (comes : ℕ → Cell → Type 0) (e : Endpoint) → Own e → Grows comes (record { told = []; accepted = []; ended = true }) e (after_shut e)
+grows_shut comes e g = grows_ended comes e (after_shut e) g refl refl (shut_waits e.state)
+
+grows_close : (comes : ℕ → Cell → Type 0) (e : Endpoint) → Own e → Grows comes (record { told = []; accepted = []; ended = true }) e (after_close e)
+grows_close comes e g = go (is_syn_sent e.state) refl
+  where
+    go : (b : Bool) → is_syn_sent e.state ≡ b → Grows comes (record { told = []; accepted = []; ended = true }) e (record (if b then shut_down (record e { stream = record e.stream { ended = true } }) else after_shut e) { closed = true })
+    go true is = grows_ended comes e (record (shut_down (record e { stream = record e.stream { ended = true } })) { closed = true }) g refl refl (λ x. is)
+    go false is = grows_ended comes e (record (after_shut e) { closed = true }) g refl refl (shut_waits e.state)
+
+grows_recv : (comes : ℕ → Cell → Type 0) (e : Endpoint) (bytes rest : List ℕ) → Own e → bytes ++ rest ≡ waiting e.stream.receive → Grows comes (record { told = bytes; accepted = []; ended = false }) e (after_recv bytes e)
+grows_recv comes e bytes rest g is =
+    let r = e.stream.receive in
+    let waits = waiting_own e g in
+    record {
+      own = record { waits = g.waits; none = g.none; begun = g.begun; delivered = read_fits r bytes rest waits is g.delivered };
+      later = record { peer = λ q p. p; cells = λ p c z. z; next = le_refl _; told = (bytes, read_more r bytes rest waits is); ended = λ h. (h, refl) };
+      adds = record { told = read_more r bytes rest waits is; accepted = (adds_nothing e.stream).accepted; ended = (adds_nothing e.stream).ended };
+      stays = λ p c x. x;
+      gains = λ p c x some. inl x;
+    }
+
+plain_orphan : (l : ℕ) (e : Endpoint) → Plain e (orphaned l e)
+plain_orphan l e = plain_either (option_map_or (λ holder. holder == l) e.listener false) e (after_abort e) e (record { stream = refl; irs = refl; waits = λ x. absurd cc }) (plain_same e)
+
+grown_listener : (comes : Coming) (host : Host) (b : Body) (l : ℕ) → OwnEnds b.endpoints → Grown comes host silent b.endpoints (without_listener b l).endpoints
+grown_listener comes host b l g = grown_map comes host b.endpoints (orphaned l) g (plain_orphan l)
+
+grown_accept : (comes : Coming) (host : Host) (b : Body) (n : ℕ) (thing : Thing) → OwnEnds b.endpoints → Grown comes host silent b.endpoints (after_accept b n thing).endpoints
+grown_accept comes host b n (Ends i) g = grown_not comes host silent b.endpoints (λ i. refl) g
+grown_accept comes host b n (Listens l) g = go (queue_of b l)
+  where
+    go : (queue : List ℕ) → Grown comes host silent b.endpoints (accepted_from b l n queue).endpoints
+    go [] = grown_not comes host silent b.endpoints (λ i. refl) g
+    go (child ∷ queue) = grown_plain comes host b.endpoints child (λ e. record e { listener = None }) g (λ e. record { stream = refl; irs = refl; waits = λ x. x })
+
+bare_endpoint : (lport rport : ℕ) → Bare (new_endpoint lport rport None states.SynSent)
+bare_endpoint lport rport = record {
+  own = record { waits = λ x. (refl, refl); none = λ is. refl; begun = λ irs is. absurd (none-some irs is); delivered = omega arith };
+  untouched = record { told = refl; accepted = refl; ended = refl };
+  bare = λ p c e. absurd (none-some _ e);
+}
+
+pub grown_call : (comes : Coming) (a : Hosts) (host : Host) (call : Call) (answer : Answer) → OwnEnds (pick a host).body.endpoints → call_allows (pick a host).body call answer ≡ true
+    → Grown comes host (λ j. call_adds a call answer (name host j)) (pick a host).body.endpoints (after_call (pick a host).body call answer).endpoints
+grown_call comes a host (calls.Listen at port backlog) (answers.Given n) g may = grown_not comes host silent (pick a host).body.endpoints (λ i. refl) g
+grown_call comes a host (calls.Connect at lport rport) (answers.Given n) g may = grown_push comes host (pick a host).body.endpoints (new_endpoint lport rport None states.SynSent) g (bare_endpoint lport rport)
+grown_call comes a host (calls.Accept h) (answers.Given n) g may = let b = (pick a host).body in
+    map_or_cases (λ (x : Body). Grown comes host silent b.endpoints x.endpoints) (thing_of b h) b (after_accept b n) (λ e. grown_not comes host silent b.endpoints (λ i. refl) g) (λ thing e. grown_accept comes host b n thing g)
+grown_call comes a host (calls.Send h bytes) (answers.Given n) g may =
+    let b = (pick a host).body in
+    let x = named b h (calls.Send h bytes) (answers.Given n) may refl (λ queue. refused queue) in
+    subst (λ (o : Option Thing). Grown comes host (λ j. call_adds a (calls.Send h bytes) (answers.Given n) (name host j)) b.endpoints (option_map_or (change_thing b (after_send bytes n)) o b).endpoints) (sym x.1)
+    (grown_socket comes a host h x.0 (after_send bytes n) (λ c. record { told = []; accepted = if c then take n bytes else []; ended = false }) refl (owner_of b h (Ends x.0) x.1).0 g
+    (λ e at. grows_send (comes (name host x.0)) e bytes n (g x.0 e at)
+    (subst (λ (y : Endpoint). y.stream.ended ≡ false) (same_Some x.2 e (sym x.3 ∙ at)) (send_open x.2 bytes n x.4))))
+  where
+    refused : (queue : List ℕ) → listener_allows queue (calls.Send h bytes) (answers.Given n) ≡ false
+    refused [] = refl
+    refused (c ∷ queue) = refl
+grown_call comes a host (calls.Recv h most) (answers.Bytes bytes) g may =
+    let b = (pick a host).body in
+    let x = named b h (calls.Recv h most) (answers.Bytes bytes) may refl (λ queue. refused queue) in
+    let rest = starts_prefix bytes (waiting x.2.stream.receive) (both_true (nat_le 1 (length bytes) && nat_le (length bytes) most) (starts bytes (waiting x.2.stream.receive)) x.4).1 in
+    subst (λ (o : Option Thing). Grown comes host (λ j. call_adds a (calls.Recv h most) (answers.Bytes bytes) (name host j)) b.endpoints (option_map_or (change_thing b (after_recv bytes)) o b).endpoints) (sym x.1)
+    (grown_socket comes a host h x.0 (after_recv bytes) (λ c. record { told = if c then bytes else []; accepted = []; ended = false }) refl (owner_of b h (Ends x.0) x.1).0 g
+    (λ e at. grows_recv (comes (name host x.0)) e bytes rest.0 (g x.0 e at)
+    (subst (λ (y : Endpoint). bytes ++ rest.0 ≡ waiting y.stream.receive) (same_Some x.2 e (sym x.3 ∙ at)) rest.1)))
+  where
+    refused : (queue : List ℕ) → listener_allows queue (calls.Recv h most) (answers.Bytes bytes) ≡ false
+    refused [] = refl
+    refused (c ∷ queue) = refl
+grown_call comes a host (calls.Shut h) answers.Done g may =
+    let b = (pick a host).body in
+    let x = named b h (calls.Shut h) answers.Done may refl (λ queue. refused queue) in
+    subst (λ (o : Option Thing). Grown comes host (λ j. call_adds a (calls.Shut h) answers.Done (name host j)) b.endpoints (option_map_or (change_thing b after_shut) o b).endpoints) (sym x.1)
+    (grown_socket comes a host h x.0 after_shut (λ c. record { told = []; accepted = []; ended = c }) refl (owner_of b h (Ends x.0) x.1).0 g (λ e at. grows_shut (comes (name host x.0)) e (g x.0 e at)))
+  where
+    refused : (queue : List ℕ) → listener_allows queue (calls.Shut h) answers.Done ≡ false
+    refused [] = refl
+    refused (c ∷ queue) = refl
+grown_call comes a host (calls.Close h) answers.Done g may = go (thing_of (pick a host).body h) refl may
+  where
+    go : (o : Option Thing) → thing_of (pick a host).body h ≡ o → option_map_or (thing_allows (pick a host).body (calls.Close h) answers.Done) o false ≡ true
+        → Grown comes host (λ j. call_adds a (calls.Close h) answers.Done (name host j)) (pick a host).body.endpoints (option_map_or (λ thing. record (thing_gone (pick a host).body thing after_close) { sockets = dead (pick a host).body.sockets h }) o (pick a host).body).endpoints
+    go None is may = absurd cc
+    go (Some (Listens l)) is may = grown_quiet comes host (λ j. call_adds a (calls.Close h) answers.Done (name host j)) (pick a host).body.endpoints (without_listener (pick a host).body l).endpoints
+        (λ i. ap (λ (c : Bool). record { told = []; accepted = []; ended = c }) (socket_none a host h i (owner_of (pick a host).body h (Listens l) is).0)) (grown_listener comes host (pick a host).body l g)
+    go (Some (Ends i)) is may = grown_socket comes a host h i after_close (λ c. record { told = []; accepted = []; ended = c }) refl (owner_of (pick a host).body h (Ends i) is).0 g (λ e at. grows_close (comes (name host i)) e (g i e at))
+grown_call comes a host (calls.Abort h) answers.Done g may = let b = (pick a host).body in
+    map_or_cases (λ (x : Body). Grown comes host silent b.endpoints x.endpoints) (thing_of b h) b (λ thing. record (thing_gone b thing after_abort) { sockets = dead b.sockets h }) (λ e. grown_not comes host silent b.endpoints (λ i. refl) g)
+    (λ thing e. go thing)
+  where
+    go : (thing : Thing) → Grown comes host silent (pick a host).body.endpoints (thing_gone (pick a host).body thing after_abort).endpoints
+    go (Listens l) = grown_listener comes host (pick a host).body l g
+    go (Ends i) = grown_plain comes host (pick a host).body.endpoints i after_abort g (λ e. record { stream = refl; irs = refl; waits = λ x. absurd cc })
+grown_call comes a host call answer g may = grown_not comes host silent (pick a host).body.endpoints (λ i. refl) g

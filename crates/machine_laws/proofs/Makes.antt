@@ -36,6 +36,7 @@ use Rattle.machine.specs.Machine.{made_at, rules_at}
 use Rattle.machine_laws.specs.Consequences.{HasStream}
 use Rattle.machine_laws.proofs.Rules.{map_or_cases, not_false, both_true, neither, and_false, not_true, number_same, zero_from, some_from, at_most_from, less_to}
 use Rattle.machine_laws.proofs.Later.{Hosts, name, GoodEmission, Good}
+use Rattle.machine_laws.proofs.Grows.{Plain, plain_either}
 use Rattle.machine_laws.proofs.Moves.{GoodEnds, Moves, moves_not, moves_plain, silent}
 
 -- bytes and flags of a segment fit what its maker sends
@@ -182,3 +183,17 @@ moves_expiry a host b x growth moment g = moves_at_ports a host b x.lport x.rpor
 
 pub moves_recovery : (a : Hosts) (host : Host) (b : Body) (x : Recovery) → GoodEnds a host b.endpoints → Moves a host silent b.endpoints (at_ports b x.lport x.rport (λ e. after_recovery e x.cwnd x.ssthresh)).endpoints
 moves_recovery a host b x g = moves_at_ports a host b x.lport x.rport (λ e. after_recovery e x.cwnd x.ssthresh) g (λ e. refl) (λ e y. y)
+
+-- so it is of both relations: none of them changes streams
+pub plain_making : (m : SegmentPlan) (moment : ℕ) (e : Endpoint) → Plain e (after_making e m moment)
+plain_making m moment e = plain_either m.flags.rst e (record (shut_down (endpoint_made e m moment)) { reset_due = false }) (endpoint_made e m moment)
+    (record { stream = refl; irs = refl; waits = λ x. absurd cc }) (record { stream = refl; irs = refl; waits = λ x. x })
+
+pub plain_expiry : (timer : Timer) (growth : Growth) (moment : ℕ) (e : Endpoint) → Plain e (after_expiry e timer growth moment)
+plain_expiry Rto growth moment e = record { stream = refl; irs = refl; waits = λ x. x }
+plain_expiry Persist growth moment e = record { stream = refl; irs = refl; waits = λ x. x }
+plain_expiry Msl2 growth moment e = record { stream = refl; irs = refl; waits = λ x. absurd cc }
+plain_expiry Giveup growth moment e = record { stream = refl; irs = refl; waits = λ x. absurd cc }
+
+pub plain_recovery : (cwnd ssthresh : ℕ) (e : Endpoint) → Plain e (after_recovery e cwnd ssthresh)
+plain_recovery cwnd ssthresh e = record { stream = refl; irs = refl; waits = λ x. x }

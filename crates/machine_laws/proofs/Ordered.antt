@@ -78,6 +78,10 @@ fin_next (Some (Byte v) ∷ xs) none last zero e h = omega arith
 fin_next (Some (Byte v) ∷ xs) none last (suc p) e h = let k = fin_next xs (no_syn_behind (Some (Byte v)) xs none) (fin_last_behind (Some (Byte v)) xs last) p e (omega arith) in omega arith
 fin_next (Some Fin ∷ xs) none last p e h = let one = last 0 refl in let here = last p e in omega arith
 
+-- the SYN is in front
+pub next_begun : (taken : List (Option Cell)) → Begun taken → 0 < length (front taken)
+next_begun taken b = subst (λ (ys : List (Option Cell)). 0 < length (front ys)) (sym b.is) (omega arith)
+
 -- so of all that was taken
 pub waiting_begun : (r : Receiving) → Begun r.taken → r.delivered ≤ length (arrived r) → waiting r ≡ drop r.delivered (arrived r)
 waiting_begun r b h = subst (λ (ys : List (Option Cell)). r.delivered ≤ length (bytes_of (front ys)) → leading (drop (suc r.delivered) ys) ≡ drop r.delivered (bytes_of (front ys))) (sym b.is)

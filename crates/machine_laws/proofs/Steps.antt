@@ -32,13 +32,18 @@ use Rattle.machine.specs.Arrives.{taker, taker_rules}
 use Rattle.machine.specs.Reset.{reset_of}
 use Rattle.machine.specs.Machine.{Calls, tcp, tcp_shape, aim, gives}
 use Rattle.machine_laws.specs.Runs.{of_effect, of_turn, call_accepted, call_ended}
-use Rattle.machine_laws.proofs.Rules.{on_passes, option_cases, not_false}
+use Rattle.machine_laws.proofs.Rules.{on_passes, on_cases, option_cases, not_false}
 use Rattle.machine_laws.proofs.Tables.{AllIn, all_insert, inbox_join, inbox_settled}
 use Rattle.machine_laws.proofs.Later.{Hosts, name, GoodEmission, Good, emission_later}
 use Rattle.machine_laws.proofs.Moves.{Added, nothing, Adds, moves_not, silent, all_silent, Kept, kept_not, kept_host, kept_same, GoodEnds}
-use Rattle.machine_laws.proofs.Makes.{makes_good, moves_making, moves_expiry, moves_recovery}
-use Rattle.machine_laws.proofs.Takes.{moves_taking}
-use Rattle.machine_laws.proofs.Calls.{name_told, call_adds, Apart, owner_elsewhere, owner_of, socket_none, moves_call}
+use Rattle.machine_laws.specs.Carried.{Carries}
+use Rattle.machine.specs.Makes.{after_making}
+use Rattle.machine.specs.Timeouts.{after_expiry}
+use Rattle.machine.specs.Recovery.{after_recovery}
+use Rattle.machine_laws.proofs.Grows.{Coming, Grown, AllOwn, AllGrown, grown_not, grown_at_ports, all_grown_not, all_grown_host}
+use Rattle.machine_laws.proofs.Makes.{plain_making, plain_expiry, plain_recovery, makes_good, moves_making, moves_expiry, moves_recovery}
+use Rattle.machine_laws.proofs.Takes.{moves_taking, grown_taking}
+use Rattle.machine_laws.proofs.Calls.{name_told, call_adds, Apart, owner_elsewhere, owner_of, socket_none, moves_call, grown_call}
 
 -- 1. what hosts do
 
@@ -226,3 +231,48 @@ kept_step h whole s w (Begin line t call) g apart may = kept_not w.hosts g
 kept_step h whole s w (Finish line t answer) g apart may = kept_not w.hosts g
 kept_step h whole s w (Effect t answer) g apart may = kept_effect h s w t answer g apart may
 kept_step h whole s w (At host d) g apart may = kept_deed h whole s w host d g may
+
+-- 4. the same of endpoints by themselves
+
+grown_deed : (h : Header) (s : ℕ) (w : World tcp_shape) (host : Host) (d : Deed tcp_shape) → AllOwn w.hosts → Permitted (tcp h) s w (At host d)
+    → Grown (Carries h w (At host d)) host silent (pick w.hosts host).body.endpoints (deed_after (tcp h) host s (suc w.count) (pick w.hosts (other host)).wire (pick w.hosts host) d).body.endpoints
+grown_deed h s w host (Does x) g may = grown_at_ports (Carries h w (At host (Does x))) host (pick w.hosts host).body x.lport x.rport (λ e. after_recovery e x.cwnd x.ssthresh) (g host) (plain_recovery x.cwnd x.ssthresh)
+grown_deed h s w host (Expires line x growth) g may = grown_at_ports (Carries h w (At host (Expires line x growth))) host (pick w.hosts host).body x.lport x.rport (λ e. after_expiry e x.timer growth s) (g host) (plain_expiry x.timer growth s)
+grown_deed h s w host (Makes m) g may = grown_at_ports (Carries h w (At host (Makes m))) host (pick w.hosts host).body m.lport m.rport (λ e. after_making e m s) (g host) (plain_making m s)
+grown_deed h s w host (Sends line number wire) g may = grown_not (Carries h w (At host (Sends line number wire))) host silent (pick w.hosts host).body.endpoints (λ i. refl) (g host)
+grown_deed h s w host (Gets line copied wire) g may = grown_not (Carries h w (At host (Gets line copied wire))) host silent (pick w.hosts host).body.endpoints (λ i. refl) (g host)
+grown_deed h s w host (Hears line wire) g may = grown_not (Carries h w (At host (Hears line wire))) host silent (pick w.hosts host).body.endpoints (λ i. refl) (g host)
+grown_deed h s w host (Takes line how) g may = let k = pick w.hosts host in let step : Step tcp_shape = At host (Takes line how) in
+    on_cases (λ (b : Body). Grown (Carries h w step) host silent k.body.endpoints b.endpoints) (waiting line k.inbox) k.body _ (grown_not (Carries h w step) host silent k.body.endpoints (λ i. refl) (g host))
+    (λ m e.
+    let t = on_passes (waiting line k.inbox) rules.Inbox (λ x. taker_rules h host k.body how x (taker k.body x)) may in
+    let one : t.0 ≡ m = same_Some t.0 m (sym t.1 ∙ e) in
+    grown_taking h s w host line how m g e (subst (λ (x : Emission). first_broken (taker_rules h host k.body how x (taker k.body x)) ≡ None) one t.2))
+grown_deed h s w host (Drops line) g may = grown_not (Carries h w (At host (Drops line))) host silent (pick w.hosts host).body.endpoints (λ i. refl) (g host)
+grown_deed h s w host (Answers line) g may = let k = pick w.hosts host in let step : Step tcp_shape = At host (Answers line) in
+    on_cases (λ (b : Body). Grown (Carries h w step) host silent k.body.endpoints b.endpoints) (waiting line k.inbox) k.body _ (grown_not (Carries h w step) host silent k.body.endpoints (λ i. refl) (g host)) (λ m e. grown_not (Carries h w step) host silent k.body.endpoints (λ i. refl) (g host))
+
+grown_effect : (h : Header) (s : ℕ) (w : World tcp_shape) (t : ℕ) (answer : Answer) → AllOwn w.hosts → Apart w.hosts → Permitted (tcp h) s w (Effect t answer)
+    → AllGrown (Carries h w (Effect t answer)) (step_adds h w (Effect t answer)) w.hosts (after (tcp h) s w (Effect t answer)).hosts
+grown_effect h s w t answer g apart may = go (turn_of t w.threads) may
+  where
+    comes : Coming
+    comes = Carries h w (Effect t answer)
+
+    by : (call : Call) (o : Option Host) → option_map_or (λ host. call_allows (pick w.hosts host).body call answer) o (is_bad_socket answer) ≡ true → AllGrown comes (call_adds w.hosts call answer) w.hosts (call_after (tcp h) s w.hosts (Calls call answer) o)
+    by call None may = all_grown_not comes w.hosts (call_adds w.hosts call answer) (λ me. stray_adds w.hosts call answer me may) g
+    by call (Some host) may = all_grown_host comes w.hosts host (record (pick w.hosts host) { body = after_call (pick w.hosts host).body call answer }) (call_adds w.hosts call answer) g
+        (grown_call comes w.hosts host call answer (g host) may) (adds_elsewhere w.hosts host call answer apart may)
+
+    go : (u : Turn tcp_shape) → first_broken (effect_rules (tcp h) s w.hosts u answer) ≡ None
+        → AllGrown comes (λ me. record { told = of_turn u [] (λ call. name_told w.hosts call answer me); accepted = of_turn u [] (λ call. call_accepted w.hosts call answer me); ended = of_turn u false (λ call. call_ended w.hosts call answer me) })
+        w.hosts (effect_after (tcp h) s w t answer u).hosts
+    go Idle may = all_grown_not comes w.hosts all_silent (λ me. refl) g
+    go (Called call) may = by call (aim_of (tcp h) w.hosts (aim call)) (effect_allowed h s w.hosts call answer (aim_of (tcp h) w.hosts (aim call)) may).1
+    go (Answered x) may = all_grown_not comes w.hosts all_silent (λ me. refl) g
+
+pub grown_step : (h : Header) (s : ℕ) (w : World tcp_shape) (step : Step tcp_shape) → AllOwn w.hosts → Apart w.hosts → Permitted (tcp h) s w step → AllGrown (Carries h w step) (step_adds h w step) w.hosts (after (tcp h) s w step).hosts
+grown_step h s w (Begin line t call) g apart may = all_grown_not (Carries h w (Begin line t call)) w.hosts all_silent (λ me. refl) g
+grown_step h s w (Finish line t answer) g apart may = all_grown_not (Carries h w (Finish line t answer)) w.hosts all_silent (λ me. refl) g
+grown_step h s w (Effect t answer) g apart may = grown_effect h s w t answer g apart may
+grown_step h s w (At host d) g apart may = all_grown_host (Carries h w (At host d)) w.hosts host (deed_after (tcp h) host s (suc w.count) (pick w.hosts (other host)).wire (pick w.hosts host) d) all_silent g (grown_deed h s w host d g may) (λ i. refl)

@@ -1,6 +1,6 @@
 -- Taking a segment: what the rules say of it, and what the endpoint becomes.
-use Rattle.std.proofs.Common.{◌≡◌, ℕ, zero, suc, ◌+◌, ◌-◌, ◌<◌, ◌≤◌, Bool, true, false, List, [], ◌∷◌, ◌++◌, length, take, drop, min, max, Option, Some, None, refl, ap, sym, subst, ◌∙◌, inl, inr, arith}
-use Rattle.std.specs.Prelude.{if◌then◌else◌, ◌&&◌, ◌||◌, not, nat_lt, nat_le, slice_get, slice_range}
+use Rattle.std.proofs.Common.{◌≡◌, ℕ, zero, suc, ◌+◌, ◌-◌, ◌<◌, ◌≤◌, ◌⊎◌, Bool, true, false, List, [], ◌∷◌, ◌++◌, length, take, drop, min, max, Option, Some, None, refl, ap, sym, subst, ◌∙◌, inl, inr, arith}
+use Rattle.std.specs.Prelude.{if◌then◌else◌, ◌&&◌, ◌||◌, not, nat_lt, nat_le, slice_get, slice_range, is_some}
 use Rattle.std.specs.Option.{option_map_or}
 use Rattle.std.proofs.Math.Nat.{suc-add}
 use Rattle.std.proofs.lemmas.Bool.{cases_lt}
@@ -23,7 +23,12 @@ use Rattle.machine.specs.declared.endpoint.Name.{Name}
 use Rattle.machine.specs.declared.endpoint.Stream.{Stream}
 use Rattle.machine.specs.declared.endpoint.Endpoint.{Endpoint}
 use Rattle.machine.specs.declared.endpoint.Emission.{Emission}
-use Rattle.machine.specs.Endpoints.{flag_count, max_made}
+use Rattle.machine.specs.Endpoints.{flag_count, max_made, next as next_of}
+use Rattle.seqno.specs.declared.word.Word.{Word}
+use Rattle.seqno.specs.Near.{near_position}
+use Rattle.hosts.specs.Tables.{pick, waiting}
+use Rattle.hosts.specs.Hosts.{World, Takes, At}
+use Rattle.machine.specs.Arrives.Otherwise.Sequence.{is_bad_number, reads_as}
 use Rattle.machine.specs.Bodies.{Body, place_of, listener_on}
 use Rattle.machine.specs.Same.{same_name}
 use Rattle.case_forms.specs.States.{is_closed, is_syn_sent}
@@ -34,15 +39,19 @@ use Rattle.machine.specs.Arrives.SynSent.{syn_sent_rules, met_peer}
 use Rattle.machine.specs.Heard.{as_read, read_at}
 use Rattle.case_forms.specs.Versions.{is_half}
 use Rattle.machine.specs.Arrives.Otherwise.Peer.{is_from_peer}
-use Rattle.machine.specs.Arrives.Otherwise.Fin.{keeps_fin, finished}
+use Rattle.machine.specs.Arrives.Otherwise.Fin.{first_byte, keeps_fin, finished}
 use Rattle.machine.specs.Arrives.Otherwise.Text.{kept_bytes, receive_after}
 use Rattle.machine.specs.Arrives.Otherwise.Reset.{was_reset}
 use Rattle.machine.specs.Arrives.Listen.{child}
 use Rattle.machine.specs.Arrives.{Taker, Nobody, AtListener, AtEndpoint, listener_taker, endpoint_taker, taker, taker_rules, endpoint_taken, after_taking}
+use Rattle.machine.specs.Machine.{tcp_shape}
+use Rattle.machine_laws.specs.Carried.{Carries}
 use Rattle.machine_laws.specs.Consequences.{HasStream}
 use Rattle.machine_laws.proofs.Rules.{not_false, both_true, neither, and_false, is_not, some_name, any_name, at_most_to}
 use Rattle.machine_laws.proofs.Later.{Hosts, name, all_cells, emission_later, GoodEmission, GoodStream, GoodEnd}
 use Rattle.machine_laws.proofs.Reading.{take_nothing, front_some}
+use Rattle.machine_laws.proofs.Ordered.{Begun, next_begun, stays_put_all, begun_kept, begun_met}
+use Rattle.machine_laws.proofs.Grows.{Own, Grows, Bare, Coming, Grown, AllOwn, grows_plain, grown_not, grown_one, grown_push}
 use Rattle.machine_laws.proofs.Moves.{nothing, adds_nothing, Changes, changes_plain, GoodEnds, Moves, moves_not, moves_one, moves_push, silent}
 
 -- 1. what is kept of a segment stands in it
@@ -314,4 +323,152 @@ moves_taking a h whole host b how m moment g good may = go (taker b m) refl may
         (λ x there.
         let one : e ≡ x = same_Some e x (sym at ∙ there) in
         changes_endpoint a h whole b (name host i) x how (as_read h.version e m) moment (g i x there) (subst (GoodEmission a) (sym (reads_itself h whole e m)) good)
+        (subst (λ (y : Endpoint). first_broken (if is_syn_sent y.state then syn_sent_rules h.initial y how (as_read h.version e m) else connected_rules h b (name host i) y how (as_read h.version e m)) ≡ None) one may))
+
+-- 6. the endpoint by itself
+
+-- what is kept stands in the segment
+kept_place : (payload : List ℕ) (keep f : Bool) (first n edge : ℕ) (k : ℕ) (c : Cell)
+    → slice_get (body (if keep then slice_range payload (max n first - first) (min (first + length payload) edge - first) else []) (keep && f && nat_le n (first + length payload) && nat_le (first + length payload) edge)) k ≡ Some c
+    → (keep ≡ true) × (slice_get (body payload f) (max n first - first + k) ≡ Some c)
+kept_place payload false f first n edge k c e = absurd (none-some c e)
+kept_place payload true f first n edge k c e = (
+  refl,
+  kept_part payload f (max n first - first) (min (first + length payload) edge - first) (f && nat_le n (first + length payload) && nat_le (first + length payload) edge) (omega arith)
+  (λ h.
+  let outer = both_true (f && nat_le n (first + length payload)) (nat_le (first + length payload) edge) h in
+  let inner = both_true f (nat_le n (first + length payload)) outer.0 in
+  let low = at_most_to n (first + length payload) inner.1 in
+  let high = at_most_to (first + length payload) edge outer.1 in
+  (inner.0, omega arith, omega arith)) k c e,
+)
+
+-- what is taken behind the SYN is what the segment has
+grows_taken : (comes : ℕ → Cell → Type 0) (h : Header) (e : Endpoint) (how : TakeChoice) (m : Emission) (moment : ℕ) → Own e → is_syn_sent e.state ≡ false → (irs : Word) → e.irs ≡ Some irs
+    → ((k : ℕ) (c : Cell) → how.keep ≡ true → slice_get (body m.payload m.flags.fin) k ≡ Some c → comes (first_byte m + k) c) → Grows comes nothing e (taken h e how m moment)
+grows_taken comes h e how m moment g up irs met new = record {
+  own = record {
+    waits = λ y. absurd (let back = acknowledged_waits e.state e m (finished_waits (acknowledged e.state e m) _ y) in cc);
+    none = λ is. absurd (none-some irs (sym is ∙ met));
+    begun = λ base is. begun_kept r.taken start (kept_bytes e how m) (keeps_fin e how m) begun (let some = next_begun r.taken begun in omega arith);
+    delivered = told.1;
+  };
+  later = record {
+    peer = λ q p. p;
+    cells = λ p c y. y;
+    next = next_put_all r.taken start (body_kept r.taken start (kept_bytes e how m) (keeps_fin e how m));
+    told = ([], append-nil (received r) ∙ told.0);
+    ended = λ x. (x, refl);
+  };
+  adds = record { told = append-nil (received r) ∙ told.0; accepted = (adds_nothing e.stream).accepted; ended = (adds_nothing e.stream).ended };
+  stays = stays_put_all r.taken start (body_kept r.taken start (kept_bytes e how m) (keeps_fin e how m));
+  gains = all_put_all (λ p c. 0 < p → (slice_get r.taken p ≡ Some (Some c)) ⊎ comes p c) r.taken start (body_kept r.taken start (kept_bytes e how m) (keeps_fin e how m)) (λ p c x some. inl x)
+      (λ k c x some.
+      let at = kept_place m.payload how.keep m.flags.fin (first_byte m) (next r) e.window.edge k c (kept_within r.taken start (kept_bytes e how m) (keeps_fin e how m) k c x) in
+      let place : first_byte m + (start - first_byte m + k) ≡ start + k = omega arith in
+      inr (subst (λ p. comes p c) place (new (start - first_byte m + k) c at.0 at.1)));
+}
+  where
+    r : Receiving
+    r = e.stream.receive
+
+    start : ℕ
+    start = max (next r) (first_byte m)
+
+    begun : Begun r.taken
+    begun = g.begun irs met
+
+    told : (received r ≡ received (kept r start (kept_bytes e how m) (keeps_fin e how m))) × (r.delivered ≤ length (arrived (kept r start (kept_bytes e how m) (keeps_fin e how m))))
+    told = kept_told r start (kept_bytes e how m) (keeps_fin e how m) (omega arith) g.delivered
+
+-- the SYN alone
+grows_met : (comes : ℕ → Cell → Type 0) (h : Header) (e : Endpoint) (how : TakeChoice) (m : Emission) (moment : ℕ) → Own e → is_syn_sent e.state ≡ true → Grows comes nothing e (met_peer h e how m moment)
+grows_met comes h e how m moment g waits =
+    let alone = g.waits waits in
+    let none : received e.stream.receive ≡ [] = take_nothing e.stream.receive.delivered (arrived e.stream.receive) (ap (λ (l : List (Option Cell)). bytes_of (front l)) alone.1) in
+    record {
+      own = record { waits = λ y. absurd (met_state m.flags.ack y); none = λ is. absurd (none-some m.seq (sym is)); begun = λ base is. begun_met; delivered = omega arith };
+      later = record {
+        peer = λ q p. absurd (none-some q (sym alone.0 ∙ p));
+        cells = λ p c y. y;
+        next = let empty : front e.stream.receive.taken ≡ [] = ap front alone.1 in omega (arith, ap length empty);
+        told = ([], append-nil (received e.stream.receive) ∙ none);
+        ended = λ x. (x, refl);
+      };
+      adds = record { told = append-nil (received e.stream.receive) ∙ none; accepted = (adds_nothing e.stream).accepted; ended = (adds_nothing e.stream).ended };
+      stays = λ p c x. absurd (none-some _ (subst (λ (l : List (Option Cell)). slice_get l p ≡ Some (Some c)) alone.1 x));
+      gains = syn_taken (λ p c. 0 < p → (slice_get e.stream.receive.taken p ≡ Some (Some c)) ⊎ comes p c) (λ some. absurd (omega arith));
+    }
+  where
+    met_state : (b : Bool) → is_syn_sent (if b then states.Established else states.SynReceived) ≡ true → ⊥
+    met_state true y = cc
+    met_state false y = cc
+
+bare_child : (l : ℕ) (how : TakeChoice) (m : Emission) (moment : ℕ) → Bare (child l how m moment)
+bare_child l how m moment = record {
+  own = record { waits = λ y. absurd cc; none = λ is. absurd (none-some m.seq (sym is)); begun = λ base is. begun_met; delivered = omega arith };
+  untouched = record { told = refl; accepted = refl; ended = refl };
+  bare = syn_taken (λ p c. 0 < p → ⊥) (λ some. omega arith);
+}
+
+-- a number reads as a position only where the peer's SYN was taken
+base_there : (e : Endpoint) (m : Emission) → is_bad_number e m ≡ false → (irs : Word) × (e.irs ≡ Some irs)
+base_there e m good = go m.answers e.irs refl good
+  where
+    go : (answers : Bool) (o : Option Word) → e.irs ≡ o
+        → (if answers then not (is_some (if answers then option_map_or (λ irs. near_position (next_of e) irs m.seq) o None else Some m.pos)) else not (reads_as (next_of e) o m.seq m.pos) || m.flags.ack && not (reads_as e.stream.una e.iss m.ack_seq m.ack)) ≡ false
+        → (irs : Word) × (e.irs ≡ Some irs)
+    go true None is x = absurd cc
+    go false None is x = absurd cc
+    go true (Some irs) is x = (irs, is)
+    go false (Some irs) is x = (irs, is)
+
+grows_endpoint : (comes : ℕ → Cell → Type 0) (h : Header) (b : Body) (me : Name) (e : Endpoint) (how : TakeChoice) (m : Emission) (moment : ℕ) → Own e
+    → ((k : ℕ) (c : Cell) → how.keep ≡ true → slice_get (body m.payload m.flags.fin) k ≡ Some c → comes (first_byte m + k) c)
+    → first_broken (if is_syn_sent e.state then syn_sent_rules h.initial e how m else connected_rules h b me e how m) ≡ None → Grows comes nothing e (endpoint_taken h e how m moment)
+grows_endpoint comes h b me e how m moment g new may = go m.flags.rst (is_syn_sent e.state) refl may
+  where
+    go : (r s : Bool) → is_syn_sent e.state ≡ s → first_broken (if s then syn_sent_rules h.initial e how m else connected_rules h b me e how m) ≡ None
+        → Grows comes nothing e (if r then was_reset e how else if s then met_peer h e how m moment else taken h e how m moment)
+    go true s x may = grows_plain comes e (was_reset e how) g (record { stream = refl; irs = refl; waits = λ y. absurd cc })
+    go false true x may = grows_met comes h e how m moment g x
+    go false false x may = let base = base_there e m (none_all (connected_rules h b me e how m) may).1.0 in grows_taken comes h e how m moment g x base.0 base.1 new
+
+-- what a segment carries isn't changed by reading it
+read_body : (b : Bool) (e : Endpoint) (m : Emission) → body (if b then read_at e m else m).payload (if b then read_at e m else m).flags.fin ≡ body m.payload m.flags.fin
+read_body true e m = refl
+read_body false e m = refl
+
+pub grown_taking : (h : Header) (s : ℕ) (w : World tcp_shape) (host : Host) (line : ℕ) (how : TakeChoice) (m : Emission) → AllOwn w.hosts → waiting line (pick w.hosts host).inbox ≡ Some m
+    → first_broken (taker_rules h host (pick w.hosts host).body how m (taker (pick w.hosts host).body m)) ≡ None
+    → Grown (Carries h w (At host (Takes line how))) host silent (pick w.hosts host).body.endpoints (after_taking h (pick w.hosts host).body how m s (taker (pick w.hosts host).body m)).endpoints
+grown_taking h s w host line how m g waits may = go (taker (pick w.hosts host).body m) refl may
+  where
+    b : Body
+    b = (pick w.hosts host).body
+
+    comes : Coming
+    comes = Carries h w (At host (Takes line how))
+
+    go : (t : Taker) → taker b m ≡ t → first_broken (taker_rules h host b how m t) ≡ None → Grown comes host silent b.endpoints (after_taking h b how m s t).endpoints
+    go Nobody is may = grown_not comes host silent b.endpoints (λ i. refl) (g host)
+    go (AtListener l) is may = grown_push comes host b.endpoints (child l how m s) (g host) (bare_child l how m s)
+    go (AtEndpoint i e) is may = let at = taker_there b m i e is in
+        grown_one comes host silent b.endpoints i (λ x. endpoint_taken h x how (as_read h.version e m) s) (g host) (λ j n. refl)
+        (λ x there.
+        let one : e ≡ x = same_Some e x (sym at ∙ there) in
+        grows_endpoint (comes (name host i)) h b (name host i) x how (as_read h.version e m) s (g host i x there)
+        (λ k c keep has. record {
+          line = line;
+          how = how;
+          segment = m;
+          endpoint = e;
+          place = k;
+          takes = refl;
+          keeps = keep;
+          waits = waits;
+          there = is;
+          stands = refl;
+          has = subst (λ (cs : List Cell). slice_get cs k ≡ Some c) (read_body (is_half h.version) e m) has;
+        })
         (subst (λ (y : Endpoint). first_broken (if is_syn_sent y.state then syn_sent_rules h.initial y how (as_read h.version e m) else connected_rules h b (name host i) y how (as_read h.version e m)) ≡ None) one may))
