@@ -1,16 +1,17 @@
 -- What a step makes of endpoints by themselves: true of every case, whatever is known of the peer.
-use Rattle.std.proofs.Common.{◌≡◌, ℕ, zero, suc, ◌<◌, ◌≤◌, ◌⊎◌, Bool, true, false, List, [], ◌∷◌, ◌++◌, length, drop, map, Option, Some, None, refl, ap, sym, subst, ◌∙◌, inl, inr, arith}
-use Rattle.std.specs.Prelude.{if◌then◌else◌, ◌||◌, slice_get}
+use Rattle.std.proofs.Common.{◌≡◌, ℕ, zero, suc, ◌-◌, ◌<◌, ◌≤◌, ◌⊎◌, Bool, true, false, List, [], ◌∷◌, ◌++◌, length, drop, map, Option, Some, None, refl, ap, sym, subst, ◌∙◌, inl, inr, arith}
+use Rattle.std.specs.Prelude.{if◌then◌else◌, ◌==◌, ◌||◌, slice_get}
 use Rattle.std.proofs.lemmas.Option.{none-some, same_Some}
-use Rattle.std.proofs.lemmas.List.{append-nil}
+use Rattle.std.proofs.lemmas.List.{append-nil, length-append, length-drop, length-take}
 use Rattle.std.proofs.Math.Bool.{or-false}
 use Rattle.seqno.specs.declared.word.Word.{Word}
 use Rattle.case_forms.specs.States.{is_syn_sent}
 use Rattle.case_forms.specs.declared.calls.Host.{Host}
 use Rattle.streams.specs.declared.cell.Cell.{Cell}
-use Rattle.streams.specs.Cells.{Taken}
+use Rattle.streams.specs.declared.cell.Cell.TheVariants.{Fin}
+use Rattle.streams.specs.Cells.{Taken, front}
 use Rattle.streams.specs.Lists.{modify}
-use Rattle.streams.specs.Received.{arrived, waiting, received}
+use Rattle.streams.specs.Received.{arrived, is_ended, waiting, received}
 use Rattle.streams.proofs.Places.{get_append, all_push, all_modify, same_at}
 use Rattle.hosts.specs.Tables.{Both, pick, other, with_host}
 use Rattle.hosts.specs.Hosts.{HostState}
@@ -19,13 +20,45 @@ use Rattle.machine.specs.declared.endpoint.Stream.{Stream}
 use Rattle.machine.specs.declared.endpoint.Endpoint.{Endpoint}
 use Rattle.machine.specs.Bodies.{Body, place_of, at_ports, with_endpoint}
 use Rattle.machine.specs.Machine.{tcp_shape}
+use Rattle.machine.specs.Calls.Receive.{is_read_out}
 use Rattle.machine_laws.specs.Consequences.{find}
-use Rattle.machine_laws.proofs.Ordered.{Begun, waiting_begun, waiting_none}
-use Rattle.machine_laws.proofs.Rules.{map_or_cases}
+use Rattle.machine_laws.proofs.Ordered.{Begun, waiting_begun, waiting_none, fin_of, fin_bounds, ended_at}
+use Rattle.machine_laws.proofs.Rules.{map_or_cases, both_true, zero_from}
 use Rattle.machine_laws.proofs.Later.{Hosts, name, Later, same, AllLater, Waits}
-use Rattle.machine_laws.proofs.Moves.{Added, nothing, Adds, adds_nothing, Untouched, silent, modify_each, map_onward, map_back, with_cases}
+use Rattle.machine_laws.proofs.Moves.{KeepsPeer, modify_each, map_onward, map_back, with_cases}
 
 -- 1. one endpoint
+
+-- what a step adds to an endpoint: bytes that reads were told, bytes accepted of sends, an end of its sending
+pub record Added : Type 0 where
+  pub told : List ℕ
+  pub accepted : List ℕ
+  pub ended : Bool
+
+abbrev pub nothing : Added
+nothing = record { told = []; accepted = []; ended = false }
+
+-- exactly this is added
+pub record Adds (x : Added) (s t : Stream) : Type 0 where
+  pub told : received s.receive ++ x.told ≡ received t.receive
+  pub accepted : s.accepted ++ x.accepted ≡ t.accepted
+  pub ended : (s.ended || x.ended) ≡ t.ended
+
+-- nothing was added yet
+pub record Untouched (s : Stream) : Type 0 where
+  pub told : received s.receive ≡ []
+  pub accepted : s.accepted ≡ []
+  pub ended : s.ended ≡ false
+
+abbrev pub silent : ℕ → Added
+silent i = nothing
+
+abbrev pub all_silent : Name → Added
+all_silent me = nothing
+
+pub adds_nothing : (s : Stream) → Adds nothing s s
+adds_nothing s = record { told = append-nil (received s.receive); accepted = append-nil s.accepted; ended = or-false s.ended }
+
 
 -- what holds of each endpoint of every run
 pub record Own (e : Endpoint) : Type 0 where
@@ -69,6 +102,9 @@ pub plain_either : (b : Bool) (e x y : Endpoint) → Plain e x → Plain e y →
 plain_either true e x y p q = p
 plain_either false e x y p q = q
 
+pub plain_keeps : (e f : Endpoint) → Plain e f → KeepsPeer e f
+plain_keeps e f p = record { peer = ap (λ (s : Stream). s.peer) p.stream; taken = ap (λ (s : Stream). s.receive.taken) p.stream; una = ap (λ (s : Stream). s.una) p.stream; waits = p.waits }
+
 -- the same, but for what it sends
 pub own_sends : (e f : Endpoint) (accepted : List ℕ) (ended : Bool) → Own e → f.stream ≡ record e.stream { accepted = accepted; ended = ended } → f.irs ≡ e.irs → (is_syn_sent f.state ≡ true → is_syn_sent e.state ≡ true) → Own f
 own_sends e f accepted ended g streams irs waits = record {
@@ -97,6 +133,41 @@ waiting_own e g = go e.irs refl
     go : (o : Option Word) → e.irs ≡ o → waiting e.stream.receive ≡ drop e.stream.receive.delivered (arrived e.stream.receive)
     go None is = waiting_none e.stream.receive (g.none is)
     go (Some irs) is = waiting_begun e.stream.receive (g.begun irs is) g.delivered
+
+-- something was taken behind the SYN only
+begun_where : (e : Endpoint) → Own e → (p : ℕ) (x : Option Cell) → slice_get e.stream.receive.taken p ≡ Some x → Begun e.stream.receive.taken
+begun_where e g p x at = go e.irs refl
+  where
+    go : (o : Option Word) → e.irs ≡ o → Begun e.stream.receive.taken
+    go None is = absurd (none-some x (subst (λ (l : List (Option Cell)). slice_get l p ≡ Some x) (g.none is) at))
+    go (Some irs) is = g.begun irs is
+
+-- a FIN was taken right behind what reads were told
+abbrev pub Ended : Stream → Type 0
+Ended s = slice_get s.receive.taken (suc (length (received s.receive))) ≡ Some (Some Fin)
+
+-- so it is where a read may be told the end
+pub ended_told : (e : Endpoint) → Own e → is_read_out e ≡ true → Ended e.stream
+ended_told e g out =
+    let r = e.stream.receive in
+    let parts = both_true (is_ended r) (length (waiting r) == 0) out in
+    let begun = begun_where e g (length (front r.taken) - 1) (Some Fin) (fin_of (slice_get r.taken (length (front r.taken) - 1)) parts.0) in
+    let none = zero_from (length (waiting r)) parts.1 in
+    let left = ap length (waiting_own e g) in
+    let within = g.delivered in
+    let all : length (arrived r) ≡ length (received r) = omega (arith, none, left, length-drop r.delivered (arrived r), length-take r.delivered (arrived r)) in
+    subst (λ n. slice_get r.taken (suc n) ≡ Some (Some Fin)) all (ended_at r.taken begun parts.0)
+
+-- and it stays so: nothing comes behind it
+pub ended_stays : (comes : ℕ → Cell → Type 0) (x : Added) (e f : Endpoint) → Grows comes x e f → Ended e.stream → Ended f.stream
+ended_stays comes x e f g fin =
+    let r = e.stream.receive in
+    let s = f.stream.receive in
+    let here = g.stays (suc (length (received r))) Fin fin in
+    let bound = fin_bounds s.taken (begun_where f g.own (suc (length (received r))) (Some Fin) here) (length (received r)) here in
+    let more = ap length g.later.told.1 in
+    let same : length (received r) ≡ length (received s) = omega (arith, bound, more, length-append (received r) g.later.told.0, length-take s.delivered (arrived s)) in
+    subst (λ n. slice_get s.taken (suc n) ≡ Some (Some Fin)) same here
 
 -- 2. the endpoints of one host
 

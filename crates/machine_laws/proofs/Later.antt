@@ -76,13 +76,11 @@ pub record GoodEmission (hosts : Hosts) (m : Emission) : Type 0 where
   pub resets : m.answers ≡ true → m.flags.rst ≡ true
   pub ack : m.flags.ack ≡ true → m.answers ≡ false → ((q : Name) × (m.knew ≡ Some q)) × HasStream hosts m.maker (λ s. m.ack ≤ next s.receive)
 
--- an endpoint took what its peer sends, the SYN first, and is acknowledged what its peer took of it
+-- an endpoint took what its peer sends, and is acknowledged what its peer took of it
 pub record GoodStream (hosts : Hosts) (me : Name) (s : Stream) : Type 0 where
   pub taken : Taken (λ p c. (q : Name) × (s.peer ≡ Some q) × HasStream hosts q (λ t. slice_get (all_cells t) p ≡ Some c)) s.receive.taken
   pub una : 1 < s.una → (q : Name) × (s.peer ≡ Some q) × HasStream hosts q (λ t. (t.peer ≡ Some me) × (s.una ≤ next t.receive))
   pub peer : (q : Name) → s.peer ≡ Some q → HasStream hosts q (λ t. Unit {0})
-  pub begun : (q : Name) → s.peer ≡ Some q → slice_get s.receive.taken 0 ≡ Some (Some Syn)
-  pub delivered : s.receive.delivered ≤ length (arrived s.receive)
 
 -- in SYN-SENT an endpoint has nothing of a peer
 abbrev pub Waits : Endpoint → Type 0
@@ -119,8 +117,6 @@ stream_later a b later n s g = record {
   taken = λ p c e. let h = g.taken p c e in (h.0, h.1, has_later a b (λ t. slice_get (all_cells t) p ≡ Some c) (λ x y l. l.cells p c) later h.0 h.2);
   una = λ more. let h = g.una more in (h.0, h.1, has_later a b (λ t. (t.peer ≡ Some n) × (s.una ≤ next t.receive)) (λ x y l p. (l.peer n p.0, let up = l.next in let was = p.1 in omega arith)) later h.0 h.2);
   peer = λ q e. has_later a b (λ t. Unit {0}) (λ x y l u. u) later q (g.peer q e);
-  begun = g.begun;
-  delivered = g.delivered;
 }
 
 pub end_later : (a b : Hosts) → AllLater a b → (n : Name) (e : Endpoint) → GoodEnd a n e → GoodEnd b n e

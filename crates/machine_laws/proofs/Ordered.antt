@@ -103,7 +103,7 @@ received_at r b i value e = subst (λ (ys : List (Option Cell)). slice_get (byte
 pub fin_bounds : (taken : List (Option Cell)) → Begun taken → (p : ℕ) → slice_get taken (suc p) ≡ Some (Some Fin) → length (bytes_of (front taken)) ≤ p
 fin_bounds taken b p e = subst (λ (ys : List (Option Cell)). slice_get ys (suc p) ≡ Some (Some Fin) → length (bytes_of (front ys)) ≤ p) (sym b.is) (fin_behind b.rest b.behind b.last p) e
 
-fin_of : (o : Option (Option Cell)) → is_fin o ≡ true → o ≡ Some (Some Fin)
+pub fin_of : (o : Option (Option Cell)) → is_fin o ≡ true → o ≡ Some (Some Fin)
 fin_of None e = absurd cc
 fin_of (Some None) e = absurd cc
 fin_of (Some (Some Syn)) e = absurd cc
@@ -163,7 +163,7 @@ body_no_syn [] false k c e is = none-some c e
 body_no_syn (v ∷ bytes) fin zero c e is = let byte : Byte v ≡ Syn = same_Some (Byte v) c e ∙ is in cc
 body_no_syn (v ∷ bytes) fin (suc k) c e is = body_no_syn bytes fin k c e is
 
-body_fin : (bytes : List ℕ) (fin : Bool) (k : ℕ) → slice_get (body bytes fin) k ≡ Some Fin → (fin ≡ true) × (k ≡ length bytes)
+pub body_fin : (bytes : List ℕ) (fin : Bool) (k : ℕ) → slice_get (body bytes fin) k ≡ Some Fin → (fin ≡ true) × (k ≡ length bytes)
 body_fin [] true zero e = (refl, refl)
 body_fin [] true (suc k) e = absurd (none-some Fin e)
 body_fin [] false k e = absurd (none-some Fin e)
