@@ -9,10 +9,10 @@ use Rattle.case_forms.specs.States.{is_syn_sent}
 use Rattle.case_forms.specs.declared.calls.Host.{Host}
 use Rattle.streams.specs.declared.cell.Cell.{Cell}
 use Rattle.streams.specs.declared.cell.Cell.TheVariants.{Fin}
-use Rattle.streams.specs.Cells.{Taken, front}
+use Rattle.streams.specs.Cells.{Taken, bytes_of, front}
 use Rattle.streams.specs.Lists.{modify}
 use Rattle.streams.specs.Received.{arrived, is_ended, waiting, received}
-use Rattle.streams.proofs.Places.{get_append, all_push, all_modify, same_at}
+use Rattle.streams.proofs.Places.{get_append, get_take, all_push, all_modify, same_at}
 use Rattle.hosts.specs.Tables.{Both, pick, other, with_host}
 use Rattle.hosts.specs.Hosts.{HostState}
 use Rattle.machine.specs.declared.endpoint.Name.{Name}
@@ -140,6 +140,14 @@ begun_where e g p x at = go e.irs refl
   where
     go : (o : Option Word) → e.irs ≡ o → Begun e.stream.receive.taken
     go None is = absurd (none-some x (subst (λ (l : List (Option Cell)). slice_get l p ≡ Some x) (g.none is) at))
+    go (Some irs) is = g.begun irs is
+
+-- and so where reads were told a byte
+pub begun_told : (e : Endpoint) → Own e → (i value : ℕ) → slice_get (received e.stream.receive) i ≡ Some value → Begun e.stream.receive.taken
+begun_told e g i value at = go e.irs refl
+  where
+    go : (o : Option Word) → e.irs ≡ o → Begun e.stream.receive.taken
+    go None is = absurd (none-some value (subst (λ (l : List (Option Cell)). slice_get (bytes_of (front l)) i ≡ Some value) (g.none is) (get_take e.stream.receive.delivered (arrived e.stream.receive) i value at)))
     go (Some irs) is = g.begun irs is
 
 -- a FIN was taken right behind what reads were told

@@ -13,6 +13,7 @@ pub mod Sound
 pub mod SoundSteps
 pub mod Ends
 pub mod Runs
+pub mod Carried
 pub mod Windows
 pub mod Computed
 pub mod ForgetReads

@@ -53,13 +53,13 @@ pub record Fine (h : Header) (a : Hosts) : Type 0 where
   pub steady : Steady a
 
 -- what a step makes of all endpoints
-grown : (h : Header) (s : ℕ) (w : World tcp_shape) (step : Step tcp_shape) → Steady w.hosts → Permitted (tcp h) s w step → AllGrown (Carries h w step) (step_adds h w step) w.hosts (after (tcp h) s w step).hosts
+pub grown : (h : Header) (s : ℕ) (w : World tcp_shape) (step : Step tcp_shape) → Steady w.hosts → Permitted (tcp h) s w step → AllGrown (Carries h w step) (step_adds h w step) w.hosts (after (tcp h) s w step).hosts
 grown h s w step g may = grown_step h s w step g.own g.apart may
 
 pub later_step : (h : Header) (s : ℕ) (w : World tcp_shape) (step : Step tcp_shape) → Steady w.hosts → Permitted (tcp h) s w step → AllLater w.hosts (after (tcp h) s w step).hosts
 later_step h s w step g may = all_later (Carries h w step) (step_adds h w step) w.hosts (after (tcp h) s w step).hosts (grown h s w step g may)
 
-steady_step : (h : Header) (s : ℕ) (w : World tcp_shape) (step : Step tcp_shape) → Steady w.hosts → Permitted (tcp h) s w step → Steady (after (tcp h) s w step).hosts
+pub steady_step : (h : Header) (s : ℕ) (w : World tcp_shape) (step : Step tcp_shape) → Steady w.hosts → Permitted (tcp h) s w step → Steady (after (tcp h) s w step).hosts
 steady_step h s w step g may =
     let x = sound_step h s w step g.sound g.apart may in
     record { own = own_after (Carries h w step) (step_adds h w step) w.hosts (after (tcp h) s w step).hosts (grown h s w step g may); sound = x.sound; apart = x.apart }
@@ -68,7 +68,7 @@ pub fine_step : (h : Header) (s : ℕ) (w : World tcp_shape) (step : Step tcp_sh
 fine_step h s w step g may = record { whole = g.whole; good = (kept_step h g.whole s w step g.good (later_step h s w step g.steady may) may).good; steady = steady_step h s w step g.steady may }
 
 -- at the start no endpoint is there
-nowhere : (h : Header) (x : Host) (i : ℕ) (e : Endpoint) → slice_get (pick (start (tcp h)).hosts x).body.endpoints i ≡ Some e → ⊥
+pub nowhere : (h : Header) (x : Host) (i : ℕ) (e : Endpoint) → slice_get (pick (start (tcp h)).hosts x).body.endpoints i ≡ Some e → ⊥
 nowhere h Zero i e at = none-some e at
 nowhere h One i e at = none-some e at
 
@@ -86,7 +86,7 @@ fine_start h whole = record { whole = whole; good = good; steady = steady_start 
     good Zero = record { endpoints = λ i e x. absurd (none-some e x); tables = record { made = λ n x e. absurd (none-some x e); wire = λ n x e. absurd (none-some x e); inbox = λ n m e. absurd (none-some m e) } }
     good One = record { endpoints = λ i e x. absurd (none-some e x); tables = record { made = λ n x e. absurd (none-some x e); wire = λ n x e. absurd (none-some x e); inbox = λ n m e. absurd (none-some m e) } }
 
-steady_run : (h : Header) (w : World tcp_shape) (steps : List (Stamped tcp_shape)) → Steady w.hosts → Lawful (tcp h) w steps → Steady (after_all (tcp h) w steps).hosts
+pub steady_run : (h : Header) (w : World tcp_shape) (steps : List (Stamped tcp_shape)) → Steady w.hosts → Lawful (tcp h) w steps → Steady (after_all (tcp h) w steps).hosts
 steady_run h w [] g may = g
 steady_run h w (x ∷ xs) g may = steady_run h (after (tcp h) x.moment w x.step) xs (steady_step h x.moment w x.step g may.0) may.1
 
@@ -95,7 +95,7 @@ fine_run h w [] g may = g
 fine_run h w (x ∷ xs) g may = fine_run h (after (tcp h) x.moment w x.step) xs (fine_step h x.moment w x.step g may.0) may.1
 
 -- socket numbers name what they named
-stays_run : (h : Header) (w : World tcp_shape) (steps : List (Stamped tcp_shape)) → Steady w.hosts → Lawful (tcp h) w steps → (x : Host) (n i : ℕ) → owner (pick w.hosts x).body n ≡ Some i → owner (pick (after_all (tcp h) w steps).hosts x).body n ≡ Some i
+pub stays_run : (h : Header) (w : World tcp_shape) (steps : List (Stamped tcp_shape)) → Steady w.hosts → Lawful (tcp h) w steps → (x : Host) (n i : ℕ) → owner (pick w.hosts x).body n ≡ Some i → owner (pick (after_all (tcp h) w steps).hosts x).body n ≡ Some i
 stays_run h w [] g may x n i e = e
 stays_run h w (y ∷ ys) g may x n i e = stays_run h (after (tcp h) y.moment w y.step) ys (steady_step h y.moment w y.step g may.0) may.1 x n i ((sound_step h y.moment w y.step g.sound g.apart may.0).stays x n i e)
 
@@ -219,7 +219,7 @@ matches_run h steps may me e at =
 -- 3. a socket number's reads are those of its endpoint
 
 -- the call was a `recv` at the host that gave the number of an endpoint
-reads_at : (h : Header) (s : ℕ) (a : Hosts) (n most : ℕ) (answer : Answer) (o : Option Host) → is_bad_socket answer ≡ false → ((queue : List ℕ) → listener_allows queue (calls.Recv n most) answer ≡ false)
+pub reads_at : (h : Header) (s : ℕ) (a : Hosts) (n most : ℕ) (answer : Answer) (o : Option Host) → is_bad_socket answer ≡ false → ((queue : List ℕ) → listener_allows queue (calls.Recv n most) answer ≡ false)
     → option_map_or (λ host. call_allows (pick a host).body (calls.Recv n most) answer) o (is_bad_socket answer) ≡ true
     → (x : Host) × (i : ℕ) × (owner (pick a x).body n ≡ Some i) × (e : Endpoint) × (find a (name x i) ≡ Some e) × (recv_allows e most answer ≡ true)
 reads_at h s a n most answer None good refused may = absurd cc

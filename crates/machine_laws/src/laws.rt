@@ -16,6 +16,7 @@ ghost use Rattle.machine.specs.Machine.{tcp, tcp_shape};
 ghost use Rattle.machine_laws.specs.Runs.{world_at_end};
 ghost use Rattle.machine_laws.specs.Bounds.{NewDataFits, WindowsFollow};
 ghost use Rattle.machine_laws.specs.Ascending.{RulesAscend};
+ghost use Rattle.machine_laws.specs.Carried.{ReadsWereCarried};
 ghost use Rattle.machine_laws.specs.Consequences.{ReceivedIsAPrefix, EndIsWhole, AcknowledgedWasTaken};
 
 /// What the reads on a socket number were told is how the bytes that its peer's sends accepted begin.
@@ -31,6 +32,12 @@ pub fn end_is_whole()
 /// What is acknowledged, but for the SYN, was taken by the peer before the step that acknowledged it.
 pub fn acknowledged_was_taken()
     ensures { (h : Header) → is_half h.version ≡ false → (steps : List (Stamped tcp_shape)) (x : Stamped tcp_shape) → Lawful (tcp h) (start (tcp h)) steps → Permitted (tcp h) x.moment (world_at_end h steps) x.step → AcknowledgedWasTaken h steps x }
+{}
+
+/// What the reads on a socket number were told came with segments that were taken at its endpoint, each byte at its position;
+/// where one was told the end, so did a FIN right behind. So it is in every case, also where one host alone was recorded.
+pub fn reads_were_carried()
+    ensures { (h : Header) (steps : List (Stamped tcp_shape)) → Lawful (tcp h) (start (tcp h)) steps → ReadsWereCarried h steps }
 {}
 
 /// Bytes that are made for the first time end in the window that the peer offers and in the congestion window. Other

@@ -16,5 +16,5 @@ mod laws;
 pub use forgetting::{forgetting_is_free, runs_forget};
 pub use laws::{
     acknowledged_was_taken, end_is_whole, new_data_fits, old_copies_are_refused,
-    received_is_a_prefix, rules_ascend, windows_follow,
+    reads_were_carried, received_is_a_prefix, rules_ascend, windows_follow,
 };
