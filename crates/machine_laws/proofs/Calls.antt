@@ -201,7 +201,7 @@ grows_recv comes e bytes rest g is =
     let r = e.stream.receive in
     let waits = waiting_own e g in
     record {
-      own = record { waits = g.waits; none = g.none; begun = g.begun; delivered = read_fits r bytes rest waits is g.delivered };
+      own = record { waits = g.waits; order = g.order; begun = g.begun; delivered = read_fits r bytes rest waits is g.delivered };
       later = record { peer = λ q p. p; cells = λ p c z. z; next = le_refl _; told = (bytes, read_more r bytes rest waits is); ended = λ h. (h, refl) };
       adds = record { told = read_more r bytes rest waits is; accepted = (adds_nothing e.stream).accepted; ended = (adds_nothing e.stream).ended };
       stays = λ p c x. x;
@@ -224,7 +224,7 @@ grown_accept comes host b n (Listens l) g = go (queue_of b l)
 
 bare_endpoint : (lport rport : ℕ) → Bare (new_endpoint lport rport None states.SynSent)
 bare_endpoint lport rport = record {
-  own = record { waits = λ x. (refl, refl); none = λ is. refl; begun = λ irs is. absurd (none-some irs is); delivered = omega arith };
+  own = record { waits = λ x. (refl, refl); order = inl refl; begun = λ irs is. absurd (none-some irs is); delivered = omega arith };
   untouched = record { told = refl; accepted = refl; ended = refl };
   bare = λ p c e. absurd (none-some _ e);
 }

@@ -29,7 +29,7 @@ use Rattle.machine_laws.specs.Carried.{Carries, CarriedFrom, Carried, CarriedTo,
 use Rattle.machine_laws.proofs.Rules.{number_same}
 use Rattle.machine_laws.proofs.Later.{Hosts, name}
 use Rattle.machine_laws.proofs.Ordered.{received_at}
-use Rattle.machine_laws.proofs.Grows.{begun_told, Bare, Coming, AllGrown, Added, grew}
+use Rattle.machine_laws.proofs.Grows.{Bare, Coming, AllGrown, Added, grew}
 use Rattle.machine_laws.proofs.Calls.{socket_here}
 use Rattle.machine_laws.proofs.Steps.{step_adds, effect_allowed}
 use Rattle.machine_laws.proofs.Runs.{EndedAt, Steady, grown, nowhere, steady_step, steady_start, steady_run, stays_run, matches_run, reads_at, told_run, ended_run}
@@ -136,7 +136,8 @@ were_carried h steps may = record {
         let me = own.0 in
         let x = ((steady_run h (start (tcp h)) steps (steady_start h) may).sound me.host).named socket me.number own.1 in
         let there = (steady_run h (start (tcp h)) steps (steady_start h) may).own me.host me.number x.0 x.1 in
-        let at = received_at x.0.stream.receive (begun_told x.0 there i value (subst (λ (l : List ℕ). slice_get l i ≡ Some value) (told_own h steps may socket me x.0 own.1 x.1) e)) i value (subst (λ (l : List ℕ). slice_get l i ≡ Some value) (told_own h steps may socket me x.0 own.1 x.1) e) in
+        let told = subst (λ (l : List ℕ). slice_get l i ≡ Some value) (told_own h steps may socket me x.0 own.1 x.1) e in
+        let at = received_at x.0.stream.receive there.order i value told in
         let place : suc i ≡ 1 + i = omega arith in
         (me, socket_here a me.host socket me.number own.1, subst (λ p. Carried h steps me p (Byte value)) place (taken_carried h steps may me x.0 x.1 (suc i) (Byte value) at (omega arith)))
 

@@ -22,7 +22,7 @@ use Rattle.machine.specs.Bodies.{Body, place_of, at_ports, with_endpoint}
 use Rattle.machine.specs.Machine.{tcp_shape}
 use Rattle.machine.specs.Calls.Receive.{is_read_out}
 use Rattle.machine_laws.specs.Consequences.{find}
-use Rattle.machine_laws.proofs.Ordered.{Begun, waiting_begun, waiting_none, fin_of, fin_bounds, ended_at}
+use Rattle.machine_laws.proofs.Ordered.{Begun, InOrder, waiting_is, fin_bounds, ended_at}
 use Rattle.machine_laws.proofs.Rules.{map_or_cases, both_true, zero_from}
 use Rattle.machine_laws.proofs.Later.{Hosts, name, Later, same, AllLater, Waits}
 use Rattle.machine_laws.proofs.Moves.{KeepsPeer, modify_each, map_onward, map_back, with_cases}
@@ -63,7 +63,7 @@ adds_nothing s = record { told = append-nil (received s.receive); accepted = app
 -- what holds of each endpoint of every run
 pub record Own (e : Endpoint) : Type 0 where
   pub waits : Waits e
-  pub none : e.irs ≡ None → e.stream.receive.taken ≡ []
+  pub order : InOrder e.stream.receive.taken
   pub begun : (irs : Word) → e.irs ≡ Some irs → Begun e.stream.receive.taken
   pub delivered : e.stream.receive.delivered ≤ length (arrived e.stream.receive)
 
@@ -109,7 +109,7 @@ plain_keeps e f p = record { peer = ap (λ (s : Stream). s.peer) p.stream; taken
 pub own_sends : (e f : Endpoint) (accepted : List ℕ) (ended : Bool) → Own e → f.stream ≡ record e.stream { accepted = accepted; ended = ended } → f.irs ≡ e.irs → (is_syn_sent f.state ≡ true → is_syn_sent e.state ≡ true) → Own f
 own_sends e f accepted ended g streams irs waits = record {
   waits = λ w. let h = g.waits (waits w) in (ap (λ (s : Stream). s.peer) streams ∙ h.0, ap (λ (s : Stream). s.receive.taken) streams ∙ h.1);
-  none = λ is. ap (λ (s : Stream). s.receive.taken) streams ∙ g.none (sym irs ∙ is);
+  order = subst (λ (s : Stream). InOrder s.receive.taken) (sym streams) g.order;
   begun = λ irs' is. subst (λ (s : Stream). Begun s.receive.taken) (sym streams) (g.begun irs' (sym irs ∙ is));
   delivered = subst (λ (s : Stream). s.receive.delivered ≤ length (arrived s.receive)) (sym streams) g.delivered;
 }
@@ -128,27 +128,7 @@ grows_not comes e g = grows_plain comes e e g (plain_same e)
 
 -- what waits is what came in order and was not delivered
 pub waiting_own : (e : Endpoint) → Own e → waiting e.stream.receive ≡ drop e.stream.receive.delivered (arrived e.stream.receive)
-waiting_own e g = go e.irs refl
-  where
-    go : (o : Option Word) → e.irs ≡ o → waiting e.stream.receive ≡ drop e.stream.receive.delivered (arrived e.stream.receive)
-    go None is = waiting_none e.stream.receive (g.none is)
-    go (Some irs) is = waiting_begun e.stream.receive (g.begun irs is) g.delivered
-
--- something was taken behind the SYN only
-begun_where : (e : Endpoint) → Own e → (p : ℕ) (x : Option Cell) → slice_get e.stream.receive.taken p ≡ Some x → Begun e.stream.receive.taken
-begun_where e g p x at = go e.irs refl
-  where
-    go : (o : Option Word) → e.irs ≡ o → Begun e.stream.receive.taken
-    go None is = absurd (none-some x (subst (λ (l : List (Option Cell)). slice_get l p ≡ Some x) (g.none is) at))
-    go (Some irs) is = g.begun irs is
-
--- and so where reads were told a byte
-pub begun_told : (e : Endpoint) → Own e → (i value : ℕ) → slice_get (received e.stream.receive) i ≡ Some value → Begun e.stream.receive.taken
-begun_told e g i value at = go e.irs refl
-  where
-    go : (o : Option Word) → e.irs ≡ o → Begun e.stream.receive.taken
-    go None is = absurd (none-some value (subst (λ (l : List (Option Cell)). slice_get (bytes_of (front l)) i ≡ Some value) (g.none is) (get_take e.stream.receive.delivered (arrived e.stream.receive) i value at)))
-    go (Some irs) is = g.begun irs is
+waiting_own e g = waiting_is e.stream.receive g.order g.delivered
 
 -- a FIN was taken right behind what reads were told
 abbrev pub Ended : Stream → Type 0
@@ -159,12 +139,11 @@ pub ended_told : (e : Endpoint) → Own e → is_read_out e ≡ true → Ended e
 ended_told e g out =
     let r = e.stream.receive in
     let parts = both_true (is_ended r) (length (waiting r) == 0) out in
-    let begun = begun_where e g (length (front r.taken) - 1) (Some Fin) (fin_of (slice_get r.taken (length (front r.taken) - 1)) parts.0) in
     let none = zero_from (length (waiting r)) parts.1 in
     let left = ap length (waiting_own e g) in
     let within = g.delivered in
     let all : length (arrived r) ≡ length (received r) = omega (arith, none, left, length-drop r.delivered (arrived r), length-take r.delivered (arrived r)) in
-    subst (λ n. slice_get r.taken (suc n) ≡ Some (Some Fin)) all (ended_at r.taken begun parts.0)
+    subst (λ n. slice_get r.taken (suc n) ≡ Some (Some Fin)) all (ended_at r.taken g.order parts.0)
 
 -- and it stays so: nothing comes behind it
 pub ended_stays : (comes : ℕ → Cell → Type 0) (x : Added) (e f : Endpoint) → Grows comes x e f → Ended e.stream → Ended f.stream
@@ -172,7 +151,7 @@ ended_stays comes x e f g fin =
     let r = e.stream.receive in
     let s = f.stream.receive in
     let here = g.stays (suc (length (received r))) Fin fin in
-    let bound = fin_bounds s.taken (begun_where f g.own (suc (length (received r))) (Some Fin) here) (length (received r)) here in
+    let bound = fin_bounds s.taken g.own.order (length (received r)) here in
     let more = ap length g.later.told.1 in
     let same : length (received r) ≡ length (received s) = omega (arith, bound, more, length-append (received r) g.later.told.0, length-take s.delivered (arrived s)) in
     subst (λ n. slice_get s.taken (suc n) ≡ Some (Some Fin)) same here

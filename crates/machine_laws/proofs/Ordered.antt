@@ -27,6 +27,10 @@ pub record Begun (taken : List (Option Cell)) : Type 0 where
   pub behind : NoSyn rest
   pub last : FinLast rest
 
+-- nothing was taken, or all in order
+abbrev pub InOrder : List (Option Cell) → Type 0
+InOrder taken = (taken ≡ []) ⊎ Begun taken
+
 -- 1. what comes in order
 
 none_behind : (xs : List (Option Cell)) → FinLast (Some Fin ∷ xs) → xs ≡ []
@@ -83,27 +87,32 @@ pub next_begun : (taken : List (Option Cell)) → Begun taken → 0 < length (fr
 next_begun taken b = subst (λ (ys : List (Option Cell)). 0 < length (front ys)) (sym b.is) (omega arith)
 
 -- so of all that was taken
-pub waiting_begun : (r : Receiving) → Begun r.taken → r.delivered ≤ length (arrived r) → waiting r ≡ drop r.delivered (arrived r)
-waiting_begun r b h = subst (λ (ys : List (Option Cell)). r.delivered ≤ length (bytes_of (front ys)) → leading (drop (suc r.delivered) ys) ≡ drop r.delivered (bytes_of (front ys))) (sym b.is)
-    (leading_front b.rest r.delivered b.behind b.last) h
-
--- and where nothing was
-pub waiting_none : (r : Receiving) → r.taken ≡ [] → waiting r ≡ drop r.delivered (arrived r)
-waiting_none r none = subst (λ (ys : List (Option Cell)). leading (drop (suc r.delivered) ys) ≡ drop r.delivered (bytes_of (front ys))) (sym none) (go r.delivered)
+pub waiting_is : (r : Receiving) → InOrder r.taken → r.delivered ≤ length (arrived r) → waiting r ≡ drop r.delivered (arrived r)
+waiting_is r (inl none) h = subst (λ (ys : List (Option Cell)). leading (drop (suc r.delivered) ys) ≡ drop r.delivered (bytes_of (front ys))) (sym none) (go r.delivered)
   where
     go : (d : ℕ) → leading (drop (suc d) []) ≡ drop d []
     go zero = refl
     go (suc d) = refl
+waiting_is r (inr b) h = subst (λ (ys : List (Option Cell)). r.delivered ≤ length (bytes_of (front ys)) → leading (drop (suc r.delivered) ys) ≡ drop r.delivered (bytes_of (front ys))) (sym b.is)
+    (leading_front b.rest r.delivered b.behind b.last) h
 
-pub received_at : (r : Receiving) → Begun r.taken → (i value : ℕ) → slice_get (received r) i ≡ Some value → slice_get r.taken (suc i) ≡ Some (Some (Byte value))
-received_at r b i value e = subst (λ (ys : List (Option Cell)). slice_get (bytes_of (front ys)) i ≡ Some value → slice_get ys (suc i) ≡ Some (Some (Byte value))) (sym b.is)
+pub received_at : (r : Receiving) → InOrder r.taken → (i value : ℕ) → slice_get (received r) i ≡ Some value → slice_get r.taken (suc i) ≡ Some (Some (Byte value))
+received_at r (inl none) i value e = absurd (none-some value (subst (λ (ys : List (Option Cell)). slice_get (bytes_of (front ys)) i ≡ Some value) none (get_take r.delivered (arrived r) i value e)))
+received_at r (inr b) i value e = subst (λ (ys : List (Option Cell)). slice_get (bytes_of (front ys)) i ≡ Some value → slice_get ys (suc i) ≡ Some (Some (Byte value))) (sym b.is)
     (byte_at b.rest b.behind b.last i value) (get_take r.delivered (arrived r) i value e)
 
--- a FIN at a position ends what comes in order at or before it
-pub fin_bounds : (taken : List (Option Cell)) → Begun taken → (p : ℕ) → slice_get taken (suc p) ≡ Some (Some Fin) → length (bytes_of (front taken)) ≤ p
-fin_bounds taken b p e = subst (λ (ys : List (Option Cell)). slice_get ys (suc p) ≡ Some (Some Fin) → length (bytes_of (front ys)) ≤ p) (sym b.is) (fin_behind b.rest b.behind b.last p) e
+-- where something was taken, the SYN was
+begun_where : (taken : List (Option Cell)) → InOrder taken → (p : ℕ) (x : Option Cell) → slice_get taken p ≡ Some x → Begun taken
+begun_where taken (inl none) p x at = absurd (none-some x (subst (λ (l : List (Option Cell)). slice_get l p ≡ Some x) none at))
+begun_where taken (inr b) p x at = b
 
-pub fin_of : (o : Option (Option Cell)) → is_fin o ≡ true → o ≡ Some (Some Fin)
+-- a FIN at a position ends what comes in order at or before it
+pub fin_bounds : (taken : List (Option Cell)) → InOrder taken → (p : ℕ) → slice_get taken (suc p) ≡ Some (Some Fin) → length (bytes_of (front taken)) ≤ p
+fin_bounds taken order p e =
+    let b = begun_where taken order (suc p) (Some Fin) e in
+    subst (λ (ys : List (Option Cell)). slice_get ys (suc p) ≡ Some (Some Fin) → length (bytes_of (front ys)) ≤ p) (sym b.is) (fin_behind b.rest b.behind b.last p) e
+
+fin_of : (o : Option (Option Cell)) → is_fin o ≡ true → o ≡ Some (Some Fin)
 fin_of None e = absurd cc
 fin_of (Some None) e = absurd cc
 fin_of (Some (Some Syn)) e = absurd cc
@@ -111,9 +120,12 @@ fin_of (Some (Some (Byte v))) e = absurd cc
 fin_of (Some (Some Fin)) e = refl
 
 -- where the end was reached, a FIN stands behind the bytes that came
-pub ended_at : (taken : List (Option Cell)) → Begun taken → is_fin (slice_get taken (length (front taken) - 1)) ≡ true → slice_get taken (suc (length (bytes_of (front taken)))) ≡ Some (Some Fin)
-ended_at taken b e = subst (λ (ys : List (Option Cell)). is_fin (slice_get ys (length (front ys) - 1)) ≡ true → slice_get ys (suc (length (bytes_of (front ys)))) ≡ Some (Some Fin)) (sym b.is) (go (length (front b.rest)) refl) e
+pub ended_at : (taken : List (Option Cell)) → InOrder taken → is_fin (slice_get taken (length (front taken) - 1)) ≡ true → slice_get taken (suc (length (bytes_of (front taken)))) ≡ Some (Some Fin)
+ended_at taken order e = subst (λ (ys : List (Option Cell)). is_fin (slice_get ys (length (front ys) - 1)) ≡ true → slice_get ys (suc (length (bytes_of (front ys)))) ≡ Some (Some Fin)) (sym b.is) (go (length (front b.rest)) refl) e
   where
+    b : Begun taken
+    b = begun_where taken order (length (front taken) - 1) (Some Fin) (fin_of (slice_get taken (length (front taken) - 1)) e)
+
     go : (n : ℕ) → length (front b.rest) ≡ n → is_fin (slice_get (Some Syn ∷ b.rest) (suc (length (front b.rest)) - 1)) ≡ true → slice_get b.rest (length (bytes_of (front b.rest))) ≡ Some (Some Fin)
     go zero is e = absurd (let first : suc (length (front b.rest)) - 1 ≡ 0 = omega arith in let syn = subst (λ k. is_fin (slice_get (Some Syn ∷ b.rest) k) ≡ true) first e in cc)
     go (suc n) is e =

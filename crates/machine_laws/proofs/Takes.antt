@@ -178,8 +178,8 @@ grows_taken : (comes : ℕ → Cell → Type 0) (h : Header) (e : Endpoint) (how
 grows_taken comes h e how m moment g up irs met new = record {
   own = record {
     waits = λ y. absurd (let back = acknowledged_waits e.state e m (finished_waits (acknowledged e.state e m) _ y) in cc);
-    none = λ is. absurd (none-some irs (sym is ∙ met));
-    begun = λ base is. begun_kept r.taken start (kept_bytes e how m) (keeps_fin e how m) begun (let some = next_begun r.taken begun in omega arith);
+    order = inr all;
+    begun = λ base is. all;
     delivered = told.1;
   };
   later = record {
@@ -207,6 +207,9 @@ grows_taken comes h e how m moment g up irs met new = record {
     begun : Begun r.taken
     begun = g.begun irs met
 
+    all : Begun (kept r start (kept_bytes e how m) (keeps_fin e how m)).taken
+    all = begun_kept r.taken start (kept_bytes e how m) (keeps_fin e how m) begun (let some = next_begun r.taken begun in omega arith)
+
     told : (received r ≡ received (kept r start (kept_bytes e how m) (keeps_fin e how m))) × (r.delivered ≤ length (arrived (kept r start (kept_bytes e how m) (keeps_fin e how m))))
     told = kept_told r start (kept_bytes e how m) (keeps_fin e how m) (omega arith) g.delivered
 
@@ -216,7 +219,7 @@ grows_met comes h e how m moment g waits =
     let alone = g.waits waits in
     let none : received e.stream.receive ≡ [] = take_nothing e.stream.receive.delivered (arrived e.stream.receive) (ap (λ (l : List (Option Cell)). bytes_of (front l)) alone.1) in
     record {
-      own = record { waits = λ y. absurd (met_state m.flags.ack y); none = λ is. absurd (none-some m.seq (sym is)); begun = λ base is. begun_met; delivered = omega arith };
+      own = record { waits = λ y. absurd (met_state m.flags.ack y); order = inr begun_met; begun = λ base is. begun_met; delivered = omega arith };
       later = record {
         peer = λ q p. absurd (none-some q (sym alone.0 ∙ p));
         cells = λ p c y. y;
@@ -231,7 +234,7 @@ grows_met comes h e how m moment g waits =
 
 bare_child : (l : ℕ) (how : TakeChoice) (m : Emission) (moment : ℕ) → Bare (child l how m moment)
 bare_child l how m moment = record {
-  own = record { waits = λ y. absurd cc; none = λ is. absurd (none-some m.seq (sym is)); begun = λ base is. begun_met; delivered = omega arith };
+  own = record { waits = λ y. absurd cc; order = inr begun_met; begun = λ base is. begun_met; delivered = omega arith };
   untouched = record { told = refl; accepted = refl; ended = refl };
   bare = syn_taken (λ p c. 0 < p → ⊥) (λ some. omega arith);
 }
