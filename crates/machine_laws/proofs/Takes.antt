@@ -32,6 +32,7 @@ use Rattle.machine.specs.Arrives.Otherwise.Sequence.{is_bad_number, reads_as}
 use Rattle.machine.specs.Bodies.{Body, place_of, listener_on}
 use Rattle.machine.specs.Same.{same_name}
 use Rattle.case_forms.specs.States.{is_closed, is_syn_sent}
+use Rattle.case_forms.specs.declared.steps.Flags.{Flags}
 use Rattle.case_forms.specs.declared.steps.TakeChoice.{TakeChoice}
 use Rattle.machine.specs.Arrives.Otherwise.Ack.{acknowledges_syn, fin_acknowledged, acknowledged}
 use Rattle.machine.specs.Arrives.Otherwise.{connected_rules, taken}
@@ -252,17 +253,21 @@ base_there e m good = go m.answers e.irs refl good
     go false (Some irs) is x = (irs, is)
 
 grows_endpoint : (comes : ℕ → Cell → Type 0) (h : Header) (b : Body) (me : Name) (e : Endpoint) (how : TakeChoice) (m : Emission) (moment : ℕ) → Own e
-    → ((k : ℕ) (c : Cell) → how.keep ≡ true → slice_get (body m.payload m.flags.fin) k ≡ Some c → comes (first_byte m + k) c)
+    → ((k : ℕ) (c : Cell) → how.keep ≡ true → m.flags.rst ≡ false → slice_get (body m.payload m.flags.fin) k ≡ Some c → comes (first_byte m + k) c)
     → first_broken (if is_syn_sent e.state then syn_sent_rules h.initial e how m else connected_rules h b me e how m) ≡ None → Grows comes nothing e (endpoint_taken h e how m moment)
-grows_endpoint comes h b me e how m moment g new may = go m.flags.rst (is_syn_sent e.state) refl may
+grows_endpoint comes h b me e how m moment g new may = go m.flags.rst (is_syn_sent e.state) refl refl may
   where
-    go : (r s : Bool) → is_syn_sent e.state ≡ s → first_broken (if s then syn_sent_rules h.initial e how m else connected_rules h b me e how m) ≡ None
+    go : (r s : Bool) → m.flags.rst ≡ r → is_syn_sent e.state ≡ s → first_broken (if s then syn_sent_rules h.initial e how m else connected_rules h b me e how m) ≡ None
         → Grows comes nothing e (if r then was_reset e how else if s then met_peer h e how m moment else taken h e how m moment)
-    go true s x may = grows_plain comes e (was_reset e how) g (plain_reset e how)
-    go false true x may = grows_met comes h e how m moment g x
-    go false false x may = let base = base_there e m (none_all (connected_rules h b me e how m) may).1.0 in grows_taken comes h e how m moment g x base.0 base.1 new
+    go true s is x may = grows_plain comes e (was_reset e how) g (plain_reset e how)
+    go false true is x may = grows_met comes h e how m moment g x
+    go false false is x may = let base = base_there e m (none_all (connected_rules h b me e how m) may).1.0 in grows_taken comes h e how m moment g x base.0 base.1 (λ k c keep. new k c keep is)
 
--- what a segment carries isn't changed by reading it
+-- reading a segment changes neither its flags nor what it carries
+read_flags : (b : Bool) (e : Endpoint) (m : Emission) → (if b then read_at e m else m).flags ≡ m.flags
+read_flags true e m = refl
+read_flags false e m = refl
+
 read_body : (b : Bool) (e : Endpoint) (m : Emission) → body (if b then read_at e m else m).payload (if b then read_at e m else m).flags.fin ≡ body m.payload m.flags.fin
 read_body true e m = refl
 read_body false e m = refl
@@ -286,7 +291,7 @@ grown_taking h s w host line how m g waits may = go (taker (pick w.hosts host).b
         (λ x there.
         let one : e ≡ x = same_Some e x (sym at ∙ there) in
         grows_endpoint (comes (name host i)) h b (name host i) x how (as_read h.version e m) s (g host i x there)
-        (λ k c keep has. record {
+        (λ k c keep plain has. record {
           line = line;
           how = how;
           segment = m;
@@ -296,6 +301,7 @@ grown_taking h s w host line how m g waits may = go (taker (pick w.hosts host).b
           keeps = keep;
           waits = waits;
           there = is;
+          plain = ap (λ (f : Flags). f.rst) (sym (read_flags (is_half h.version) e m)) ∙ plain;
           stands = refl;
           has = subst (λ (cs : List Cell). slice_get cs k ≡ Some c) (read_body (is_half h.version) e m) has;
         })

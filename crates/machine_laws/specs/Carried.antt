@@ -1,5 +1,5 @@
 -- What reads are told came in segments that were taken: true of every case, also where one host alone was recorded (RFC 9293, 3.4 and 3.10.7.4).
-use Rattle.std.specs.Prelude.{◌≡◌, ℕ, ◌+◌, true, List, ◌∷◌, ◌++◌, length, Some, slice_get}
+use Rattle.std.specs.Prelude.{◌≡◌, ℕ, ◌+◌, false, true, List, ◌∷◌, ◌++◌, length, Some, slice_get}
 use Rattle.case_forms.specs.declared.steps.TakeChoice.{TakeChoice}
 use Rattle.case_forms.specs.declared.trace.Header.{Header}
 use Rattle.streams.specs.declared.cell.Cell.{Cell}
@@ -17,7 +17,7 @@ use Rattle.machine.specs.Arrives.{AtEndpoint, taker}
 use Rattle.machine.specs.Machine.{tcp, tcp_shape}
 use Rattle.machine_laws.specs.Runs.{world_at_end, is_socket_of, told_to, was_told_end}
 
--- the step takes a segment at this endpoint and keeps of it; as the endpoint reads it, this cell stands at this position of the peer's stream
+-- the step takes a segment at this endpoint, no reset, and keeps of it; as the endpoint reads it, this cell stands at this position of the peer's stream
 pub record Carries (h : Header) (w : World tcp_shape) (step : Step tcp_shape) (me : Name) (position : ℕ) (cell : Cell) : Type 0 where
   pub line : ℕ
   pub how : TakeChoice
@@ -28,6 +28,7 @@ pub record Carries (h : Header) (w : World tcp_shape) (step : Step tcp_shape) (m
   pub keeps : how.keep ≡ true
   pub waits : waiting line (pick w.hosts me.host).inbox ≡ Some segment
   pub there : taker (pick w.hosts me.host).body segment ≡ AtEndpoint me.number endpoint
+  pub plain : segment.flags.rst ≡ false
   pub stands : first_byte (as_read h.version endpoint segment) + place ≡ position
   pub has : slice_get (body segment.payload segment.flags.fin) place ≡ Some cell
 
