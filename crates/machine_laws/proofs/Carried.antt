@@ -1,5 +1,5 @@
 -- What reads are told was carried by segments that were taken, in every case.
-use Rattle.std.proofs.Common.{◌≡◌, ℕ, suc, ◌+◌, ◌<◌, ◌⊎◌, Bool, true, false, List, [], ◌∷◌, ◌++◌, length, Option, Some, None, refl, ap, sym, subst, ◌∙◌, inl, inr, arith}
+use Rattle.std.proofs.Common.{◌≡◌, ℕ, suc, ◌+◌, ◌<◌, ◌⊎◌, Bool, true, false, List, [], ◌∷◌, ◌++◌, length, Option, Some, None, refl, ap, subst, ◌∙◌, inl, inr, arith}
 use Rattle.std.specs.Prelude.{if◌then◌else◌, ◌==◌, slice_get}
 use Rattle.std.specs.Option.{option_map_or}
 use Rattle.std.proofs.lemmas.Option.{none-some}
@@ -10,7 +10,6 @@ use Rattle.case_forms.specs.declared.calls.Call.TheVariants as calls
 use Rattle.case_forms.specs.declared.calls.Host.{Host}
 use Rattle.case_forms.specs.declared.trace.Header.{Header}
 use Rattle.verdict.specs.Rules.{first_broken}
-use Rattle.streams.specs.declared.cell.Cell.{Cell}
 use Rattle.streams.specs.declared.cell.Cell.TheVariants.{Byte, Fin}
 use Rattle.streams.specs.Cells.{Taken}
 use Rattle.streams.specs.Received.{received}
@@ -23,7 +22,7 @@ use Rattle.machine.specs.declared.endpoint.Endpoint.{Endpoint}
 use Rattle.machine.specs.Calls.{is_bad_socket, call_allows}
 use Rattle.machine.specs.Calls.Accept.{listener_allows}
 use Rattle.machine.specs.Machine.{tcp, tcp_shape, aim}
-use Rattle.machine_laws.specs.Runs.{world_at_end, owner, call_told, of_turn, of_effect, told_from, told_to, was_told_end}
+use Rattle.machine_laws.specs.Runs.{world_at_end, owner, call_told, of_turn, of_effect, told_from, told_to}
 use Rattle.machine_laws.specs.Consequences.{find}
 use Rattle.machine_laws.specs.Carried.{Carries, CarriedFrom, Carried, CarriedTo, ReadsWereCarried}
 use Rattle.machine_laws.proofs.Rules.{number_same}

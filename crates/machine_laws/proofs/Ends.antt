@@ -1,19 +1,15 @@
 -- What holds of streams in one world in which all is good.
-use Rattle.std.proofs.Common.{◌≡◌, ℕ, suc, ◌+◌, ◌≤◌, true, List, [], ◌∷◌, ◌++◌, length, take, drop, Option, Some, None, refl, ap, sym, ◌∙◌, append_assoc, arith}
-use Rattle.std.specs.Prelude.{◌==◌, slice_get}
-use Rattle.std.proofs.lemmas.List.{take-append-drop, take_all, append-nil, length-append, length-drop}
-use Rattle.streams.specs.declared.cell.Cell.{Cell}
-use Rattle.streams.specs.Cells.{bytes_of, front, has_fin}
+use Rattle.std.proofs.Common.{◌≡◌, ℕ, suc, true, List, [], ◌∷◌, ◌++◌, length, take, drop, Some, None, refl, ap, sym, ◌∙◌, append_assoc, arith}
+use Rattle.std.proofs.lemmas.List.{take-append-drop, append-nil, length-append}
+use Rattle.streams.specs.Cells.{bytes_of}
 use Rattle.streams.specs.Lists.{IsPrefixOf}
-use Rattle.streams.specs.Received.{arrived, received, waiting, is_ended}
-use Rattle.streams.proofs.ReadLemmas.{in_order, ended_has_fin}
+use Rattle.streams.specs.Received.{arrived, received}
+use Rattle.streams.proofs.ReadLemmas.{in_order}
 use Rattle.machine.specs.declared.endpoint.Name.{Name}
 use Rattle.machine.specs.declared.endpoint.Stream.{Stream}
 use Rattle.machine.specs.declared.endpoint.Endpoint.{Endpoint}
-use Rattle.machine.specs.Calls.Receive.{is_read_out}
 use Rattle.machine_laws.specs.Consequences.{find, HasStream}
-use Rattle.machine_laws.proofs.Rules.{both_true, zero_from}
-use Rattle.machine_laws.proofs.Later.{Hosts, Later, AllLater, GoodStream, Good}
+use Rattle.machine_laws.proofs.Later.{Hosts, GoodStream}
 use Rattle.machine_laws.proofs.Reading.{taken_of, taken_none, nothing_in_front, take_nothing}
 use Rattle.machine_laws.proofs.Ordered.{body_fin}
 use Rattle.machine_laws.proofs.Grows.{Ended}

@@ -1,12 +1,11 @@
 -- What an endpoint has once it took a segment: the same is kept of it, whether or not something was let go before.
-use Rattle.std.proofs.Common.{◌≡◌, ℕ, suc, ◌-◌, ◌≤◌, Bool, true, false, List, Option, length, max, refl, sym, ap, ◌∙◌, arith}
+use Rattle.std.proofs.Common.{◌≡◌, ℕ, suc, ◌-◌, ◌≤◌, Bool, true, false, length, max, refl, sym, ap, ◌∙◌, arith}
 use Rattle.std.specs.Prelude.{◌==◌, ◌&&◌, if◌then◌else◌}
 use Rattle.std.proofs.lemmas.Bool.Decides.{nat_tests}
 use Rattle.case_forms.specs.declared.trace.Header.{Header}
 use Rattle.case_forms.specs.declared.calls.State.{State}
 use Rattle.case_forms.specs.declared.calls.State.TheVariants as states
-use Rattle.streams.specs.declared.cell.Cell.{Cell}
-use Rattle.streams.specs.Cells.{body, front}
+use Rattle.streams.specs.Cells.{front}
 use Rattle.streams.specs.Received.{Receiving, is_ended}
 use Rattle.streams.specs.Makings.{once}
 use Rattle.streams.specs.Forgetting.{forgotten}

@@ -1,6 +1,5 @@
 -- Steps of a world, of which something was let go.
 use Rattle.std.proofs.Common.{◌≡◌, ℕ, suc, true, nat_eq, List, Option, None, Some, refl, ap}
-use Rattle.std.specs.Map.{lookup}
 use Rattle.indexmap.specs.IndexMap.{insert_entry}
 use Rattle.case_forms.specs.declared.calls.Host.{Host}
 use Rattle.case_forms.specs.declared.calls.Host.TheVariants.{Zero, One}
@@ -9,7 +8,7 @@ use Rattle.case_forms.specs.declared.calls.Answer.{Answer}
 use Rattle.case_forms.specs.declared.trace.Header.{Header}
 use Rattle.verdict.specs.declared.rule.Rule.TheVariants as rules
 use Rattle.verdict.specs.Rules.{first_broken}
-use Rattle.hosts.specs.Tables.{Both, pick, on, Made, gone_out, waiting, settled}
+use Rattle.hosts.specs.Tables.{Both, pick, on, Made, waiting, settled}
 use Rattle.hosts.specs.Hosts.{Aim, ThatHost, ThatSocket, HostState, Turn, Idle, Called, Answered, World, Deed, Does, Expires, Makes, Sends, Gets, Hears, Takes, Drops, Answers, Step, Begin, Finish, Effect, At, turn_of}
 use Rattle.hosts.specs.HostRules.{just, deed_rules, aim_of, fresh_rules, call_rules, effect_rules, step_rules, Permitted}
 use Rattle.hosts.specs.HostSteps.{act_made, deed_after, call_after, effect_after, after, made_gone_out, wire_after, inbox_after, inbox_settled}

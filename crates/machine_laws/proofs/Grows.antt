@@ -1,7 +1,6 @@
 -- What a step makes of endpoints by themselves: true of every case, whatever is known of the peer.
-use Rattle.std.proofs.Common.{◌≡◌, ℕ, zero, suc, ◌-◌, ◌<◌, ◌≤◌, ◌⊎◌, Bool, true, false, List, [], ◌∷◌, ◌++◌, length, drop, map, Option, Some, None, refl, ap, sym, subst, ◌∙◌, inl, inr, arith}
+use Rattle.std.proofs.Common.{◌≡◌, ℕ, suc, ◌<◌, ◌≤◌, ◌⊎◌, Bool, true, false, List, [], ◌∷◌, ◌++◌, length, drop, map, Some, refl, ap, sym, subst, ◌∙◌, inl, inr, arith}
 use Rattle.std.specs.Prelude.{if◌then◌else◌, ◌==◌, ◌||◌, slice_get}
-use Rattle.std.proofs.lemmas.Option.{none-some, same_Some}
 use Rattle.std.proofs.lemmas.List.{append-nil, length-append, length-drop, length-take}
 use Rattle.std.proofs.Math.Bool.{or-false}
 use Rattle.seqno.specs.declared.word.Word.{Word}
@@ -9,11 +8,11 @@ use Rattle.case_forms.specs.States.{is_syn_sent}
 use Rattle.case_forms.specs.declared.calls.Host.{Host}
 use Rattle.streams.specs.declared.cell.Cell.{Cell}
 use Rattle.streams.specs.declared.cell.Cell.TheVariants.{Fin}
-use Rattle.streams.specs.Cells.{Taken, bytes_of, front}
+use Rattle.streams.specs.Cells.{Taken}
 use Rattle.streams.specs.Lists.{modify}
 use Rattle.streams.specs.Received.{arrived, is_ended, waiting, received}
-use Rattle.streams.proofs.Places.{get_append, get_take, all_push, all_modify, same_at}
-use Rattle.hosts.specs.Tables.{Both, pick, other, with_host}
+use Rattle.streams.proofs.Places.{get_append, all_push, all_modify, same_at}
+use Rattle.hosts.specs.Tables.{pick, other, with_host}
 use Rattle.hosts.specs.Hosts.{HostState}
 use Rattle.machine.specs.declared.endpoint.Name.{Name}
 use Rattle.machine.specs.declared.endpoint.Stream.{Stream}
@@ -58,7 +57,6 @@ all_silent me = nothing
 
 pub adds_nothing : (s : Stream) → Adds nothing s s
 adds_nothing s = record { told = append-nil (received s.receive); accepted = append-nil s.accepted; ended = or-false s.ended }
-
 
 -- what holds of each endpoint of every run
 pub record Own (e : Endpoint) : Type 0 where

@@ -20,16 +20,13 @@ use Rattle.machine.specs.declared.endpoint.Endpoint.{Endpoint}
 use Rattle.machine.specs.declared.endpoint.Emission.{Emission}
 use Rattle.machine.specs.Endpoints.{next}
 use Rattle.machine.specs.Bodies.{Body, place_of, at_ports, with_endpoint}
-use Rattle.case_forms.specs.States.{is_syn_sent}
 use Rattle.machine.specs.Calls.Close.{shut_down}
 use Rattle.case_forms.specs.declared.steps.SegmentPlan.{SegmentPlan}
 use Rattle.machine.specs.Makes.Kind.{may_make, may_make_syn, may_make_reset, may_make_other}
 use Rattle.machine.specs.Makes.Payload.{is_bad_payload}
 use Rattle.machine.specs.Makes.Edges.{is_bad_ack, is_beyond_offer, is_congesting}
 use Rattle.machine.specs.Makes.{making_rules, emission_of, after_making, endpoint_made}
-use Rattle.case_forms.specs.declared.timer.Expiry.{Expiry}
 use Rattle.case_forms.specs.declared.timer.Growth.{Growth}
-use Rattle.case_forms.specs.declared.timer.Recovery.{Recovery}
 use Rattle.machine.specs.Timeouts.{after_expiry}
 use Rattle.machine.specs.Recovery.{after_recovery}
 use Rattle.machine.specs.Machine.{made_at, rules_at}

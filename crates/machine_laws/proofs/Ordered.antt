@@ -1,16 +1,16 @@
 -- What was taken stands in order: the SYN first, bytes behind it, nothing behind a FIN; so it is, whoever the peer is.
-use Rattle.std.proofs.Common.{◌≡◌, ℕ, zero, suc, ◌+◌, ◌-◌, ◌<◌, ◌≤◌, ◌⊎◌, Bool, true, false, List, [], ◌∷◌, ◌++◌, length, take, drop, max, Option, Some, None, refl, ap, sym, subst, ◌∙◌, inl, inr, arith}
-use Rattle.std.specs.Prelude.{◌&&◌, ◌==◌, if◌then◌else◌, not, nat_le, slice_get}
+use Rattle.std.proofs.Common.{◌≡◌, ℕ, zero, suc, ◌+◌, ◌-◌, ◌<◌, ◌≤◌, ◌⊎◌, Bool, true, false, List, [], ◌∷◌, length, take, drop, max, Option, Some, None, refl, ap, sym, subst, ◌∙◌, inl, inr, arith}
+use Rattle.std.specs.Prelude.{◌&&◌, if◌then◌else◌, not, nat_le, slice_get}
 use Rattle.std.proofs.lemmas.Bool.{leb-true}
-use Rattle.std.proofs.lemmas.List.{length-append, length-drop, length-take}
-use Rattle.std.proofs.lemmas.Option.{none-some, same_Some, slice_get_within}
+use Rattle.std.proofs.lemmas.List.{length-take}
+use Rattle.std.proofs.lemmas.Option.{none-some, same_Some}
 use Rattle.streams.specs.declared.cell.Cell.{Cell}
 use Rattle.streams.specs.declared.cell.Cell.TheVariants.{Syn, Byte, Fin}
 use Rattle.streams.specs.Cells.{Taken, body, bytes_of, front, is_fin, leading, put, put_all}
-use Rattle.streams.specs.Received.{Receiving, arrived, body_kept, has_end, is_ended, next, received, waiting}
+use Rattle.streams.specs.Received.{Receiving, arrived, body_kept, has_end, received, waiting}
 use Rattle.streams.proofs.Fronts.{all_put_all}
 use Rattle.streams.proofs.Places.{get_take}
-use Rattle.machine_laws.proofs.Rules.{both_true, true_false, zero_from}
+use Rattle.machine_laws.proofs.Rules.{true_false}
 
 -- behind the SYN no other stands
 abbrev pub NoSyn : List (Option Cell) → Type 0
@@ -221,7 +221,7 @@ fin_kept xs i bytes fin true behind last is le = by fin
     here p e =
         let long = length_within xs i (body part false) (λ some. omega (arith, length-take (suc (length xs) - 1 - suc i) bytes, length_body part)) in
         let old = all_put_all (λ q c. c ≡ Fin → slice_get xs q ≡ Some (Some Fin)) xs i (body part false) (λ q c f g. f ∙ ap (λ (x : Cell). Some (Some x)) g)
-            (λ k c f g. absurd (let none = body_fin part false k (f ∙ ap (λ (x : Cell). Some x) g) in let it = none.0 in cc)) p Fin e refl in
+        (λ k c f g. absurd (let none = body_fin part false k (f ∙ ap (λ (x : Cell). Some x) g) in let it = none.0 in cc)) p Fin e refl in
         last p old ∙ sym long
 
     by : (f : Bool) → FinLast (put_all xs i (body part (f && false && behind)))
@@ -240,7 +240,7 @@ fin_kept xs i bytes fin false behind last is le = by fin behind le
         let reach = leb-true (suc (length xs)) (suc i + length bytes) le in
         let long = length_beyond xs i (body bytes true) (omega (arith, length_body_fin bytes)) (omega (arith, length_body_fin bytes)) in
         let at : p ≡ i + length bytes = all_put_all (λ q c. c ≡ Fin → q ≡ i + length bytes) xs i (body bytes true) (λ q c f g. absurd (no_fin xs last is q (f ∙ ap (λ (x : Cell). Some (Some x)) g)))
-            (λ k c f g. let place = (body_fin bytes true k (f ∙ ap (λ (x : Cell). Some x) g)).1 in ap (λ n. i + n) place) p Fin e refl in
+        (λ k c f g. let place = (body_fin bytes true k (f ∙ ap (λ (x : Cell). Some x) g)).1 in ap (λ n. i + n) place) p Fin e refl in
         omega (arith, length_body_fin bytes, long)
 
 -- what is kept behind the SYN leaves all in order

@@ -1,15 +1,13 @@
 -- What waits to be read is what came in order and was not delivered.
-use Rattle.std.proofs.Common.{◌≡◌, ℕ, zero, suc, ◌+◌, ◌<◌, ◌≤◌, List, [], ◌∷◌, ◌++◌, length, take, drop, Option, Some, None, refl, ap, sym, subst, ◌∙◌, arith}
+use Rattle.std.proofs.Common.{◌≡◌, ℕ, zero, suc, ◌+◌, ◌≤◌, List, [], ◌∷◌, ◌++◌, length, take, drop, Option, Some, None, refl, ap, sym, subst, ◌∙◌, arith}
 use Rattle.std.specs.Prelude.{slice_get}
 use Rattle.std.proofs.Math.Nat.{le_refl}
 use Rattle.std.proofs.lemmas.Option.{none-some, same_Some}
 use Rattle.std.proofs.lemmas.List.{take_all, take-append-le, length-append}
 use Rattle.streams.specs.declared.cell.Cell.{Cell}
-use Rattle.streams.specs.declared.cell.Cell.TheVariants.{Syn}
-use Rattle.streams.specs.Cells.{Taken, bytes_of, front, leading}
+use Rattle.streams.specs.Cells.{Taken, front}
 use Rattle.streams.specs.Received.{Receiving, arrived, received, waiting, told}
-use Rattle.streams.proofs.Fronts.{front_prefix}
-use Rattle.streams.proofs.ReadLemmas.{waiting_arrived, received_told, told_within}
+use Rattle.streams.proofs.ReadLemmas.{received_told, told_within}
 use Rattle.machine.specs.declared.endpoint.Name.{Name}
 use Rattle.machine.specs.declared.endpoint.Stream.{Stream}
 use Rattle.machine.specs.declared.endpoint.Endpoint.{Endpoint}

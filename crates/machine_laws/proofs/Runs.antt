@@ -28,7 +28,7 @@ use Rattle.machine.specs.Calls.Accept.{listener_allows}
 use Rattle.machine.specs.Calls.{is_bad_socket, call_allows}
 use Rattle.machine.specs.Machine.{tcp, tcp_shape, aim}
 use Rattle.machine_laws.specs.Runs.{owner, is_socket_of, call_told, call_told_end, call_accepted, call_ended, of_turn, of_effect, told_from, told_end_from, accepted_from, ended_from}
-use Rattle.machine_laws.specs.Consequences.{find, HasStream}
+use Rattle.machine_laws.specs.Consequences.{find}
 use Rattle.machine_laws.proofs.Rules.{map_or_true, number_same, number_other, is_not}
 use Rattle.machine_laws.proofs.Later.{Hosts, name, AllLater, Good}
 use Rattle.machine_laws.specs.Carried.{Carries}

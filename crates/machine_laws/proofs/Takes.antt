@@ -1,5 +1,5 @@
 -- Taking a segment: what the rules say of it, and what the endpoint becomes.
-use Rattle.std.proofs.Common.{◌≡◌, ℕ, zero, suc, ◌+◌, ◌-◌, ◌<◌, ◌≤◌, ◌⊎◌, Bool, true, false, List, [], ◌∷◌, ◌++◌, length, take, drop, min, max, Option, Some, None, refl, ap, sym, subst, ◌∙◌, inl, inr, arith}
+use Rattle.std.proofs.Common.{◌≡◌, ℕ, suc, ◌+◌, ◌-◌, ◌<◌, ◌≤◌, ◌⊎◌, Bool, true, false, List, [], ◌∷◌, ◌++◌, length, take, drop, min, max, Option, Some, None, refl, ap, sym, subst, ◌∙◌, inl, inr, arith}
 use Rattle.std.specs.Prelude.{if◌then◌else◌, ◌&&◌, ◌||◌, not, nat_lt, nat_le, slice_get, slice_range, is_some}
 use Rattle.std.specs.Option.{option_map_or}
 use Rattle.std.proofs.Math.Nat.{suc-add}
@@ -14,7 +14,7 @@ use Rattle.verdict.specs.Rules.{first_broken}
 use Rattle.verdict.proofs.RuleLemmas.{none_all}
 use Rattle.streams.specs.declared.cell.Cell.{Cell}
 use Rattle.streams.specs.declared.cell.Cell.TheVariants.{Syn}
-use Rattle.streams.specs.Cells.{Taken, body, bytes_of, front, put, put_all}
+use Rattle.streams.specs.Cells.{Taken, body, bytes_of, front}
 use Rattle.streams.specs.Received.{Receiving, arrived, body_kept, kept, next, received}
 use Rattle.streams.proofs.Keeping.{kept_within}
 use Rattle.streams.proofs.Fronts.{all_put_all, next_put_all, syn_taken, front_put_all, bytes_of-append}
@@ -73,12 +73,12 @@ kept_place payload false f first n edge k c e = absurd (none-some c e)
 kept_place payload true f first n edge k c e = (
   refl,
   kept_part payload f (max n first - first) (min (first + length payload) edge - first) (f && nat_le n (first + length payload) && nat_le (first + length payload) edge) (omega arith)
-  (λ h.
-  let outer = both_true (f && nat_le n (first + length payload)) (nat_le (first + length payload) edge) h in
-  let inner = both_true f (nat_le n (first + length payload)) outer.0 in
-  let low = at_most_to n (first + length payload) inner.1 in
-  let high = at_most_to (first + length payload) edge outer.1 in
-  (inner.0, omega arith, omega arith)) k c e,
+      (λ h.
+      let outer = both_true (f && nat_le n (first + length payload)) (nat_le (first + length payload) edge) h in
+      let inner = both_true f (nat_le n (first + length payload)) outer.0 in
+      let low = at_most_to n (first + length payload) inner.1 in
+      let high = at_most_to (first + length payload) edge outer.1 in
+      (inner.0, omega arith, omega arith)) k c e,
 )
 
 -- where a cell that is kept stands in all that it carries

@@ -1,8 +1,7 @@
 -- What each step makes of the windows of endpoints.
-use Rattle.std.proofs.Common.{◌≡◌, ℕ, suc, ◌≤◌, ◌⊎◌, Bool, true, false, List, [], ◌∷◌, ◌++◌, map, Option, Some, None, refl, ap, sym, subst, ◌∙◌, inl, inr, arith, nat_eq}
+use Rattle.std.proofs.Common.{◌≡◌, ℕ, suc, ◌≤◌, ◌⊎◌, Bool, true, false, List, [], ◌∷◌, ◌++◌, map, Option, Some, None, refl, ap, sym, subst, ◌∙◌, inl, inr, arith}
 use Rattle.std.specs.Prelude.{if◌then◌else◌, ◌==◌, ◌||◌, nat_lt, slice_get}
 use Rattle.std.specs.Option.{option_map_or}
-use Rattle.std.specs.Map.{lookup}
 use Rattle.std.proofs.lemmas.Option.{none-some, same_Some}
 use Rattle.case_forms.specs.declared.trace.Header.{Header}
 use Rattle.case_forms.specs.declared.calls.Host.{Host}
@@ -22,7 +21,7 @@ use Rattle.window_rules.specs.Windows.{greatest_window as greatest_value}
 use Rattle.window_rules.specs.Losses.{halved, recovery_window}
 use Rattle.streams.specs.Lists.{modify}
 use Rattle.streams.proofs.Places.{get_append, all_push, all_modify}
-use Rattle.hosts.specs.Tables.{pick, other, with_host, waiting, on, settled}
+use Rattle.hosts.specs.Tables.{pick, other, with_host, waiting, on}
 use Rattle.hosts.specs.Hosts.{HostState, Turn, Idle, Called, Answered, World, Deed, Does, Expires, Makes, Sends, Gets, Hears, Takes, Drops, Answers, Step, Begin, Finish, Effect, At, turn_of}
 use Rattle.hosts.specs.HostRules.{aim_of, Permitted}
 use Rattle.hosts.specs.HostSteps.{deed_after, call_after, effect_after, after}
