@@ -142,10 +142,10 @@ pub no_byte_beyond_a_scaled_window : first_broken_step (second Rfc5681) offers_l
 no_byte_beyond_a_scaled_window = refl
 
 -- host 0 alone is recorded: it opens, and hears the other host's SYN
-abbrev half : Header
+abbrev pub half : Header
 half = record (header 120000000 0) { version = Three }
 
-abbrev half_lines : List lines.Line
+abbrev pub half_lines : List lines.Line
 half_lines =
     begins 9 20 2 (calls.Connect hosts.Zero 4000 80)
     ∷ ends 10 21 2 (answers.Given 6)
@@ -158,7 +158,7 @@ half_lines =
     ∷ []
 
 -- it sends five bytes
-abbrev half_steps : List witness.Step
+abbrev pub half_steps : List witness.Step
 half_steps =
     takes 20 9
     ∷ effects 20 2 (answers.Given 6)
@@ -180,14 +180,14 @@ pub half_sends : first_broken_step half half_lines half_steps ≡ None
 half_sends = refl
 
 -- two bytes are heard, and a read is told these
-abbrev hears_lines : List lines.Line
+abbrev pub hears_lines : List lines.Line
 hears_lines =
     half_lines ++ (
     gets 17 120 3 hosts.Zero (packet 80 4000 101 4 24 65535 None (104 ∷ 105 ∷ []))
     ∷ begins 18 130 2 (calls.Recv 6 100)
     ∷ [])
 
-abbrev hears_steps : (keep : Bool) → List ℕ → List witness.Step
+abbrev pub hears_steps : (keep : Bool) → List ℕ → List witness.Step
 hears_steps keep told = half_steps ++ (takes 120 17 ∷ consumes 121 hosts.Zero 17 2144 keep false ∷ takes 130 18 ∷ effects 130 2 (answers.Bytes told) ∷ [])
 
 pub a_read_is_told_what_was_carried : first_broken_step half hears_lines (hears_steps true (104 ∷ 105 ∷ [])) ≡ None

@@ -24,7 +24,7 @@ use Rattle.machine_laws.specs.Consequences.{find}
 use Rattle.machine_laws.proofs.Ordered.{Begun, InOrder, waiting_is, fin_bounds, ended_at}
 use Rattle.machine_laws.proofs.Rules.{map_or_cases, both_true, zero_from}
 use Rattle.machine_laws.proofs.Later.{Hosts, name, Later, same, AllLater, Waits}
-use Rattle.machine_laws.proofs.Moves.{KeepsPeer, modify_each, map_onward, map_back, with_cases}
+use Rattle.machine_laws.proofs.Moves.{KeepsPeer, keeps_waits, modify_each, map_onward, map_back, with_cases}
 
 -- 1. one endpoint
 
@@ -58,7 +58,7 @@ all_silent me = nothing
 pub adds_nothing : (s : Stream) → Adds nothing s s
 adds_nothing s = record { told = append-nil (received s.receive); accepted = append-nil s.accepted; ended = or-false s.ended }
 
--- what holds of each endpoint of every run
+-- what holds of each endpoint of every run: in SYN-SENT it has nothing of a peer; what it took stands in order, and begins with the SYN where the peer's first number is known; no more was delivered than came
 pub record Own (e : Endpoint) : Type 0 where
   pub waits : Waits e
   pub order : InOrder e.stream.receive.taken
@@ -103,10 +103,10 @@ plain_either false e x y p q = q
 pub plain_keeps : (e f : Endpoint) → Plain e f → KeepsPeer e f
 plain_keeps e f p = record { peer = ap (λ (s : Stream). s.peer) p.stream; taken = ap (λ (s : Stream). s.receive.taken) p.stream; una = ap (λ (s : Stream). s.una) p.stream; waits = p.waits }
 
--- the same, but for what it sends
+-- an endpoint changes, but not in what it took
 pub own_sends : (e f : Endpoint) (accepted : List ℕ) (ended : Bool) → Own e → f.stream ≡ record e.stream { accepted = accepted; ended = ended } → f.irs ≡ e.irs → (is_syn_sent f.state ≡ true → is_syn_sent e.state ≡ true) → Own f
 own_sends e f accepted ended g streams irs waits = record {
-  waits = λ w. let h = g.waits (waits w) in (ap (λ (s : Stream). s.peer) streams ∙ h.0, ap (λ (s : Stream). s.receive.taken) streams ∙ h.1);
+  waits = keeps_waits e f (record { peer = ap (λ (s : Stream). s.peer) streams; taken = ap (λ (s : Stream). s.receive.taken) streams; una = ap (λ (s : Stream). s.una) streams; waits = waits }) g.waits;
   order = subst (λ (s : Stream). InOrder s.receive.taken) (sym streams) g.order;
   begun = λ irs' is. subst (λ (s : Stream). Begun s.receive.taken) (sym streams) (g.begun irs' (sym irs ∙ is));
   delivered = subst (λ (s : Stream). s.receive.delivered ≤ length (arrived s.receive)) (sym streams) g.delivered;
