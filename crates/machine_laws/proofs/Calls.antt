@@ -122,14 +122,14 @@ send_open e bytes n may = go e.fault e.stream.ended may
     go (Some Timeout) true may = absurd cc
 
 accept_later : (s : Stream) (bytes : List ℕ) → s.ended ≡ false → Later s (record s { accepted = s.accepted ++ bytes })
-accept_later s bytes open' = record { peer = λ q p. p; cells = grown; next = le_refl _; told = ([], append-nil (received s.receive)); ended = λ h. absurd cc }
+accept_later s bytes open' = record { peer = λ q p. p; cells = grown; next = le_refl _; told = ([], append-nil (received s.receive)) }
   where
     grown : Within (all_cells s) (all_cells (record s { accepted = s.accepted ++ bytes }))
     grown zero c e = e
     grown (suc p) c e = body_grows s.accepted bytes s.ended p c (subst (λ b. slice_get (body s.accepted b) p ≡ Some c) open' e)
 
 ended_later : (s : Stream) → Later s (record s { ended = true })
-ended_later s = record { peer = λ q p. p; cells = grown; next = le_refl _; told = ([], append-nil (received s.receive)); ended = λ h. (refl, refl) }
+ended_later s = record { peer = λ q p. p; cells = grown; next = le_refl _; told = ([], append-nil (received s.receive)) }
   where
     grown : Within (all_cells s) (all_cells (record s { ended = true }))
     grown zero c e = e
@@ -202,7 +202,7 @@ grows_recv comes e bytes rest g is =
     let waits = waiting_own e g in
     record {
       own = record { waits = g.waits; order = g.order; begun = g.begun; delivered = read_fits r bytes rest waits is g.delivered };
-      later = record { peer = λ q p. p; cells = λ p c z. z; next = le_refl _; told = (bytes, read_more r bytes rest waits is); ended = λ h. (h, refl) };
+      later = record { peer = λ q p. p; cells = λ p c z. z; next = le_refl _; told = (bytes, read_more r bytes rest waits is) };
       adds = record { told = read_more r bytes rest waits is; accepted = (adds_nothing e.stream).accepted; ended = (adds_nothing e.stream).ended };
       stays = λ p c x. x;
       gains = λ p c x some. inl x;

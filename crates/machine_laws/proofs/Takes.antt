@@ -188,7 +188,6 @@ grows_taken comes h e how m moment g up irs met new = record {
     cells = λ p c y. y;
     next = next_put_all r.taken start (body_kept r.taken start (kept_bytes e how m) (keeps_fin e how m));
     told = ([], append-nil (received r) ∙ told.0);
-    ended = λ x. (x, refl);
   };
   adds = record { told = append-nil (received r) ∙ told.0; accepted = (adds_nothing e.stream).accepted; ended = (adds_nothing e.stream).ended };
   stays = stays_put_all r.taken start (body_kept r.taken start (kept_bytes e how m) (keeps_fin e how m));
@@ -226,7 +225,6 @@ grows_met comes h e how m moment g waits =
         cells = λ p c y. y;
         next = let empty : front e.stream.receive.taken ≡ [] = ap front alone.1 in omega (arith, ap length empty);
         told = ([], append-nil (received e.stream.receive) ∙ none);
-        ended = λ x. (x, refl);
       };
       adds = record { told = append-nil (received e.stream.receive) ∙ none; accepted = (adds_nothing e.stream).accepted; ended = (adds_nothing e.stream).ended };
       stays = λ p c x. absurd (none-some _ (subst (λ (l : List (Option Cell)). slice_get l p ≡ Some (Some c)) alone.1 x));

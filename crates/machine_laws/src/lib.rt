@@ -8,7 +8,8 @@
 //! - `forgetting`: what may be let go matters to no rule, and to nothing that is kept
 //!
 //! What is said of it stands in specs/: `Runs` has what the steps of a run say by themselves, `Consequences` what follows of
-//! streams, `Carried` what follows of one host's reads, `Bounds` what follows of windows, `Ascending` the rules' numbers, and `ForgettingLaws` what may be let go.
+//! streams between two recorded hosts, `Carried` what follows of one host's reads in every case, `Bounds` what follows of
+//! windows, `Ascending` the rules' numbers, and `ForgettingLaws` what may be let go.
 #![tactic(auto)]
 
 mod forgetting;
