@@ -34,8 +34,9 @@ pub fn acknowledged_was_taken()
     ensures { (h : Header) → is_half h.version ≡ false → (steps : List (Stamped tcp_shape)) (x : Stamped tcp_shape) → Lawful (tcp h) (start (tcp h)) steps → Permitted (tcp h) x.moment (world_at_end h steps) x.step → AcknowledgedWasTaken h steps x }
 {}
 
-/// What the reads on a socket number were told came with segments that were taken at its endpoint, each byte at its position;
-/// where one was told the end, so did a FIN right behind. So it is in every case, also where one host alone was recorded.
+/// What the reads on a socket number were told came with segments that were taken at its endpoint: byte i at position 1 + i, and
+/// where one was told the end, a FIN at the position behind all of them (RFC 9293, 3.4 and 3.10.7.4). So it is in every case, also
+/// where one host alone was recorded.
 pub fn reads_were_carried()
     ensures { (h : Header) (steps : List (Stamped tcp_shape)) → Lawful (tcp h) (start (tcp h)) steps → ReadsWereCarried h steps }
 {}
