@@ -17,7 +17,7 @@ fn answer<H: Threads + Wait + Sync>(
     write_fails: u32,
 ) -> Result<String, AllocError> {
     let mut sink = Sink::new(alloc, write_fails);
-    let mut reader = Counted::new(Source::new(b"trace 2\nend\n", 5, read_fails));
+    let mut reader = Counted::new(Source::new(b"trace 9\nend\n", 5, read_fails));
     let mut writer = Counted::new(&mut sink);
     let status = run_all(rt, alloc, words, &mut reader, &mut writer);
     let (read, written) = (reader.failures(), writer.failures());
