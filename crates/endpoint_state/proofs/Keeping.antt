@@ -18,7 +18,7 @@ use Rattle.verdict.specs.Rules.{first_broken}
 use Rattle.verdict.specs.declared.rule.Rule.TheVariants as rules
 use Rattle.verdict.proofs.RuleLemmas.{none_both}
 use Rattle.hosts.specs.Tables.{Made, gone_out, on, pick, settled, unsent, waiting}
-use Rattle.hosts.specs.Hosts.{HostState, World, Turn, Idle, Called, Answered, Deed, Does, Expires, Makes, Sends, Gets, Takes, Drops, Answers, Step, Begin, Finish, Effect, At, turn_of}
+use Rattle.hosts.specs.Hosts.{HostState, World, Turn, Idle, Called, Answered, Deed, Does, Expires, Makes, Sends, Gets, Hears, Takes, Drops, Answers, Step, Begin, Finish, Effect, At, turn_of}
 use Rattle.hosts.specs.HostRules.{Permitted, aim_of, call_rules, deed_rules, effect_rules, fresh_rules, just}
 use Rattle.hosts.specs.HostSteps.{act_made, after, call_after, deed_after, effect_after, empty_host, makes, start}
 use Rattle.machine.specs.declared.endpoint.Emission.{Emission}

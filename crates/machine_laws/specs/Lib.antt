@@ -1,5 +1,6 @@
 pub mod Runs
 pub mod Consequences
+pub mod Carried
 pub mod Bounds
 pub mod ForgettingLaws
 pub mod Ascending

@@ -1,6 +1,7 @@
 //! The consequences of every run, for callers that prove more.
 
 ghost use Rattle.std.specs.Prelude.{List, ℕ, ◌+◌, ◌^◌, ◌<◌, ◌≡◌, false, true};
+ghost use Rattle.case_forms.specs.Versions.{is_half};
 ghost use Rattle.case_forms.specs.declared.trace.Header.{Header};
 ghost use Rattle.case_forms.specs.declared.calls.Host.{Host};
 ghost use Rattle.hosts.specs.Hosts.{At, Makes, Stamped, Step, World};
@@ -15,21 +16,29 @@ ghost use Rattle.machine.specs.Machine.{tcp, tcp_shape};
 ghost use Rattle.machine_laws.specs.Runs.{world_at_end};
 ghost use Rattle.machine_laws.specs.Bounds.{NewDataFits, WindowsFollow};
 ghost use Rattle.machine_laws.specs.Ascending.{RulesAscend};
+ghost use Rattle.machine_laws.specs.Carried.{ReadsWereCarried};
 ghost use Rattle.machine_laws.specs.Consequences.{ReceivedIsAPrefix, EndIsWhole, AcknowledgedWasTaken};
 
 /// What the reads on a socket number were told is how the bytes that its peer's sends accepted begin.
 pub fn received_is_a_prefix()
-    ensures { (h : Header) (steps : List (Stamped tcp_shape)) → Lawful (tcp h) (start (tcp h)) steps → ReceivedIsAPrefix h steps }
+    ensures { (h : Header) → is_half h.version ≡ false → (steps : List (Stamped tcp_shape)) → Lawful (tcp h) (start (tcp h)) steps → ReceivedIsAPrefix h steps }
 {}
 
 /// Once a read was told the end, it was told all that the peer's sends ever accept, and the peer's sending was ended.
 pub fn end_is_whole()
-    ensures { (h : Header) (steps : List (Stamped tcp_shape)) → Lawful (tcp h) (start (tcp h)) steps → EndIsWhole h steps }
+    ensures { (h : Header) → is_half h.version ≡ false → (steps : List (Stamped tcp_shape)) → Lawful (tcp h) (start (tcp h)) steps → EndIsWhole h steps }
 {}
 
 /// What is acknowledged, but for the SYN, was taken by the peer before the step that acknowledged it.
 pub fn acknowledged_was_taken()
-    ensures { (h : Header) (steps : List (Stamped tcp_shape)) (x : Stamped tcp_shape) → Lawful (tcp h) (start (tcp h)) steps → Permitted (tcp h) x.moment (world_at_end h steps) x.step → AcknowledgedWasTaken h steps x }
+    ensures { (h : Header) → is_half h.version ≡ false → (steps : List (Stamped tcp_shape)) (x : Stamped tcp_shape) → Lawful (tcp h) (start (tcp h)) steps → Permitted (tcp h) x.moment (world_at_end h steps) x.step → AcknowledgedWasTaken h steps x }
+{}
+
+/// What the reads on a socket number were told came with segments that were taken at its endpoint: byte i at position 1 + i, and
+/// where one was told the end, a FIN at the position behind all of them (RFC 9293, 3.4 and 3.10.7.4). So it is in every case, also
+/// where one host alone was recorded.
+pub fn reads_were_carried()
+    ensures { (h : Header) (steps : List (Stamped tcp_shape)) → Lawful (tcp h) (start (tcp h)) steps → ReadsWereCarried h steps }
 {}
 
 /// Bytes that are made for the first time end in the window that the peer offers and in the congestion window. Other

@@ -2,12 +2,14 @@
 //!
 //! Nothing here runs: each consequence is the contract of a call that does nothing, proved on the definitions alone.
 //!
-//! - `laws`: what reads are told, what the end says, what is acknowledged, how far new data reaches, how windows
-//!   move, that rules stand in the order of their numbers, which copies are too old
+//! - `laws`: what reads are told, what the end says, what is acknowledged, of two recorded hosts; which segments brought what
+//!   reads are told, of every case; how far new data reaches, how windows move, that rules stand in the order of their
+//!   numbers, which copies are too old
 //! - `forgetting`: what may be let go matters to no rule, and to nothing that is kept
 //!
 //! What is said of it stands in specs/: `Runs` has what the steps of a run say by themselves, `Consequences` what follows of
-//! streams, `Bounds` what follows of windows, `Ascending` the rules' numbers, and `ForgettingLaws` what may be let go.
+//! streams between two recorded hosts, `Carried` what follows of one host's reads in every case, `Bounds` what follows of
+//! windows, `Ascending` the rules' numbers, and `ForgettingLaws` what may be let go.
 #![tactic(auto)]
 
 mod forgetting;
@@ -16,5 +18,5 @@ mod laws;
 pub use forgetting::{forgetting_is_free, runs_forget};
 pub use laws::{
     acknowledged_was_taken, end_is_whole, new_data_fits, old_copies_are_refused,
-    received_is_a_prefix, rules_ascend, windows_follow,
+    reads_were_carried, received_is_a_prefix, rules_ascend, windows_follow,
 };
