@@ -17,8 +17,6 @@ mod makes;
 mod recovery;
 mod reset;
 mod same;
-#[cfg(test)]
-mod tests;
 mod timeouts;
 mod wire;
 

@@ -58,7 +58,7 @@ pub fn admits_making(endpoint: &Endpoint, making: &SegmentPlan) -> Result<(), Ru
     Ok(())
 }
 
-/// Makes a segment at an endpoint of this name, at a moment in microseconds. Where memory is wanting, the endpoint stays
+/// Makes a segment at an endpoint of this name, at a moment in microseconds. Where memory runs out, the endpoint stays
 /// as it was. Nothing is asked of what is made: `admits_making` tells whether it may be.
 pub fn make(
     alloc: Global,

@@ -1,4 +1,4 @@
--- What a case has come to: the machine's world, of which all is forgotten that may be let go, and how many steps led there.
+-- What a case has come to: the machine's world, of which all is discarded that may be, and how many steps led there.
 use Rattle.std.specs.Prelude.{ℕ, suc}
 use Rattle.case_forms.specs.declared.trace.Header.{Header}
 use Rattle.hosts.specs.Hosts.{World, Step}

@@ -1,4 +1,4 @@
--- Acts of a host: what was let go matters neither to their rules, nor to what the host has then, nor to what is made.
+-- Acts of a host: what was discarded matters neither to their rules, nor to what the host has then, nor to what is made.
 use Rattle.std.proofs.Common.{◌≡◌, ℕ, ◌<◌, Bool, true, false, [], ◌∷◌, Option, None, Some, refl, arith, inl, inr}
 use Rattle.std.specs.Prelude.{if◌then◌else◌, slice_get}
 use Rattle.std.specs.Option.{option_map, option_map_or}
@@ -37,7 +37,7 @@ use Rattle.machine_laws.proofs.ForgetTaken.{endpoint-forgets}
 use Rattle.machine_laws.proofs.ForgetBodies.{append-forgets, body-forget, modify-forgets, place-forget, ports-forgets, rules_at-forget}
 use Rattle.machine_laws.proofs.ForgetCalls.{call_allows-forget, call-forgets}
 
--- whom a segment finds, of which something was let go
+-- whom a segment finds, of which something was discarded
 abbrev forget_taker : Taker → Taker
 forget_taker Nobody = Nobody
 forget_taker (AtListener l) = AtListener l

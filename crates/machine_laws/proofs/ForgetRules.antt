@@ -1,4 +1,4 @@
--- The rules at an endpoint read nothing that was let go.
+-- The rules at an endpoint read nothing that was discarded.
 use Rattle.std.proofs.Common.{◌≡◌, ℕ, false, Option, None, Some, refl}
 use Rattle.std.specs.Option.{option_map_or}
 use Rattle.case_forms.specs.declared.trace.Header.{Header}

@@ -5,11 +5,11 @@
 //! - `laws`: what reads are told, what the end says, what is acknowledged, of two recorded hosts; which segments brought what
 //!   reads are told, of every case; how far new data reaches, how windows move, that rules stand in the order of their
 //!   numbers, which copies are too old
-//! - `forgetting`: what may be let go matters to no rule, and to nothing that is kept
+//! - `forgetting`: what may be discarded matters to no rule, and to nothing that is kept
 //!
-//! What is said of it stands in specs/: `Runs` has what the steps of a run say by themselves, `Consequences` what follows of
-//! streams between two recorded hosts, `Carried` what follows of one host's reads in every case, `Bounds` what follows of
-//! windows, `Ascending` the rules' numbers, and `ForgettingLaws` what may be let go.
+//! What is said of it stands in specs/: `Runs` has what the steps of a run say by themselves, `Consequences` what follows from
+//! streams between two recorded hosts, `Carried` what follows from one host's reads in every case, `Bounds` what follows from
+//! windows, `Ascending` the rules' numbers, and `ForgettingLaws` what may be discarded.
 #![tactic(auto)]
 
 mod forgetting;

@@ -20,8 +20,6 @@ mod fields;
 mod flag;
 mod options;
 mod reading;
-#[cfg(test)]
-mod tests;
 mod writing;
 
 pub use bytes::Bytes;

@@ -17,8 +17,6 @@ mod congestion;
 mod growth;
 mod laws;
 mod losses;
-#[cfg(test)]
-mod tests;
 mod windows;
 
 pub use congestion::Congestion;

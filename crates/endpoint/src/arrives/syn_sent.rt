@@ -156,7 +156,11 @@ pub(crate) fn window_met(endpoint: &Endpoint, m: &Arrived<'_>) -> Window
 }
 
 pub(crate) fn congestion_met(endpoint: &Endpoint, how: TakeChoice, m: &Arrived<'_>) -> Congestion
-    ensures { result ≡ record endpoint.now.congestion { cwnd = how.cwnd; smss = told_smss m.now.mss; dup = if m.now.flags.ack then 0 else endpoint.now.congestion.dup } }
+    ensures { result ≡ record endpoint.now.congestion {
+      cwnd = how.cwnd;
+      smss = told_smss m.now.mss;
+      dup = if m.now.flags.ack then 0 else endpoint.now.congestion.dup;
+    } }
 {
     let mut congestion = endpoint.congestion;
     congestion.cwnd = how.cwnd;

@@ -68,7 +68,8 @@ pub(crate) fn own_window(endpoint: &Endpoint, making: &SegmentPlan) -> u32
 
 // How far its own windows reached then.
 pub(crate) fn own_edge(endpoint: &Endpoint, making: &SegmentPlan) -> u64
-    ensures { result ≡ (if making.now.flags.ack then max endpoint.now.window.edge (next endpoint.now + own_window endpoint.now making.now) else endpoint.now.window.edge) }
+    ensures { result ≡ (if making.now.flags.ack then max endpoint.now.window.edge (next endpoint.now + own_window endpoint.now making.now)
+        else endpoint.now.window.edge) }
 {
     let edge = endpoint.window.edge;
     if making.flags.ack {

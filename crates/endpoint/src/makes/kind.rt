@@ -2,7 +2,8 @@
 
 ghost use Rattle.case_forms.specs.States.{is_syn_sent, is_syn_received};
 ghost use Rattle.machine.specs.Calls.Close.{shut_down};
-ghost use Rattle.machine.specs.Makes.Kind.{may_carry, may_finish, may_not_send, may_make_syn, may_make_reset, may_make_other, may_make, makes_nothing, is_bad_iss, given_shift, numbered};
+ghost use Rattle.machine.specs.Makes.Kind.{may_carry, may_finish, may_not_send, may_make_syn, may_make_reset, may_make_other, may_make};
+ghost use Rattle.machine.specs.Makes.Kind.{makes_nothing, is_bad_iss, given_shift, numbered};
 ghost use Rattle.std.specs.Prelude.{◌≡◌, if◌then◌else◌, false};
 
 use case_forms::{SegmentPlan, State};
