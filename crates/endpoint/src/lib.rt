@@ -33,4 +33,4 @@ pub use makes::{admits_making, make};
 pub use recovery::{admits_recovery, recover};
 pub use reset::reset_of;
 pub use timeouts::{admits_expiry, expire};
-pub use wire::{admits_in, is_shown, sent};
+pub use wire::{admits_in, heard, is_shown, sent};

@@ -7,7 +7,7 @@ use Rattle.verdict.specs.declared.rule.Rule.{Rule}
 use Rattle.verdict.specs.declared.rule.Rule.TheVariants as rules
 use Rattle.verdict.specs.Rules.{first_broken}
 use Rattle.hosts.specs.Tables.{Both, Made, pick, other, on, waiting}
-use Rattle.hosts.specs.Hosts.{Aim, ThatHost, ThatSocket, Shape, Kernel, HostState, Turn, Idle, Called, Answered, World, Deed, Does, Expires, Makes, Sends, Gets, Takes, Drops, Answers, Step, Begin, Finish, Effect, At, turn_of}
+use Rattle.hosts.specs.Hosts.{Aim, ThatHost, ThatSocket, Shape, Kernel, HostState, Turn, Idle, Called, Answered, World, Deed, Does, Expires, Makes, Sends, Gets, Hears, Takes, Drops, Answers, Step, Begin, Finish, Effect, At, turn_of}
 
 -- one rule alone
 abbrev pub just : Rule → Bool → List (Rule × Bool)
@@ -31,6 +31,7 @@ deed_rules k me moment far h (Expires line x growth) = k.act_rules me moment h.b
 deed_rules k me moment far h (Makes x) = k.act_rules me moment h.body (k.making x)
 deed_rules k me moment far h (Sends line number wire) = sending_rules k.out_rules h.made number wire
 deed_rules k me moment far h (Gets line copied wire) = arrival_rules (k.in_rules moment) far copied wire
+deed_rules k me moment far h (Hears line wire) = just rules.NoEmission (not k.half)
 deed_rules k me moment far h (Takes line how) = on (waiting line h.inbox) (just rules.Inbox true) (λ e. k.act_rules me moment h.body (k.takes how e))
 deed_rules k me moment far h (Drops line) = on (waiting line h.inbox) (just rules.Inbox true) (λ e. [])
 deed_rules k me moment far h (Answers line) = on (waiting line h.inbox) (just rules.Inbox true) (λ e. k.act_rules me moment h.body (k.answers e))

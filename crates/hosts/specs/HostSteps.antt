@@ -4,7 +4,7 @@ use Rattle.std.specs.Map.{lookup}
 use Rattle.indexmap.specs.IndexMap.{insert_entry}
 use Rattle.case_forms.specs.declared.calls.Host.{Host}
 use Rattle.hosts.specs.Tables.{Both, pick, other, with_host, on, Made, unsent, gone_out, waiting, settled}
-use Rattle.hosts.specs.Hosts.{Kernel, HostState, Turn, Idle, Called, Answered, World, Deed, Does, Expires, Makes, Sends, Gets, Takes, Drops, Answers, Step, Begin, Finish, Effect, At, Stamped, turn_of}
+use Rattle.hosts.specs.Hosts.{Kernel, HostState, Turn, Idle, Called, Answered, World, Deed, Does, Expires, Makes, Sends, Gets, Hears, Takes, Drops, Answers, Step, Begin, Finish, Effect, At, Stamped, turn_of}
 use Rattle.hosts.specs.HostRules.{aim_of, Permitted}
 
 -- the made segments after an act, with the one that it makes under the fresh number
@@ -34,6 +34,7 @@ deed_after k me moment fresh far h (Expires line x growth) = record h { body = k
 deed_after k me moment fresh far h (Makes x) = record h { body = k.act_after me moment h.body (k.making x); made = act_made k me moment fresh h (k.making x) }
 deed_after k me moment fresh far h (Sends line number wire) = record h { made = made_gone_out number h.made; wire = wire_after k.sent h.made line number wire moment h.wire }
 deed_after k me moment fresh far h (Gets line copied wire) = record h { inbox = inbox_after far line copied h.inbox }
+deed_after k me moment fresh far h (Hears line wire) = record h { inbox = insert_entry nat_eq h.inbox line (Some (k.heard moment wire)) }
 deed_after k me moment fresh far h (Takes line how) = record h { body = on (waiting line h.inbox) h.body (λ e. k.act_after me moment h.body (k.takes how e)); inbox = inbox_settled line h.inbox }
 deed_after k me moment fresh far h (Drops line) = record h { inbox = inbox_settled line h.inbox }
 deed_after k me moment fresh far h (Answers line) = record h {

@@ -21,7 +21,7 @@ use Rattle.verdict.specs.Rules.{first_broken}
 use Rattle.verdict.specs.declared.rule.Rule.{Rule}
 use Rattle.hosts.specs.HostRules.{step_rules}
 use Rattle.hosts.specs.HostSteps.{after, start}
-use Rattle.hosts.specs.Hosts.{Answers, At, Begin, Does, Drops, Effect, Expires, Finish, Gets, Makes, Sends, Step, Takes, World}
+use Rattle.hosts.specs.Hosts.{Answers, At, Begin, Does, Drops, Effect, Expires, Finish, Gets, Hears, Makes, Sends, Step, Takes, World}
 use Rattle.machine.specs.Machine.{tcp_shape, tcp}
 
 -- the timer that expired
@@ -42,6 +42,7 @@ line_step (taken.CallBegin line thread call) = Begin line thread call
 line_step (taken.CallEnd line thread answer) = Finish line thread answer
 line_step (taken.Sent line host made wire) = At host (Sends line made wire)
 line_step (taken.Came line host copied wire) = At host (Gets line copied wire)
+line_step (taken.Heard line host wire) = At host (Hears line wire)
 line_step (taken.Expired line host ports e) = At host (Expires line (record { lport = ports.lport; rport = ports.rport; timer = timer_of e }) (growth_of e))
 
 -- a label's step

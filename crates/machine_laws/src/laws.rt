@@ -1,6 +1,7 @@
 //! The consequences of every run, for callers that prove more.
 
 ghost use Rattle.std.specs.Prelude.{List, ℕ, ◌+◌, ◌^◌, ◌<◌, ◌≡◌, false, true};
+ghost use Rattle.case_forms.specs.Versions.{is_half};
 ghost use Rattle.case_forms.specs.declared.trace.Header.{Header};
 ghost use Rattle.case_forms.specs.declared.calls.Host.{Host};
 ghost use Rattle.hosts.specs.Hosts.{At, Makes, Stamped, Step, World};
@@ -15,21 +16,33 @@ ghost use Rattle.machine.specs.Machine.{tcp, tcp_shape};
 ghost use Rattle.machine_laws.specs.Runs.{world_at_end};
 ghost use Rattle.machine_laws.specs.Bounds.{NewDataFits, WindowsFollow};
 ghost use Rattle.machine_laws.specs.Ascending.{RulesAscend};
+ghost use Rattle.machine_laws.specs.Carried.{ReadsWereCarried};
+ghost use Rattle.machine_laws.specs.HeardNumbers.{HeardNumbersAreRead};
+ghost use Rattle.seqno.specs.declared.word.Word.{Word};
 ghost use Rattle.machine_laws.specs.Consequences.{ReceivedIsAPrefix, EndIsWhole, AcknowledgedWasTaken};
+
+use seqno::numbers_are_found_near;
 
 /// What the reads on a socket number were told is how the bytes that its peer's sends accepted begin.
 pub fn received_is_a_prefix()
-    ensures { (h : Header) (steps : List (Stamped tcp_shape)) → Lawful (tcp h) (start (tcp h)) steps → ReceivedIsAPrefix h steps }
+    ensures { (h : Header) → is_half h.version ≡ false → (steps : List (Stamped tcp_shape)) → Lawful (tcp h) (start (tcp h)) steps → ReceivedIsAPrefix h steps }
 {}
 
 /// Once a read was told the end, it was told all that the peer's sends ever accept, and the peer's sending was ended.
 pub fn end_is_whole()
-    ensures { (h : Header) (steps : List (Stamped tcp_shape)) → Lawful (tcp h) (start (tcp h)) steps → EndIsWhole h steps }
+    ensures { (h : Header) → is_half h.version ≡ false → (steps : List (Stamped tcp_shape)) → Lawful (tcp h) (start (tcp h)) steps → EndIsWhole h steps }
 {}
 
 /// What is acknowledged, but for the SYN, was taken by the peer before the step that acknowledged it.
 pub fn acknowledged_was_taken()
-    ensures { (h : Header) (steps : List (Stamped tcp_shape)) (x : Stamped tcp_shape) → Lawful (tcp h) (start (tcp h)) steps → Permitted (tcp h) x.moment (world_at_end h steps) x.step → AcknowledgedWasTaken h steps x }
+    ensures { (h : Header) → is_half h.version ≡ false → (steps : List (Stamped tcp_shape)) (x : Stamped tcp_shape) → Lawful (tcp h) (start (tcp h)) steps → Permitted (tcp h) x.moment (world_at_end h steps) x.step → AcknowledgedWasTaken h steps x }
+{}
+
+/// What the reads on a socket number were told came with segments that were taken at its endpoint: byte i at position 1 + i, and
+/// where one was told the end, a FIN at the position behind all of them (RFC 9293, 3.4 and 3.10.7.4). So it is in every case, also
+/// where one host alone was recorded.
+pub fn reads_were_carried()
+    ensures { (h : Header) (steps : List (Stamped tcp_shape)) → Lawful (tcp h) (start (tcp h)) steps → ReadsWereCarried h steps }
 {}
 
 /// Bytes that are made for the first time end in the window that the peer offers and in the congestion window. Other
@@ -55,3 +68,11 @@ pub fn rules_ascend()
 pub fn old_copies_are_refused()
     ensures { (e : Endpoint) (m : Emission) → m.answers ≡ false → m.pos + 2 ^ 31 < next e → is_bad_number e m ≡ true }
 {}
+
+/// A number of a segment that is heard of a host that is not recorded reads back exactly where it reads as a position near the
+/// one that is awaited, and then as that position (RFC 9293, 3.4). Positions above those that a text can name aside.
+pub fn heard_numbers_are_read()
+    ensures { (near : ℕ) (base w : Word) → base.0 < 2 ^ 32 → w.0 < 2 ^ 32 → HeardNumbersAreRead near base w }
+{
+    numbers_are_found_near();
+}

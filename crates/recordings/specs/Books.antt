@@ -3,7 +3,7 @@ use Rattle.std.specs.Prelude.{◌≡◌, ℕ, nat_eq, true, List, [], ◌∷◌,
 use Rattle.indexmap.specs.IndexMap.{insert_entry}
 use Rattle.case_forms.specs.declared.calls.Host.{Host}
 use Rattle.hosts.specs.Tables.{pick, other, with_host, lane}
-use Rattle.hosts.specs.Hosts.{Aim, ThatHost, ThatSocket, Shape, Kernel, World, Deed, Expires, Sends, Gets, Step, Begin, Finish, Effect, At, Called, turn_of}
+use Rattle.hosts.specs.Hosts.{Aim, ThatHost, ThatSocket, Shape, Kernel, World, Deed, Expires, Sends, Gets, Hears, Step, Begin, Finish, Effect, At, Called, turn_of}
 use Rattle.hosts.specs.HostRules.{Permitted}
 use Rattle.hosts.specs.HostSteps.{after}
 
@@ -78,6 +78,7 @@ abbrev pub deed_line : (k : Kernel) → Deed k.shape → Option ℕ
 deed_line k (Expires line x growth) = Some line
 deed_line k (Sends line number wire) = Some line
 deed_line k (Gets line copied wire) = Some line
+deed_line k (Hears line wire) = Some line
 deed_line k d = None
 
 -- the line that a step takes

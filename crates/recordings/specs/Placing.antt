@@ -3,7 +3,7 @@ use Rattle.std.specs.Prelude.{◌≡◌, ℕ, ◌+◌, ◌<◌, ◌≤◌, List,
 use Rattle.std.specs.List.{slice_get}
 use Rattle.case_forms.specs.declared.calls.Host.{Host}
 use Rattle.hosts.specs.Tables.{on}
-use Rattle.hosts.specs.Hosts.{Shape, Kernel, Idle, Deed, Expires, Sends, Gets, Step, Begin, Finish, Effect, At, Stamped}
+use Rattle.hosts.specs.Hosts.{Shape, Kernel, Idle, Deed, Expires, Sends, Gets, Hears, Step, Begin, Finish, Effect, At, Stamped}
 use Rattle.hosts.specs.HostSteps.{start, Lawful}
 use Rattle.hosts.specs.Turns.{Turns}
 use Rattle.recordings.specs.Books.{Entry, step_line}
@@ -28,6 +28,7 @@ abbrev pub deed_event : (k : Kernel) → Host → Deed k.shape → Option (Event
 deed_event k host (Expires line x growth) = Some (Expired host x)
 deed_event k host (Sends line number wire) = Some (Sent host wire)
 deed_event k host (Gets line copied wire) = Some (Came host wire)
+deed_event k host (Hears line wire) = Some (Came host wire)
 deed_event k host d = None
 
 -- what the line says that a step takes

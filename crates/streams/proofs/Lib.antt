@@ -5,6 +5,7 @@ pub mod Covers
 pub mod Fades
 pub mod Writes
 pub mod Gone
+pub mod Keeping
 pub mod Waiting
 pub mod RunLemmas
 pub mod ReadLemmas
