@@ -22,9 +22,10 @@ ghost use Rattle.checker.specs.Verdicts.{verdict, verdict_from, verdict_left, ta
 ghost use Rattle.checker.specs.Kept.{kept_broken, kept_progress};
 ghost use Rattle.checker.specs.Explains.{Explains, IsYes};
 ghost use Rattle.checker.specs.Judges.{Says};
+ghost use Rattle.checker.specs.Headline.{ReceivesBeginSends};
 ghost use Rattle.checker.specs.Consequences.{ReadsBeginWhatWasSent, EndsAreWhole, AllAcknowledgedWasTaken, AllKeepWindows};
 
-use crate::laws::explained_follows;
+use crate::laws::{explained_follows, receives_begin_sends};
 use case_forms::{Header, Label, Line, NamedLine, OutOfMemory, Step, TakenLine, Trace, Witness};
 use endpoint_state::World;
 use interval_order::Window;
@@ -40,13 +41,19 @@ pub fn check(alloc: Global, trace: &Trace, witness: &Witness) -> Result<Verdict,
     requires trace { IsTrace trace.now }
     requires witness { IsWitness witness.now }
     requires versions { trace.now.header.version ≡ witness.now.version }
+
+    // What follows from a yes, by the lines of the trace and the steps of the witness alone: what receives on a socket number
+    // were told is a prefix of what sends on one of the other host accepted, at each moment; at the end of the stream it is all.
+    ensures heard { IfOk result (λ v. IsYes v → ReceivesBeginSends trace.now witness.now) }
+
+    // The verdict is that of the definition.
     ensures exact { IfOk result (λ v. v ≡ verdict trace.now witness.now) }
 
     // What the verdict says of the two lists, in places.
     ensures says { IfOk result (Says trace.now witness.now) }
     ensures explained { IfOk result (λ v. IsYes v ↔ Explains trace.now witness.now) }
 
-    // What follows from a yes: what reads were told is how the bytes begin that the peer's sends accepted; reads that were
+    // What follows from a yes for the machine's endpoints: what reads were told is how the bytes begin that the peer's sends accepted; reads that were
     // told the end were told all of them; what is acknowledged was taken before; windows are kept.
     ensures received { IfOk result (λ v. IsYes v → ReadsBeginWhatWasSent trace.now witness.now) }
     ensures whole { IfOk result (λ v. IsYes v → EndsAreWhole trace.now witness.now) }
@@ -54,6 +61,7 @@ pub fn check(alloc: Global, trace: &Trace, witness: &Witness) -> Result<Verdict,
     ensures windows { IfOk result (λ v. IsYes v → AllKeepWindows trace.now witness.now) }
 {
     explained_follows();
+    receives_begin_sends();
     judge(
         alloc,
         &trace.header,
