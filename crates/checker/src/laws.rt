@@ -14,6 +14,7 @@ ghost use Rattle.checker.specs.Verdicts.{verdict};
 ghost use Rattle.checker.specs.Explains.{Explains, IsYes};
 ghost use Rattle.checker.specs.Peers.{AllPeersAreMet, EachPeerWasMet};
 ghost use Rattle.checker.specs.Again.{HaveTwo, without_spans};
+ghost use Rattle.checker.specs.Headline.{ReceivesBeginSends};
 ghost use Rattle.machine_laws.specs.Consequences.{ReceivedIsAPrefix, EndIsWhole};
 ghost use Rattle.machine_laws.specs.Carried.{ReadsWereCarried};
 ghost use Rattle.checker.specs.Consequences.{steps_of, AreBothRecorded, ReadsBeginWhatWasSent, EndsAreWhole, AllAcknowledgedWasTaken, AllReadsWereCarried, AllKeepWindows};
@@ -38,6 +39,16 @@ pub fn explained_is_yes()
 pub fn yes_counts_all_lines()
     ensures { (t : Trace) (w : Witness) (lines hidden : ℕ) → verdict t w ≡ Yes lines hidden → lines ≡ length t.lines }
 {}
+
+/// What the receives on a socket number were told is a prefix of what the sends on one number of the other host accepted, at each
+/// moment of the witness; once the end was told it is all of it. So it is said by the lines of the trace and the steps of the
+/// witness alone. A number whose receives are told nothing has no such other number.
+pub fn receives_begin_sends()
+    ensures { (t : Trace) (w : Witness) → Explains t w → AreBothRecorded t → ReceivesBeginSends t w }
+{
+    received_is_a_prefix();
+    end_is_whole();
+}
 
 /// What follows for streams and windows where the witness explains the trace.
 pub fn explained_follows()

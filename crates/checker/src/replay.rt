@@ -23,8 +23,9 @@ ghost use Rattle.checker.specs.Kept.{kept_broken, kept_progress};
 ghost use Rattle.checker.specs.Explains.{Explains, IsYes};
 ghost use Rattle.checker.specs.Judges.{Says};
 ghost use Rattle.checker.specs.Consequences.{AreBothRecorded, ReadsBeginWhatWasSent, EndsAreWhole, AllAcknowledgedWasTaken, AllReadsWereCarried, AllKeepWindows};
+ghost use Rattle.checker.specs.Headline.{ReceivesBeginSends};
 
-use crate::laws::explained_follows;
+use crate::laws::{explained_follows, receives_begin_sends};
 use case_forms::{Header, Label, Line, NamedLine, OutOfMemory, Step, TakenLine, Trace, Witness};
 use endpoint_state::World;
 use interval_order::Window;
@@ -40,6 +41,12 @@ pub fn check(alloc: Global, trace: &Trace, witness: &Witness) -> Result<Verdict,
     requires trace { IsTrace trace.now }
     requires witness { IsWitness witness.now }
     requires versions { trace.now.header.version ≡ witness.now.version }
+
+    // What follows from a yes where both hosts are recorded, by the lines of the trace and the steps of the witness alone: what receives on a socket number
+    // were told is a prefix of what sends on one of the other host accepted, at each moment; at the end of the stream it is all.
+    ensures heard { IfOk result (λ v. IsYes v → AreBothRecorded trace.now → ReceivesBeginSends trace.now witness.now) }
+
+    // The verdict is that of the definition.
     ensures exact { IfOk result (λ v. v ≡ verdict trace.now witness.now) }
 
     // What the verdict says of the two lists, in places.
@@ -57,6 +64,7 @@ pub fn check(alloc: Global, trace: &Trace, witness: &Witness) -> Result<Verdict,
     ensures windows { IfOk result (λ v. IsYes v → AllKeepWindows trace.now witness.now) }
 {
     explained_follows();
+    receives_begin_sends();
     judge(
         alloc,
         &trace.header,

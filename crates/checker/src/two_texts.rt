@@ -18,13 +18,14 @@ ghost use Rattle.endpoint_state.specs.Worlds.{Progress};
 ghost use Rattle.checker.specs.Explains.{Explains, IsYes};
 ghost use Rattle.checker.specs.Judges.{Says};
 ghost use Rattle.checker.specs.Consequences.{AreBothRecorded, ReadsBeginWhatWasSent, EndsAreWhole, AllAcknowledgedWasTaken, AllReadsWereCarried, AllKeepWindows};
+ghost use Rattle.checker.specs.Headline.{ReceivesBeginSends};
 ghost use Rattle.checker.specs.Ahead.{source_ahead, line_ahead, left_ahead, IsAhead, IsInStep};
 ghost use Rattle.checker.specs.Streaming.{OneFailed, SoFar, Tallied, Tells, first_of_both};
 ghost use Rattle.checker.specs.Texts.{GivesTexts, AreOf};
 
 use crate::ahead::Ahead;
 use crate::case::CaseFault;
-use crate::laws::explained_follows;
+use crate::laws::{explained_follows, receives_begin_sends};
 use crate::steps::drain_steps;
 use crate::turns::{Replayed, Tally, replay_steps};
 use case_forms::Header;
@@ -43,6 +44,11 @@ pub fn check_streams<A: BufRead, B: BufRead>(
     a: Counted<A>,
     b: Counted<B>,
 ) -> (Result<Verdict, CaseFault>, Counted<A>, Counted<B>)
+    // What follows from a yes, by the lines of the trace and the steps of the witness that the texts stand for: what receives on a
+    // socket number were told is a prefix of what sends on one of the other host accepted, at each moment.
+    ensures heard { (t : Trace) (w : Witness) → AreOf (left_of A.remaining a) (left_of B.remaining b) t w → IfOk result.0 (λ v. IsYes v → AreBothRecorded t → ReceivesBeginSends t w) }
+
+    // What both texts give, where their bytes are known.
     ensures exact { GivesTexts result.0 (left_of A.remaining a) (left_of B.remaining b) }
 
     // What the verdict says of the trace and the witness that the texts stand for, in places.
@@ -65,6 +71,7 @@ pub fn check_streams<A: BufRead, B: BufRead>(
     ensures same_witness { result.0 ≢ Err CaseFault.Read → failures_of result.2 ≡ failures_of b }
 {
     explained_follows();
+    receives_begin_sends();
     judge_texts(alloc, a, b)
 }
 
