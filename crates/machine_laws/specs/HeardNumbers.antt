@@ -1,5 +1,5 @@
 -- How the numbers of a segment are read that is heard of a host that is not recorded (RFC 9293, 3.4).
-use Rattle.std.specs.Prelude.{◌≡◌, ◌≤◌, ◌<◌, ◌^◌, ℕ, true, false, None, Some}
+use Rattle.std.specs.Prelude.{◌≡◌, ◌≤◌, ℕ, true, false, None, Some}
 use Rattle.seqno.specs.Near.{near_position}
 use Rattle.seqno.specs.declared.word.Word.{Word}
 use Rattle.machine.specs.Bounds.{greatest_position}
