@@ -23,7 +23,7 @@ ghost use Rattle.streams.specs.Lists.{modify};
 use case_forms::{Expired, Header, SegmentPlan, TakeChoice};
 use endpoint::take_segment;
 use indexmap::IndexMap;
-use machine::{Emission, Endpoint, Name};
+use machine::{Arrived, Emission, Endpoint, Name};
 use segment::OutOfMemory;
 use std::alloc::Global;
 use std::marker::Model;
@@ -210,14 +210,14 @@ impl Endpoints {
         }
     }
 
-    /// The endpoint at a place takes a segment that it may take, at a moment in microseconds. Where memory runs out
+    /// The endpoint at a place takes a segment, as it reads it, that it may take, at a moment in microseconds. Where memory runs out
     /// nothing is changed.
     pub(crate) fn take(
         &mut self,
         header: &Header,
         place: u32,
         how: TakeChoice,
-        m: &Emission,
+        m: &Arrived<'_>,
         moment: u64,
     ) -> Result<(), OutOfMemory>
         requires kept { All HasRoom self.old }

@@ -17,7 +17,7 @@ ghost use Rattle.machine.specs.Machine.{act_makes, rules_at, tcp};
 ghost use Rattle.machine.specs.Machine as acts;
 ghost use Rattle.machine.specs.Forgetting.{forget_host};
 ghost use Rattle.machine.specs.Bounds.{greatest_position, IsSmallEmission};
-ghost use Rattle.endpoint_state.specs.Kept.{IsReady};
+ghost use Rattle.endpoint_state.specs.Kept.{AreReadable, IsReady};
 ghost use Rattle.endpoint_state.specs.Faults.{fault_rule};
 ghost use Rattle.endpoint_state.specs.Kinds.{answered_one, dropped_one, made_one, sent_one, taken_one, answering_rules, dropping_rules, expired_body};
 ghost use Rattle.endpoint_state.specs.Kinds.{expiring_rules, recovered_body, recovering_rules, taking_rules};
@@ -287,6 +287,7 @@ impl HostState {
         line: u64,
         how: TakeChoice,
     ) -> Result<(), Rule>
+        requires { AreReadable self.now.body.endpoints }
         ensures { result_err result ≡ first_broken (taking_rules header.now me line how self.now) }
     {
         let Some(m) = waiting(&self.inbox, line) else {

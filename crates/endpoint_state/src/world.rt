@@ -3,7 +3,7 @@
 ghost use Rattle.std.specs.Prelude.{◌≡◌, ◌<◌, ◌≤◌, ◌+◌, ◌^◌, suc, None, OnOk, OnErr};
 ghost use Rattle.std.specs.Result.{result_err};
 ghost use Rattle.verdict.specs.Rules.{first_broken};
-ghost use Rattle.hosts.specs.Hosts.{At, Begin, Finish, Answers, Does, Drops, Gets, Makes, Sends, Takes};
+ghost use Rattle.hosts.specs.Hosts.{At, Begin, Finish, Answers, Does, Drops, Gets, Hears, Makes, Sends, Takes};
 ghost use Rattle.hosts.specs.HostRules.{step_rules};
 ghost use Rattle.machine.specs.Bounds.{greatest_position, most_steps};
 ghost use Rattle.machine.specs.Machine.{tcp};
@@ -19,6 +19,7 @@ use crate::threads::{Turn, admits_begin, admits_end, begin, finish};
 use case_forms::{
     Answer, Call, Expired, Header, Host, Ports, Recovery, SegmentPlan, TakeChoice, Wire,
 };
+use endpoint::heard;
 use indexmap::IndexMap;
 use std::alloc::Global;
 use std::marker::Model;
@@ -120,6 +121,18 @@ impl World {
             .far(host)
             .admitted_arrival(&self.header, moment, copied, wire)?;
         Ok(())
+    }
+
+    /// Whether a segment of the other host may come in that is no copy of a line: that host is not recorded. An error is the rule
+    /// that is broken.
+    pub fn admits_hearing(&self, host: Host, wire: &Wire) -> Result<(), Rule>
+        ensures { result_err result ≡ first_broken (step_rules (tcp self.now.header) 0 self.now.world (At host (Hears 0 wire.now))) }
+    {
+        if self.header.version.is_half() {
+            Ok(())
+        } else {
+            Err(Rule::NoEmission)
+        }
     }
 
     /// Whether a host may make a segment, at a position up to the greatest. An error is the first rule that is broken.
@@ -273,6 +286,21 @@ impl World {
             .admitted_arrival(&self.header, moment, copied, wire)?
             .copy()?;
         host::arrive(self.hosts.side(host), line, copy)?;
+        self.steps += 1;
+        Ok(())
+    }
+
+    /// A segment of the host that is not recorded comes in with this line, at a moment in microseconds, and waits in the inbox. An
+    /// error is the rule that is broken, or that memory ran out; the world is then as it was.
+    pub fn hear(&mut self, host: Host, line: u64, wire: &Wire, moment: u64) -> Result<(), StepFault>
+        requires { self.old.steps < most_steps }
+        ensures fault { fault_rule result ≡ first_broken (step_rules (tcp self.old.header) moment self.old.world (At host (Hears line wire.now))) }
+        ensures ok { OnOk result (self.new ≡ after self.old moment (At host (Hears line wire.now))) }
+        ensures err { OnErr result (self.new ≡ self.old) }
+    {
+        self.admits_hearing(host, wire)?;
+        let heard = heard(self.alloc, moment, wire)?;
+        host::arrive(self.hosts.side(host), line, heard)?;
         self.steps += 1;
         Ok(())
     }
