@@ -7,4 +7,6 @@ pub mod Writes
 pub mod Gone
 pub mod Waiting
 pub mod RunLemmas
+pub mod MarkLemmas
+pub mod MadeLemmas
 pub mod ReadLemmas
