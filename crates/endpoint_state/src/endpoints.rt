@@ -26,6 +26,7 @@ use indexmap::IndexMap;
 use machine::{Arrived, Emission, Endpoint, Name};
 use segment::OutOfMemory;
 use std::alloc::Global;
+use std::collections::BTreeMap;
 use std::marker::Model;
 
 /// The endpoints of a host, in the order of creation, which contracts see as a list.
@@ -33,7 +34,7 @@ use std::marker::Model;
 pub(crate) struct Endpoints {
     all: Vec<Endpoint>,
     /// For each pair of ports, the endpoint created last there.
-    places: IndexMap<(u16, u16), u32>,
+    places: BTreeMap<(u16, u16), u32>,
     /// For each listener that made some, the endpoints that it made. None is ever taken out.
     children: IndexMap<u32, Vec<u32>>,
 }
@@ -56,7 +57,7 @@ impl Endpoints {
     {
         Endpoints {
             all: Vec::new(alloc),
-            places: IndexMap::new(alloc),
+            places: BTreeMap::new(alloc),
             children: IndexMap::new(alloc),
         }
     }

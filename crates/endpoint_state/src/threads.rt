@@ -14,8 +14,8 @@ ghost use Rattle.endpoint_state.specs.Faults.{fault_rule};
 
 use crate::fault::StepFault;
 use case_forms::{Answer, Call, OutOfMemory};
-use indexmap::IndexMap;
 use std::marker::Model;
+use tables::Table;
 use verdict::Rule;
 
 /// Where a thread is in its calls.
@@ -62,7 +62,7 @@ impl Turn {
 }
 
 /// Whether a thread may begin a call: it is in no other. An error is the rule that is broken.
-pub(crate) fn admits_begin(threads: &IndexMap<u32, Turn>, thread: u32) -> Result<(), Rule>
+pub(crate) fn admits_begin(threads: &Table<Turn>, thread: u32) -> Result<(), Rule>
     ensures { result_err result ≡ first_broken (begin_rules (turn_of thread threads.now.entries)) }
 {
     match place_in(threads, thread) {
@@ -74,7 +74,7 @@ pub(crate) fn admits_begin(threads: &IndexMap<u32, Turn>, thread: u32) -> Result
 /// Whether a thread's call may end with this answer: one is open, and had its effect with it. An error is the first rule
 /// that is broken.
 pub(crate) fn admits_end(
-    threads: &IndexMap<u32, Turn>,
+    threads: &Table<Turn>,
     thread: u32,
     answer: &Answer,
 ) -> Result<(), Rule>
@@ -95,7 +95,7 @@ pub(crate) fn admits_end(
 
 /// The call of a thread that is open and had no effect yet. An error is the first rule that is broken: there is none, or
 /// it had its effect.
-pub(crate) fn open_call(threads: &IndexMap<u32, Turn>, thread: u32) -> Result<&Call, Rule>
+pub(crate) fn open_call(threads: &Table<Turn>, thread: u32) -> Result<&Call, Rule>
     ensures call { IfOk result (λ call. turn_of thread threads.now.entries ≡ Called call.now) }
     ensures rule { result_err result ≡ first_broken (pending_rules (turn_of thread threads.now.entries)) }
 {
@@ -108,7 +108,7 @@ pub(crate) fn open_call(threads: &IndexMap<u32, Turn>, thread: u32) -> Result<&C
 
 /// A thread begins a call. An error is the rule that is broken, or that memory ran out; nothing is changed then.
 pub(crate) fn begin(
-    threads: &mut IndexMap<u32, Turn>,
+    threads: &mut Table<Turn>,
     thread: u32,
     call: &Call,
 ) -> Result<(), StepFault>
@@ -123,7 +123,7 @@ pub(crate) fn begin(
 
 /// A thread's call ends. An error is the first rule that is broken, or that memory ran out; nothing is changed then.
 pub(crate) fn finish(
-    threads: &mut IndexMap<u32, Turn>,
+    threads: &mut Table<Turn>,
     thread: u32,
     answer: &Answer,
 ) -> Result<(), StepFault>
@@ -140,7 +140,7 @@ pub(crate) fn finish(
 /// A thread's call has its effect, with this answer. Where memory runs out nothing is changed; a thread that called before
 /// takes none.
 pub(crate) fn answered(
-    threads: &mut IndexMap<u32, Turn>,
+    threads: &mut Table<Turn>,
     thread: u32,
     answer: Answer,
 ) -> Result<(), OutOfMemory>
@@ -151,16 +151,16 @@ pub(crate) fn answered(
     put(threads, thread, Place::Answered(answer))
 }
 
-fn place_in(threads: &IndexMap<u32, Turn>, thread: u32) -> Option<&Place>
+fn place_in(threads: &Table<Turn>, thread: u32) -> Option<&Place>
     ensures { option_map (λ place. turn_shown place.now) result ≡ lookup (nat_eq thread) threads.now.entries }
 {
-    match threads.get(&thread) {
+    match threads.get(thread) {
         Some(turn) => Some(turn.place()),
         None => None,
     }
 }
 
-fn put(threads: &mut IndexMap<u32, Turn>, thread: u32, place: Place) -> Result<(), OutOfMemory>
+fn put(threads: &mut Table<Turn>, thread: u32, place: Place) -> Result<(), OutOfMemory>
     ensures ok { OnOk result (threads.new.entries ≡ insert_entry nat_eq threads.old.entries thread (turn_shown place)) }
     ensures err { OnErr result (threads.new.entries ≡ threads.old.entries) }
     ensures absent { OnErr result (is_some (lookup (nat_eq thread) threads.old.entries) ≡ false) }

@@ -20,9 +20,9 @@ use case_forms::{
     Answer, Call, Expired, Header, Host, Ports, Recovery, SegmentPlan, TakeChoice, Wire,
 };
 use endpoint::heard;
-use indexmap::IndexMap;
 use std::alloc::Global;
 use std::marker::Model;
+use tables::Table;
 use verdict::Rule;
 
 /// What a case has come to. Contracts see it as the record `Progress` of the definitions.
@@ -34,7 +34,7 @@ pub struct World {
     /// What the hosts have.
     pub(crate) hosts: Hosts,
     /// Each thread that called, with where it is. None is ever taken out.
-    pub(crate) threads: IndexMap<u32, Turn>,
+    pub(crate) threads: Table<Turn>,
     /// How many segments were made: the next has this number and one.
     count: u32,
     /// How many steps were done.
@@ -62,7 +62,7 @@ impl World {
             alloc,
             header: *header,
             hosts: Hosts::new(alloc, header),
-            threads: IndexMap::new(alloc),
+            threads: Table::new(alloc),
             count: 0,
             steps: 0,
         }

@@ -4,6 +4,7 @@ use Rattle.std.specs.List.Sorted.{IsStrictlySortedBy, IsNonDecreasingBy}
 use Rattle.std.specs.Ordering.{nat_cmp}
 use Rattle.std.specs.Map.{keys_of, lookup}
 use Rattle.std.specs.BTreeMap.{is_at}
+use Rattle.std.specs.Option.{option_flatten}
 use Rattle.case_forms.specs.declared.trace.Line.{Line}
 use Rattle.interval_order.specs.declared.window.Waiting.{Waiting}
 
@@ -14,6 +15,10 @@ lines_of entries = map (λ e. (e.0, e.1.line)) entries
 -- what waits under that number
 abbrev pub waiting_at : List (ℕ × Waiting) → ℕ → Option Waiting
 waiting_at entries n = lookup (is_at (nat_cmp n)) entries
+
+-- the number of the last line of a thread, where a table has one
+abbrev pub latest_in : List (ℕ × Option ℕ) → ℕ → Option ℕ
+latest_in entries thread = option_flatten (lookup (is_at (nat_cmp thread)) entries)
 
 -- of the lines of a thread that wait and stand before the number, the link names the last
 pub record Leads (waiting : ℕ → Option Waiting) (thread number : ℕ) (link : Option ℕ) : Type 0 where

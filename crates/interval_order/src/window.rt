@@ -1,7 +1,7 @@
 //! The lines that no step has taken yet.
 //!
-//! A line that is offered, or a step, costs the logarithm of the number of lines that wait, and one look-up in a table
-//! of threads. Nothing is scanned:
+//! A line that is offered, or a step, costs the logarithm of the number of lines that wait and of the number of threads,
+//! whatever numbers a text gives them. Nothing is scanned:
 //!
 //! - Lines wait in a map by their numbers.
 //! - Each line that waits names the line of its thread that was offered before it. The lines of a thread are placed in
@@ -9,17 +9,19 @@
 //!   names does not wait.
 //! - Moments don't fall along the lines, so some line is overdue exactly where the first that waits is.
 
-ghost use Rattle.std.specs.Prelude.{◌≡◌, ◌+◌, ◌<◌, ◌≤◌, ◌^◌, [], length, All, IsSome, IfOk, OnOk, OnErr, Some, false, nat_lt, slice_get};
+ghost use Rattle.std.specs.Prelude.{◌≡◌, ℕ, ◌+◌, ◌<◌, ◌≤◌, ◌^◌, [], length, All, IsSome, IfOk, OnOk, OnErr, Some, false, true, cond, is_some, nat_eq, nat_lt, slice_get};
+ghost use Rattle.std.specs.Ordering.{nat_cmp};
+ghost use Rattle.std.specs.BTreeMap.{get};
 ghost use Rattle.std.specs.Option.{option_copied, option_map, option_map_or};
 ghost use Rattle.std.specs.Result.{result_err};
 ghost use Rattle.case_forms.specs.Traces.{first_event_line};
 ghost use Rattle.verdict.specs.Rules.{first_broken};
 ghost use Rattle.interval_order.specs.Orders.{taking, passing, held_line, is_offered, with_line, order_after};
 ghost use Rattle.interval_order.specs.Later.{waits, late_by};
+ghost use Rattle.interval_order.specs.Waits.{latest_in};
 ghost use Rattle.interval_order.specs.OrderRules.{extras_of, has_earlier, thread_order, order_rules, has_overdue, first_overdue};
 
 use case_forms::{Event, Header, Line, OutOfMemory, Timer, Version};
-use indexmap::IndexMap;
 use std::alloc::Global;
 use std::collections::BTreeMap;
 use std::marker::Model;
@@ -41,23 +43,21 @@ pub struct Window {
     next: u64,
     /// The lines that wait, by their numbers.
     waiting: BTreeMap<u64, Waiting>,
-    /// The number of the last line of each thread that was offered.
-    latest: IndexMap<u32, u64>,
+    /// The number of the last line of each thread that was offered, or none where a thread has its place but no line yet.
+    latest: BTreeMap<u32, Option<u64>>,
     /// The moment of the last step.
     last: u64,
 }
 
 impl Model for Window {
-    ghost use Rattle.std.specs.Prelude.{nat_eq};
-    ghost use Rattle.indexmap.specs.IndexMap.{get};
     ghost use Rattle.interval_order.specs.Orders.{Order};
-    ghost use Rattle.interval_order.specs.Waits.{lines_of, IsSound};
+    ghost use Rattle.interval_order.specs.Waits.{lines_of, latest_in, IsSound};
 
     ghost Value = { Order };
 
     ghost view = { λ a. record { header = a.header; next = a.next; held = lines_of a.waiting.entries; last = a.last } };
 
-    ghost invariant = { λ a. IsSound a.next a.waiting.entries (get nat_eq a.latest) };
+    ghost invariant = { λ a. IsSound a.next a.waiting.entries (latest_in a.latest.entries) };
 }
 
 impl Window {
@@ -69,7 +69,7 @@ impl Window {
             header: *header,
             next: header.first_event_line(),
             waiting: BTreeMap::new(alloc),
-            latest: IndexMap::new(alloc),
+            latest: BTreeMap::new(alloc),
             last: 0,
         }
     }
@@ -86,10 +86,10 @@ impl Window {
     {
         let number = line.number;
         let thread = line.thread;
-        let previous = self.latest.get(&thread).copied();
-        self.latest.reserve(1)?;
+        let previous = latest_of(&self.latest, thread);
+        make_place(&mut self.latest, thread)?;
         self.waiting.insert(number, Waiting { line, previous })?;
-        self.latest.insert(thread, number)?;
+        note(&mut self.latest, thread, number);
         self.next = number + 1;
         Ok(())
     }
@@ -148,8 +148,8 @@ impl Window {
     pub fn waits(&self, thread: u32) -> bool
         ensures { result ≡ waits self.now thread }
     {
-        match self.latest.get(&thread) {
-            Some(last) => self.waiting.contains_key(last),
+        match latest_of(&self.latest, thread) {
+            Some(last) => self.waiting.contains_key(&last),
             None => false,
         }
     }
@@ -250,6 +250,38 @@ impl Window {
         ensures { result ≡ has_overdue self.now moment }
     {
         self.overdue(moment).is_some()
+    }
+}
+
+// The number of the last line of a thread.
+fn latest_of(latest: &BTreeMap<u32, Option<u64>>, thread: u32) -> Option<u64>
+    ensures { result ≡ latest_in latest.now.entries thread }
+{
+    match latest.get(&thread) {
+        Some(number) => *number,
+        None => None,
+    }
+}
+
+// A thread has its place in the table then. Its last line stays what it was.
+fn make_place(latest: &mut BTreeMap<u32, Option<u64>>, thread: u32) -> Result<(), OutOfMemory>
+    ensures same { (t : ℕ) → latest_in latest.new.entries t ≡ latest_in latest.old.entries t }
+    ensures there { OnOk result (is_some (get nat_cmp latest.new thread) ≡ true) }
+{
+    if !latest.contains_key(&thread) {
+        latest.insert(thread, None)?;
+    }
+    Ok(())
+}
+
+// A line of a thread that has its place is the last one.
+fn note(latest: &mut BTreeMap<u32, Option<u64>>, thread: u32, number: u64)
+    requires { is_some (get nat_cmp latest.old thread) ≡ true }
+    ensures { (t : ℕ) → latest_in latest.new.entries t ≡ cond (nat_eq thread t) (Some number) (latest_in latest.old.entries t) }
+{
+    match latest.insert(thread, Some(number)) {
+        Ok(_) => {}
+        Err(_) => unreachable!(),
     }
 }
 

@@ -8,4 +8,6 @@ pub mod Gone
 pub mod Keeping
 pub mod Waiting
 pub mod RunLemmas
+pub mod MarkLemmas
+pub mod MadeLemmas
 pub mod ReadLemmas

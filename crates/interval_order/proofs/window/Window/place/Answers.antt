@@ -1,6 +1,6 @@
-use Rattle.std.proofs.Common.{◌≡◌, Option, Some, None, IsSome, nat_eq, false, ap, sym, subst, ◌∙◌}
+use Rattle.std.proofs.Common.{◌≡◌, Option, Some, None, IsSome, false, ap, sym, subst, ◌∙◌}
 use Rattle.std.specs.Option.{option_map}
-use Rattle.indexmap.specs.IndexMap.{get}
+use Rattle.interval_order.specs.Waits.{latest_in}
 use Rattle.case_forms.specs.declared.trace.Line.{Line}
 use Rattle.interval_order.specs.declared.window.Waiting.{Waiting}
 use Rattle.interval_order.specs.Orders.{Order, taking, held_line, order_after}
@@ -18,7 +18,7 @@ pub invariant_of-self : goal.invariant_of-self
 invariant_of-self c =
     let at = sym c.in-Some.ensures.value in
     let none = subst (λ (o : Order). thread_order o (taking c.args.moment c.args.line c.args.extras).take ≡ false) (sym c.self.view_is) c.in_ok-admit.ensures.first in
-    sound_without c.self.inside.waiting.entries c.remove.new.self.entries c.self.inside.next c.args.line (get nat_eq c.self.inside.latest) c.in-Some.waiting
+    sound_without c.self.inside.waiting.entries c.remove.new.self.entries c.self.inside.next c.args.line (latest_in c.self.inside.latest.entries) c.in-Some.waiting
     c.self.invariant
     c.remove.ensures.entries
     at
