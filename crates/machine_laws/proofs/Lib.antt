@@ -27,3 +27,4 @@ pub mod ForgetWorlds
 pub mod ForgetRuns
 pub mod Ascending
 pub mod Old
+pub mod Transitions

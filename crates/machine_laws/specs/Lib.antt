@@ -4,3 +4,4 @@ pub mod Carried
 pub mod Bounds
 pub mod ForgettingLaws
 pub mod Ascending
+pub mod Transitions

@@ -1,0 +1,104 @@
+-- How a step may change the state of an endpoint, and which of its positions never fall (RFC 9293, 3.3.1 and 3.3.2).
+use Rattle.std.specs.Prelude.{◌≡◌, ◌≤◌, ◌⊎◌, ℕ, Bool, true, false, List, None, Some}
+use Rattle.case_forms.specs.declared.calls.Answer.{Answer}
+use Rattle.case_forms.specs.declared.calls.Call.{Call}
+use Rattle.case_forms.specs.declared.calls.Call.TheVariants as calls
+use Rattle.case_forms.specs.declared.calls.State.{State}
+use Rattle.case_forms.specs.declared.calls.State.TheVariants as states
+use Rattle.case_forms.specs.declared.steps.SegmentPlan.{SegmentPlan}
+use Rattle.case_forms.specs.declared.timer.Expiry.{Expiry}
+use Rattle.case_forms.specs.declared.timer.Growth.{Growth}
+use Rattle.case_forms.specs.declared.timer.Timer.{Timer}
+use Rattle.case_forms.specs.declared.timer.Timer.TheVariants.{Giveup, Msl2}
+use Rattle.case_forms.specs.declared.trace.Header.{Header}
+use Rattle.hosts.specs.Tables.{pick}
+use Rattle.hosts.specs.Hosts.{World, Step, Effect, At, Expires, Makes, Called, Stamped, turn_of}
+use Rattle.hosts.specs.HostSteps.{after}
+use Rattle.machine.specs.declared.endpoint.Name.{Name}
+use Rattle.machine.specs.declared.endpoint.Endpoint.{Endpoint}
+use Rattle.machine.specs.declared.endpoint.Emission.{Emission}
+use Rattle.machine.specs.Bodies.{place_of}
+use Rattle.machine.specs.Endpoints.{max_made, next}
+use Rattle.machine.specs.Machine.{tcp, tcp_shape}
+use Rattle.machine_laws.specs.Runs.{world_at_end}
+use Rattle.machine_laws.specs.Consequences.{find}
+use Rattle.machine_laws.specs.Bounds.{TakesThere}
+
+-- the arrows of figure 5 at CLOSE (RFC 9293, 3.3.2 and 3.10.4); and ABORT closes in every state (3.10.5)
+abbrev pub call_leads : State → State → Bool
+call_leads states.Established states.FinWait1 = true
+call_leads states.CloseWait states.LastAck = true
+call_leads state states.Closed = true
+call_leads state _ = false
+
+-- those at a SYN and at an acknowledgment; and a reset closes in every state (note 3 there). From SYN-RECEIVED to FIN-WAIT-1 the figure leads at CLOSE: here CLOSE ends the sending, and the state follows with the acknowledgment of the SYN (this profile's own)
+abbrev pub segment_leads : State → State → Bool
+segment_leads states.SynSent states.SynReceived = true
+segment_leads states.SynSent states.Established = true
+segment_leads states.SynReceived states.Established = true
+segment_leads states.SynReceived states.FinWait1 = true
+segment_leads states.FinWait1 states.FinWait2 = true
+segment_leads states.Closing states.TimeWait = true
+segment_leads state states.Closed = true
+segment_leads state _ = false
+
+-- those at a FIN
+abbrev pub fin_leads : State → State → Bool
+fin_leads states.Established states.CloseWait = true
+fin_leads states.FinWait1 states.Closing = true
+fin_leads states.FinWait2 states.TimeWait = true
+fin_leads state _ = false
+
+-- a state stays, or one of these leads on from it
+abbrev pub StaysOr : (State → State → Bool) → State → State → Type 0
+StaysOr leads s t = (t ≡ s) ⊎ (leads s t ≡ true)
+
+-- a `shut`, a `close` or an `abort` has its effect
+abbrev pub ends : Call → Bool
+ends (calls.Shut n) = true
+ends (calls.Close n) = true
+ends (calls.Abort n) = true
+ends _ = false
+
+abbrev pub CallEnds : World tcp_shape → Step tcp_shape → Type 0
+CallEnds w step = (thread : ℕ) × (answer : Answer) × (call : Call) × (step ≡ Effect thread answer) × (turn_of thread w.threads ≡ Called call) × (ends call ≡ true)
+
+-- TIME-WAIT is over, or the endpoint gives up (RFC 9293, 3.6.1 and 3.8.3)
+abbrev pub closes : Timer → Bool
+closes Msl2 = true
+closes Giveup = true
+closes _ = false
+
+abbrev pub TimerCloses : World tcp_shape → Step tcp_shape → Name → Type 0
+TimerCloses w step me = (line : ℕ) × (x : Expiry) × (growth : Growth) × (step ≡ At me.host (Expires line x growth)) × (closes x.timer ≡ true)
+    × (place_of (pick w.hosts me.host).body x.lport x.rport ≡ Some me.number)
+
+-- the endpoint makes a reset
+abbrev pub MakesReset : World tcp_shape → Step tcp_shape → Name → Type 0
+MakesReset w step me = (m : SegmentPlan) × (step ≡ At me.host (Makes m)) × (m.flags.rst ≡ true) × (place_of (pick w.hosts me.host).body m.lport m.rport ≡ Some me.number)
+
+-- from the state of an endpoint a step may lead to this one
+pub data MayLead (w : World tcp_shape) (step : Step tcp_shape) (me : Name) (e : Endpoint) (t : State) : Type 0 where
+  Stays : t ≡ e.state → MayLead w step me e t
+  ByCall : CallEnds w step → call_leads e.state t ≡ true → MayLead w step me e t
+  -- the endpoint takes a segment: its SYN or its acknowledgment may lead on, and from there its FIN (note 2 at figure 5)
+  BySegment : (m : Emission) (between : State) → TakesThere w step me e m → StaysOr segment_leads e.state between → StaysOr fin_leads between t → MayLead w step me e t
+  ByTimer : TimerCloses w step me → t ≡ states.Closed → MayLead w step me e t
+  ByReset : MakesReset w step me → t ≡ states.Closed → MayLead w step me e t
+
+-- a step leaves each endpoint there, in its state or in one to which the step may lead; and a new one begins in SYN-SENT, or as a child in SYN-RECEIVED
+pub record StatesFollow (h : Header) (moment : ℕ) (w : World tcp_shape) (step : Step tcp_shape) : Type 0 where
+  pub leads : (me : Name) (e : Endpoint) → find w.hosts me ≡ Some e → (f : Endpoint) × (find (after (tcp h) moment w step).hosts me ≡ Some f) × MayLead w step me e f.state
+  pub begins : (me : Name) (f : Endpoint) → find w.hosts me ≡ None → find (after (tcp h) moment w step).hosts me ≡ Some f → (f.state ≡ states.SynSent) ⊎ (f.state ≡ states.SynReceived)
+
+-- none of these is below what it was (RFC 9293, 3.3.1): SND.UNA, SND.NXT at its greatest, RCV.NXT, and the greatest RCV.NXT + RCV.WND that was offered
+pub record NoneFalls (e f : Endpoint) : Type 0 where
+  pub una : e.stream.una ≤ f.stream.una
+  pub made : max_made e ≤ max_made f
+  pub next : next e ≤ next f
+  pub edge : e.window.edge ≤ f.window.edge
+
+-- so it is with each endpoint over a step behind a run
+abbrev pub PositionsNeverFall : Header → List (Stamped tcp_shape) → Stamped tcp_shape → Type 0
+PositionsNeverFall h steps x = (me : Name) (e : Endpoint) → find (world_at_end h steps).hosts me ≡ Some e
+    → (f : Endpoint) × (find (after (tcp h) x.moment (world_at_end h steps) x.step).hosts me ≡ Some f) × NoneFalls e f
