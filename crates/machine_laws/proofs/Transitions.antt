@@ -61,8 +61,8 @@ use Rattle.machine.specs.Machine.{Calls, tcp, tcp_shape, aim}
 use Rattle.machine_laws.specs.Runs.{world_at_end}
 use Rattle.machine_laws.specs.Consequences.{find}
 use Rattle.machine_laws.specs.Bounds.{TakesThere}
-use Rattle.machine_laws.specs.Transitions.{StaysOr, call_leads, segment_leads, fin_leads, closes, CallEnds, TimerCloses, MayLead, Stays, ByCall, BySegment, ByTimer, ByReset, StatesFollow, PositionsNeverFall}
-use Rattle.machine_laws.proofs.Rules.{on_cases, map_or_cases}
+use Rattle.machine_laws.specs.Transitions.{StaysOr, close_leads, segment_leads, fin_leads, closed_number, left_number, CallsOn, closes, TimerCloses, MayLead, Stays, ByClose, ByAbort, ByListener, BySegment, ByTimer, ByReset, StatesFollow, PositionsNeverFall}
+use Rattle.machine_laws.proofs.Rules.{on_cases, map_or_cases, map_or_true, number_same}
 use Rattle.machine_laws.proofs.Later.{Hosts, name}
 use Rattle.machine_laws.proofs.Moves.{with_cases, modify_each, map_onward, map_back}
 use Rattle.machine_laws.proofs.Takes.{taker_there}
@@ -120,12 +120,7 @@ gone_at_ports w step host b lport rport f new = map_or_cases (λ (x : Body). Gon
 
 -- 1. one endpoint
 
--- every state leads to CLOSED by these
-call_closes : (s : State) → call_leads s states.Closed ≡ true
-call_closes states.Established = refl
-call_closes states.CloseWait = refl
-call_closes s = refl
-
+-- a reset leads to CLOSED from every state
 segment_closes : (s : State) → segment_leads s states.Closed ≡ true
 segment_closes states.SynSent = refl
 segment_closes states.SynReceived = refl
@@ -133,7 +128,7 @@ segment_closes states.FinWait1 = refl
 segment_closes states.Closing = refl
 segment_closes s = refl
 
-ended_leads : (s : State) → StaysOr call_leads s (ended_state s)
+ended_leads : (s : State) → StaysOr close_leads s (ended_state s)
 ended_leads states.Established = inr refl
 ended_leads states.CloseWait = inr refl
 ended_leads s = inl refl
@@ -273,45 +268,57 @@ gone_deed h s w host (Answers line) = let k = pick w.hosts host in let step : St
 
 -- 3. calls
 
--- the same for every endpoint
-abbrev Each : World tcp_shape → Step tcp_shape → (Endpoint → Endpoint) → Type 0
-Each w step f = (me : Name) (e : Endpoint) → Goes w step me e (f e)
+-- the endpoint that a socket number names changes
+abbrev AtNumber : World tcp_shape → Step tcp_shape → Host → ℕ → (Endpoint → Endpoint) → Type 0
+AtNumber w step host n f = (i : ℕ) (e : Endpoint) → thing_of (pick w.hosts host).body n ≡ Some (Ends i) → Goes w step (name host i) e (f e)
 
-gone_change : (w : World tcp_shape) (step : Step tcp_shape) (host : Host) (b : Body) (n : ℕ) (f : Endpoint → Endpoint) → Each w step f → Gone w step host b.endpoints (option_map_or (change_thing b f) (thing_of b n) b).endpoints
-gone_change w step host b n f new = map_or_cases (λ (x : Body). Gone w step host b.endpoints x.endpoints) (thing_of b n) b (change_thing b f) (λ e. gone_not w step host b.endpoints) (λ thing e. go thing)
+gone_change : (w : World tcp_shape) (step : Step tcp_shape) (host : Host) (n : ℕ) (f : Endpoint → Endpoint) → AtNumber w step host n f
+    → Gone w step host (pick w.hosts host).body.endpoints (option_map_or (change_thing (pick w.hosts host).body f) (thing_of (pick w.hosts host).body n) (pick w.hosts host).body).endpoints
+gone_change w step host n f new = let b = (pick w.hosts host).body in
+    map_or_cases (λ (x : Body). Gone w step host b.endpoints x.endpoints) (thing_of b n) b (change_thing b f) (λ e. gone_not w step host b.endpoints) (λ thing e. go thing e)
   where
-    go : (thing : Thing) → Gone w step host b.endpoints (change_thing b f thing).endpoints
-    go (Listens l) = gone_not w step host b.endpoints
-    go (Ends i) = gone_one w step host b.endpoints i f (λ e at. new (name host i) e)
+    go : (thing : Thing) → thing_of (pick w.hosts host).body n ≡ Some thing → Gone w step host (pick w.hosts host).body.endpoints (change_thing (pick w.hosts host).body f thing).endpoints
+    go (Listens l) is = gone_not w step host (pick w.hosts host).body.endpoints
+    go (Ends i) is = gone_one w step host (pick w.hosts host).body.endpoints i f (λ e at. new i e is)
 
-abort_goes : (w : World tcp_shape) (step : Step tcp_shape) → CallEnds w step → Each w step after_abort
-abort_goes w step c me e = (ByCall c (call_closes e.state), level e)
-
-shut_goes : (w : World tcp_shape) (step : Step tcp_shape) → CallEnds w step → Each w step after_shut
-shut_goes w step c me e = (go (ended_leads e.state), level e)
+-- a `shut` or a `close`
+shut_goes : (w : World tcp_shape) (step : Step tcp_shape) (me : Name) (e : Endpoint) → CallsOn closed_number w step me.host (Ends me.number) → Goes w step me e (after_shut e)
+shut_goes w step me e c = (go (ended_leads e.state), level e)
   where
-    go : StaysOr call_leads e.state (ended_state e.state) → MayLead w step me e (ended_state e.state)
+    go : StaysOr close_leads e.state (ended_state e.state) → MayLead w step me e (ended_state e.state)
     go (inl same) = Stays same
-    go (inr leads) = ByCall c leads
+    go (inr leads) = ByClose c leads
 
-close_goes : (w : World tcp_shape) (step : Step tcp_shape) → CallEnds w step → Each w step after_close
-close_goes w step c me e = go (is_syn_sent e.state)
+syn_sent_closes : (s : State) → is_syn_sent s ≡ true → close_leads s states.Closed ≡ true
+syn_sent_closes states.SynSent is = refl
+syn_sent_closes s is = absurd cc
+
+close_goes : (w : World tcp_shape) (step : Step tcp_shape) (me : Name) (e : Endpoint) → CallsOn closed_number w step me.host (Ends me.number) → Goes w step me e (after_close e)
+close_goes w step me e c = go (is_syn_sent e.state) refl
   where
-    go : (b : Bool) → Goes w step me e (record (if b then shut_down (record e { stream = record e.stream { ended = true } }) else after_shut e) { closed = true })
-    go true = (ByCall c (call_closes e.state), level e)
-    go false = shut_goes w step c me e
+    go : (b : Bool) → is_syn_sent e.state ≡ b → Goes w step me e (record (if b then shut_down (record e { stream = record e.stream { ended = true } }) else after_shut e) { closed = true })
+    go true is = (ByClose c (syn_sent_closes e.state is), level e)
+    go false is = shut_goes w step me e c
 
-gone_gone : (w : World tcp_shape) (step : Step tcp_shape) (host : Host) (b : Body) (n : ℕ) (f : Endpoint → Endpoint) → CallEnds w step → Each w step f
-    → Gone w step host b.endpoints (option_map_or (λ thing. record (thing_gone b thing f) { sockets = dead b.sockets n }) (thing_of b n) b).endpoints
-gone_gone w step host b n f c new = map_or_cases (λ (x : Body). Gone w step host b.endpoints x.endpoints) (thing_of b n) b (λ thing. record (thing_gone b thing f) { sockets = dead b.sockets n }) (λ e. gone_not w step host b.endpoints) (λ thing e. go thing)
+-- the children of a listener that is left
+orphan_goes : (w : World tcp_shape) (step : Step tcp_shape) (me : Name) (e : Endpoint) (l : ℕ) → CallsOn left_number w step me.host (Listens l) → Goes w step me e (orphaned l e)
+orphan_goes w step me e l c = go (option_map_or (λ holder. holder == l) e.listener false) refl
   where
-    orphan : (me : Name) (e : Endpoint) (b : Bool) → Goes w step me e (if b then after_abort e else e)
-    orphan me e true = abort_goes w step c me e
-    orphan me e false = stays w step me e
+    go : (b : Bool) → option_map_or (λ holder. holder == l) e.listener false ≡ b → Goes w step me e (if b then after_abort e else e)
+    go true is =
+        let x = map_or_true e.listener (λ holder. holder == l) is in
+        (ByListener l (x.1 ∙ ap (λ k. Some k) (number_same x.0 l x.2)) c refl, level e)
+    go false is = stays w step me e
 
-    go : (thing : Thing) → Gone w step host b.endpoints (thing_gone b thing f).endpoints
-    go (Listens l) = gone_map w step host b.endpoints (orphaned l) (λ i e. orphan (name host i) e (option_map_or (λ holder. holder == l) e.listener false))
-    go (Ends i) = gone_one w step host b.endpoints i f (λ e at. new (name host i) e)
+gone_gone : (w : World tcp_shape) (step : Step tcp_shape) (host : Host) (n : ℕ) (f : Endpoint → Endpoint) → AtNumber w step host n f
+    → ((l : ℕ) → thing_of (pick w.hosts host).body n ≡ Some (Listens l) → CallsOn left_number w step host (Listens l))
+    → Gone w step host (pick w.hosts host).body.endpoints (option_map_or (λ thing. record (thing_gone (pick w.hosts host).body thing f) { sockets = dead (pick w.hosts host).body.sockets n }) (thing_of (pick w.hosts host).body n) (pick w.hosts host).body).endpoints
+gone_gone w step host n f new left = let b = (pick w.hosts host).body in
+    map_or_cases (λ (x : Body). Gone w step host b.endpoints x.endpoints) (thing_of b n) b (λ thing. record (thing_gone b thing f) { sockets = dead b.sockets n }) (λ e. gone_not w step host b.endpoints) (λ thing e. go thing e)
+  where
+    go : (thing : Thing) → thing_of (pick w.hosts host).body n ≡ Some thing → Gone w step host (pick w.hosts host).body.endpoints (thing_gone (pick w.hosts host).body thing f).endpoints
+    go (Listens l) is = gone_map w step host (pick w.hosts host).body.endpoints (orphaned l) (λ i e. orphan_goes w step (name host i) e l (left l is))
+    go (Ends i) is = gone_one w step host (pick w.hosts host).body.endpoints i f (λ e at. new i e is)
 
 gone_accept : (w : World tcp_shape) (step : Step tcp_shape) (host : Host) (b : Body) (n : ℕ) (thing : Thing) → Gone w step host b.endpoints (after_accept b n thing).endpoints
 gone_accept w step host b n (Ends i) = gone_not w step host b.endpoints
@@ -321,20 +328,23 @@ gone_accept w step host b n (Listens l) = go (queue_of b l)
     go [] = gone_not w step host b.endpoints
     go (c ∷ queue) = gone_one w step host b.endpoints c (λ e. record e { listener = None }) (λ e at. (Stays refl, level e))
 
-gone_call : (w : World tcp_shape) (thread : ℕ) (host : Host) (b : Body) (call : Call) (answer : Answer) → turn_of thread w.threads ≡ Called call → Gone w (Effect thread answer) host b.endpoints (after_call b call answer).endpoints
-gone_call w thread host b (calls.Listen at port backlog) (answers.Given n) turn = gone_not w (Effect thread (answers.Given n)) host b.endpoints
-gone_call w thread host b (calls.Connect at lport rport) (answers.Given n) turn = gone_push w (Effect thread (answers.Given n)) host b.endpoints (new_endpoint lport rport None states.SynSent) (inl refl)
-gone_call w thread host b (calls.Accept h) (answers.Given n) turn = map_or_cases (λ (x : Body). Gone w (Effect thread (answers.Given n)) host b.endpoints x.endpoints) (thing_of b h) b (after_accept b n)
-    (λ e. gone_not w (Effect thread (answers.Given n)) host b.endpoints) (λ thing e. gone_accept w (Effect thread (answers.Given n)) host b n thing)
-gone_call w thread host b (calls.Send h bytes) (answers.Given n) turn = gone_change w (Effect thread (answers.Given n)) host b h (after_send bytes n) (λ me e. (Stays refl, level e))
-gone_call w thread host b (calls.Recv h most) (answers.Bytes bytes) turn = gone_change w (Effect thread (answers.Bytes bytes)) host b h (after_recv bytes) (λ me e. (Stays refl, level e))
-gone_call w thread host b (calls.Shut h) answers.Done turn = let c : CallEnds w (Effect thread answers.Done) = (thread, answers.Done, calls.Shut h, refl, turn, refl) in
-    gone_change w (Effect thread answers.Done) host b h after_shut (shut_goes w (Effect thread answers.Done) c)
-gone_call w thread host b (calls.Close h) answers.Done turn = let c : CallEnds w (Effect thread answers.Done) = (thread, answers.Done, calls.Close h, refl, turn, refl) in
-    gone_gone w (Effect thread answers.Done) host b h after_close c (close_goes w (Effect thread answers.Done) c)
-gone_call w thread host b (calls.Abort h) answers.Done turn = let c : CallEnds w (Effect thread answers.Done) = (thread, answers.Done, calls.Abort h, refl, turn, refl) in
-    gone_gone w (Effect thread answers.Done) host b h after_abort c (abort_goes w (Effect thread answers.Done) c)
-gone_call w thread host b call answer turn = gone_not w (Effect thread answer) host b.endpoints
+gone_call : (w : World tcp_shape) (thread : ℕ) (host : Host) (call : Call) (answer : Answer) → turn_of thread w.threads ≡ Called call
+    → Gone w (Effect thread answer) host (pick w.hosts host).body.endpoints (after_call (pick w.hosts host).body call answer).endpoints
+gone_call w thread host (calls.Listen at port backlog) (answers.Given n) turn = gone_not w (Effect thread (answers.Given n)) host (pick w.hosts host).body.endpoints
+gone_call w thread host (calls.Connect at lport rport) (answers.Given n) turn = gone_push w (Effect thread (answers.Given n)) host (pick w.hosts host).body.endpoints (new_endpoint lport rport None states.SynSent) (inl refl)
+gone_call w thread host (calls.Accept h) (answers.Given n) turn = let b = (pick w.hosts host).body in let step : Step tcp_shape = Effect thread (answers.Given n) in
+    map_or_cases (λ (x : Body). Gone w step host b.endpoints x.endpoints) (thing_of b h) b (after_accept b n) (λ e. gone_not w step host b.endpoints) (λ thing e. gone_accept w step host b n thing)
+gone_call w thread host (calls.Send h bytes) (answers.Given n) turn = gone_change w (Effect thread (answers.Given n)) host h (after_send bytes n) (λ i e is. (Stays refl, level e))
+gone_call w thread host (calls.Recv h most) (answers.Bytes bytes) turn = gone_change w (Effect thread (answers.Bytes bytes)) host h (after_recv bytes) (λ i e is. (Stays refl, level e))
+gone_call w thread host (calls.Shut h) answers.Done turn = gone_change w (Effect thread answers.Done) host h after_shut
+    (λ i e is. shut_goes w (Effect thread answers.Done) (name host i) e (thread, answers.Done, calls.Shut h, h, refl, turn, refl, is))
+gone_call w thread host (calls.Close h) answers.Done turn = gone_gone w (Effect thread answers.Done) host h after_close
+    (λ i e is. close_goes w (Effect thread answers.Done) (name host i) e (thread, answers.Done, calls.Close h, h, refl, turn, refl, is))
+    (λ l is. (thread, answers.Done, calls.Close h, h, refl, turn, refl, is))
+gone_call w thread host (calls.Abort h) answers.Done turn = gone_gone w (Effect thread answers.Done) host h after_abort
+    (λ i e is. (ByAbort (thread, answers.Done, calls.Abort h, h, refl, turn, refl, is) refl, level e))
+    (λ l is. (thread, answers.Done, calls.Abort h, h, refl, turn, refl, is))
+gone_call w thread host call answer turn = gone_not w (Effect thread answer) host (pick w.hosts host).body.endpoints
 
 -- 4. both hosts
 
@@ -355,7 +365,7 @@ both_step h s w (Effect t answer) = go (turn_of t w.threads) refl
   where
     by : (call : Call) (o : Option Host) → turn_of t w.threads ≡ Called call → BothGo w (Effect t answer) (call_after (tcp h) s w.hosts (Calls call answer) o)
     by call None turn = both_not w (Effect t answer)
-    by call (Some host) turn = both_host w (Effect t answer) host (record (pick w.hosts host) { body = after_call (pick w.hosts host).body call answer }) (gone_call w t host (pick w.hosts host).body call answer turn)
+    by call (Some host) turn = both_host w (Effect t answer) host (record (pick w.hosts host) { body = after_call (pick w.hosts host).body call answer }) (gone_call w t host call answer turn)
 
     go : (u : Turn tcp_shape) → turn_of t w.threads ≡ u → BothGo w (Effect t answer) (effect_after (tcp h) s w t answer u).hosts
     go Idle is = both_not w (Effect t answer)

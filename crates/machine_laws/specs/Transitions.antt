@@ -1,8 +1,9 @@
 -- How a step may change the state of an endpoint, and which of its positions never fall (RFC 9293, 3.3.1 and 3.3.2).
-use Rattle.std.specs.Prelude.{◌≡◌, ◌≤◌, ◌⊎◌, ℕ, Bool, true, false, List, None, Some}
+use Rattle.std.specs.Prelude.{◌≡◌, ◌≤◌, ◌⊎◌, ℕ, Bool, true, false, List, Option, None, Some}
 use Rattle.case_forms.specs.declared.calls.Answer.{Answer}
 use Rattle.case_forms.specs.declared.calls.Call.{Call}
 use Rattle.case_forms.specs.declared.calls.Call.TheVariants as calls
+use Rattle.case_forms.specs.declared.calls.Host.{Host}
 use Rattle.case_forms.specs.declared.calls.State.{State}
 use Rattle.case_forms.specs.declared.calls.State.TheVariants as states
 use Rattle.case_forms.specs.declared.steps.SegmentPlan.{SegmentPlan}
@@ -17,19 +18,21 @@ use Rattle.hosts.specs.HostSteps.{after}
 use Rattle.machine.specs.declared.endpoint.Name.{Name}
 use Rattle.machine.specs.declared.endpoint.Endpoint.{Endpoint}
 use Rattle.machine.specs.declared.endpoint.Emission.{Emission}
-use Rattle.machine.specs.Bodies.{place_of}
+use Rattle.machine.specs.declared.endpoint.Thing.{Thing}
+use Rattle.machine.specs.declared.endpoint.Thing.TheVariants.{Listens, Ends}
+use Rattle.machine.specs.Bodies.{place_of, thing_of}
 use Rattle.machine.specs.Endpoints.{max_made, next}
 use Rattle.machine.specs.Machine.{tcp, tcp_shape}
 use Rattle.machine_laws.specs.Runs.{world_at_end}
 use Rattle.machine_laws.specs.Consequences.{find}
 use Rattle.machine_laws.specs.Bounds.{TakesThere}
 
--- the arrows of figure 5 at CLOSE (RFC 9293, 3.3.2 and 3.10.4); and ABORT closes in every state (3.10.5)
-abbrev pub call_leads : State → State → Bool
-call_leads states.Established states.FinWait1 = true
-call_leads states.CloseWait states.LastAck = true
-call_leads state states.Closed = true
-call_leads state _ = false
+-- the arrows of figure 5 at CLOSE, which `shut` and `close` are here (RFC 9293, 3.3.2 and 3.10.4)
+abbrev pub close_leads : State → State → Bool
+close_leads states.SynSent states.Closed = true
+close_leads states.Established states.FinWait1 = true
+close_leads states.CloseWait states.LastAck = true
+close_leads state _ = false
 
 -- those at a SYN and at an acknowledgment; and a reset closes in every state (note 3 there). From SYN-RECEIVED to FIN-WAIT-1 the figure leads at CLOSE: here CLOSE ends the sending, and the state follows with the acknowledgment of the SYN (this profile's own)
 abbrev pub segment_leads : State → State → Bool
@@ -53,15 +56,25 @@ fin_leads state _ = false
 abbrev pub StaysOr : (State → State → Bool) → State → State → Type 0
 StaysOr leads s t = (t ≡ s) ⊎ (leads s t ≡ true)
 
--- a `shut`, a `close` or an `abort` has its effect
-abbrev pub ends : Call → Bool
-ends (calls.Shut n) = true
-ends (calls.Close n) = true
-ends (calls.Abort n) = true
-ends _ = false
+-- the socket number that a call closes, that it aborts, and that it does either to
+abbrev pub closed_number : Call → Option ℕ
+closed_number (calls.Shut n) = Some n
+closed_number (calls.Close n) = Some n
+closed_number _ = None
 
-abbrev pub CallEnds : World tcp_shape → Step tcp_shape → Type 0
-CallEnds w step = (thread : ℕ) × (answer : Answer) × (call : Call) × (step ≡ Effect thread answer) × (turn_of thread w.threads ≡ Called call) × (ends call ≡ true)
+abbrev pub aborted_number : Call → Option ℕ
+aborted_number (calls.Abort n) = Some n
+aborted_number _ = None
+
+abbrev pub left_number : Call → Option ℕ
+left_number (calls.Close n) = Some n
+left_number (calls.Abort n) = Some n
+left_number _ = None
+
+-- the step is the effect of such a call, whose socket number names this at that host
+abbrev pub CallsOn : (Call → Option ℕ) → World tcp_shape → Step tcp_shape → Host → Thing → Type 0
+CallsOn number w step host thing = (thread : ℕ) × (answer : Answer) × (call : Call) × (n : ℕ) × (step ≡ Effect thread answer)
+    × (turn_of thread w.threads ≡ Called call) × (number call ≡ Some n) × (thing_of (pick w.hosts host).body n ≡ Some thing)
 
 -- TIME-WAIT is over, or the endpoint gives up (RFC 9293, 3.6.1 and 3.8.3)
 abbrev pub closes : Timer → Bool
@@ -80,7 +93,10 @@ MakesReset w step me = (m : SegmentPlan) × (step ≡ At me.host (Makes m)) × (
 -- from the state of an endpoint a step may lead to this one
 pub data MayLead (w : World tcp_shape) (step : Step tcp_shape) (me : Name) (e : Endpoint) (t : State) : Type 0 where
   Stays : t ≡ e.state → MayLead w step me e t
-  ByCall : CallEnds w step → call_leads e.state t ≡ true → MayLead w step me e t
+  ByClose : CallsOn closed_number w step me.host (Ends me.number) → close_leads e.state t ≡ true → MayLead w step me e t
+  ByAbort : CallsOn aborted_number w step me.host (Ends me.number) → t ≡ states.Closed → MayLead w step me e t
+  -- its listener is closed or aborted before the endpoint is accepted
+  ByListener : (l : ℕ) → e.listener ≡ Some l → CallsOn left_number w step me.host (Listens l) → t ≡ states.Closed → MayLead w step me e t
   -- the endpoint takes a segment: its SYN or its acknowledgment may lead on, and from there its FIN (note 2 at figure 5)
   BySegment : (m : Emission) (between : State) → TakesThere w step me e m → StaysOr segment_leads e.state between → StaysOr fin_leads between t → MayLead w step me e t
   ByTimer : TimerCloses w step me → t ≡ states.Closed → MayLead w step me e t

@@ -54,10 +54,11 @@ pub fn windows_follow()
     ensures { (h : Header) (moment : ℕ) (w : World tcp_shape) (step : Step tcp_shape) → Permitted (tcp h) moment w step → WindowsFollow h moment w step }
 {}
 
-/// A step leaves an endpoint in its state, or in one to which figure 5 of RFC 9293, 3.3.2, leads at such a step: at a call that
-/// ends the sending or aborts, at a segment that the endpoint takes, with its SYN or its acknowledgment first and then its FIN,
-/// and to CLOSED where TIME-WAIT is over, where the endpoint gives up and where it makes a reset. A new endpoint begins in
-/// SYN-SENT, or as the child of a listener in SYN-RECEIVED. So it is of every step in every world.
+/// A step leaves an endpoint in its state, or in one to which an arrow of RFC 9293, 3.3.2, figure 5, leads at such a step: at a
+/// `shut` or a `close` of its socket number; at a segment that it takes, whose SYN or acknowledgment comes first and then its
+/// FIN. It is CLOSED by a reset, by an `abort`, where its listener goes before it is accepted, where TIME-WAIT is over, where it
+/// gives up, and where it makes a reset. A new endpoint begins in SYN-SENT, or as a child in SYN-RECEIVED. So it is with every
+/// step in every world.
 pub fn states_follow()
     ensures { (h : Header) (moment : ℕ) (w : World tcp_shape) (step : Step tcp_shape) → StatesFollow h moment w step }
 {}
