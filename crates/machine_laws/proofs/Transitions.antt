@@ -6,6 +6,7 @@ use Rattle.std.proofs.Math.Nat.{le_refl, le-max_left, le-add_right}
 use Rattle.std.proofs.lemmas.List.{length-append}
 use Rattle.std.proofs.lemmas.Option.{none-some, same_Some}
 use Rattle.case_forms.specs.States.{is_syn_sent}
+use Rattle.case_forms.specs.Versions.{is_half}
 use Rattle.case_forms.specs.declared.calls.Answer.{Answer}
 use Rattle.case_forms.specs.declared.calls.Answer.TheVariants as answers
 use Rattle.case_forms.specs.declared.calls.Call.{Call}
@@ -45,7 +46,7 @@ use Rattle.machine.specs.Calls.{change_thing, after_call}
 use Rattle.machine.specs.Makes.Payload.{making_length}
 use Rattle.machine.specs.Makes.Edges.{own_window}
 use Rattle.machine.specs.Makes.{endpoint_made, after_making}
-use Rattle.machine.specs.Heard.{as_read}
+use Rattle.machine.specs.Heard.{as_read, read_at}
 use Rattle.machine.specs.Arrives.Otherwise.Ack.{acknowledges_syn, fin_acknowledged, acknowledged}
 use Rattle.machine.specs.Arrives.Otherwise.Fin.{finished}
 use Rattle.machine.specs.Arrives.Otherwise.Reset.{was_reset}
@@ -61,7 +62,7 @@ use Rattle.machine.specs.Machine.{Calls, tcp, tcp_shape, aim}
 use Rattle.machine_laws.specs.Runs.{world_at_end}
 use Rattle.machine_laws.specs.Consequences.{find}
 use Rattle.machine_laws.specs.Bounds.{TakesThere}
-use Rattle.machine_laws.specs.Transitions.{StaysOr, close_leads, segment_leads, fin_leads, closed_number, left_number, CallsOn, closes, TimerCloses, MayLead, Stays, ByClose, ByAbort, ByListener, BySegment, ByTimer, ByReset, StatesFollow, PositionsNeverFall}
+use Rattle.machine_laws.specs.Transitions.{StaysOr, close_leads, segment_leads, fin_leads, closed_number, left_number, CallsOn, closes, TimerCloses, MayLead, Stays, ByClose, ByAbort, ByListener, BySegment, ByReset, ByOwnReset, ByTimer, StatesFollow, PositionsNeverFall}
 use Rattle.machine_laws.proofs.Rules.{on_cases, map_or_cases, map_or_true, number_same}
 use Rattle.machine_laws.proofs.Later.{Hosts, name}
 use Rattle.machine_laws.proofs.Moves.{with_cases, modify_each, map_onward, map_back}
@@ -120,14 +121,6 @@ gone_at_ports w step host b lport rport f new = map_or_cases (λ (x : Body). Gon
 
 -- 1. one endpoint
 
--- a reset leads to CLOSED from every state
-segment_closes : (s : State) → segment_leads s states.Closed ≡ true
-segment_closes states.SynSent = refl
-segment_closes states.SynReceived = refl
-segment_closes states.FinWait1 = refl
-segment_closes states.Closing = refl
-segment_closes s = refl
-
 ended_leads : (s : State) → StaysOr close_leads s (ended_state s)
 ended_leads states.Established = inr refl
 ended_leads states.CloseWait = inr refl
@@ -157,7 +150,7 @@ making_goes : (w : World tcp_shape) (s : ℕ) (host : Host) (m : SegmentPlan) (i
 making_goes w s host m i e at = go m.flags.rst refl
   where
     go : (b : Bool) → m.flags.rst ≡ b → Goes w (At host (Makes m)) (name host i) e (if b then record (shut_down (endpoint_made e m s)) { reset_due = false } else endpoint_made e m s)
-    go true is = (ByReset (m, refl, is, at) refl, making_rises e m s)
+    go true is = (ByOwnReset (m, refl, is, at) refl, making_rises e m s)
     go false is = (Stays refl, making_rises e m s)
 
 expiry_goes : (w : World tcp_shape) (s : ℕ) (host : Host) (line : ℕ) (x : Expiry) (growth : Growth) (i : ℕ) (e : Endpoint) → place_of (pick w.hosts host).body x.lport x.rport ≡ Some i
@@ -218,17 +211,25 @@ met_una : (b : Bool) (una : ℕ) → una ≤ (if b then max una 1 else una)
 met_una true una = le-max_left una 1
 met_una false una = le_refl una
 
-taking_goes : (h : Header) (w : World tcp_shape) (step : Step tcp_shape) (me : Name) (e : Endpoint) (how : TakeChoice) (m r : Emission) (moment : ℕ) → TakesThere w step me e m → Goes w step me e (endpoint_taken h e how r moment)
-taking_goes h w step me e how m r moment there = go r.flags.rst (is_syn_sent e.state) refl
+same_reset : (h : Header) (e : Endpoint) (m : Emission) → (as_read h.version e m).flags.rst ≡ m.flags.rst
+same_reset h e m = go (is_half h.version)
   where
-    go : (b c : Bool) → is_syn_sent e.state ≡ c → Goes w step me e (if b then was_reset e how else if c then met_peer h e how r moment else segment_taken h e how r moment)
-    go true c is = (BySegment m states.Closed there (inr (segment_closes e.state)) (inl refl), level e)
-    go false true is = (
-      BySegment m (met_peer h e how r moment).state there (inr (met_leads e.state is r.flags.ack)) (inl refl),
+    go : (b : Bool) → (if b then read_at e m else m).flags.rst ≡ m.flags.rst
+    go true = refl
+    go false = refl
+
+taking_goes : (h : Header) (w : World tcp_shape) (step : Step tcp_shape) (me : Name) (e : Endpoint) (how : TakeChoice) (m r : Emission) (moment : ℕ) → r.flags.rst ≡ m.flags.rst → TakesThere w step me e m
+    → Goes w step me e (endpoint_taken h e how r moment)
+taking_goes h w step me e how m r moment same there = go r.flags.rst (is_syn_sent e.state) same refl
+  where
+    go : (b c : Bool) → b ≡ m.flags.rst → is_syn_sent e.state ≡ c → Goes w step me e (if b then was_reset e how else if c then met_peer h e how r moment else segment_taken h e how r moment)
+    go true c rst is = (ByReset m there (sym rst) refl, level e)
+    go false true rst is = (
+      BySegment m (met_peer h e how r moment).state there (sym rst) (inr (met_leads e.state is r.flags.ack)) (inl refl),
       (met_una r.flags.ack e.stream.una, le_refl (max_made e), le_refl e.window.edge),
     )
-    go false false is = (
-      BySegment m (acknowledged e.state e r) there (acknowledged_leads e.state e r) (finished_leads (acknowledged e.state e r) (is_ended (receive_after e how r))),
+    go false false rst is = (
+      BySegment m (acknowledged e.state e r) there (sym rst) (acknowledged_leads e.state e r) (finished_leads (acknowledged e.state e r) (is_ended (receive_after e how r))),
       (le-max_left e.stream.una r.ack, le_refl (max_made e), taken_edge e r),
     )
 
@@ -247,7 +248,7 @@ gone_taking h s w host line how m waits = go (taker (pick w.hosts host).body m) 
     go (AtEndpoint i e) is = gone_one w (At host (Takes line how)) host b.endpoints i (λ x. endpoint_taken h x how (as_read h.version e m) s)
         (λ x there.
         let one : e ≡ x = same_Some e x (sym (taker_there b m i e is) ∙ there) in
-        taking_goes h w (At host (Takes line how)) (name host i) x how m (as_read h.version e m) s (line, how, refl, waits, is ∙ ap (λ (y : Endpoint). AtEndpoint i y) one))
+        taking_goes h w (At host (Takes line how)) (name host i) x how m (as_read h.version e m) s (same_reset h e m) (line, how, refl, waits, is ∙ ap (λ (y : Endpoint). AtEndpoint i y) one))
 
 gone_deed : (h : Header) (s : ℕ) (w : World tcp_shape) (host : Host) (d : Deed tcp_shape)
     → Gone w (At host d) host (pick w.hosts host).body.endpoints (deed_after (tcp h) host s (suc w.count) (pick w.hosts (other host)).wire (pick w.hosts host) d).body.endpoints

@@ -34,7 +34,7 @@ close_leads states.Established states.FinWait1 = true
 close_leads states.CloseWait states.LastAck = true
 close_leads state _ = false
 
--- those at a SYN and at an acknowledgment; and a reset closes in every state (note 3 there). From SYN-RECEIVED to FIN-WAIT-1 the figure leads at CLOSE: here CLOSE ends the sending, and the state follows with the acknowledgment of the SYN (this profile's own)
+-- those at a SYN and at an acknowledgment. From SYN-RECEIVED to FIN-WAIT-1 the figure leads at CLOSE: here CLOSE ends the sending, and the state follows with the acknowledgment of the SYN (this profile's own)
 abbrev pub segment_leads : State → State → Bool
 segment_leads states.SynSent states.SynReceived = true
 segment_leads states.SynSent states.Established = true
@@ -42,7 +42,7 @@ segment_leads states.SynReceived states.Established = true
 segment_leads states.SynReceived states.FinWait1 = true
 segment_leads states.FinWait1 states.FinWait2 = true
 segment_leads states.Closing states.TimeWait = true
-segment_leads state states.Closed = true
+segment_leads states.LastAck states.Closed = true
 segment_leads state _ = false
 
 -- those at a FIN
@@ -97,10 +97,12 @@ pub data MayLead (w : World tcp_shape) (step : Step tcp_shape) (me : Name) (e : 
   ByAbort : CallsOn aborted_number w step me.host (Ends me.number) → t ≡ states.Closed → MayLead w step me e t
   -- its listener is closed or aborted before the endpoint is accepted
   ByListener : (l : ℕ) → e.listener ≡ Some l → CallsOn left_number w step me.host (Listens l) → t ≡ states.Closed → MayLead w step me e t
-  -- the endpoint takes a segment: its SYN or its acknowledgment may lead on, and from there its FIN (note 2 at figure 5)
-  BySegment : (m : Emission) (between : State) → TakesThere w step me e m → StaysOr segment_leads e.state between → StaysOr fin_leads between t → MayLead w step me e t
+  -- the endpoint takes a segment without RST: its SYN or its acknowledgment may lead on, and from there its FIN (note 2 at figure 5)
+  BySegment : (m : Emission) (between : State) → TakesThere w step me e m → m.flags.rst ≡ false → StaysOr segment_leads e.state between → StaysOr fin_leads between t → MayLead w step me e t
+  -- it takes one with RST (note 3 there)
+  ByReset : (m : Emission) → TakesThere w step me e m → m.flags.rst ≡ true → t ≡ states.Closed → MayLead w step me e t
+  ByOwnReset : MakesReset w step me → t ≡ states.Closed → MayLead w step me e t
   ByTimer : TimerCloses w step me → t ≡ states.Closed → MayLead w step me e t
-  ByReset : MakesReset w step me → t ≡ states.Closed → MayLead w step me e t
 
 -- a step leaves each endpoint there, in its state or in one to which the step may lead; and a new one begins in SYN-SENT, or as a child in SYN-RECEIVED
 pub record StatesFollow (h : Header) (moment : ℕ) (w : World tcp_shape) (step : Step tcp_shape) : Type 0 where
