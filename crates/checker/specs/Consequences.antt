@@ -1,5 +1,6 @@
 -- What follows, of a trace and a witness that explains it, for the bytes of streams and for windows (RFC 9293, 3.4, 3.8 and 3.10; RFC 5681, 3.1 and 3.2).
-use Rattle.std.specs.Prelude.{◌≡◌, ℕ, List, Some, slice_get, take}
+use Rattle.std.specs.Prelude.{◌≡◌, ℕ, false, List, Some, slice_get, take}
+use Rattle.case_forms.specs.Versions.{is_half}
 use Rattle.case_forms.specs.declared.trace.Header.{Header}
 use Rattle.case_forms.specs.declared.trace.Trace.{Trace}
 use Rattle.case_forms.specs.declared.calls.Host.{Host}
@@ -9,6 +10,7 @@ use Rattle.case_forms.specs.declared.steps.SegmentPlan.{SegmentPlan}
 use Rattle.machine.specs.Machine.{tcp_shape}
 use Rattle.machine_laws.specs.Runs.{world_at_end}
 use Rattle.machine_laws.specs.Consequences.{ReceivedIsAPrefix, EndIsWhole, AcknowledgedWasTaken}
+use Rattle.machine_laws.specs.Carried.{ReadsWereCarried}
 use Rattle.machine_laws.specs.Bounds.{NewDataFits, WindowsFollow}
 use Rattle.checker.specs.Seen.{stamped}
 
@@ -19,6 +21,14 @@ steps_of t w = stamped t.header t.lines w.steps
 -- what holds of each step, with the steps before it
 abbrev pub EachStep : List (Stamped tcp_shape) → (List (Stamped tcp_shape) → Stamped tcp_shape → Type 0) → Type 0
 EachStep steps P = (place : ℕ) (x : Stamped tcp_shape) → slice_get steps place ≡ Some x → P (take place steps) x
+
+-- both hosts are recorded: the case is no half case
+abbrev pub AreBothRecorded : Trace → Type 0
+AreBothRecorded t = is_half t.header.version ≡ false
+
+-- each byte that the reads on a socket number were told, and the end where they were told it, came with a segment that was taken at its endpoint; so it is in half cases, too
+abbrev pub AllReadsWereCarried : Trace → Witness → Type 0
+AllReadsWereCarried t w = ReadsWereCarried t.header (steps_of t w)
 
 -- what the reads on a socket number were told is how the bytes begin that the sends of its peer accepted
 abbrev pub ReadsBeginWhatWasSent : Trace → Witness → Type 0

@@ -15,10 +15,12 @@ ghost use Rattle.checker.specs.Explains.{Explains, IsYes};
 ghost use Rattle.checker.specs.Peers.{AllPeersAreMet, EachPeerWasMet};
 ghost use Rattle.checker.specs.Again.{HaveTwo, without_spans};
 ghost use Rattle.machine_laws.specs.Consequences.{ReceivedIsAPrefix, EndIsWhole};
-ghost use Rattle.checker.specs.Consequences.{steps_of, ReadsBeginWhatWasSent, EndsAreWhole, AllAcknowledgedWasTaken, AllKeepWindows};
+ghost use Rattle.machine_laws.specs.Carried.{ReadsWereCarried};
+ghost use Rattle.checker.specs.Consequences.{steps_of, AreBothRecorded, ReadsBeginWhatWasSent, EndsAreWhole, AllAcknowledgedWasTaken, AllReadsWereCarried, AllKeepWindows};
 
 use machine_laws::{
-    acknowledged_was_taken, end_is_whole, new_data_fits, received_is_a_prefix, windows_follow,
+    acknowledged_was_taken, end_is_whole, new_data_fits, reads_were_carried, received_is_a_prefix,
+    windows_follow,
 };
 
 /// Where a witness explains a trace, a line that precedes another in the interval order (of one thread and with the
@@ -39,14 +41,17 @@ pub fn yes_counts_all_lines()
 
 /// What follows for streams and windows where the witness explains the trace.
 pub fn explained_follows()
-    // What reads were told is how the bytes begin that the peer's sends accepted.
-    ensures received { (t : Trace) (w : Witness) → Explains t w → ReadsBeginWhatWasSent t w }
+    // Where both hosts are recorded: what reads were told is how the bytes begin that the peer's sends accepted.
+    ensures received { (t : Trace) (w : Witness) → Explains t w → AreBothRecorded t → ReadsBeginWhatWasSent t w }
 
     // Reads that were told the end were told all of them.
-    ensures whole { (t : Trace) (w : Witness) → Explains t w → EndsAreWhole t w }
+    ensures whole { (t : Trace) (w : Witness) → Explains t w → AreBothRecorded t → EndsAreWhole t w }
 
     // What is acknowledged was taken before.
-    ensures acknowledged { (t : Trace) (w : Witness) → Explains t w → AllAcknowledgedWasTaken t w }
+    ensures acknowledged { (t : Trace) (w : Witness) → Explains t w → AreBothRecorded t → AllAcknowledgedWasTaken t w }
+
+    // In every case: what reads were told came with segments that were taken.
+    ensures carried { (t : Trace) (w : Witness) → Explains t w → AllReadsWereCarried t w }
 
     // New data ends in both windows, and windows follow their rules.
     ensures windows { (t : Trace) (w : Witness) → Explains t w → AllKeepWindows t w }
@@ -54,20 +59,25 @@ pub fn explained_follows()
     received_is_a_prefix();
     end_is_whole();
     acknowledged_was_taken();
+    reads_were_carried();
     new_data_fits();
     windows_follow();
 }
 
 /// What follows for streams holds at each moment of the witness, for what was told and accepted by then.
 pub fn streams_at_each_moment()
-    // What reads were told by then is how the bytes begin that the peer's sends accepted by then.
-    ensures received { (t : Trace) (w : Witness) → Explains t w → (place : ℕ) → ReceivedIsAPrefix t.header (take place (steps_of t w)) }
+    // Where both hosts are recorded: what reads were told by then is how the bytes begin that the peer's sends accepted by then.
+    ensures received { (t : Trace) (w : Witness) → Explains t w → AreBothRecorded t → (place : ℕ) → ReceivedIsAPrefix t.header (take place (steps_of t w)) }
 
     // Reads that were told the end by then were told all of them by then.
-    ensures whole { (t : Trace) (w : Witness) → Explains t w → (place : ℕ) → EndIsWhole t.header (take place (steps_of t w)) }
+    ensures whole { (t : Trace) (w : Witness) → Explains t w → AreBothRecorded t → (place : ℕ) → EndIsWhole t.header (take place (steps_of t w)) }
+
+    // In every case: what reads were told by then came with segments that were taken by then.
+    ensures carried { (t : Trace) (w : Witness) → Explains t w → (place : ℕ) → ReadsWereCarried t.header (take place (steps_of t w)) }
 {
     received_is_a_prefix();
     end_is_whole();
+    reads_were_carried();
 }
 
 /// Who the peer of an endpoint is, where a witness explains a trace: the endpoint that made the SYN which it took first.

@@ -22,7 +22,7 @@ ghost use Rattle.checker.specs.Verdicts.{verdict, verdict_from, verdict_left, ta
 ghost use Rattle.checker.specs.Kept.{kept_broken, kept_progress};
 ghost use Rattle.checker.specs.Explains.{Explains, IsYes};
 ghost use Rattle.checker.specs.Judges.{Says};
-ghost use Rattle.checker.specs.Consequences.{ReadsBeginWhatWasSent, EndsAreWhole, AllAcknowledgedWasTaken, AllKeepWindows};
+ghost use Rattle.checker.specs.Consequences.{AreBothRecorded, ReadsBeginWhatWasSent, EndsAreWhole, AllAcknowledgedWasTaken, AllReadsWereCarried, AllKeepWindows};
 
 use crate::laws::explained_follows;
 use case_forms::{Header, Label, Line, NamedLine, OutOfMemory, Step, TakenLine, Trace, Witness};
@@ -46,11 +46,14 @@ pub fn check(alloc: Global, trace: &Trace, witness: &Witness) -> Result<Verdict,
     ensures says { IfOk result (Says trace.now witness.now) }
     ensures explained { IfOk result (λ v. IsYes v ↔ Explains trace.now witness.now) }
 
-    // What follows from a yes: what reads were told is how the bytes begin that the peer's sends accepted; reads that were
-    // told the end were told all of them; what is acknowledged was taken before; windows are kept.
-    ensures received { IfOk result (λ v. IsYes v → ReadsBeginWhatWasSent trace.now witness.now) }
-    ensures whole { IfOk result (λ v. IsYes v → EndsAreWhole trace.now witness.now) }
-    ensures acknowledged { IfOk result (λ v. IsYes v → AllAcknowledgedWasTaken trace.now witness.now) }
+    // What follows from a yes where both hosts are recorded: what reads were told is how the bytes begin that the peer's sends
+    // accepted; reads that were told the end were told all of them; what is acknowledged was taken before.
+    ensures received { IfOk result (λ v. IsYes v → AreBothRecorded trace.now → ReadsBeginWhatWasSent trace.now witness.now) }
+    ensures whole { IfOk result (λ v. IsYes v → AreBothRecorded trace.now → EndsAreWhole trace.now witness.now) }
+    ensures acknowledged { IfOk result (λ v. IsYes v → AreBothRecorded trace.now → AllAcknowledgedWasTaken trace.now witness.now) }
+
+    // What follows from every yes, also of a half case: what reads were told came with segments that were taken; windows are kept.
+    ensures carried { IfOk result (λ v. IsYes v → AllReadsWereCarried trace.now witness.now) }
     ensures windows { IfOk result (λ v. IsYes v → AllKeepWindows trace.now witness.now) }
 {
     explained_follows();

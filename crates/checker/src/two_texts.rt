@@ -17,7 +17,7 @@ ghost use Rattle.witness.specs.StepsLeft.{steps_left, fault_of, number_of, reade
 ghost use Rattle.endpoint_state.specs.Worlds.{Progress};
 ghost use Rattle.checker.specs.Explains.{Explains, IsYes};
 ghost use Rattle.checker.specs.Judges.{Says};
-ghost use Rattle.checker.specs.Consequences.{ReadsBeginWhatWasSent, EndsAreWhole, AllAcknowledgedWasTaken, AllKeepWindows};
+ghost use Rattle.checker.specs.Consequences.{AreBothRecorded, ReadsBeginWhatWasSent, EndsAreWhole, AllAcknowledgedWasTaken, AllReadsWereCarried, AllKeepWindows};
 ghost use Rattle.checker.specs.Ahead.{source_ahead, line_ahead, left_ahead, IsAhead, IsInStep};
 ghost use Rattle.checker.specs.Streaming.{OneFailed, SoFar, Tallied, Tells, first_of_both};
 ghost use Rattle.checker.specs.Texts.{GivesTexts, AreOf};
@@ -49,11 +49,14 @@ pub fn check_streams<A: BufRead, B: BufRead>(
     ensures says { (t : Trace) (w : Witness) → AreOf (left_of A.remaining a) (left_of B.remaining b) t w → IfOk result.0 (Says t w) }
     ensures explained { (t : Trace) (w : Witness) → AreOf (left_of A.remaining a) (left_of B.remaining b) t w → IfOk result.0 (λ v. IsYes v ↔ Explains t w) }
 
-    // What follows from a yes: what reads were told is how the bytes begin that the peer's sends accepted; reads that were
-    // told the end were told all of them; what is acknowledged was taken before; windows are kept.
-    ensures received { (t : Trace) (w : Witness) → AreOf (left_of A.remaining a) (left_of B.remaining b) t w → IfOk result.0 (λ v. IsYes v → ReadsBeginWhatWasSent t w) }
-    ensures whole { (t : Trace) (w : Witness) → AreOf (left_of A.remaining a) (left_of B.remaining b) t w → IfOk result.0 (λ v. IsYes v → EndsAreWhole t w) }
-    ensures acknowledged { (t : Trace) (w : Witness) → AreOf (left_of A.remaining a) (left_of B.remaining b) t w → IfOk result.0 (λ v. IsYes v → AllAcknowledgedWasTaken t w) }
+    // What follows from a yes where both hosts are recorded: what reads were told is how the bytes begin that the peer's sends
+    // accepted; reads that were told the end were told all of them; what is acknowledged was taken before.
+    ensures received { (t : Trace) (w : Witness) → AreOf (left_of A.remaining a) (left_of B.remaining b) t w → IfOk result.0 (λ v. IsYes v → AreBothRecorded t → ReadsBeginWhatWasSent t w) }
+    ensures whole { (t : Trace) (w : Witness) → AreOf (left_of A.remaining a) (left_of B.remaining b) t w → IfOk result.0 (λ v. IsYes v → AreBothRecorded t → EndsAreWhole t w) }
+    ensures acknowledged { (t : Trace) (w : Witness) → AreOf (left_of A.remaining a) (left_of B.remaining b) t w → IfOk result.0 (λ v. IsYes v → AreBothRecorded t → AllAcknowledgedWasTaken t w) }
+
+    // What follows from every yes, also of a half case: what reads were told came with segments that were taken; windows are kept.
+    ensures carried { (t : Trace) (w : Witness) → AreOf (left_of A.remaining a) (left_of B.remaining b) t w → IfOk result.0 (λ v. IsYes v → AllReadsWereCarried t w) }
     ensures windows { (t : Trace) (w : Witness) → AreOf (left_of A.remaining a) (left_of B.remaining b) t w → IfOk result.0 (λ v. IsYes v → AllKeepWindows t w) }
 
     // A failed read is counted, and nothing else is.

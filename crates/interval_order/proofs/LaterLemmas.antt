@@ -153,7 +153,7 @@ passing_same o more moment later = rw (overdue_same o moment more later) refl
 pub taking_same : (o : Order) (more : List Line) (moment n extras : ℕ) → AreLater moment more → n < o.next → order_rules (with_lines o more) (taking moment n extras) ≡ order_rules o (taking moment n extras)
 taking_same o more moment n extras later lt =
     let le : n ≤ o.next = omega arith in
-    λ i. (rules.LineRange, not (offered_same o more n lt i) || option_map_or (λ line. not (extras == extras_of line.event)) (held_same o more n lt i) false)
+    λ i. (rules.LineRange, not (offered_same o more n lt i) || option_map_or (λ line. not (extras == extras_of o.header.version line.event)) (held_same o more n lt i) false)
     ∷ (rules.LineAgain, offered_same o more n lt i && is_none (held_same o more n lt i))
     ∷ (rules.ThreadOrder, option_map_or (λ line. earlier_same o more n line.thread le i) (held_same o more n lt i) false)
     ∷ (rules.MomentFalls, moment_falls o moment)
@@ -211,21 +211,21 @@ least false false false d = refl
 pub late_is : (o : Order) (between after : List Line) (line : Line) (moment extras : ℕ) → KeysBelow o.next o.held → first_event_line o.header ≤ o.next → moment < line.moment
     → first_broken (order_rules (with_lines o (between ++ line ∷ after)) (taking moment (o.next + length between) extras)) ≡ Some (late_rule o between line extras moment)
 late_is o between after line moment extras below first late =
-    (λ i. first_broken ((rules.LineRange, not (offered i) || option_map_or (λ line. not (extras == extras_of line.event)) (held i) false)
+    (λ i. first_broken ((rules.LineRange, not (offered i) || option_map_or (λ line. not (extras == extras_of o.header.version line.event)) (held i) false)
     ∷ (rules.LineAgain, offered i && is_none (held i))
     ∷ (rules.ThreadOrder, option_map_or (λ line. earlier_late o between after (line_here) line.thread below i) (held i) false)
     ∷ (rules.MomentFalls, moment_falls o moment)
     ∷ (rules.MomentOff, option_map_or (λ line. nat_lt moment line.moment || nat_lt (line.moment + o.header.skew) moment) (held i) false)
     ∷ (rules.Overdue, has_overdue (with_lines o (between ++ line_here ∷ after)) moment)
     ∷ []))
-    ∙ (λ i. first_broken ((rules.LineRange, not (extras == extras_of line.event))
+    ∙ (λ i. first_broken ((rules.LineRange, not (extras == extras_of o.header.version line.event))
     ∷ (rules.LineAgain, false)
     ∷ (rules.ThreadOrder, waits o line.thread || is_among line.thread between)
     ∷ (rules.MomentFalls, moment_falls o moment)
     ∷ (rules.MomentOff, not_reached i || nat_lt (line.moment + o.header.skew) moment)
     ∷ (rules.Overdue, has_overdue (with_lines o (between ++ line_here ∷ after)) moment)
     ∷ []))
-    ∙ least (not (extras == extras_of line.event)) (waits o line.thread || is_among line.thread between) (moment_falls o moment) (has_overdue (with_lines o (between ++ line_here ∷ after)) moment)
+    ∙ least (not (extras == extras_of o.header.version line.event)) (waits o line.thread || is_among line.thread between) (moment_falls o moment) (has_overdue (with_lines o (between ++ line_here ∷ after)) moment)
   where
     line_here : Line
     line_here = line

@@ -18,7 +18,7 @@ Precedes header m a n b = ((a.thread ≡ b.thread) × (m < n)) ⊎ (a.moment + h
 
 -- a step in time for a line: with as many extra numbers as its kind has, between its moment and that with the skew
 pub record IsTimely (header : Header) (line : Line) (moment extras : ℕ) : Type 0 where
-  pub count : extras ≡ extras_of line.event
+  pub count : extras ≡ extras_of header.version line.event
   pub since : line.moment ≤ moment
   pub until : moment ≤ line.moment + header.skew
 

@@ -18,7 +18,7 @@ ghost use Rattle.interval_order.specs.Orders.{taking, passing, held_line, is_off
 ghost use Rattle.interval_order.specs.Later.{waits, late_by};
 ghost use Rattle.interval_order.specs.OrderRules.{extras_of, has_earlier, thread_order, order_rules, has_overdue, first_overdue};
 
-use case_forms::{Event, Header, Line, OutOfMemory, Timer};
+use case_forms::{Event, Header, Line, OutOfMemory, Timer, Version};
 use indexmap::IndexMap;
 use std::alloc::Global;
 use std::collections::BTreeMap;
@@ -159,7 +159,7 @@ impl Window {
     pub fn late_rule(&self, line: &Line, is_behind: bool, extras: u8, moment: u64) -> Rule
         ensures { result ≡ late_by self.now is_behind line.now extras moment }
     {
-        if extras != extras_of(&line.event) {
+        if extras != extras_of(self.header.version, &line.event) {
             return Rule::LineRange;
         }
         if self.waits(line.thread) || is_behind {
@@ -199,7 +199,7 @@ impl Window {
         let Some(line) = self.line(number) else {
             return Err(Rule::LineAgain);
         };
-        if extras != extras_of(&line.event) {
+        if extras != extras_of(self.header.version, &line.event) {
             return Err(Rule::LineRange);
         }
         if self.has_earlier(number) {
@@ -254,13 +254,14 @@ impl Window {
 }
 
 // How many extra numbers follow the number of a line of this kind.
-fn extras_of(event: &Event) -> u8
-    ensures { result ≡ extras_of event.now }
+fn extras_of(version: Version, event: &Event) -> u8
+    ensures { result ≡ extras_of version event.now }
 {
     match event {
         Event::CallBegin(_) => 0,
         Event::CallEnd(_) => 0,
         Event::Sent(..) => 1,
+        Event::Came(..) if version.is_half() => 0,
         Event::Came(..) => 1,
         Event::Expired(_, _, _, Timer::Rto) => 2,
         Event::Expired(_, _, _, Timer::Persist | Timer::Msl2 | Timer::Giveup) => 0,

@@ -28,3 +28,4 @@ pub mod ForgetRuns
 pub mod Ascending
 pub mod Old
 pub mod Transitions
+pub mod HeardNumbers

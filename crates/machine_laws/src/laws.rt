@@ -18,7 +18,11 @@ ghost use Rattle.machine_laws.specs.Bounds.{NewDataFits, WindowsFollow};
 ghost use Rattle.machine_laws.specs.Ascending.{RulesAscend};
 ghost use Rattle.machine_laws.specs.Transitions.{StatesFollow, PositionsNeverFall};
 ghost use Rattle.machine_laws.specs.Carried.{ReadsWereCarried};
+ghost use Rattle.machine_laws.specs.HeardNumbers.{HeardNumbersAreRead};
+ghost use Rattle.seqno.specs.declared.word.Word.{Word};
 ghost use Rattle.machine_laws.specs.Consequences.{ReceivedIsAPrefix, EndIsWhole, AcknowledgedWasTaken};
+
+use seqno::numbers_are_found_near;
 
 /// What the reads on a socket number were told is how the bytes that its peer's sends accepted begin.
 pub fn received_is_a_prefix()
@@ -80,3 +84,11 @@ pub fn rules_ascend()
 pub fn old_copies_are_refused()
     ensures { (e : Endpoint) (m : Emission) → m.answers ≡ false → m.pos + 2 ^ 31 < next e → is_bad_number e m ≡ true }
 {}
+
+/// A number of a segment that is heard of a host that is not recorded reads back exactly where it reads as a position near the
+/// one that is awaited, and then as that position (RFC 9293, 3.4). Positions above those that a text can name aside.
+pub fn heard_numbers_are_read()
+    ensures { (near : ℕ) (base w : Word) → base.0 < 2 ^ 32 → w.0 < 2 ^ 32 → HeardNumbersAreRead near base w }
+{
+    numbers_are_found_near();
+}

@@ -69,14 +69,17 @@ is_some v text (Err e) given = tt
 abbrev first_words : Version → List (List ℕ)
 first_words versions.One = codes "witness" ∷ codes "1" ∷ []
 first_words versions.Two = codes "witness" ∷ codes "2" ∷ []
+first_words versions.Three = codes "witness" ∷ codes "3" ∷ []
 
 words_joined : (v : Version) → joined (first_words v) ≡ first_text v
 words_joined versions.One = refl
 words_joined versions.Two = refl
+words_joined versions.Three = refl
 
 words_clean : (v : Version) → AllByRecursion IsClean (first_words v)
 words_clean versions.One = (clean_by (codes "witness") refl, (clean_by (codes "1") refl, tt))
 words_clean versions.Two = (clean_by (codes "witness") refl, (clean_by (codes "2") refl, tt))
+words_clean versions.Three = (clean_by (codes "witness") refl, (clean_by (codes "3") refl, tt))
 
 first_ends : (v : Version) → NoReturn (first_text v)
 first_ends v = subst NoReturn (words_joined v) (joined_no_return (first_words v) (words_clean v))
@@ -103,6 +106,11 @@ named_by versions.One raw raws line =
     rw (text, ended) refl
 named_by versions.Two raw raws line =
     let own = ending_again raw (first_text versions.Two) (first_ends versions.Two) line.ends in
+    let text = own.0 in
+    let ended = own.1 in
+    rw (text, ended) refl
+named_by versions.Three raw raws line =
+    let own = ending_again raw (first_text versions.Three) (first_ends versions.Three) line.ends in
     let text = own.0 in
     let ended = own.1 in
     rw (text, ended) refl
