@@ -15,3 +15,9 @@ pub mod StreamTurns
 pub mod TurnLemmas
 pub mod EndLemmas
 pub mod TextLemmas
+pub mod HeadlineLemmas
+pub mod HeadlineFacts
+pub mod SocketLemmas
+pub mod HomeLemmas
+pub mod GivenLemmas
+pub mod StreamLemmas

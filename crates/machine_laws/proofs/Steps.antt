@@ -142,7 +142,7 @@ kept_makes h s w host m g may up = let a = w.hosts in let k = pick a host in
     })
 
 -- at a whole case nothing is heard of a host that is not recorded
-heard_nothing : (h : Header) → is_half h.version ≡ false → first_broken (just rules.NoEmission (not (is_half h.version))) ≡ None → ⊥
+pub heard_nothing : (h : Header) → is_half h.version ≡ false → first_broken (just rules.NoEmission (not (is_half h.version))) ≡ None → ⊥
 heard_nothing h whole may = let e : first_broken (just rules.NoEmission true) ≡ None = subst (λ (b : Bool). first_broken (just rules.NoEmission (not b)) ≡ None) whole may in absurd cc
 
 kept_deed : (h : Header) → is_half h.version ≡ false → (s : ℕ) (w : World tcp_shape) (host : Host) (d : Deed tcp_shape) → Good w.hosts → Permitted (tcp h) s w (At host d) → Keeps h s w host d
