@@ -1,11 +1,11 @@
 -- What each step makes of the states and the positions of endpoints.
 use Rattle.std.proofs.Common.{◌≡◌, ℕ, zero, suc, ◌≤◌, ◌⊎◌, Bool, true, false, List, [], ◌∷◌, ◌++◌, length, map, Option, Some, None, refl, ap, sym, subst, ◌∙◌, inl, inr}
-use Rattle.std.specs.Prelude.{if◌then◌else◌, ◌==◌, ◌+◌, ◌-◌, max, replicate, slice_get}
+use Rattle.std.specs.Prelude.{if◌then◌else◌, ◌==◌, ◌+◌, ◌-◌, max, replicate, slice_get, ◌&&◌, not, nat_lt, is_some}
 use Rattle.std.specs.Option.{option_map_or}
 use Rattle.std.proofs.Math.Nat.{le_refl, le-max_left, le-add_right}
 use Rattle.std.proofs.lemmas.List.{length-append}
 use Rattle.std.proofs.lemmas.Option.{none-some, same_Some}
-use Rattle.case_forms.specs.States.{is_syn_sent}
+use Rattle.case_forms.specs.States.{is_syn_sent, is_time_wait}
 use Rattle.case_forms.specs.Versions.{is_half}
 use Rattle.case_forms.specs.declared.calls.Answer.{Answer}
 use Rattle.case_forms.specs.declared.calls.Answer.TheVariants as answers
@@ -45,13 +45,16 @@ use Rattle.machine.specs.Calls.Accept.{accepted_from, after_accept}
 use Rattle.machine.specs.Calls.{change_thing, after_call}
 use Rattle.machine.specs.Makes.Payload.{making_length}
 use Rattle.machine.specs.Makes.Edges.{own_window}
-use Rattle.machine.specs.Makes.{endpoint_made, after_making}
+use Rattle.machine.specs.Makes.{endpoint_made, after_making, timed}
+use Rattle.machine.specs.Arrives.Otherwise.Timers.{since_made, timeout_taken, rto_taken, state_timers, timers_taken}
+use Rattle.timer_rules.specs.Timers.{armed, stopped, sampled, raised_for_lost_syn}
+use Rattle.timer_rules.specs.declared.timers.Timers.{Timers}
 use Rattle.machine.specs.Heard.{as_read, read_at}
-use Rattle.machine.specs.Arrives.Otherwise.Ack.{acknowledges_syn, fin_acknowledged, acknowledged}
+use Rattle.machine.specs.Arrives.Otherwise.Ack.{is_new_ack, acknowledges_syn, fin_acknowledged, acknowledged, una_after}
 use Rattle.machine.specs.Arrives.Otherwise.Fin.{finished}
 use Rattle.machine.specs.Arrives.Otherwise.Reset.{was_reset}
-use Rattle.machine.specs.Arrives.Otherwise.Text.{receive_after}
-use Rattle.machine.specs.Arrives.Otherwise.Window.{takes_window, window_taken}
+use Rattle.machine.specs.Arrives.Otherwise.Text.{receive_after, state_taken}
+use Rattle.machine.specs.Arrives.Otherwise.Window.{takes_window, window_taken, persist_taken}
 use Rattle.machine.specs.Arrives.Otherwise.{taken as segment_taken}
 use Rattle.machine.specs.Arrives.SynSent.{met_peer}
 use Rattle.machine.specs.Arrives.Listen.{child}
@@ -62,12 +65,15 @@ use Rattle.machine.specs.Machine.{Calls, tcp, tcp_shape, aim}
 use Rattle.machine_laws.specs.Runs.{world_at_end}
 use Rattle.machine_laws.specs.Consequences.{find}
 use Rattle.machine_laws.specs.Bounds.{TakesThere}
-use Rattle.machine_laws.specs.Transitions.{StaysOr, close_leads, segment_leads, fin_leads, closed_number, left_number, CallsOn, closes, TimerCloses, MayLead, Stays, ByClose, ByAbort, ByListener, BySegment, ByReset, ByOwnReset, ByTimer, StatesFollow, PositionsNeverFall}
+use Rattle.machine_laws.specs.Transitions.{StaysOr, close_leads, segment_leads, fin_leads, closed_number, left_number, CallsOn, closes, TimerCloses, MayLead, Stays, ByClose, ByAbort, ByListener, BySegment, ByReset, ByOwnReset, ByTimer, StatesFollow, PositionsNeverFall, WaitsOn}
 use Rattle.machine_laws.proofs.Rules.{on_cases, map_or_cases, map_or_true, number_same}
 use Rattle.machine_laws.proofs.Later.{Hosts, name}
 use Rattle.machine_laws.proofs.Moves.{with_cases, modify_each, map_onward, map_back}
 use Rattle.machine_laws.proofs.Takes.{taker_there}
 use Rattle.machine_laws.proofs.Runs.{steady_start, steady_run, later_step}
+
+not_both : {b : Bool} → b ≡ true → b ≡ false → ⊥
+not_both is is' = let clash : true ≡ false = sym is ∙ is' in absurd cc
 
 -- the positions that a step by itself leaves at or above what they were
 abbrev Rises : Endpoint → Endpoint → Type 0
@@ -76,12 +82,26 @@ Rises e f = (e.stream.una ≤ f.stream.una) × (max_made e ≤ max_made f) × (e
 level : (e : Endpoint) → Rises e e
 level e = (le_refl e.stream.una, le_refl (max_made e), le_refl e.window.edge)
 
--- an endpoint over a step
-abbrev Goes : World tcp_shape → Step tcp_shape → Name → Endpoint → Endpoint → Type 0
-Goes w step me e f = MayLead w step me e f.state × Rises e f
+-- the moment since which an endpoint waits in TIME-WAIT stays
+abbrev SameWait : Endpoint → Endpoint → Type 0
+SameWait e f = is_time_wait e.state ≡ true → is_time_wait f.state ≡ true → f.timers.msl_armed ≡ e.timers.msl_armed
 
-stays : (w : World tcp_shape) (step : Step tcp_shape) (me : Name) (e : Endpoint) → Goes w step me e e
-stays w step me e = (Stays refl, level e)
+-- an endpoint over a step
+record Goes (w : World tcp_shape) (step : Step tcp_shape) (me : Name) (e f : Endpoint) : Type 0 where
+  pub leads : MayLead w step me e f.state
+  pub rises : Rises e f
+  pub waits : SameWait e f
+
+-- its state, its positions and its timers stay
+stays : (w : World tcp_shape) (step : Step tcp_shape) (me : Name) (e f : Endpoint) → f.state ≡ e.state → Rises e f → f.timers.msl_armed ≡ e.timers.msl_armed → Goes w step me e f
+stays w step me e f state rises timers = record { leads = Stays state; rises = rises; waits = λ was is. timers }
+
+-- it is CLOSED
+closed : (w : World tcp_shape) (step : Step tcp_shape) (me : Name) (e f : Endpoint) → f.state ≡ states.Closed → Rises e f → MayLead w step me e f.state → Goes w step me e f
+closed w step me e f state rises leads = record { leads = leads; rises = rises; waits = λ was is. absurd (not_both is (ap is_time_wait state)) }
+
+calm : (w : World tcp_shape) (step : Step tcp_shape) (me : Name) (e : Endpoint) → Goes w step me e e
+calm w step me e = stays w step me e e refl (level e) refl
 
 -- an endpoint begins so
 abbrev Begins : Endpoint → Type 0
@@ -93,11 +113,11 @@ record Gone (w : World tcp_shape) (step : Step tcp_shape) (host : Host) (es fs :
   pub back : (i : ℕ) (f : Endpoint) → slice_get fs i ≡ Some f → ((e : Endpoint) × (slice_get es i ≡ Some e)) ⊎ Begins f
 
 gone_not : (w : World tcp_shape) (step : Step tcp_shape) (host : Host) (es : List Endpoint) → Gone w step host es es
-gone_not w step host es = record { onward = λ i e at. (e, at, stays w step (name host i) e); back = λ i f at. inl (f, at) }
+gone_not w step host es = record { onward = λ i e at. (e, at, calm w step (name host i) e); back = λ i f at. inl (f, at) }
 
 gone_one : (w : World tcp_shape) (step : Step tcp_shape) (host : Host) (es : List Endpoint) (i : ℕ) (f : Endpoint → Endpoint) → ((e : Endpoint) → slice_get es i ≡ Some e → Goes w step (name host i) e (f e)) → Gone w step host es (modify es i f)
 gone_one w step host es i f new = record {
-  onward = modify_each (λ j. Goes w step (name host j)) f es i (λ j e at n. stays w step (name host j) e) new;
+  onward = modify_each (λ j. Goes w step (name host j)) f es i (λ j e at n. calm w step (name host j) e) new;
   back = all_modify (λ j y. ((e : Endpoint) × (slice_get es j ≡ Some e)) ⊎ Begins y) f es i (λ j e x. inl (e, x)) (λ e x. inl (e, x));
 }
 
@@ -109,7 +129,7 @@ gone_map w step host es f new = record {
 
 gone_push : (w : World tcp_shape) (step : Step tcp_shape) (host : Host) (es : List Endpoint) (e : Endpoint) → Begins e → Gone w step host es (es ++ e ∷ [])
 gone_push w step host es e new = record {
-  onward = λ i x at. (x, get_append es (e ∷ []) i x at, stays w step (name host i) x);
+  onward = λ i x at. (x, get_append es (e ∷ []) i x at, calm w step (name host i) x);
   back = all_push (λ j y. ((x : Endpoint) × (slice_get es j ≡ Some x)) ⊎ Begins y) es e (λ j x at. inl (x, at)) (inr new);
 }
 
@@ -146,22 +166,29 @@ either_edge false old new = le_refl old
 making_rises : (e : Endpoint) (m : SegmentPlan) (moment : ℕ) → Rises e (endpoint_made e m moment)
 making_rises e m moment = (le_refl e.stream.una, made_rises e.makings m.pos (making_length m) moment, either_edge m.flags.ack e.window.edge (next e + own_window e m))
 
+timed_waits : (t : Timers) (m : SegmentPlan) (moment : ℕ) → (timed t m moment).msl_armed ≡ t.msl_armed
+timed_waits t m moment = go (nat_lt 0 (making_length m) && not (is_some t.rto_armed))
+  where
+    go : (b : Bool) → (if b then armed t Rto moment else t).msl_armed ≡ t.msl_armed
+    go true = refl
+    go false = refl
+
 making_goes : (w : World tcp_shape) (s : ℕ) (host : Host) (m : SegmentPlan) (i : ℕ) (e : Endpoint) → place_of (pick w.hosts host).body m.lport m.rport ≡ Some i → Goes w (At host (Makes m)) (name host i) e (after_making e m s)
 making_goes w s host m i e at = go m.flags.rst refl
   where
     go : (b : Bool) → m.flags.rst ≡ b → Goes w (At host (Makes m)) (name host i) e (if b then record (shut_down (endpoint_made e m s)) { reset_due = false } else endpoint_made e m s)
-    go true is = (ByOwnReset (m, refl, is, at) refl, making_rises e m s)
-    go false is = (Stays refl, making_rises e m s)
+    go true is = closed w (At host (Makes m)) (name host i) e (record (shut_down (endpoint_made e m s)) { reset_due = false }) refl (making_rises e m s) (ByOwnReset (m, refl, is, at) refl)
+    go false is = stays w (At host (Makes m)) (name host i) e (endpoint_made e m s) refl (making_rises e m s) (timed_waits e.timers m s)
 
 expiry_goes : (w : World tcp_shape) (s : ℕ) (host : Host) (line : ℕ) (x : Expiry) (growth : Growth) (i : ℕ) (e : Endpoint) → place_of (pick w.hosts host).body x.lport x.rport ≡ Some i
     → Goes w (At host (Expires line x growth)) (name host i) e (after_expiry e x.timer growth s)
 expiry_goes w s host line x growth i e at = go x.timer (λ closing. (line, x, growth, refl, closing, at))
   where
     go : (timer : Timer) → (closes timer ≡ true → TimerCloses w (At host (Expires line x growth)) (name host i)) → Goes w (At host (Expires line x growth)) (name host i) e (after_expiry e timer growth s)
-    go Rto closing = (Stays refl, level e)
-    go Persist closing = (Stays refl, level e)
-    go Msl2 closing = (ByTimer (closing refl) refl, level e)
-    go Giveup closing = (ByTimer (closing refl) refl, level e)
+    go Rto closing = stays w (At host (Expires line x growth)) (name host i) e (after_expiry e Rto growth s) refl (level e) refl
+    go Persist closing = stays w (At host (Expires line x growth)) (name host i) e (after_expiry e Persist growth s) refl (level e) refl
+    go Msl2 closing = closed w (At host (Expires line x growth)) (name host i) e (after_expiry e Msl2 growth s) refl (level e) (ByTimer (closing refl) refl)
+    go Giveup closing = closed w (At host (Expires line x growth)) (name host i) e (after_expiry e Giveup growth s) refl (level e) (ByTimer (closing refl) refl)
 
 -- the arrows of an acknowledgment, and behind it those of a FIN
 acknowledged_leads : (s : State) (e : Endpoint) (m : Emission) → StaysOr segment_leads s (acknowledged s e m)
@@ -218,20 +245,72 @@ same_reset h e m = go (is_half h.version)
     go true = refl
     go false = refl
 
+-- what a segment leaves of the wait in TIME-WAIT
+timeout_waits : (h : Header) (e : Endpoint) (sample : Bool) (ack : ℕ) (syn : Bool) (moment : ℕ) → (timeout_taken h e sample ack syn moment).msl_armed ≡ e.timers.msl_armed
+timeout_waits h e sample ack syn moment = go sample (syn && e.syn_lost)
+  where
+    go : (b c : Bool) → (if c then raised_for_lost_syn (if b then sampled e.timers (since_made e (ack - 1) moment) h else e.timers) else (if b then sampled e.timers (since_made e (ack - 1) moment) h else e.timers)).msl_armed ≡ e.timers.msl_armed
+    go true true = refl
+    go true false = refl
+    go false true = refl
+    go false false = refl
+
+rto_waits : (t : Timers) (all new : Bool) (moment : ℕ) → (rto_taken t all new moment).msl_armed ≡ t.msl_armed
+rto_waits t true new moment = refl
+rto_waits t false true moment = refl
+rto_waits t false false moment = refl
+
+persist_waits : (t : Timers) (window moment : ℕ) → (persist_taken t window moment).msl_armed ≡ t.msl_armed
+persist_waits t window moment = go (nat_lt 0 window) (is_some t.persist_armed)
+  where
+    go : (b c : Bool) → (if b then stopped t Persist else if c then t else armed t Persist moment).msl_armed ≡ t.msl_armed
+    go true c = refl
+    go false true = refl
+    go false false = refl
+
+either_waits : (b : Bool) (t u : Timers) (since : Option ℕ) → t.msl_armed ≡ since → u.msl_armed ≡ since → (if b then t else u).msl_armed ≡ since
+either_waits true t u since p q = p
+either_waits false t u since p q = q
+
+state_waits : (t : Timers) (old new : State) (moment : ℕ) → is_time_wait old ≡ true → is_time_wait new ≡ true → (state_timers t old new moment).msl_armed ≡ t.msl_armed
+state_waits t old states.TimeWait moment was is = ap (λ (b : Bool). (if b then t else armed t Msl2 moment).msl_armed) was
+state_waits t old new moment was is = absurd cc
+
+taken_waits : (h : Header) (e : Endpoint) (how : TakeChoice) (m : Emission) (moment : ℕ) → is_time_wait e.state ≡ true → is_time_wait (state_taken e how m) ≡ true → (timers_taken h e how m moment).msl_armed ≡ e.timers.msl_armed
+taken_waits h e how m moment was is = state_waits persisting e.state (state_taken e how m) moment was is ∙ either_waits (takes_window e m) (persist_taken running m.window moment) running e.timers.msl_armed (persist_waits running m.window moment ∙ run) run
+  where
+    measured : Timers
+    measured = timeout_taken h e (how.sample && is_new_ack e m) m.ack (acknowledges_syn e m) moment
+
+    running : Timers
+    running = rto_taken measured (una_after e m == max_made e) (is_new_ack e m) moment
+
+    persisting : Timers
+    persisting = if takes_window e m then persist_taken running m.window moment else running
+
+    run : running.msl_armed ≡ e.timers.msl_armed
+    run = rto_waits measured (una_after e m == max_made e) (is_new_ack e m) moment ∙ timeout_waits h e (how.sample && is_new_ack e m) m.ack (acknowledges_syn e m) moment
+
+not_waiting : (s : State) → is_syn_sent s ≡ true → is_time_wait s ≡ false
+not_waiting states.SynSent is = refl
+not_waiting s is = absurd cc
+
 taking_goes : (h : Header) (w : World tcp_shape) (step : Step tcp_shape) (me : Name) (e : Endpoint) (how : TakeChoice) (m r : Emission) (moment : ℕ) → r.flags.rst ≡ m.flags.rst → TakesThere w step me e m
     → Goes w step me e (endpoint_taken h e how r moment)
 taking_goes h w step me e how m r moment same there = go r.flags.rst (is_syn_sent e.state) same refl
   where
     go : (b c : Bool) → b ≡ m.flags.rst → is_syn_sent e.state ≡ c → Goes w step me e (if b then was_reset e how else if c then met_peer h e how r moment else segment_taken h e how r moment)
-    go true c rst is = (ByReset m there (sym rst) refl, level e)
-    go false true rst is = (
-      BySegment m (met_peer h e how r moment).state there (sym rst) (inr (met_leads e.state is r.flags.ack)) (inl refl),
-      (met_una r.flags.ack e.stream.una, le_refl (max_made e), le_refl e.window.edge),
-    )
-    go false false rst is = (
-      BySegment m (acknowledged e.state e r) there (sym rst) (acknowledged_leads e.state e r) (finished_leads (acknowledged e.state e r) (is_ended (receive_after e how r))),
-      (le-max_left e.stream.una r.ack, le_refl (max_made e), taken_edge e r),
-    )
+    go true c rst is = closed w step me e (was_reset e how) refl (level e) (ByReset m there (sym rst) refl)
+    go false true rst is = record {
+      leads = BySegment m (met_peer h e how r moment).state there (sym rst) (inr (met_leads e.state is r.flags.ack)) (inl refl);
+      rises = (met_una r.flags.ack e.stream.una, le_refl (max_made e), le_refl e.window.edge);
+      waits = λ was now. absurd (not_both was (not_waiting e.state is));
+    }
+    go false false rst is = record {
+      leads = BySegment m (acknowledged e.state e r) there (sym rst) (acknowledged_leads e.state e r) (finished_leads (acknowledged e.state e r) (is_ended (receive_after e how r)));
+      rises = (le-max_left e.stream.una r.ack, le_refl (max_made e), taken_edge e r);
+      waits = taken_waits h e how r moment;
+    }
 
 -- 2. what hosts do
 
@@ -253,7 +332,7 @@ gone_taking h s w host line how m waits = go (taker (pick w.hosts host).body m) 
 gone_deed : (h : Header) (s : ℕ) (w : World tcp_shape) (host : Host) (d : Deed tcp_shape)
     → Gone w (At host d) host (pick w.hosts host).body.endpoints (deed_after (tcp h) host s (suc w.count) (pick w.hosts (other host)).wire (pick w.hosts host) d).body.endpoints
 gone_deed h s w host (Does x) = gone_at_ports w (At host (Does x)) host (pick w.hosts host).body x.lport x.rport (λ e. after_recovery e x.cwnd x.ssthresh)
-    (λ i e at. (Stays refl, level e))
+    (λ i e at. stays w (At host (Does x)) (name host i) e (after_recovery e x.cwnd x.ssthresh) refl (level e) refl)
 gone_deed h s w host (Expires line x growth) = gone_at_ports w (At host (Expires line x growth)) host (pick w.hosts host).body x.lport x.rport (λ e. after_expiry e x.timer growth s)
     (λ i e at. expiry_goes w s host line x growth i e at)
 gone_deed h s w host (Makes m) = gone_at_ports w (At host (Makes m)) host (pick w.hosts host).body m.lport m.rport (λ e. after_making e m s)
@@ -284,7 +363,7 @@ gone_change w step host n f new = let b = (pick w.hosts host).body in
 
 -- a `shut` or a `close`
 shut_goes : (w : World tcp_shape) (step : Step tcp_shape) (me : Name) (e : Endpoint) → CallsOn closed_number w step me.host (Ends me.number) → Goes w step me e (after_shut e)
-shut_goes w step me e c = (go (ended_leads e.state), level e)
+shut_goes w step me e c = record { leads = go (ended_leads e.state); rises = level e; waits = λ was is. refl }
   where
     go : StaysOr close_leads e.state (ended_state e.state) → MayLead w step me e (ended_state e.state)
     go (inl same) = Stays same
@@ -298,8 +377,8 @@ close_goes : (w : World tcp_shape) (step : Step tcp_shape) (me : Name) (e : Endp
 close_goes w step me e c = go (is_syn_sent e.state) refl
   where
     go : (b : Bool) → is_syn_sent e.state ≡ b → Goes w step me e (record (if b then shut_down (record e { stream = record e.stream { ended = true } }) else after_shut e) { closed = true })
-    go true is = (ByClose c (syn_sent_closes e.state is), level e)
-    go false is = shut_goes w step me e c
+    go true is = closed w step me e (record (shut_down (record e { stream = record e.stream { ended = true } })) { closed = true }) refl (level e) (ByClose c (syn_sent_closes e.state is))
+    go false is = let g = shut_goes w step me e c in record { leads = g.leads; rises = g.rises; waits = g.waits }
 
 -- the children of a listener that is left
 orphan_goes : (w : World tcp_shape) (step : Step tcp_shape) (me : Name) (e : Endpoint) (l : ℕ) → CallsOn left_number w step me.host (Listens l) → Goes w step me e (orphaned l e)
@@ -308,8 +387,8 @@ orphan_goes w step me e l c = go (option_map_or (λ holder. holder == l) e.liste
     go : (b : Bool) → option_map_or (λ holder. holder == l) e.listener false ≡ b → Goes w step me e (if b then after_abort e else e)
     go true is =
         let x = map_or_true e.listener (λ holder. holder == l) is in
-        (ByListener l (x.1 ∙ ap (λ k. Some k) (number_same x.0 l x.2)) c refl, level e)
-    go false is = stays w step me e
+        closed w step me e (after_abort e) refl (level e) (ByListener l (x.1 ∙ ap (λ k. Some k) (number_same x.0 l x.2)) c refl)
+    go false is = calm w step me e
 
 gone_gone : (w : World tcp_shape) (step : Step tcp_shape) (host : Host) (n : ℕ) (f : Endpoint → Endpoint) → AtNumber w step host n f
     → ((l : ℕ) → thing_of (pick w.hosts host).body n ≡ Some (Listens l) → CallsOn left_number w step host (Listens l))
@@ -327,7 +406,7 @@ gone_accept w step host b n (Listens l) = go (queue_of b l)
   where
     go : (queue : List ℕ) → Gone w step host b.endpoints (accepted_from b l n queue).endpoints
     go [] = gone_not w step host b.endpoints
-    go (c ∷ queue) = gone_one w step host b.endpoints c (λ e. record e { listener = None }) (λ e at. (Stays refl, level e))
+    go (c ∷ queue) = gone_one w step host b.endpoints c (λ e. record e { listener = None }) (λ e at. stays w step (name host c) e (record e { listener = None }) refl (level e) refl)
 
 gone_call : (w : World tcp_shape) (thread : ℕ) (host : Host) (call : Call) (answer : Answer) → turn_of thread w.threads ≡ Called call
     → Gone w (Effect thread answer) host (pick w.hosts host).body.endpoints (after_call (pick w.hosts host).body call answer).endpoints
@@ -335,15 +414,15 @@ gone_call w thread host (calls.Listen at port backlog) (answers.Given n) turn = 
 gone_call w thread host (calls.Connect at lport rport) (answers.Given n) turn = gone_push w (Effect thread (answers.Given n)) host (pick w.hosts host).body.endpoints (new_endpoint lport rport None states.SynSent) (inl refl)
 gone_call w thread host (calls.Accept h) (answers.Given n) turn = let b = (pick w.hosts host).body in let step : Step tcp_shape = Effect thread (answers.Given n) in
     map_or_cases (λ (x : Body). Gone w step host b.endpoints x.endpoints) (thing_of b h) b (after_accept b n) (λ e. gone_not w step host b.endpoints) (λ thing e. gone_accept w step host b n thing)
-gone_call w thread host (calls.Send h bytes) (answers.Given n) turn = gone_change w (Effect thread (answers.Given n)) host h (after_send bytes n) (λ i e is. (Stays refl, level e))
-gone_call w thread host (calls.Recv h most) (answers.Bytes bytes) turn = gone_change w (Effect thread (answers.Bytes bytes)) host h (after_recv bytes) (λ i e is. (Stays refl, level e))
+gone_call w thread host (calls.Send h bytes) (answers.Given n) turn = gone_change w (Effect thread (answers.Given n)) host h (after_send bytes n) (λ i e is. stays w (Effect thread (answers.Given n)) (name host i) e (after_send bytes n e) refl (level e) refl)
+gone_call w thread host (calls.Recv h most) (answers.Bytes bytes) turn = gone_change w (Effect thread (answers.Bytes bytes)) host h (after_recv bytes) (λ i e is. stays w (Effect thread (answers.Bytes bytes)) (name host i) e (after_recv bytes e) refl (level e) refl)
 gone_call w thread host (calls.Shut h) answers.Done turn = gone_change w (Effect thread answers.Done) host h after_shut
     (λ i e is. shut_goes w (Effect thread answers.Done) (name host i) e (thread, answers.Done, calls.Shut h, h, refl, turn, refl, is))
 gone_call w thread host (calls.Close h) answers.Done turn = gone_gone w (Effect thread answers.Done) host h after_close
     (λ i e is. close_goes w (Effect thread answers.Done) (name host i) e (thread, answers.Done, calls.Close h, h, refl, turn, refl, is))
     (λ l is. (thread, answers.Done, calls.Close h, h, refl, turn, refl, is))
 gone_call w thread host (calls.Abort h) answers.Done turn = gone_gone w (Effect thread answers.Done) host h after_abort
-    (λ i e is. (ByAbort (thread, answers.Done, calls.Abort h, h, refl, turn, refl, is) refl, level e))
+    (λ i e is. closed w (Effect thread answers.Done) (name host i) e (after_abort e) refl (level e) (ByAbort (thread, answers.Done, calls.Abort h, h, refl, turn, refl, is) refl))
     (λ l is. (thread, answers.Done, calls.Abort h, h, refl, turn, refl, is))
 gone_call w thread host call answer turn = gone_not w (Effect thread answer) host (pick w.hosts host).body.endpoints
 
@@ -374,9 +453,36 @@ both_step h s w (Effect t answer) = go (turn_of t w.threads) refl
     go (Answered x) is = both_not w (Effect t answer)
 both_step h s w (At host d) = both_host w (At host d) host (deed_after (tcp h) host s (suc w.count) (pick w.hosts (other host)).wire (pick w.hosts host) d) (gone_deed h s w host d)
 
+-- from TIME-WAIT no arrow leads but to CLOSED
+from_time_wait : (w : World tcp_shape) (step : Step tcp_shape) (me : Name) (e : Endpoint) (t : State) → e.state ≡ states.TimeWait → MayLead w step me e t → (t ≡ states.Closed) ⊎ (t ≡ states.TimeWait)
+from_time_wait w step me e t was (Stays same) = inr (same ∙ was)
+from_time_wait w step me e t was (ByClose c leads) = let no : close_leads states.TimeWait t ≡ true = subst (λ (s : State). close_leads s t ≡ true) was leads in absurd cc
+from_time_wait w step me e t was (ByAbort c is) = inl is
+from_time_wait w step me e t was (ByListener l of' c is) = inl is
+from_time_wait w step me e t was (BySegment m between there plain one two) = go (subst (λ (s : State). StaysOr segment_leads s between) was one)
+  where
+    finish : between ≡ states.TimeWait → StaysOr fin_leads states.TimeWait t → (t ≡ states.Closed) ⊎ (t ≡ states.TimeWait)
+    finish same (inl is) = inr is
+    finish same (inr leads) = absurd cc
+
+    go : StaysOr segment_leads states.TimeWait between → (t ≡ states.Closed) ⊎ (t ≡ states.TimeWait)
+    go (inl same) = finish same (subst (λ (s : State). StaysOr fin_leads s t) same two)
+    go (inr leads) = absurd cc
+from_time_wait w step me e t was (ByReset m there plain is) = inl is
+from_time_wait w step me e t was (ByOwnReset c is) = inl is
+from_time_wait w step me e t was (ByTimer c is) = inl is
+
+waits_on : (w : World tcp_shape) (step : Step tcp_shape) (me : Name) (e f : Endpoint) → e.state ≡ states.TimeWait → Goes w step me e f → WaitsOn e f
+waits_on w step me e f was g = go (from_time_wait w step me e f.state was g.leads)
+  where
+    go : (f.state ≡ states.Closed) ⊎ (f.state ≡ states.TimeWait) → WaitsOn e f
+    go (inl is) = inl is
+    go (inr is) = inr (is, g.waits (ap is_time_wait was) (ap is_time_wait is))
+
 pub states_lead : (h : Header) (s : ℕ) (w : World tcp_shape) (step : Step tcp_shape) → StatesFollow h s w step
 states_lead h s w step = record {
-  leads = λ me e there. let x = (all me.host).onward me.number e there in (x.0, x.1, x.2.0);
+  leads = λ me e there. let x = (all me.host).onward me.number e there in (x.0, x.1, x.2.leads);
+  waits = λ me e there was. let x = (all me.host).onward me.number e there in (x.0, x.1, waits_on w step me e x.0 was x.2);
   begins = λ me f none at. from me f none ((all me.host).back me.number f at);
 }
   where
@@ -394,4 +500,4 @@ none_falls h steps x run may me e there =
     let here = ((both_step h x.moment w x.step).all me.host).onward me.number e there in
     let later = later_step h x.moment w x.step (steady_run h (start (tcp h)) steps (steady_start h) run) may me e there in
     let one : later.0 ≡ here.0 = same_Some later.0 here.0 (sym later.1 ∙ here.1) in
-    (here.0, here.1, record { una = here.2.1.0; made = here.2.1.1; next = subst (λ (f : Endpoint). next e ≤ next f) one later.2.next; edge = here.2.1.2 })
+    (here.0, here.1, record { una = here.2.rises.0; made = here.2.rises.1; next = subst (λ (f : Endpoint). next e ≤ next f) one later.2.next; edge = here.2.rises.2 })

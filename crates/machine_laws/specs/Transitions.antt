@@ -104,9 +104,14 @@ pub data MayLead (w : World tcp_shape) (step : Step tcp_shape) (me : Name) (e : 
   ByOwnReset : MakesReset w step me → t ≡ states.Closed → MayLead w step me e t
   ByTimer : TimerCloses w step me → t ≡ states.Closed → MayLead w step me e t
 
+-- TIME-WAIT isn't begun anew: it is over, or it goes on since the same moment (RFC 9293, 3.6.1)
+abbrev pub WaitsOn : Endpoint → Endpoint → Type 0
+WaitsOn e f = (f.state ≡ states.Closed) ⊎ ((f.state ≡ states.TimeWait) × (f.timers.msl_armed ≡ e.timers.msl_armed))
+
 -- a step leaves each endpoint there, in its state or in one to which the step may lead; and a new one begins in SYN-SENT, or as a child in SYN-RECEIVED
 pub record StatesFollow (h : Header) (moment : ℕ) (w : World tcp_shape) (step : Step tcp_shape) : Type 0 where
   pub leads : (me : Name) (e : Endpoint) → find w.hosts me ≡ Some e → (f : Endpoint) × (find (after (tcp h) moment w step).hosts me ≡ Some f) × MayLead w step me e f.state
+  pub waits : (me : Name) (e : Endpoint) → find w.hosts me ≡ Some e → e.state ≡ states.TimeWait → (f : Endpoint) × (find (after (tcp h) moment w step).hosts me ≡ Some f) × WaitsOn e f
   pub begins : (me : Name) (f : Endpoint) → find w.hosts me ≡ None → find (after (tcp h) moment w step).hosts me ≡ Some f → (f.state ≡ states.SynSent) ⊎ (f.state ≡ states.SynReceived)
 
 -- none of these is below what it was (RFC 9293, 3.3.1): SND.UNA, SND.NXT at its greatest, RCV.NXT, and the greatest RCV.NXT + RCV.WND that was offered

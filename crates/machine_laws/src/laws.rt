@@ -61,8 +61,8 @@ pub fn windows_follow()
 /// A step leaves an endpoint in its state, or in one to which an arrow of RFC 9293, 3.3.2, figure 5, leads at such a step: at a
 /// `shut` or a `close` of its socket number; at a segment that it takes, whose SYN or acknowledgment comes first and then its
 /// FIN. It is CLOSED by a reset, by an `abort`, where its listener goes before it is accepted, where TIME-WAIT is over, where it
-/// gives up, and where it makes a reset. A new endpoint begins in SYN-SENT, or as a child in SYN-RECEIVED. So it is with every
-/// step in every world.
+/// gives up, and where it makes a reset. TIME-WAIT isn't begun anew. A new endpoint begins in SYN-SENT, or as a child in
+/// SYN-RECEIVED. So it is with every step in every world.
 pub fn states_follow()
     ensures { (h : Header) (moment : ℕ) (w : World tcp_shape) (step : Step tcp_shape) → StatesFollow h moment w step }
 {}
