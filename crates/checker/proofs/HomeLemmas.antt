@@ -31,8 +31,8 @@ use Rattle.machine_laws.proofs.Moves.{with_cases}
 use Rattle.machine_laws.proofs.Steps.{heard_nothing}
 use Rattle.machine_laws.proofs.Tables.{AllIn, all_insert, inbox_join, inbox_settled}
 use Rattle.checker.specs.Peers.{peer_of, TakesSynOf}
-use Rattle.checker.proofs.ConsequenceLemmas.{run_until}
 use Rattle.checker.proofs.PeerLemmas.{peers_were_met}
+use Rattle.checker.proofs.ConsequenceLemmas.{run_until}
 
 -- a segment with SYN was made at this host; of a reset that answers nothing is said, since it has the maker of the segment that it answers
 abbrev FromHost : Host → Emission → Type 0
@@ -67,15 +67,15 @@ settled_home x line inbox old = on_cases (AllWaiting (FromHost (other x))) (wait
 
 deed_home : (h : Header) → is_half h.version ≡ false → (s : ℕ) (w : World tcp_shape) (host : Host) (d : Deed tcp_shape) → Permitted (tcp h) s w (At host d) → AtHome host (pick w.hosts host) → AtHome (other host) (pick w.hosts (other host))
     → AtHome host (deed_after (tcp h) host s (suc w.count) (pick w.hosts (other host)).wire (pick w.hosts host) d)
-deed_home h whole s w host (Does x) may g far = record { made = g.made; wire = g.wire; inbox = g.inbox }
-deed_home h whole s w host (Expires line x growth) may g far = record { made = g.made; wire = g.wire; inbox = g.inbox }
-deed_home h whole s w host (Makes m) may g far = record {
+deed_home h both s w host (Does x) may g far = record { made = g.made; wire = g.wire; inbox = g.inbox }
+deed_home h both s w host (Expires line x growth) may g far = record { made = g.made; wire = g.wire; inbox = g.inbox }
+deed_home h both s w host (Makes m) may g far = record {
   made = made_more host (pick w.hosts host).made (suc w.count) (option_map_or (made_at host (pick w.hosts host).body m) (place_of (pick w.hosts host).body m.lport m.rport) None)
       (made_home host (pick w.hosts host).body m (place_of (pick w.hosts host).body m.lport m.rport)) g.made;
   wire = g.wire;
   inbox = g.inbox;
 }
-deed_home h whole s w host (Sends line number wire) may g far = let k = pick w.hosts host in record {
+deed_home h both s w host (Sends line number wire) may g far = let k = pick w.hosts host in record {
   made = on_cases (λ (t : List (ℕ × Made Emission)). AllIn (λ (y : Made Emission). FromHost host y.emission) t) (lookup (nat_eq number) k.made) k.made
       (λ m. insert_entry nat_eq k.made number (gone_out m)) g.made
       (λ m e. all_insert (λ (y : Made Emission). FromHost host y.emission) k.made number (gone_out m) (g.made number m e) g.made);
@@ -84,17 +84,17 @@ deed_home h whole s w host (Sends line number wire) may g far = let k = pick w.h
       (λ m e. all_insert (FromHost host) k.wire line (sent s wire m.emission) (g.made number m e) g.wire);
   inbox = g.inbox;
 }
-deed_home h whole s w host (Gets line copied wire) may g far = let k = pick w.hosts host in record {
+deed_home h both s w host (Gets line copied wire) may g far = let k = pick w.hosts host in record {
   made = g.made;
   wire = g.wire;
   inbox = on_cases (AllWaiting (FromHost (other host))) (lookup (nat_eq copied) (pick w.hosts (other host)).wire) k.inbox
       (λ m. insert_entry nat_eq k.inbox line (Some m)) g.inbox
       (λ m e. inbox_join (FromHost (other host)) k.inbox line m (far.wire copied m e) g.inbox);
 }
-deed_home h whole s w host (Hears line wire) may g far = absurd (heard_nothing h whole may)
-deed_home h whole s w host (Takes line how) may g far = record { made = g.made; wire = g.wire; inbox = settled_home host line (pick w.hosts host).inbox g.inbox }
-deed_home h whole s w host (Drops line) may g far = record { made = g.made; wire = g.wire; inbox = settled_home host line (pick w.hosts host).inbox g.inbox }
-deed_home h whole s w host (Answers line) may g far = let k = pick w.hosts host in record {
+deed_home h both s w host (Hears line wire) may g far = absurd (heard_nothing h both may)
+deed_home h both s w host (Takes line how) may g far = record { made = g.made; wire = g.wire; inbox = settled_home host line (pick w.hosts host).inbox g.inbox }
+deed_home h both s w host (Drops line) may g far = record { made = g.made; wire = g.wire; inbox = settled_home host line (pick w.hosts host).inbox g.inbox }
+deed_home h both s w host (Answers line) may g far = let k = pick w.hosts host in record {
   made = on_cases (λ (t : List (ℕ × Made Emission)). AllIn (λ (y : Made Emission). FromHost host y.emission) t) (waiting line k.inbox) k.made
       (λ m. insert_entry nat_eq k.made (suc w.count) (unsent (reset_of m))) g.made
       (λ m e. all_insert (λ (y : Made Emission). FromHost host y.emission) k.made (suc w.count) (unsent (reset_of m)) (λ syn. absurd cc) g.made);
@@ -108,10 +108,10 @@ call_home h s a call answer (Some host) g = with_cases a host (record (pick a ho
     (record { made = (g host).made; wire = (g host).wire; inbox = (g host).inbox }) (g (other host))
 
 step_home : (h : Header) → is_half h.version ≡ false → (s : ℕ) (w : World tcp_shape) (step : Step tcp_shape) → Permitted (tcp h) s w step → Home w.hosts → Home (after (tcp h) s w step).hosts
-step_home h whole s w (Begin line t call) may g = g
-step_home h whole s w (Finish line t answer) may g = g
-step_home h whole s w (At host d) may g = with_cases w.hosts host (deed_after (tcp h) host s (suc w.count) (pick w.hosts (other host)).wire (pick w.hosts host) d) (λ x y. AtHome x y) (deed_home h whole s w host d may (g host) (g (other host))) (g (other host))
-step_home h whole s w (Effect t answer) may g = go (turn_of t w.threads)
+step_home h both s w (Begin line t call) may g = g
+step_home h both s w (Finish line t answer) may g = g
+step_home h both s w (At host d) may g = with_cases w.hosts host (deed_after (tcp h) host s (suc w.count) (pick w.hosts (other host)).wire (pick w.hosts host) d) (λ x y. AtHome x y) (deed_home h both s w host d may (g host) (g (other host))) (g (other host))
+step_home h both s w (Effect t answer) may g = go (turn_of t w.threads)
   where
     go : (u : Turn tcp_shape) → Home (effect_after (tcp h) s w t answer u).hosts
     go Idle = g
@@ -119,8 +119,8 @@ step_home h whole s w (Effect t answer) may g = go (turn_of t w.threads)
     go (Answered x) = g
 
 run_home : (h : Header) → is_half h.version ≡ false → (w : World tcp_shape) (steps : List (Stamped tcp_shape)) → Lawful (tcp h) w steps → Home w.hosts → Home (after_all (tcp h) w steps).hosts
-run_home h whole w [] may g = g
-run_home h whole w (x ∷ xs) may g = run_home h whole (after (tcp h) x.moment w x.step) xs may.1 (step_home h whole x.moment w x.step may.0 g)
+run_home h both w [] may g = g
+run_home h both w (x ∷ xs) may g = run_home h both (after (tcp h) x.moment w x.step) xs may.1 (step_home h both x.moment w x.step may.0 g)
 
 start_home : (h : Header) → Home (start (tcp h)).hosts
 start_home h Zero = record { made = λ n x e. absurd (none-some x e); wire = λ n m e. absurd (none-some m e); inbox = λ n m e. absurd (none-some m e) }
@@ -128,10 +128,10 @@ start_home h One = record { made = λ n x e. absurd (none-some x e); wire = λ n
 
 -- a peer is at the other host
 pub peer_elsewhere : (h : Header) → is_half h.version ≡ false → (steps : List (Stamped tcp_shape)) → Lawful (tcp h) (start (tcp h)) steps → (me q : Name) → peer_of (world_at_end h steps).hosts me ≡ Some q → q.host ≡ other me.host
-peer_elsewhere h whole steps may me q is = go (peers_were_met h steps may me q is)
+peer_elsewhere h both steps may me q is = go (peers_were_met h steps may me q is)
   where
     go : ((place : ℕ) × (x : Stamped tcp_shape) × (slice_get steps place ≡ Some x) × (peer_of (world_at_end h (take place steps)).hosts me ≡ None) × TakesSynOf (world_at_end h (take place steps)) x.step me q) → q.host ≡ other me.host
     go m =
         let t = m.4 in
-        let from = (run_home h whole (start (tcp h)) (take m.0 steps) (run_until h (start (tcp h)) steps may m.0) (start_home h) me.host).inbox t.line t.segment t.waits t.syn in
+        let from = (run_home h both (start (tcp h)) (take m.0 steps) (run_until h (start (tcp h)) steps may m.0) (start_home h) me.host).inbox t.line t.segment t.waits t.syn in
         sym (ap (λ (n : Name). n.host) t.made) ∙ from

@@ -19,18 +19,19 @@ use Rattle.hosts.specs.Hosts.{Turn, Idle, Called, Answered, World, Step, Begin, 
 use Rattle.hosts.specs.HostRules.{aim_of, effect_rules, Permitted}
 use Rattle.hosts.specs.HostSteps.{after, after_all, Lawful}
 use Rattle.machine.specs.declared.endpoint.Name.{Name}
+use Rattle.machine.specs.declared.endpoint.Endpoint.{Endpoint}
 use Rattle.machine.specs.declared.endpoint.Thing.TheVariants.{Ends}
 use Rattle.machine.specs.Calls.Accept.{listener_allows}
 use Rattle.machine.specs.Calls.{is_bad_socket, call_allows}
 use Rattle.machine.specs.Machine.{tcp, tcp_shape, aim}
 use Rattle.machine_laws.specs.Runs.{owner, is_socket_of, call_told, call_accepted, call_ended, of_turn, of_effect, told_from, accepted_from, ended_from}
+use Rattle.machine_laws.specs.Consequences.{find, HasStream}
 use Rattle.machine_laws.proofs.Rules.{number_same, number_other, number_self, is_not}
-use Rattle.machine_laws.proofs.Later.{Hosts, name, AllLater, all_trans, same}
+use Rattle.machine_laws.proofs.Later.{Hosts, name}
 use Rattle.machine_laws.proofs.Calls.{owner_of, socket_here, named}
 use Rattle.machine_laws.proofs.Steps.{effect_allowed}
 use Rattle.machine_laws.proofs.Sound.{owner_given}
-use Rattle.machine_laws.proofs.SoundSteps.{sound_step}
-use Rattle.machine_laws.proofs.Runs.{Steady, steady_step, later_step, socket_owner}
+use Rattle.machine_laws.proofs.Runs.{Steady, steady_step, later_step, stays_run, socket_owner}
 use Rattle.checker.specs.Headline.{bytes_accepted, is_ended}
 use Rattle.checker.proofs.HeadlineLemmas.{one_done, run_done, any_append}
 
@@ -38,10 +39,6 @@ use Rattle.checker.proofs.HeadlineLemmas.{one_done, run_done, any_append}
 
 abbrev pub Stay : Hosts → Hosts → Type 0
 Stay a z = (x : Host) (n i : ℕ) → owner (pick a x).body n ≡ Some i → owner (pick z x).body n ≡ Some i
-
-pub stay_run : (h : Header) (w : World tcp_shape) (steps : List (Stamped tcp_shape)) → Steady w.hosts → Lawful (tcp h) w steps → Stay w.hosts (after_all (tcp h) w steps).hosts
-stay_run h w [] g may x n i e = e
-stay_run h w (y ∷ ys) g may x n i e = stay_run h (after (tcp h) y.moment w y.step) ys (steady_step h y.moment w y.step g may.0) may.1 x n i ((sound_step h y.moment w y.step g.sound g.apart may.0).stays x n i e)
 
 -- a number of two endpoints
 pub one_owner : (z : Hosts) → Steady z → (x y : Host) (n i j : ℕ) → owner (pick z x).body n ≡ Some i → owner (pick z y).body n ≡ Some j → name x i ≡ name y j
@@ -114,7 +111,7 @@ pub accepted_run : (h : Header) (w : World tcp_shape) (steps : List (Stamped tcp
 accepted_run h w [] z socket me f may g stay own = refl
 accepted_run h w (x ∷ xs) z socket me f may g stay own =
     let v = after (tcp h) x.moment w x.step in
-    let here = accepted_step h x.moment w z socket me g (λ y n i e. stay y n i (stay_run h w (x ∷ xs) f may y n i e)) own x.step may.0 in
+    let here = accepted_step h x.moment w z socket me g (λ y n i e. stay y n i (stays_run h w (x ∷ xs) f may y n i e)) own x.step may.0 in
     let rest = accepted_run h v xs z socket me (steady_step h x.moment w x.step f may.0) may.1 g stay own in
     ap (λ (l : List ℕ). l ++ accepted_from h me v xs) here
     ∙ ap (λ (l : List ℕ). flat_map (λ d. bytes_accepted socket d.call d.answer) (of_effect h w x.step [] one_done) ++ l) rest
@@ -149,7 +146,7 @@ sender_run h w (x ∷ xs) me f may = go (sender_step h w me x.step) (sender_run 
     go : (of_effect h w x.step [] (λ call answer. call_accepted w.hosts call answer me) ≡ []) ⊎ ((n : ℕ) × (owner (pick w.hosts me.host).body n ≡ Some me.number))
         → (accepted_from h me (after (tcp h) x.moment w x.step) xs ≡ []) ⊎ ((n : ℕ) × (owner (pick (after_all (tcp h) w (x ∷ xs)).hosts me.host).body n ≡ Some me.number))
         → (accepted_from h me w (x ∷ xs) ≡ []) ⊎ ((n : ℕ) × (owner (pick (after_all (tcp h) w (x ∷ xs)).hosts me.host).body n ≡ Some me.number))
-    go (inr y) rest = inr (y.0, stay_run h w (x ∷ xs) f may me.host y.0 me.number y.1)
+    go (inr y) rest = inr (y.0, stays_run h w (x ∷ xs) f may me.host y.0 me.number y.1)
     go (inl e) (inr y) = inr y
     go (inl e) (inl r) = inl (ap (λ (l : List ℕ). l ++ accepted_from h me (after (tcp h) x.moment w x.step) xs) e ∙ r)
 
@@ -180,7 +177,7 @@ reader_run h w (x ∷ xs) socket f may = go (reader_step h x.moment w socket x.s
     go : (of_effect h w x.step [] (λ call answer. call_told call answer socket) ≡ []) ⊎ Owned w.hosts socket
         → (told_from h socket (after (tcp h) x.moment w x.step) xs ≡ []) ⊎ Owned (after_all (tcp h) w (x ∷ xs)).hosts socket
         → (told_from h socket w (x ∷ xs) ≡ []) ⊎ Owned (after_all (tcp h) w (x ∷ xs)).hosts socket
-    go (inr y) rest = inr (owned_later w.hosts (after_all (tcp h) w (x ∷ xs)).hosts (stay_run h w (x ∷ xs) f may) socket y)
+    go (inr y) rest = inr (owned_later w.hosts (after_all (tcp h) w (x ∷ xs)).hosts (stays_run h w (x ∷ xs) f may) socket y)
     go (inl e) (inr y) = inr y
     go (inl e) (inl r) = inl (ap (λ (l : List ℕ). l ++ told_from h socket (after (tcp h) x.moment w x.step) xs) e ∙ r)
 
@@ -220,7 +217,7 @@ ended_run h w (x ∷ xs) z socket me f may g stay own e =
     go : (b : Bool) → of_effect h w x.step false (λ call answer. call_ended w.hosts call answer me) ≡ b → (b || ended_from h me (after (tcp h) x.moment w x.step) xs) ≡ true
         → (ended_from h me (after (tcp h) x.moment w x.step) xs ≡ true → list_any (λ d. is_ended socket d.call d.answer) (run_done h (after (tcp h) x.moment w x.step) xs) ≡ true)
         → (list_any (λ d. is_ended socket d.call d.answer) (of_effect h w x.step [] one_done) || list_any (λ d. is_ended socket d.call d.answer) (run_done h (after (tcp h) x.moment w x.step) xs)) ≡ true
-    go true is e more = or_left _ _ (ended_step h w z socket me g (λ y n i e. stay y n i (stay_run h w (x ∷ xs) f may y n i e)) own x.step is)
+    go true is e more = or_left _ _ (ended_step h w z socket me g (λ y n i e. stay y n i (stays_run h w (x ∷ xs) f may y n i e)) own x.step is)
     go false is e more = or_right _ _ (more e)
 
 ender_call : (a : Hosts) (me : Name) (call : Call) (answer : Answer) → call_ended a call answer me ≡ true → (n : ℕ) × (owner (pick a me.host).body n ≡ Some me.number)
@@ -247,13 +244,18 @@ ender_run h w (x ∷ xs) me f may e = go (of_effect h w x.step false (λ call an
     go : (b : Bool) → of_effect h w x.step false (λ call answer. call_ended w.hosts call answer me) ≡ b → (b || ended_from h me (after (tcp h) x.moment w x.step) xs) ≡ true
         → (ended_from h me (after (tcp h) x.moment w x.step) xs ≡ true → (n : ℕ) × (owner (pick (after_all (tcp h) w (x ∷ xs)).hosts me.host).body n ≡ Some me.number))
         → (n : ℕ) × (owner (pick (after_all (tcp h) w (x ∷ xs)).hosts me.host).body n ≡ Some me.number)
-    go true is e more = let y = by_step x.step is in (y.0, stay_run h w (x ∷ xs) f may me.host y.0 me.number y.1)
+    go true is e more = let y = by_step x.step is in (y.0, stays_run h w (x ∷ xs) f may me.host y.0 me.number y.1)
     go false is e more = more e
 
 -- 5. endpoints over a run
 
-pub later_run : (h : Header) (w : World tcp_shape) (steps : List (Stamped tcp_shape)) → Steady w.hosts → Lawful (tcp h) w steps → AllLater w.hosts (after_all (tcp h) w steps).hosts
-later_run h w [] g may = λ me e at. (e, at, same e.stream)
-later_run h w (x ∷ xs) g may =
-    let v = after (tcp h) x.moment w x.step in
-    all_trans w.hosts v.hosts (after_all (tcp h) v xs).hosts (later_step h x.moment w x.step g may.0) (later_run h v xs (steady_step h x.moment w x.step g may.0) may.1)
+-- each endpoint stays, with the peer that it has
+abbrev pub AllMet : Hosts → Hosts → Type 0
+AllMet a b = (me : Name) (e : Endpoint) → find a me ≡ Some e → HasStream b me (λ s. (q : Name) → e.stream.peer ≡ Some q → s.peer ≡ Some q)
+
+pub met_run : (h : Header) (w : World tcp_shape) (steps : List (Stamped tcp_shape)) → Steady w.hosts → Lawful (tcp h) w steps → AllMet w.hosts (after_all (tcp h) w steps).hosts
+met_run h w [] g may me e at = (e, at, λ q is. is)
+met_run h w (x ∷ xs) g may me e at =
+    let one = later_step h x.moment w x.step g may.0 me e at in
+    let rest = met_run h (after (tcp h) x.moment w x.step) xs (steady_step h x.moment w x.step g may.0) may.1 me one.0 one.1 in
+    (rest.0, rest.1, λ q is. rest.2 q (one.2.peer q is))

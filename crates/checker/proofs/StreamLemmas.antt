@@ -4,9 +4,9 @@ use Rattle.std.specs.List.{flat_map, list_any, cons_option}
 use Rattle.std.specs.Option.{option_map, option_map_or}
 use Rattle.std.proofs.lemmas.Option.{same_Some}
 use Rattle.case_forms.specs.declared.trace.Header.{Header}
-use Rattle.case_forms.specs.Versions.{is_half}
 use Rattle.case_forms.specs.declared.trace.Trace.{Trace}
 use Rattle.case_forms.specs.Traces.{line_at}
+use Rattle.case_forms.specs.Versions.{is_half}
 use Rattle.case_forms.specs.declared.steps.Step.{Step as WitnessStep}
 use Rattle.case_forms.specs.declared.steps.Witness.{Witness}
 use Rattle.streams.specs.Lists.{IsPrefixOf}
@@ -19,9 +19,9 @@ use Rattle.machine.specs.declared.endpoint.Endpoint.{Endpoint}
 use Rattle.machine.specs.Machine.{tcp, tcp_shape}
 use Rattle.machine_laws.specs.Runs.{world_at_end, owner, is_socket_of, told_to, was_told_end, accepted_by}
 use Rattle.machine_laws.specs.Consequences.{find, ReceivedIsAPrefix, EndIsWhole, HasStream, HasAllOfPeer, BeginsWhatPeerSent}
-use Rattle.machine_laws.proofs.Later.{Hosts, name, AllLater}
+use Rattle.machine_laws.proofs.Later.{Hosts, name}
 use Rattle.machine_laws.proofs.Calls.{socket_here}
-use Rattle.machine_laws.proofs.Runs.{Steady, steady_start, steady_step, steady_run, socket_owner}
+use Rattle.machine_laws.proofs.Runs.{Steady, steady_start, steady_step, steady_run, stays_run, socket_owner}
 use Rattle.machine.specs.Steps.{label_step}
 use Rattle.hosts.specs.Hosts.{Step}
 use Rattle.machine_laws.proofs.Sound.{owner_given}
@@ -30,7 +30,7 @@ use Rattle.checker.proofs.GivenLemmas.{AllGiven, given_run, given_start}
 use Rattle.checker.specs.Seen.{stamped}
 use Rattle.checker.specs.Headline.{CallDone, bytes_accepted, is_ended, told, accepted, ended, Hears, HearsNothing, GivenAt, AreApart, calls_done, ReceivesBeginSends}
 use Rattle.checker.proofs.HeadlineLemmas.{run_done, done_run, opens_start, told_is, told_end_is}
-use Rattle.checker.proofs.SocketLemmas.{Stay, Owned, stay_run, one_owner, accepted_run, sender_run, reader_run, ended_run, ender_run, later_run}
+use Rattle.checker.proofs.SocketLemmas.{Stay, AllMet, Owned, one_owner, accepted_run, sender_run, reader_run, ended_run, ender_run, met_run}
 
 -- what sends on an endpoint's number accepted, by the text, where the number is given by the time of a later world
 pub accepted_is : (t : Trace) (steps : List WitnessStep) (z : Hosts) (socket : ℕ) (me : Name) → Lawful (tcp t.header) (start (tcp t.header)) (stamped t.header t.lines steps)
@@ -46,13 +46,13 @@ nothing_begins (x ∷ xs) rest e = absurd cc
 -- the steps up to a place are a run, and what comes later keeps what was
 record Onward (h : Header) (w : World tcp_shape) (xs ys : List (Stamped tcp_shape)) : Type 0 where
   pub may : Lawful (tcp h) w xs
-  pub later : AllLater (after_all (tcp h) w xs).hosts (after_all (tcp h) w ys).hosts
+  pub later : AllMet (after_all (tcp h) w xs).hosts (after_all (tcp h) w ys).hosts
   pub stay : Stay (after_all (tcp h) w xs).hosts (after_all (tcp h) w ys).hosts
 
 onward : (t : Trace) (w : World tcp_shape) (steps : List WitnessStep) → Steady w.hosts → Lawful (tcp t.header) w (stamped t.header t.lines steps) → (place : ℕ) → Onward t.header w (stamped t.header t.lines (take place steps)) (stamped t.header t.lines steps)
-onward t w [] f may zero = record { may = tt; later = later_run t.header w [] f tt; stay = λ x n i e. e }
-onward t w [] f may (suc place) = record { may = tt; later = later_run t.header w [] f tt; stay = λ x n i e. e }
-onward t w (s ∷ steps) f may zero = record { may = tt; later = later_run t.header w (stamped t.header t.lines (s ∷ steps)) f may; stay = stay_run t.header w (stamped t.header t.lines (s ∷ steps)) f may }
+onward t w [] f may zero = record { may = tt; later = met_run t.header w [] f tt; stay = λ x n i e. e }
+onward t w [] f may (suc place) = record { may = tt; later = met_run t.header w [] f tt; stay = λ x n i e. e }
+onward t w (s ∷ steps) f may zero = record { may = tt; later = met_run t.header w (stamped t.header t.lines (s ∷ steps)) f may; stay = stays_run t.header w (stamped t.header t.lines (s ∷ steps)) f may }
 onward t w (s ∷ steps) f may (suc place) = go (label_step (line_at t.header t.lines) s.label) may (λ v g m. onward t v steps g m place)
   where
     go : (o : Option (Step tcp_shape)) → Lawful (tcp t.header) w (cons_option (option_map (λ step. record { moment = s.moment; step = step }) o) (stamped t.header t.lines steps))
@@ -72,13 +72,13 @@ record Linked (hosts : Hosts) (socket peer : ℕ) (me q : Name) : Type 0 where
   pub his : owner (pick hosts q.host).body peer ≡ Some q.number
 
 -- the peer that it had earlier is the peer
-same_peer : (a z : Hosts) → Steady z → AllLater a z → Stay a z → (socket peer : ℕ) (me q : Name) → Linked z socket peer me q
+same_peer : (a z : Hosts) → Steady z → AllMet a z → Stay a z → (socket peer : ℕ) (me q : Name) → Linked z socket peer me q
     → (x : Name) (e : Endpoint) (p : Name) → owner (pick a x.host).body socket ≡ Some x.number → find a x ≡ Some e → e.stream.peer ≡ Some p → p ≡ q
 same_peer a z g later stay socket peer me q linked x e p own at met =
     let l = later x e at in
     let one : x ≡ me = one_owner z g x.host me.host socket x.number me.number (stay x.host socket x.number own) linked.own in
     let same : l.0 ≡ linked.there = same_Some l.0 linked.there (sym (subst (λ (n : Name). find z n ≡ Some l.0) one l.1) ∙ linked.at) in
-    same_Some p q (sym (subst (λ (f : Endpoint). f.stream.peer ≡ Some p) same (l.2.peer p met)) ∙ linked.met)
+    same_Some p q (sym (subst (λ (f : Endpoint). f.stream.peer ≡ Some p) same (l.2 p met)) ∙ linked.met)
 
 abbrev AllReceived : Header → Type 0
 AllReceived h = (steps : List (Stamped tcp_shape)) → Lawful (tcp h) (start (tcp h)) steps → ReceivedIsAPrefix h steps
@@ -90,7 +90,7 @@ abbrev hosts_after : Trace → List WitnessStep → Hosts
 hosts_after t steps = (world_at_end t.header (stamped t.header t.lines steps)).hosts
 
 hears : (t : Trace) (steps : List WitnessStep) (z : Hosts) (socket peer : ℕ) (me q : Name) → AllReceived t.header → AllWhole t.header → Steady z → Linked z socket peer me q
-    → Lawful (tcp t.header) (start (tcp t.header)) (stamped t.header t.lines steps) → AllLater (hosts_after t steps) z → Stay (hosts_after t steps) z → Hears t steps socket peer
+    → Lawful (tcp t.header) (start (tcp t.header)) (stamped t.header t.lines steps) → AllMet (hosts_after t steps) z → Stay (hosts_after t steps) z → Hears t steps socket peer
 hears t steps z socket peer me q received whole g linked may later stay = record {
   prefix = subst (λ (l : List ℕ). IsPrefixOf l (accepted t steps peer)) (told_is t steps socket may) (by_reader (reader_run t.header (start (tcp t.header)) (stamped t.header t.lines steps) socket (steady_start t.header) may));
   whole = λ is. at_end (whole (stamped t.header t.lines steps) may socket (told_end_is t steps socket may ∙ is));

@@ -1,4 +1,4 @@
--- What follows, of a trace and a witness that explains it, for the bytes of streams and for windows (RFC 9293, 3.4, 3.8 and 3.10; RFC 5681, 3.1 and 3.2).
+-- What follows, of a trace and a witness that explains it, for the bytes of streams, for windows and for states (RFC 9293, 3.3, 3.4, 3.8 and 3.10; RFC 5681, 3.1 and 3.2).
 use Rattle.std.specs.Prelude.{◌≡◌, ℕ, false, List, Some, slice_get, take}
 use Rattle.case_forms.specs.Versions.{is_half}
 use Rattle.case_forms.specs.declared.trace.Header.{Header}
@@ -12,6 +12,7 @@ use Rattle.machine_laws.specs.Runs.{world_at_end}
 use Rattle.machine_laws.specs.Consequences.{ReceivedIsAPrefix, EndIsWhole, AcknowledgedWasTaken}
 use Rattle.machine_laws.specs.Carried.{ReadsWereCarried}
 use Rattle.machine_laws.specs.Bounds.{NewDataFits, WindowsFollow}
+use Rattle.machine_laws.specs.Transitions.{StatesFollow, PositionsNeverFall}
 use Rattle.checker.specs.Seen.{stamped}
 
 -- the steps of a witness as the machine sees them
@@ -51,3 +52,11 @@ pub record KeepsWindows (h : Header) (before : List (Stamped tcp_shape)) (x : St
 
 abbrev pub AllKeepWindows : Trace → Witness → Type 0
 AllKeepWindows t w = EachStep (steps_of t w) (λ before x. KeepsWindows t.header before x)
+
+-- each step leaves the states of endpoints as they are, or leads on from them by arrows of figure 5 (RFC 9293, 3.3.2)
+abbrev pub AllStatesFollow : Trace → Witness → Type 0
+AllStatesFollow t w = EachStep (steps_of t w) (λ before x. StatesFollow t.header x.moment (world_at_end t.header before) x.step)
+
+-- no step leaves a position of an endpoint below what it was (RFC 9293, 3.3.1)
+abbrev pub NoPositionFalls : Trace → Witness → Type 0
+NoPositionFalls t w = EachStep (steps_of t w) (λ before x. PositionsNeverFall t.header before x)

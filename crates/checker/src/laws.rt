@@ -17,11 +17,11 @@ ghost use Rattle.checker.specs.Again.{HaveTwo, without_spans};
 ghost use Rattle.checker.specs.Headline.{ReceivesBeginSends};
 ghost use Rattle.machine_laws.specs.Consequences.{ReceivedIsAPrefix, EndIsWhole};
 ghost use Rattle.machine_laws.specs.Carried.{ReadsWereCarried};
-ghost use Rattle.checker.specs.Consequences.{steps_of, AreBothRecorded, ReadsBeginWhatWasSent, EndsAreWhole, AllAcknowledgedWasTaken, AllReadsWereCarried, AllKeepWindows};
+ghost use Rattle.checker.specs.Consequences.{steps_of, AreBothRecorded, ReadsBeginWhatWasSent, EndsAreWhole, AllAcknowledgedWasTaken, AllReadsWereCarried, AllKeepWindows, AllStatesFollow, NoPositionFalls};
 
 use machine_laws::{
-    acknowledged_was_taken, end_is_whole, new_data_fits, reads_were_carried, received_is_a_prefix,
-    windows_follow,
+    acknowledged_was_taken, end_is_whole, new_data_fits, positions_never_fall, reads_were_carried,
+    received_is_a_prefix, states_follow, windows_follow,
 };
 
 /// Where a witness explains a trace, a line that precedes another in the interval order (of one thread and with the
@@ -50,7 +50,7 @@ pub fn receives_begin_sends()
     end_is_whole();
 }
 
-/// What follows for streams and windows where the witness explains the trace.
+/// What follows for streams, windows and states where the witness explains the trace.
 pub fn explained_follows()
     // Where both hosts are recorded: what reads were told is how the bytes begin that the peer's sends accepted.
     ensures received { (t : Trace) (w : Witness) → Explains t w → AreBothRecorded t → ReadsBeginWhatWasSent t w }
@@ -66,6 +66,10 @@ pub fn explained_follows()
 
     // New data ends in both windows, and windows follow their rules.
     ensures windows { (t : Trace) (w : Witness) → Explains t w → AllKeepWindows t w }
+
+    // States follow each other by the arrows of RFC 9293, 3.3.2, figure 5, and positions never fall.
+    ensures states { (t : Trace) (w : Witness) → Explains t w → AllStatesFollow t w }
+    ensures positions { (t : Trace) (w : Witness) → Explains t w → NoPositionFalls t w }
 {
     received_is_a_prefix();
     end_is_whole();
@@ -73,6 +77,8 @@ pub fn explained_follows()
     reads_were_carried();
     new_data_fits();
     windows_follow();
+    states_follow();
+    positions_never_fall();
 }
 
 /// What follows for streams holds at each moment of the witness, for what was told and accepted by then.

@@ -22,8 +22,8 @@ ghost use Rattle.checker.specs.Verdicts.{verdict, verdict_from, verdict_left, ta
 ghost use Rattle.checker.specs.Kept.{kept_broken, kept_progress};
 ghost use Rattle.checker.specs.Explains.{Explains, IsYes};
 ghost use Rattle.checker.specs.Judges.{Says};
-ghost use Rattle.checker.specs.Consequences.{AreBothRecorded, ReadsBeginWhatWasSent, EndsAreWhole, AllAcknowledgedWasTaken, AllReadsWereCarried, AllKeepWindows};
 ghost use Rattle.checker.specs.Headline.{ReceivesBeginSends};
+ghost use Rattle.checker.specs.Consequences.{AreBothRecorded, ReadsBeginWhatWasSent, EndsAreWhole, AllAcknowledgedWasTaken, AllReadsWereCarried, AllKeepWindows, AllStatesFollow, NoPositionFalls};
 
 use crate::laws::{explained_follows, receives_begin_sends};
 use case_forms::{Header, Label, Line, NamedLine, OutOfMemory, Step, TakenLine, Trace, Witness};
@@ -42,8 +42,9 @@ pub fn check(alloc: Global, trace: &Trace, witness: &Witness) -> Result<Verdict,
     requires witness { IsWitness witness.now }
     requires versions { trace.now.header.version ≡ witness.now.version }
 
-    // What follows from a yes where both hosts are recorded, by the lines of the trace and the steps of the witness alone: what receives on a socket number
-    // were told is a prefix of what sends on one of the other host accepted, at each moment; at the end of the stream it is all.
+    // What follows from a yes where both hosts are recorded, by the lines of the trace and the steps of the witness alone: what
+    // receives on a socket number were told is a prefix of what sends on one of the other host accepted, at each moment; once
+    // they were told the end it is all of it.
     ensures heard { IfOk result (λ v. IsYes v → AreBothRecorded trace.now → ReceivesBeginSends trace.now witness.now) }
 
     // The verdict is that of the definition.
@@ -53,15 +54,18 @@ pub fn check(alloc: Global, trace: &Trace, witness: &Witness) -> Result<Verdict,
     ensures says { IfOk result (Says trace.now witness.now) }
     ensures explained { IfOk result (λ v. IsYes v ↔ Explains trace.now witness.now) }
 
-    // What follows from a yes where both hosts are recorded: what reads were told is how the bytes begin that the peer's sends
+    // The same of the machine's endpoints: what reads were told is how the bytes begin that the peer's sends
     // accepted; reads that were told the end were told all of them; what is acknowledged was taken before.
     ensures received { IfOk result (λ v. IsYes v → AreBothRecorded trace.now → ReadsBeginWhatWasSent trace.now witness.now) }
     ensures whole { IfOk result (λ v. IsYes v → AreBothRecorded trace.now → EndsAreWhole trace.now witness.now) }
     ensures acknowledged { IfOk result (λ v. IsYes v → AreBothRecorded trace.now → AllAcknowledgedWasTaken trace.now witness.now) }
 
-    // What follows from every yes, also of a half case: what reads were told came with segments that were taken; windows are kept.
+    // What follows from every yes, also of a half case: what reads were told came with segments that were taken; windows are kept;
+    // states follow each other by the arrows of RFC 9293, 3.3.2, figure 5; positions never fall.
     ensures carried { IfOk result (λ v. IsYes v → AllReadsWereCarried trace.now witness.now) }
     ensures windows { IfOk result (λ v. IsYes v → AllKeepWindows trace.now witness.now) }
+    ensures states { IfOk result (λ v. IsYes v → AllStatesFollow trace.now witness.now) }
+    ensures positions { IfOk result (λ v. IsYes v → NoPositionFalls trace.now witness.now) }
 {
     explained_follows();
     receives_begin_sends();

@@ -17,8 +17,8 @@ ghost use Rattle.witness.specs.StepsLeft.{steps_left, fault_of, number_of, reade
 ghost use Rattle.endpoint_state.specs.Worlds.{Progress};
 ghost use Rattle.checker.specs.Explains.{Explains, IsYes};
 ghost use Rattle.checker.specs.Judges.{Says};
-ghost use Rattle.checker.specs.Consequences.{AreBothRecorded, ReadsBeginWhatWasSent, EndsAreWhole, AllAcknowledgedWasTaken, AllReadsWereCarried, AllKeepWindows};
 ghost use Rattle.checker.specs.Headline.{ReceivesBeginSends};
+ghost use Rattle.checker.specs.Consequences.{AreBothRecorded, ReadsBeginWhatWasSent, EndsAreWhole, AllAcknowledgedWasTaken, AllReadsWereCarried, AllKeepWindows, AllStatesFollow, NoPositionFalls};
 ghost use Rattle.checker.specs.Ahead.{source_ahead, line_ahead, left_ahead, IsAhead, IsInStep};
 ghost use Rattle.checker.specs.Streaming.{OneFailed, SoFar, Tallied, Tells, first_of_both};
 ghost use Rattle.checker.specs.Texts.{GivesTexts, AreOf};
@@ -44,8 +44,9 @@ pub fn check_streams<A: BufRead, B: BufRead>(
     a: Counted<A>,
     b: Counted<B>,
 ) -> (Result<Verdict, CaseFault>, Counted<A>, Counted<B>)
-    // What follows from a yes, by the lines of the trace and the steps of the witness that the texts stand for: what receives on a
-    // socket number were told is a prefix of what sends on one of the other host accepted, at each moment.
+    // What follows from a yes where both hosts are recorded, by the lines of the trace and the steps of the witness that the texts
+    // stand for: what receives on a socket number were told is a prefix of what sends on one of the other host accepted, at each
+    // moment; once they were told the end it is all of it.
     ensures heard { (t : Trace) (w : Witness) → AreOf (left_of A.remaining a) (left_of B.remaining b) t w → IfOk result.0 (λ v. IsYes v → AreBothRecorded t → ReceivesBeginSends t w) }
 
     // What both texts give, where their bytes are known.
@@ -55,15 +56,18 @@ pub fn check_streams<A: BufRead, B: BufRead>(
     ensures says { (t : Trace) (w : Witness) → AreOf (left_of A.remaining a) (left_of B.remaining b) t w → IfOk result.0 (Says t w) }
     ensures explained { (t : Trace) (w : Witness) → AreOf (left_of A.remaining a) (left_of B.remaining b) t w → IfOk result.0 (λ v. IsYes v ↔ Explains t w) }
 
-    // What follows from a yes where both hosts are recorded: what reads were told is how the bytes begin that the peer's sends
+    // The same of the machine's endpoints: what reads were told is how the bytes begin that the peer's sends
     // accepted; reads that were told the end were told all of them; what is acknowledged was taken before.
     ensures received { (t : Trace) (w : Witness) → AreOf (left_of A.remaining a) (left_of B.remaining b) t w → IfOk result.0 (λ v. IsYes v → AreBothRecorded t → ReadsBeginWhatWasSent t w) }
     ensures whole { (t : Trace) (w : Witness) → AreOf (left_of A.remaining a) (left_of B.remaining b) t w → IfOk result.0 (λ v. IsYes v → AreBothRecorded t → EndsAreWhole t w) }
     ensures acknowledged { (t : Trace) (w : Witness) → AreOf (left_of A.remaining a) (left_of B.remaining b) t w → IfOk result.0 (λ v. IsYes v → AreBothRecorded t → AllAcknowledgedWasTaken t w) }
 
-    // What follows from every yes, also of a half case: what reads were told came with segments that were taken; windows are kept.
+    // What follows from every yes, also of a half case: what reads were told came with segments that were taken; windows are kept;
+    // states follow each other by the arrows of RFC 9293, 3.3.2, figure 5; positions never fall.
     ensures carried { (t : Trace) (w : Witness) → AreOf (left_of A.remaining a) (left_of B.remaining b) t w → IfOk result.0 (λ v. IsYes v → AllReadsWereCarried t w) }
     ensures windows { (t : Trace) (w : Witness) → AreOf (left_of A.remaining a) (left_of B.remaining b) t w → IfOk result.0 (λ v. IsYes v → AllKeepWindows t w) }
+    ensures states { (t : Trace) (w : Witness) → AreOf (left_of A.remaining a) (left_of B.remaining b) t w → IfOk result.0 (λ v. IsYes v → AllStatesFollow t w) }
+    ensures positions { (t : Trace) (w : Witness) → AreOf (left_of A.remaining a) (left_of B.remaining b) t w → IfOk result.0 (λ v. IsYes v → NoPositionFalls t w) }
 
     // A failed read is counted, and nothing else is.
     ensures read { result.0 ≡ Err CaseFault.Read → OneFailed (failures_of a) (failures_of b) (failures_of result.1) (failures_of result.2) }

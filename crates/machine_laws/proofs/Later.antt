@@ -1,8 +1,8 @@
 -- What holds of every world of a run, and that it stays as streams grow.
-use Rattle.std.proofs.Common.{◌≡◌, ℕ, ◌+◌, ◌<◌, ◌≤◌, true, false, List, [], ◌∷◌, ◌++◌, Some, None, ap, sym, ◌∙◌, arith}
+use Rattle.std.proofs.Common.{◌≡◌, ℕ, ◌+◌, ◌<◌, ◌≤◌, true, false, List, [], ◌∷◌, Some, None, arith}
 use Rattle.std.specs.Prelude.{if◌then◌else◌, slice_get}
 use Rattle.std.proofs.Math.Nat.{le_refl}
-use Rattle.std.proofs.lemmas.List.{append-nil, append_assoc}
+use Rattle.std.proofs.lemmas.List.{append-nil}
 use Rattle.case_forms.specs.declared.calls.Host.{Host}
 use Rattle.streams.specs.declared.cell.Cell.{Cell}
 use Rattle.streams.specs.declared.cell.Cell.TheVariants.{Syn}
@@ -45,26 +45,9 @@ pub record Later (s t : Stream) : Type 0 where
 pub same : (s : Stream) → Later s s
 same s = record { peer = λ q e. e; cells = λ p c e. e; next = le_refl _; told = ([], append-nil (received s.receive)) }
 
-prefix_trans : (xs ys zs : List ℕ) → IsPrefixOf xs ys → IsPrefixOf ys zs → IsPrefixOf xs zs
-prefix_trans xs ys zs p q = (p.0 ++ q.0, sym (append_assoc xs p.0 q.0) ∙ (ap (λ (l : List ℕ). l ++ q.0) p.1 ∙ q.1))
-
-trans : (s t u : Stream) → Later s t → Later t u → Later s u
-trans s t u a b = record {
-  peer = λ q e. b.peer q (a.peer q e);
-  cells = λ p c e. b.cells p c (a.cells p c e);
-  next = let x = a.next in let y = b.next in omega arith;
-  told = prefix_trans (received s.receive) (received t.receive) (received u.receive) a.told b.told;
-}
-
 -- each endpoint became what it may become
 abbrev pub AllLater : Hosts → Hosts → Type 0
 AllLater a b = (me : Name) (e : Endpoint) → find a me ≡ Some e → HasStream b me (λ t. Later e.stream t)
-
-pub all_trans : (a b c : Hosts) → AllLater a b → AllLater b c → AllLater a c
-all_trans a b c l m me e x =
-    let y = l me e x in
-    let z = m me y.0 y.1 in
-    (z.0, z.1, trans e.stream y.0.stream z.0.stream y.2 z.2)
 
 -- an emission carries what its maker sends, and acknowledges what its maker took
 pub record GoodEmission (hosts : Hosts) (m : Emission) : Type 0 where

@@ -27,4 +27,5 @@ pub mod ForgetWorlds
 pub mod ForgetRuns
 pub mod Ascending
 pub mod Old
+pub mod Transitions
 pub mod HeardNumbers

@@ -5,3 +5,4 @@ pub mod HeardNumbers
 pub mod Bounds
 pub mod ForgettingLaws
 pub mod Ascending
+pub mod Transitions

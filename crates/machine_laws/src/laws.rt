@@ -16,6 +16,7 @@ ghost use Rattle.machine.specs.Machine.{tcp, tcp_shape};
 ghost use Rattle.machine_laws.specs.Runs.{world_at_end};
 ghost use Rattle.machine_laws.specs.Bounds.{NewDataFits, WindowsFollow};
 ghost use Rattle.machine_laws.specs.Ascending.{RulesAscend};
+ghost use Rattle.machine_laws.specs.Transitions.{StatesFollow, PositionsNeverFall};
 ghost use Rattle.machine_laws.specs.Carried.{ReadsWereCarried};
 ghost use Rattle.machine_laws.specs.HeardNumbers.{HeardNumbersAreRead};
 ghost use Rattle.seqno.specs.declared.word.Word.{Word};
@@ -55,6 +56,21 @@ pub fn new_data_fits()
 /// the slow start threshold at or below what they allow, also where a loss lowers it; every other step leaves both as they are.
 pub fn windows_follow()
     ensures { (h : Header) (moment : ℕ) (w : World tcp_shape) (step : Step tcp_shape) → Permitted (tcp h) moment w step → WindowsFollow h moment w step }
+{}
+
+/// A step leaves an endpoint in its state, or in one to which an arrow of RFC 9293, 3.3.2, figure 5, leads at such a step: at a
+/// `shut` or a `close` of its socket number; at a segment that it takes, whose SYN or acknowledgment comes first and then its
+/// FIN. It is CLOSED by a reset, by an `abort`, where its listener goes before it is accepted, where TIME-WAIT is over, where it
+/// gives up, and where it makes a reset. TIME-WAIT isn't begun anew. A new endpoint begins in SYN-SENT, or as a child in
+/// SYN-RECEIVED. So it is with every step in every world.
+pub fn states_follow()
+    ensures { (h : Header) (moment : ℕ) (w : World tcp_shape) (step : Step tcp_shape) → StatesFollow h moment w step }
+{}
+
+/// No step of a run leaves an endpoint's oldest position that is not acknowledged, the position behind all that it made, the next
+/// one that it expects of its peer or the greatest that its windows reached below what it was (RFC 9293, 3.3.1).
+pub fn positions_never_fall()
+    ensures { (h : Header) (steps : List (Stamped tcp_shape)) (x : Stamped tcp_shape) → Lawful (tcp h) (start (tcp h)) steps → Permitted (tcp h) x.moment (world_at_end h steps) x.step → PositionsNeverFall h steps x }
 {}
 
 /// The machine's rules of each step stand in the order of their numbers, behind the six of order, so the first that is broken

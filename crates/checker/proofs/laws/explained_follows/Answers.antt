@@ -31,3 +31,11 @@ returns-clause-windows c = λ t w e place x here.
       fits = λ host m is. c.new_data_fits.ensures t.header x.moment (world_at_end t.header before) host m
           (subst (λ (step : Step tcp_shape). Permitted (tcp t.header) x.moment (world_at_end t.header before) step) is may);
     }
+
+pub returns-clause-states : goal.returns-clause-states
+returns-clause-states c = λ t w e place x here. c.states_follow.ensures t.header x.moment (world_at_end t.header (take place (steps_of t w))) x.step
+
+pub returns-clause-positions : goal.returns-clause-positions
+returns-clause-positions c = λ t w e place x here.
+    let run = run_at t.header (start (tcp t.header)) (steps_of t w) e.run place x here in
+    c.positions_never_fall.ensures t.header (take place (steps_of t w)) x run.0 run.1

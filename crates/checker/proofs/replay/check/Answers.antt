@@ -1,4 +1,4 @@
-use Rattle.checker.specs.Consequences.{AreBothRecorded, ReadsBeginWhatWasSent, EndsAreWhole, AllAcknowledgedWasTaken, AllReadsWereCarried, AllKeepWindows}
+use Rattle.checker.specs.Consequences.{AreBothRecorded, ReadsBeginWhatWasSent, EndsAreWhole, AllAcknowledgedWasTaken, AllReadsWereCarried, AllKeepWindows, AllStatesFollow, NoPositionFalls}
 use Rattle.checker.specs.Headline.{ReceivesBeginSends}
 use Rattle.checker.proofs.ConsequenceLemmas.{yes_then}
 use Rattle.checker.proofs.JudgeLemmas.{answer_says, answer_explained}
@@ -30,3 +30,9 @@ returns-clause-carried c = yes_then c.args.trace.now c.args.witness.now (AllRead
 
 pub returns-clause-windows : goal.returns-clause-windows
 returns-clause-windows c = yes_then c.args.trace.now c.args.witness.now (AllKeepWindows c.args.trace.now c.args.witness.now) c.judge.result (c.explained_follows.ensures.windows c.args.trace.now c.args.witness.now) (returns-clause-explained c)
+
+pub returns-clause-states : goal.returns-clause-states
+returns-clause-states c = yes_then c.args.trace.now c.args.witness.now (AllStatesFollow c.args.trace.now c.args.witness.now) c.judge.result (c.explained_follows.ensures.states c.args.trace.now c.args.witness.now) (returns-clause-explained c)
+
+pub returns-clause-positions : goal.returns-clause-positions
+returns-clause-positions c = yes_then c.args.trace.now c.args.witness.now (NoPositionFalls c.args.trace.now c.args.witness.now) c.judge.result (c.explained_follows.ensures.positions c.args.trace.now c.args.witness.now) (returns-clause-explained c)

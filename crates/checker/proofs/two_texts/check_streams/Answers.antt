@@ -1,5 +1,5 @@
 use Rattle.counted.specs.Counting.{left_of}
-use Rattle.checker.specs.Consequences.{AreBothRecorded, ReadsBeginWhatWasSent, EndsAreWhole, AllAcknowledgedWasTaken, AllReadsWereCarried, AllKeepWindows}
+use Rattle.checker.specs.Consequences.{AreBothRecorded, ReadsBeginWhatWasSent, EndsAreWhole, AllAcknowledgedWasTaken, AllReadsWereCarried, AllKeepWindows, AllStatesFollow, NoPositionFalls}
 use Rattle.checker.specs.Headline.{ReceivesBeginSends}
 use Rattle.checker.proofs.ConsequenceLemmas.{yes_then}
 use Rattle.checker.proofs.JudgeLemmas.{answer_says, answer_explained}
@@ -29,3 +29,9 @@ returns-clause-carried g c = λ t w are. yes_then t w (AllReadsWereCarried t w) 
 
 pub returns-clause-windows : goal.returns-clause-windows
 returns-clause-windows g c = λ t w are. yes_then t w (AllKeepWindows t w) c.judge_texts.result.0 (c.explained_follows.ensures.windows t w) (returns-clause-explained g c t w are)
+
+pub returns-clause-states : goal.returns-clause-states
+returns-clause-states g c = λ t w are. yes_then t w (AllStatesFollow t w) c.judge_texts.result.0 (c.explained_follows.ensures.states t w) (returns-clause-explained g c t w are)
+
+pub returns-clause-positions : goal.returns-clause-positions
+returns-clause-positions g c = λ t w are. yes_then t w (NoPositionFalls t w) c.judge_texts.result.0 (c.explained_follows.ensures.positions t w) (returns-clause-explained g c t w are)
