@@ -6,7 +6,7 @@ use Rattle.std.specs.Str.{bytes_eq}
 use Rattle.std.specs.List.{AllByRecursion, concat}
 use Rattle.std.proofs.lemmas.Bool.{eqb-true}
 use Rattle.std.proofs.lemmas.Slice.Eq.{bytes_eq-Decides}
-use Rattle.bstr.specs.Text.{lines_of}
+use Rattle.bstr.specs.Text.{lines_of, without_terminator}
 use Rattle.case_forms.specs.declared.trace.Header.{Header}
 use Rattle.case_forms.specs.declared.version.Version.{Version}
 use Rattle.case_forms.specs.declared.version.Version.TheVariants.{One, Two, Three}
@@ -16,7 +16,7 @@ use Rattle.line_fields.specs.declared.fault.FaultKind.TheVariants as kinds
 use Rattle.line_fields.specs.declared.fault.TextFault.{TextFault}
 use Rattle.line_fields.specs.Word.{Word, Rest, rest_of}
 use Rattle.line_fields.specs.Reading.{◌>>=◌, fault_at, missing, next_field, number_value, number_field}
-use Rattle.line_fields.specs.Lines.{IsRaw, IsLine, whole_line, line_text, line_rest, next_raw}
+use Rattle.line_fields.specs.Lines.{IsRaw, IsLine, is_ended, whole_line, line_text, line_rest, next_raw}
 use Rattle.line_fields.specs.Reader.{texts, IsReader}
 use Rattle.line_fields.specs.Spelling.{IsClean, joined}
 use Rattle.line_fields.proofs.Readers.{IsValue, IsNumber, bind_ok, ok_is, first_takes, first_again, is_number_value, reads_field, no_words}
@@ -306,22 +306,15 @@ version_again v raw line =
     ap (λ (x : Result (List ℕ) TextFault). x >>= version_in) (text_again 1 raw (joined (first_words v)) (joined_no_return (first_words v) (first_clean v)) line) ∙ version_given v
 
 -- it is known from the first line alone
+named_text : (v : Version) (raw : List ℕ) (raws : Raws) → without_terminator raw ≡ joined (first_words v) → is_ended raw ≡ true → version_named (raw ∷ raws) ≡ v
+named_text One raw raws text ended = rw (text, ended) refl
+named_text Two raw raws text ended = rw (text, ended) refl
+named_text Three raw raws text ended = rw (text, ended) refl
+
 named_by : (v : Version) (raw : List ℕ) (raws : Raws) → IsLine 1 (joined (first_words v)) raw → version_named (raw ∷ raws) ≡ v
-named_by One raw raws line =
-    let own = ending_again raw (joined (first_words One)) (joined_no_return (first_words One) (first_clean One)) line.ends in
-    let text = own.0 in
-    let ended = own.1 in
-    rw (text, ended) refl
-named_by Two raw raws line =
-    let own = ending_again raw (joined (first_words Two)) (joined_no_return (first_words Two) (first_clean Two)) line.ends in
-    let text = own.0 in
-    let ended = own.1 in
-    rw (text, ended) refl
-named_by Three raw raws line =
-    let own = ending_again raw (joined (first_words Three)) (joined_no_return (first_words Three) (first_clean Three)) line.ends in
-    let text = own.0 in
-    let ended = own.1 in
-    rw (text, ended) refl
+named_by v raw raws line =
+    let own = ending_again raw (joined (first_words v)) (joined_no_return (first_words v) (first_clean v)) line.ends in
+    named_text v raw raws own.0 own.1
 
 first_taken : (raws : Raws) (x : Version × Raws) → first_line raws ≡ Ok x → IsFirst raws x
 unfolding first_line

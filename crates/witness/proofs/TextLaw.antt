@@ -98,22 +98,15 @@ text_again w text t =
     ap (witness_in w.version) (text_lines w text t) ∙ rw (begun, steps) refl
 
 -- the version that a first line names
+named_text : (v : Version) (raw : List ℕ) (raws : List (List ℕ)) → without_terminator raw ≡ first_text v → is_ended raw ≡ true → version_named (raw ∷ raws) ≡ v
+named_text versions.One raw raws text ended = rw (text, ended) refl
+named_text versions.Two raw raws text ended = rw (text, ended) refl
+named_text versions.Three raw raws text ended = rw (text, ended) refl
+
 named_by : (v : Version) (raw : List ℕ) (raws : List (List ℕ)) → IsLine 1 (first_text v) raw → version_named (raw ∷ raws) ≡ v
-named_by versions.One raw raws line =
-    let own = ending_again raw (first_text versions.One) (first_ends versions.One) line.ends in
-    let text = own.0 in
-    let ended = own.1 in
-    rw (text, ended) refl
-named_by versions.Two raw raws line =
-    let own = ending_again raw (first_text versions.Two) (first_ends versions.Two) line.ends in
-    let text = own.0 in
-    let ended = own.1 in
-    rw (text, ended) refl
-named_by versions.Three raw raws line =
-    let own = ending_again raw (first_text versions.Three) (first_ends versions.Three) line.ends in
-    let text = own.0 in
-    let ended = own.1 in
-    rw (text, ended) refl
+named_by v raw raws line =
+    let own = ending_again raw (first_text v) (first_ends v) line.ends in
+    named_text v raw raws own.0 own.1
 
 -- it is read whichever version it is of
 pub some_again : (w : Witness) (text : List ℕ) → IsWitnessText w text → witness_of text ≡ Ok w
