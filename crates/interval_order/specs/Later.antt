@@ -40,6 +40,10 @@ late_by o behind line extras moment =
 abbrev pub late_rule : Order → List Line → Line → ℕ → ℕ → Rule
 late_rule o between line extras moment = late_by o (is_among line.thread between) line extras moment
 
+-- the line's moment is not later than that one, nor earlier by more than the skew
+abbrev pub IsTimed : Header → ℕ → Line → Type 0
+IsTimed header moment line = (line.moment ≤ moment) × (moment ≤ line.moment + header.skew)
+
 -- the line may be taken at that moment, or in time before it
 abbrev pub is_current : Header → ℕ → Line → Bool
 is_current header moment line = nat_le line.moment moment && nat_le moment (line.moment + header.skew)

@@ -9,7 +9,7 @@
 //!   names does not wait.
 //! - Moments don't fall along the lines, so some line is overdue exactly where the first that waits is.
 
-ghost use Rattle.std.specs.Prelude.{◌≡◌, ℕ, ◌+◌, ◌<◌, ◌≤◌, ◌^◌, [], length, All, IsSome, IfOk, OnOk, OnErr, Some, false, true, cond, is_some, nat_eq, nat_lt, slice_get};
+ghost use Rattle.std.specs.Prelude.{◌≡◌, ℕ, ◌+◌, ◌<◌, ◌≤◌, ◌^◌, [], length, All, IsSome, IfOk, OnOk, OnErr, None, Some, false, true, cond, is_some, nat_eq, nat_lt, slice_get};
 ghost use Rattle.std.specs.Ordering.{nat_cmp};
 ghost use Rattle.std.specs.BTreeMap.{get};
 ghost use Rattle.std.specs.Option.{option_copied, option_map, option_map_or};
@@ -17,7 +17,7 @@ ghost use Rattle.std.specs.Result.{result_err};
 ghost use Rattle.case_forms.specs.Traces.{first_event_line};
 ghost use Rattle.verdict.specs.Rules.{first_broken};
 ghost use Rattle.interval_order.specs.Orders.{taking, passing, held_line, is_offered, with_line, order_after};
-ghost use Rattle.interval_order.specs.Later.{waits, late_by};
+ghost use Rattle.interval_order.specs.Later.{waits, late_by, IsTimed};
 ghost use Rattle.interval_order.specs.Waits.{latest_in};
 ghost use Rattle.interval_order.specs.OrderRules.{extras_of, has_earlier, thread_order, order_rules, has_overdue, first_overdue};
 
@@ -94,12 +94,13 @@ impl Window {
         Ok(())
     }
 
-    /// Takes a line for a step at this moment, which is followed by that many extra numbers. Where the step breaks a
-    /// rule of order, the least of them is the error, and the window is as it was.
+    /// Takes a line for a step at this moment, which is followed by that many extra numbers. The window no longer holds it. Where
+    /// the step breaks a rule of order, the least of them is the error, and the window is as it was.
     pub fn place(&mut self, line: u64, extras: u8, moment: u64) -> Result<Line, Rule>
         ensures rule { result_err result ≡ first_broken (order_rules self.old (taking moment line extras)) }
         ensures line { IfOk result (λ taken. held_line self.old line ≡ Some taken) }
         ensures ok { OnOk result (self.new ≡ order_after self.old (taking moment line extras)) }
+        ensures gone { OnOk result (held_line self.new line ≡ None) }
         ensures err { OnErr result (self.new ≡ self.old) }
     {
         self.admit(line, extras, moment)?;
@@ -136,12 +137,13 @@ impl Window {
         self.waiting.len()
     }
 
-    /// The number of the first line that may not wait until this moment, if there is one.
+    /// The number of the first line that may not wait until this moment, if there is one. Where there is none, and no line that
+    /// waits has a later moment, each has one that is at most the skew earlier.
     pub fn overdue(&self, moment: u64) -> Option<u64>
-        ensures { result ≡ first_overdue self.now moment }
+        ensures first { result ≡ first_overdue self.now moment }
+        ensures current { result ≡ None → All (λ e. e.1.moment ≤ moment) self.now.held → All (λ e. IsTimed self.now.header moment e.1) self.now.held }
     {
-        let (number, waiting) = self.waiting.first_key_value()?;
-        is_past(waiting.line.moment, self.header.skew, moment).then_some(*number)
+        self.first_late(moment)
     }
 
     /// Whether a line of this thread waits.
@@ -244,6 +246,14 @@ impl Window {
             },
             None => false,
         }
+    }
+
+    // The number of the first line that may not wait until this moment.
+    fn first_late(&self, moment: u64) -> Option<u64>
+        ensures { result ≡ first_overdue self.now moment }
+    {
+        let (number, waiting) = self.waiting.first_key_value()?;
+        is_past(waiting.line.moment, self.header.skew, moment).then_some(*number)
     }
 
     fn has_overdue(&self, moment: u64) -> bool
