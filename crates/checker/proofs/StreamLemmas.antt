@@ -28,7 +28,7 @@ use Rattle.machine_laws.proofs.Sound.{owner_given}
 use Rattle.checker.proofs.HomeLemmas.{peer_elsewhere}
 use Rattle.checker.proofs.GivenLemmas.{AllGiven, given_run, given_start}
 use Rattle.checker.specs.Seen.{stamped}
-use Rattle.checker.specs.Headline.{CallDone, bytes_accepted, is_ended, told, accepted, ended, Hears, HearsNothing, GivenAt, AreApart, calls_done, ReceivesBeginSends}
+use Rattle.checker.specs.Headline.{CallDone, bytes_accepted, is_ended, told, accepted, ended, ReceivesFrom, ReceivesNothing, GivenAt, AreApart, calls_done, ReceivesBeginSends}
 use Rattle.checker.proofs.HeadlineLemmas.{run_done, done_run, opens_start, told_is, told_end_is}
 use Rattle.checker.proofs.SocketLemmas.{Stay, AllMet, Owned, one_owner, accepted_run, sender_run, reader_run, ended_run, ender_run, met_run}
 
@@ -89,9 +89,9 @@ AllWhole h = (steps : List (Stamped tcp_shape)) → Lawful (tcp h) (start (tcp h
 abbrev hosts_after : Trace → List WitnessStep → Hosts
 hosts_after t steps = (world_at_end t.header (stamped t.header t.lines steps)).hosts
 
-hears : (t : Trace) (steps : List WitnessStep) (z : Hosts) (socket peer : ℕ) (me q : Name) → AllReceived t.header → AllWhole t.header → Steady z → Linked z socket peer me q
-    → Lawful (tcp t.header) (start (tcp t.header)) (stamped t.header t.lines steps) → AllMet (hosts_after t steps) z → Stay (hosts_after t steps) z → Hears t steps socket peer
-hears t steps z socket peer me q received whole g linked may later stay = record {
+receives : (t : Trace) (steps : List WitnessStep) (z : Hosts) (socket peer : ℕ) (me q : Name) → AllReceived t.header → AllWhole t.header → Steady z → Linked z socket peer me q
+    → Lawful (tcp t.header) (start (tcp t.header)) (stamped t.header t.lines steps) → AllMet (hosts_after t steps) z → Stay (hosts_after t steps) z → ReceivesFrom t steps socket peer
+receives t steps z socket peer me q received whole g linked may later stay = record {
   prefix = subst (λ (l : List ℕ). IsPrefixOf l (accepted t steps peer)) (told_is t steps socket may) (by_reader (reader_run t.header (start (tcp t.header)) (stamped t.header t.lines steps) socket (steady_start t.header) may));
   whole = λ is. at_end (whole (stamped t.header t.lines steps) may socket (told_end_is t steps socket may ∙ is));
 }
@@ -125,35 +125,35 @@ hears t steps z socket peer me q received whole g linked may later stay = record
               (subst (λ (n : Name). owner (pick z n.host).body peer ≡ Some n.number) (sym one) linked.his) p.2.by_step,
         )
 
--- what a socket number hears at the end, or that it hears nothing
+-- from whom a socket number receives at the end, or that it receives nothing
 linked : (t : Trace) (steps : List WitnessStep) (socket : ℕ) → AllReceived t.header → AllWhole t.header → Lawful (tcp t.header) (start (tcp t.header)) (stamped t.header t.lines steps)
-    → HearsNothing t steps socket ⊎ ((peer : ℕ) × (me : Name) × (q : Name) × Linked (hosts_after t steps) socket peer me q)
+    → ReceivesNothing t steps socket ⊎ ((peer : ℕ) × (me : Name) × (q : Name) × Linked (hosts_after t steps) socket peer me q)
 linked t steps socket received whole may = by_end (was_told_end t.header socket (stamped t.header t.lines steps)) refl
   where
-    nothing : told_to t.header socket (stamped t.header t.lines steps) ≡ [] → was_told_end t.header socket (stamped t.header t.lines steps) ≡ false → HearsNothing t steps socket
+    nothing : told_to t.header socket (stamped t.header t.lines steps) ≡ [] → was_told_end t.header socket (stamped t.header t.lines steps) ≡ false → ReceivesNothing t steps socket
     nothing none is = record { told = sym (told_is t steps socket may) ∙ none; end = sym (told_end_is t steps socket may) ∙ is }
 
     by_sender : was_told_end t.header socket (stamped t.header t.lines steps) ≡ false → (x : Name) (e : Endpoint) (q : Name) → owner (pick (hosts_after t steps) x.host).body socket ≡ Some x.number → find (hosts_after t steps) x ≡ Some e → e.stream.peer ≡ Some q
         → IsPrefixOf (told_to t.header socket (stamped t.header t.lines steps)) (accepted_by t.header q (stamped t.header t.lines steps))
         → (accepted_by t.header q (stamped t.header t.lines steps) ≡ []) ⊎ ((n : ℕ) × (owner (pick (hosts_after t steps) q.host).body n ≡ Some q.number))
-        → HearsNothing t steps socket ⊎ ((peer : ℕ) × (me : Name) × (q : Name) × Linked (hosts_after t steps) socket peer me q)
+        → ReceivesNothing t steps socket ⊎ ((peer : ℕ) × (me : Name) × (q : Name) × Linked (hosts_after t steps) socket peer me q)
     by_sender is x e q own at met p (inl none) = inl (nothing (nothing_begins (told_to t.header socket (stamped t.header t.lines steps)) p.0 (p.1 ∙ none)) is)
     by_sender is x e q own at met p (inr n) = inr (n.0, x, q, record { own = own; there = e; at = at; met = met; his = n.1 })
 
     by_peer : was_told_end t.header socket (stamped t.header t.lines steps) ≡ false → (x : Name) (e : Endpoint) → owner (pick (hosts_after t steps) x.host).body socket ≡ Some x.number → find (hosts_after t steps) x ≡ Some e
         → ((e.stream.peer ≡ None) × (told_to t.header socket (stamped t.header t.lines steps) ≡ [])) ⊎ ((p : Name) × (e.stream.peer ≡ Some p) × BeginsWhatPeerSent t.header (stamped t.header t.lines steps) socket p)
-        → HearsNothing t steps socket ⊎ ((peer : ℕ) × (me : Name) × (q : Name) × Linked (hosts_after t steps) socket peer me q)
+        → ReceivesNothing t steps socket ⊎ ((peer : ℕ) × (me : Name) × (q : Name) × Linked (hosts_after t steps) socket peer me q)
     by_peer is x e own at (inl none) = inl (nothing none.1 is)
     by_peer is x e own at (inr p) = by_sender is x e p.0 own at p.1 p.2.prefix (sender_run t.header (start (tcp t.header)) (stamped t.header t.lines steps) p.0 (steady_start t.header) may)
 
     by_reader : was_told_end t.header socket (stamped t.header t.lines steps) ≡ false → (told_to t.header socket (stamped t.header t.lines steps) ≡ []) ⊎ Owned (hosts_after t steps) socket
-        → HearsNothing t steps socket ⊎ ((peer : ℕ) × (me : Name) × (q : Name) × Linked (hosts_after t steps) socket peer me q)
+        → ReceivesNothing t steps socket ⊎ ((peer : ℕ) × (me : Name) × (q : Name) × Linked (hosts_after t steps) socket peer me q)
     by_reader is (inl none) = inl (nothing none is)
     by_reader is (inr o) =
         let x = received (stamped t.header t.lines steps) may socket (name o.0 o.1) (socket_here (hosts_after t steps) o.0 socket o.1 o.2) in
         by_peer is (name o.0 o.1) x.0 o.2 x.1 x.2.peer
 
-    by_end : (b : Bool) → was_told_end t.header socket (stamped t.header t.lines steps) ≡ b → HearsNothing t steps socket ⊎ ((peer : ℕ) × (me : Name) × (q : Name) × Linked (hosts_after t steps) socket peer me q)
+    by_end : (b : Bool) → was_told_end t.header socket (stamped t.header t.lines steps) ≡ b → ReceivesNothing t steps socket ⊎ ((peer : ℕ) × (me : Name) × (q : Name) × Linked (hosts_after t steps) socket peer me q)
     by_end false is = by_reader is (reader_run t.header (start (tcp t.header)) (stamped t.header t.lines steps) socket (steady_start t.header) may)
     by_end true is =
         let x = whole (stamped t.header t.lines steps) may socket is in
@@ -179,12 +179,12 @@ apart t steps both may socket peer me q l = record {
 pub begins_sends : (t : Trace) (w : Witness) → is_half t.header.version ≡ false → AllReceived t.header → AllWhole t.header → Lawful (tcp t.header) (start (tcp t.header)) (stamped t.header t.lines w.steps) → ReceivesBeginSends t w
 begins_sends t w both received whole may socket = go (linked t w.steps socket received whole may)
   where
-    go : HearsNothing t w.steps socket ⊎ ((peer : ℕ) × (me : Name) × (q : Name) × Linked (hosts_after t w.steps) socket peer me q) → HearsNothing t w.steps socket ⊎ ((peer : ℕ) × AreApart (calls_done t w.steps) socket peer × ((place : ℕ) → Hears t (take place w.steps) socket peer))
+    go : ReceivesNothing t w.steps socket ⊎ ((peer : ℕ) × (me : Name) × (q : Name) × Linked (hosts_after t w.steps) socket peer me q) → ReceivesNothing t w.steps socket ⊎ ((peer : ℕ) × AreApart (calls_done t w.steps) socket peer × ((place : ℕ) → ReceivesFrom t (take place w.steps) socket peer))
     go (inl none) = inl none
     go (inr x) = inr (
       x.0,
       apart t w.steps both may socket x.0 x.1 x.2 x.3,
       λ place.
           let o = onward t (start (tcp t.header)) w.steps (steady_start t.header) may place in
-          hears t (take place w.steps) (hosts_after t w.steps) socket x.0 x.1 x.2 received whole (steady_run t.header (start (tcp t.header)) (stamped t.header t.lines w.steps) (steady_start t.header) may) x.3 o.may o.later o.stay,
+          receives t (take place w.steps) (hosts_after t w.steps) socket x.0 x.1 x.2 received whole (steady_run t.header (start (tcp t.header)) (stamped t.header t.lines w.steps) (steady_start t.header) may) x.3 o.may o.later o.stay,
     )

@@ -31,7 +31,7 @@ AreBothRecorded t = is_half t.header.version ≡ false
 abbrev pub AllReadsWereCarried : Trace → Witness → Type 0
 AllReadsWereCarried t w = ReadsWereCarried t.header (steps_of t w)
 
--- what the reads on a socket number were told is how the bytes begin that the sends of its peer accepted
+-- what the reads on a socket number were told is a prefix of what the sends of its peer accepted
 abbrev pub ReadsBeginWhatWasSent : Trace → Witness → Type 0
 ReadsBeginWhatWasSent t w = ReceivedIsAPrefix t.header (steps_of t w)
 

@@ -90,12 +90,12 @@ abbrev pub ended : Trace → List Step → ℕ → Bool
 ended t steps socket = list_any (λ d. is_ended socket d.call d.answer) (calls_done t steps)
 
 -- what was told on a socket number in these steps is a prefix of what was accepted on the peer's; where the end was told it is all of it, and the peer's sending was ended
-pub record Hears (t : Trace) (steps : List Step) (socket peer : ℕ) : Type 0 where
+pub record ReceivesFrom (t : Trace) (steps : List Step) (socket peer : ℕ) : Type 0 where
   pub prefix : IsPrefixOf (told t steps socket) (accepted t steps peer)
   pub whole : told_end t steps socket ≡ true → (told t steps socket ≡ accepted t steps peer) × (ended t steps peer ≡ true)
 
 -- neither bytes nor the end were told
-pub record HearsNothing (t : Trace) (steps : List Step) (socket : ℕ) : Type 0 where
+pub record ReceivesNothing (t : Trace) (steps : List Step) (socket : ℕ) : Type 0 where
   pub told : told t steps socket ≡ []
   pub end : told_end t steps socket ≡ false
 
@@ -115,7 +115,8 @@ pub record AreApart (all : List CallDone) (socket peer : ℕ) : Type 0 where
   pub here : GivenAt all host socket
   pub there : GivenAt all (other host) peer
 
--- the headline: a socket number either hears nothing in the whole witness, or there is one of the other host that it hears at each moment, after the first `place` steps
+-- the headline: a socket number either receives nothing in the whole witness, or there is one of the other host from which it receives
+-- at each moment, after the first `place` steps
 abbrev pub ReceivesBeginSends : Trace → Witness → Type 0
-ReceivesBeginSends t w = (socket : ℕ) → HearsNothing t w.steps socket
-    ⊎ ((peer : ℕ) × AreApart (calls_done t w.steps) socket peer × ((place : ℕ) → Hears t (take place w.steps) socket peer))
+ReceivesBeginSends t w = (socket : ℕ) → ReceivesNothing t w.steps socket
+    ⊎ ((peer : ℕ) × AreApart (calls_done t w.steps) socket peer × ((place : ℕ) → ReceivesFrom t (take place w.steps) socket peer))

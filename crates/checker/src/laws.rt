@@ -52,7 +52,7 @@ pub fn receives_begin_sends()
 
 /// What follows for streams, windows and states where the witness explains the trace.
 pub fn explained_follows()
-    // Where both hosts are recorded: what reads were told is how the bytes begin that the peer's sends accepted.
+    // Where both hosts are recorded: what reads were told is a prefix of what the peer's sends accepted.
     ensures received { (t : Trace) (w : Witness) → Explains t w → AreBothRecorded t → ReadsBeginWhatWasSent t w }
 
     // Reads that were told the end were told all of them.
@@ -83,7 +83,7 @@ pub fn explained_follows()
 
 /// What follows for streams holds at each moment of the witness, for what was told and accepted by then.
 pub fn streams_at_each_moment()
-    // Where both hosts are recorded: what reads were told by then is how the bytes begin that the peer's sends accepted by then.
+    // Where both hosts are recorded: what reads were told by then is a prefix of what the peer's sends accepted by then.
     ensures received { (t : Trace) (w : Witness) → Explains t w → AreBothRecorded t → (place : ℕ) → ReceivedIsAPrefix t.header (take place (steps_of t w)) }
 
     // Reads that were told the end by then were told all of them by then.

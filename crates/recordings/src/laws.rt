@@ -36,7 +36,7 @@ pub fn books_grow()
 {}
 
 /// What two books say, merged, has the consequences of every run of a whole case, at its end and after any of its first steps: what reads
-/// were told is how the bytes begin that the peer's sends accepted, and all of these once a read was told the end; what a
+/// were told is a prefix of what the peer's sends accepted, and all of these once a read was told the end; what a
 /// step leaves acknowledged, but for the SYN, the peer had taken before it; new data fits both windows; and windows change
 /// by their causes alone.
 pub fn merged_books_have_the_consequences()
