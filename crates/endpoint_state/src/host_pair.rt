@@ -9,9 +9,11 @@ ghost use Rattle.machine.specs.Calls.{after_call, call_allows};
 ghost use Rattle.endpoint_state.specs.Kinds.{got_one};
 ghost use Rattle.endpoint_state.specs.Sides.{AreReady, forget_hosts};
 ghost use Rattle.endpoint_state.specs.Lending.{LendsSide};
+ghost use Rattle.endpoint_state.specs.Worlds.{hosts_brought};
 
 use crate::host::{self, HostState};
 use case_forms::{Answer, Call, Header, Host};
+use machine::Emission;
 use segment::OutOfMemory;
 use std::alloc::Global;
 use std::marker::Model;
@@ -74,6 +76,22 @@ impl Hosts {
         match host {
             Host::Zero => host::get(&mut self.zero, &self.one, line, copied),
             Host::One => host::get(&mut self.one, &self.zero, line, copied),
+        }
+    }
+
+    /// A segment stands on a host's wire under this line.
+    pub(crate) fn bring(
+        &mut self,
+        host: Host,
+        line: u64,
+        emission: &Emission,
+    ) -> Result<(), OutOfMemory>
+        ensures ok { OnOk result (self.new ≡ hosts_brought self.old host line emission.now) }
+        ensures err { OnErr result (self.new ≡ self.old) }
+    {
+        match host {
+            Host::Zero => host::bring(&mut self.zero, line, emission),
+            Host::One => host::bring(&mut self.one, line, emission),
         }
     }
 

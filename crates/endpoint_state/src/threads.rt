@@ -2,14 +2,14 @@
 
 ghost use Rattle.std.specs.Prelude.{◌≡◌, nat_eq, is_some, false, not, IfOk, OnOk, OnErr};
 ghost use Rattle.std.specs.Map.{lookup};
-ghost use Rattle.std.specs.Option.{option_map};
+ghost use Rattle.std.specs.Option.{option_copied, option_map};
 ghost use Rattle.std.specs.Result.{result_err};
 ghost use Rattle.indexmap.specs.IndexMap.{insert_entry};
 ghost use Rattle.verdict.specs.Rules.{first_broken};
 ghost use Rattle.hosts.specs.HostRules.{begin_rules, end_rules, pending_rules};
 ghost use Rattle.hosts.specs.Hosts.{Answered, Called, Idle, turn_of};
 ghost use Rattle.machine.specs.Same.{same_answer};
-ghost use Rattle.endpoint_state.specs.Turns.{turn_shown};
+ghost use Rattle.endpoint_state.specs.Turns.{pending_call, turn_shown};
 
 use crate::turn::{Place, Turn};
 use case_forms::{Answer, Call, OutOfMemory};
@@ -54,6 +54,16 @@ pub fn open_call(threads: &IndexMap<u32, Turn>, thread: u32) -> Result<&Call, Ru
         Some(Place::Called(call)) => Ok(call),
         Some(Place::Answered(_)) => Err(Rule::DoneTwice),
         Some(Place::Idle) | None => Err(Rule::NoCall),
+    }
+}
+
+/// The call of a thread that is open and had no effect yet. None: there is none, or it had its effect.
+pub fn pending_call(threads: &IndexMap<u32, Turn>, thread: u32) -> Option<&Call>
+    ensures { option_copied result ≡ pending_call (turn_of thread threads.now.entries) }
+{
+    match place_in(threads, thread) {
+        Some(Place::Called(call)) => Some(call),
+        Some(Place::Answered(_)) | Some(Place::Idle) | None => None,
     }
 }
 

@@ -7,6 +7,7 @@
 //! - `hidden`: a step that takes none: the same
 //! - `expired`: a timer's line
 //! - `step`: any step
+//! - `wires`: what stands on a host's wire under a line, and a segment that is brought there, which is no step
 #![tactic(auto)]
 
 mod expired;
@@ -15,8 +16,10 @@ mod line;
 mod step;
 #[cfg(test)]
 mod tests;
+mod wires;
 
 pub use hidden::apply_hidden;
 pub use line::apply_line;
 pub use machine::Emission;
 pub use step::{Label, StepFault, admits, apply};
+pub use wires::{bring, sent};
