@@ -1,19 +1,48 @@
-//! The three ways in which a case is asked for.
+//! The ways in which a case is asked for.
+
+ghost use Rattle.std.specs.Prelude.{◌≤◌, length};
 
 use crate::table::Case;
+use bstr::ByteSlice;
 use checker::{CaseFault, check_case};
-use cli::{run, run_all};
+use cli::{run, run_all, run_files};
 use counted::Counted;
 use line_fields::TextFault;
 use std::alloc::{AllocError, Global};
+use std::io::BufReader;
 use std::sync::Wait;
 use std::thread::Threads;
+use trace_reader::version_named;
 use verdict::Verdict;
+use witness::begins_witness;
 
 // How many threads check the cases of one input.
 const WORKERS: &str = "4";
 
-/// Asks for each case by itself, by `check_case` and by the word `check`.
+// How many bytes of each of two texts are read at once.
+const PIECES: [usize; 3] = [1, 7, 4096];
+
+// Inputs with lines that end a case and lines that don't, and for each what is printed and the status.
+const ENDS: [(&str, &str); 10] = [
+    ("", "0"),
+    ("end\n", "bad trace 1 0 0 header\n2"),
+    (
+        "end\nend\n",
+        "bad trace 1 0 0 header\nbad trace 1 0 0 header\n2",
+    ),
+    (
+        "end\r\nend\n",
+        "bad trace 1 0 0 header\nbad trace 1 0 0 header\n2",
+    ),
+    ("end\nend", "bad trace 1 0 0 header\nbad trace 1 0 3 cut\n2"),
+    ("end", "bad trace 1 0 3 cut\n2"),
+    ("end\r", "bad trace 1 0 4 cut\n2"),
+    ("end\r\r\n", "bad trace 1 0 4 header\n2"),
+    ("end \n", "bad trace 1 0 4 header\n2"),
+    ("END\n", "bad trace 1 0 3 header\n2"),
+];
+
+/// Asks for each case by itself: by `check_case`, by the word `check`, and by its two texts in pieces of several sizes.
 pub fn ask_each(
     alloc: Global,
     cases: &[Case],
@@ -24,6 +53,10 @@ pub fn ask_each(
         compare(alloc, case, "check_case", found.as_str(), differing)?;
         let found = by_check(alloc, case.text.as_slice())?;
         compare(alloc, case, "check", found.as_str(), differing)?;
+        for size in PIECES {
+            let found = by_two_texts(alloc, case.text.as_slice(), size)?;
+            compare(alloc, case, "two texts", found.as_str(), differing)?;
+        }
     }
     Ok(())
 }
@@ -40,6 +73,23 @@ pub fn ask_many<H: Threads + Wait + Sync>(
     for case in cases.iter().filter(|case| !case.is_ended()) {
         let found = by_many(rt, alloc, case.text.as_slice())?;
         compare(alloc, case, "many, alone", found.as_str(), differing)?;
+    }
+    Ok(())
+}
+
+/// Asks for inputs of `many` that are all ends.
+pub fn ask_ends<H: Threads + Wait + Sync>(
+    rt: &H,
+    alloc: Global,
+    differing: &mut Vec<String>,
+) -> Result<(), AllocError> {
+    for (input, wanted) in &ENDS {
+        let found = by_many(rt, alloc, input.as_bytes())?;
+        if found.as_str() != *wanted {
+            differing.push(format!(in alloc;
+                "many of {input:?}: wanted {wanted:?}, found {found:?}"
+            )?)?;
+        }
     }
     Ok(())
 }
@@ -128,6 +178,42 @@ fn by_check(alloc: Global, text: &[u8]) -> Result<String, AllocError> {
     let status = run(alloc, &["check"], &mut reader, &mut writer);
     let printed = String::from_utf8_lossy(alloc, output.as_slice())?;
     format!(in alloc; "{printed}{status}")
+}
+
+// What is printed for the trace and the witness of a case as two texts, which are read in pieces, then the status.
+fn by_two_texts(alloc: Global, text: &[u8], size: usize) -> Result<String, AllocError> {
+    let (trace, witness) = text.split_at(witness_begins(text));
+    let (Ok(trace), Ok(witness)) = (
+        BufReader::with_capacity(alloc, size, trace),
+        BufReader::with_capacity(alloc, size, witness),
+    ) else {
+        return Err(AllocError);
+    };
+    let mut output = Vec::new(alloc);
+    let mut writer = Counted::new(&mut output);
+    let (status, _, _) = run_files(
+        alloc,
+        Counted::new(trace),
+        Counted::new(witness),
+        &mut writer,
+    );
+    let printed = String::from_utf8_lossy(alloc, output.as_slice())?;
+    format!(in alloc; "{printed}{status}")
+}
+
+// How many bytes of a case stand before its witness.
+fn witness_begins(text: &[u8]) -> usize
+    ensures { result ≤ length text.now }
+{
+    let version = version_named(text);
+    let mut at = 0usize;
+    for raw in text.lines_with_terminator() {
+        if begins_witness(version, raw) {
+            break;
+        }
+        at = at.saturating_add(raw.len());
+    }
+    at.min(text.len())
 }
 
 // What the words of `many` print for an input, then the status.

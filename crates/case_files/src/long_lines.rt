@@ -5,7 +5,8 @@ use std::alloc::{AllocError, Global};
 
 const HEADER: &str = "trace 1\nskew 0\nmsl 120000000\ngrain 1000\nminrto 1000000\nextra 0\n";
 
-// A line of so many letters: what stands between the header and it, what follows the letters, and the line that is wanted.
+// So many letters, which may be digits of hex: what stands between the header and them, what follows them, and the line that
+// is wanted.
 #[derive(Clone, Copy)]
 struct Long {
     before: &'static str,
@@ -14,7 +15,7 @@ struct Long {
     wanted: &'static str,
 }
 
-const LONG: [Long; 9] = [
+const LONG: [Long; 18] = [
     Long {
         before: "",
         letters: 140_000,
@@ -68,6 +69,60 @@ const LONG: [Long; 9] = [
         letters: 140_001,
         after: "\n",
         wanted: "bad witness 2 0 140001 line-too-long",
+    },
+    Long {
+        before: "",
+        letters: 200_001,
+        after: "\r\n9 x\nwitness 1\n",
+        wanted: "bad trace 7 0 200001 line-too-long",
+    },
+    Long {
+        before: "10 1 B send 5 ",
+        letters: 131_070,
+        after: "\nwitness 1\n",
+        wanted: "no 0 7 unplaced",
+    },
+    Long {
+        before: "10 1 B send 5 ",
+        letters: 131_072,
+        after: "\nwitness 1\n",
+        wanted: "bad trace 7 14 131086 hex",
+    },
+    Long {
+        before: "10 1 E data ",
+        letters: 131_070,
+        after: "\nwitness 1\n",
+        wanted: "no 0 7 unplaced",
+    },
+    Long {
+        before: "10 1 E data ",
+        letters: 131_072,
+        after: "\nwitness 1\n",
+        wanted: "bad trace 7 12 131084 hex",
+    },
+    Long {
+        before: "10 3 O 0 0fa00050fffffffe000000005002ffff00000000",
+        letters: 130_990,
+        after: "\nwitness 1\n",
+        wanted: "no 0 7 unplaced",
+    },
+    Long {
+        before: "10 3 O 0 0fa00050fffffffe000000005002ffff00000000",
+        letters: 130_992,
+        after: "\nwitness 1\n",
+        wanted: "bad trace 7 9 131041 segment too-long",
+    },
+    Long {
+        before: "witness 1\n10 D 1 data ",
+        letters: 131_070,
+        after: "\n10\n",
+        wanted: "bad witness 3 2 2 field",
+    },
+    Long {
+        before: "witness 1\n10 D 1 data ",
+        letters: 131_072,
+        after: "\n10\n",
+        wanted: "bad witness 2 12 131084 hex",
     },
 ];
 

@@ -1,7 +1,8 @@
-//! Asks for the answer to every case file, in three ways, and holds each answer to the line that is wanted.
+//! Asks for the answer to every case file, in several ways, and holds each answer to the line that is wanted.
 //!
 //! The case of each name is `data/NAME.case`, and `data/expected.txt` has the line that `tcpwit check` must print for it
-//! (`data/README.md`). Beside the files, each beginning of two of them is asked for, and lines of the greatest length.
+//! (`data/README.md`). Beside the files, each beginning of two of them is asked for, lines of the greatest length, inputs of
+//! several cases, and the command lines of `data/command_lines.txt`.
 //! Where all is answered as wanted, one line with the counts is printed. Else each answer that differs has a line on
 //! standard error, with the name of the case, how it was asked, what was wanted and what was found, and the program ends
 //! with status 1.
@@ -9,16 +10,18 @@
 //! - `table`: cases, and those of the files
 //! - `beginnings`: each beginning of a case
 //! - `long_lines`: lines of the greatest length, and one byte longer
-//! - `asking`: by `check_case`, by the word `check`, and by the words of `many`
+//! - `asking`: by `check_case`, by the word `check`, as two texts in pieces, and by the words of `many`
+//! - `command_lines`: by words, as the program is given them
 #![tactic(auto)]
 
 mod asking;
 mod beginnings;
+mod command_lines;
 mod long_lines;
 mod table;
 
-use std::io;
 use std::process::ExitCode;
+use std::{fs, io};
 
 fn main(rt: HostRuntime) -> io::Result<ExitCode> {
     let alloc = rt.alloc();
@@ -33,6 +36,9 @@ fn main(rt: HostRuntime) -> io::Result<ExitCode> {
     long_lines::push_long_lines(alloc, &mut cases)?;
     asking::ask_each(alloc, cases.as_slice(), &mut differing)?;
     asking::ask_many(&rt, alloc, cases.as_slice(), &mut differing)?;
+    asking::ask_ends(&rt, alloc, &mut differing)?;
+    let table = fs::read_to_string(&rt, "command_lines.txt")?;
+    let rows = command_lines::ask_rows(&rt, alloc, table.as_str(), &mut differing)?;
     for line in &differing {
         eprintln!(rt; "{line}")?;
     }
@@ -41,7 +47,7 @@ fn main(rt: HostRuntime) -> io::Result<ExitCode> {
     }
     let long = cases.len().saturating_sub(files).saturating_sub(others);
     println!(rt;
-        "{files} case files, {others} beginnings of two of them and {long} long lines are answered as wanted"
+        "{files} case files, {others} beginnings of two of them, {long} long lines and {rows} command lines are answered as wanted"
     )?;
     Ok(ExitCode::SUCCESS)
 }

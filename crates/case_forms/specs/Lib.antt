@@ -1,4 +1,5 @@
 pub mod States
+pub mod Versions
 pub mod Traces
 pub mod Steps
 pub mod TakenLines

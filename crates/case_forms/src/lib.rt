@@ -4,6 +4,7 @@
 //! told by `interval_order` (the order of lines), `endpoint_state` and `spec_step` (the machine), and `checker`.
 //!
 //! - `calls`: hosts, socket calls, their answers, and the states of an endpoint (RFC 9293, 3.3.2)
+//! - `version`: the versions of the texts, and which RFC gives the first congestion window
 //! - `trace`: spans, the header, segments as they were seen, event lines, and a whole trace
 //! - `timer`: the timers of an endpoint, and what is chosen where one expires or fast recovery begins
 //! - `steps`: labels, what a segment is that is made, what is chosen at one that is taken, and a whole witness
@@ -17,6 +18,7 @@ mod steps;
 mod taken_line;
 mod timer;
 mod trace;
+mod version;
 
 pub use calls::{Answer, Call, Host, Ports, State};
 pub use named_line::{Extras, NamedLine};
@@ -24,6 +26,7 @@ pub use steps::{Flags, Label, SegmentPlan, Step, Steps, TakeChoice, Takes, Witne
 pub use taken_line::{Expired, TakenLine};
 pub use timer::{Expiry, Growth, Recovery, Timer};
 pub use trace::{Event, Header, Line, Lines, Span, Trace, Wire};
+pub use version::{Initial, Version};
 
 /// Memory ran out. Nothing was changed.
 pub type OutOfMemory = std::alloc::AllocError;

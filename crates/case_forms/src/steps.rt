@@ -7,6 +7,7 @@ use crate::calls::{Answer, Host};
 use crate::named_line::NamedLine;
 use crate::timer::Recovery;
 use crate::trace::Span;
+use crate::version::Version;
 use seqno::Word;
 use std::alloc::Global;
 use std::marker::Model;
@@ -36,6 +37,8 @@ pub struct SegmentPlan {
     pub window: u16,
     /// The initial send sequence number, with the first SYN of the endpoint alone (RFC 9293, 3.4.1).
     pub iss: Option<Word>,
+    /// By how many bits the endpoint shifts the windows that it offers, 0 to 14, with the `iss` alone (RFC 7323, 2.2 and 2.3).
+    pub shift: Option<u8>,
 }
 
 /// What an endpoint chooses at a segment that it takes.
@@ -60,7 +63,7 @@ pub enum Label<Taken> {
         thread: u32,
         answer: Answer,
     },
-    /// `M h lp rp pos len flags wnd [iss]`: host h makes this segment.
+    /// `M h lp rp pos len flags wnd [iss [shift]]`: host h makes this segment.
     M {
         host: Host,
         plan: SegmentPlan,
@@ -210,6 +213,8 @@ impl Steps {
 /// A witness: an order of the trace's lines, with hidden steps between them. Nobody trusts it.
 #[derive(Drop)]
 pub struct Witness {
+    /// That of its trace.
+    pub version: Version,
     pub steps: Steps,
 }
 
@@ -219,6 +224,7 @@ impl Witness {
         ensures { IfOk result (λ witness. witness ≡ self.now) }
     {
         Ok(Witness {
+            version: self.version,
             steps: self.steps.copy()?,
         })
     }

@@ -6,6 +6,7 @@ ghost use Rattle.case_forms.specs.Traces.{first_event_line};
 use crate::OutOfMemory;
 use crate::calls::{Answer, Call, Host};
 use crate::timer::Timer;
+use crate::version::{Initial, Version};
 use segment::{Bytes, Segment};
 use std::alloc::Global;
 use std::marker::Model;
@@ -21,6 +22,7 @@ pub struct Span {
 /// What a trace says before its event lines. Times are microseconds.
 #[derive(Clone, Copy, Debug, PartialEq, Eq)]
 pub struct Header {
+    pub version: Version,
     /// By how much a step may be later than its line, 0 to 10^9.
     pub skew: u64,
     /// The maximum segment lifetime (RFC 9293, 3.4.2), 1 to 3600000000.
@@ -31,6 +33,8 @@ pub struct Header {
     pub minrto: u64,
     /// How many children a listen queue may hold above its backlog.
     pub extra: u16,
+    /// Which RFC gives the first congestion window; `Rfc5681` in version 1, whose texts don't say it.
+    pub initial: Initial,
 }
 
 impl Header {
@@ -38,7 +42,7 @@ impl Header {
     pub fn first_event_line(&self) -> u64
         ensures { result ≡ first_event_line self.now }
     {
-        7
+        self.version.first_event_line()
     }
 }
 

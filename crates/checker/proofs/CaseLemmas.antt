@@ -1,117 +1,130 @@
 -- A case, cut at its first line that begins a witness, and its first fault.
-use Rattle.std.proofs.Common.{◌≡◌, ◌+◌, ℕ, true, false, List, [], ◌∷◌, ◌++◌, length, take, drop, refl, sym, ap, ◌∙◌, arith, append-nil, append_assoc, length-append, Result, Ok, Err}
+use Rattle.std.proofs.Common.{◌≡◌, ◌≢◌, ◌+◌, ℕ, true, false, List, [], ◌∷◌, ◌++◌, length, take, drop, refl, sym, ap, ◌∙◌, arith, append-nil, append_assoc, length-append, Option, Some, Result, Ok, Err}
 use Rattle.std.specs.List.{AllByRecursion, concat}
-use Rattle.std.proofs.lemmas.List.{take_at, drop_at}
+use Rattle.std.proofs.lemmas.List.{take_at, drop_at, take-append-drop}
 use Rattle.bstr.specs.Text.{lines_of}
 use Rattle.bstr.proofs.lemmas.RestLemmas.{concat-lines_of}
 use Rattle.case_forms.specs.declared.trace.Trace.{Trace}
-use Rattle.case_forms.specs.declared.steps.Witness.{Witness}
-use Rattle.line_fields.specs.declared.fault.FaultKind.{FaultKind}
-use Rattle.line_fields.specs.declared.fault.FaultKind.TheVariants as kinds
+use Rattle.case_forms.specs.declared.version.Version.{Version}
 use Rattle.line_fields.specs.declared.fault.TextFault.{TextFault}
-use Rattle.line_fields.specs.Reading.{Fails}
+use Rattle.trace_reader.specs.Headers.{version_named}
+use Rattle.trace_reader.specs.TraceText.{IsTraceText, trace_of}
+use Rattle.trace_reader.proofs.TraceLaw.{trace_named, trace_takes}
+use Rattle.witness.specs.WitnessText.{witness_for}
 use Rattle.witness.specs.FirstLine.{begins_witness}
 use Rattle.checker.specs.declared.case.CaseFault.TheVariants as faults
-use Rattle.checker.specs.Cases.{cut_place, trace_part, witness_part, case_fault, judged, GivesCase}
-
--- lines of which none begins a witness
-abbrev pub AreTraceLines : List (List ℕ) → Type 0
-AreTraceLines raws = AllByRecursion (λ raw. begins_witness raw ≡ false) raws
-
-place_found : (front : List (List ℕ)) (raw : List ℕ) (rest : List (List ℕ)) → AreTraceLines front → begins_witness raw ≡ true → cut_place (front ++ raw ∷ rest) ≡ length front
-place_found [] raw rest none begins = rw begins refl
-place_found (r ∷ front) raw rest none begins = rw none.0 (let there : cut_place (front ++ raw ∷ rest) ≡ length front = place_found front raw rest none.1 begins in omega arith)
-
-place_end : (front : List (List ℕ)) → AreTraceLines front → cut_place front ≡ length front
-place_end [] none = refl
-place_end (r ∷ front) none = rw none.0 (let there : cut_place front ≡ length front = place_end front none.1 in omega arith)
+use Rattle.verdict.specs.declared.report.Verdict.{Verdict}
+use Rattle.checker.specs.declared.case.CaseFault.{CaseFault}
+use Rattle.checker.specs.Cases.{cut_place, trace_part, witness_part, judged, case_of, case_result, GivesCase}
+use Rattle.checker.specs.Texts.{GivesTexts, texts_result, witness_behind}
 
 concat_both : (xs ys : List (List ℕ)) → concat (xs ++ ys) ≡ concat xs ++ concat ys
 concat_both [] ys = refl
 concat_both (x ∷ xs) ys = ap (λ (zs : List ℕ). x ++ zs) (concat_both xs ys) ∙ sym (append_assoc x (concat xs) (concat ys))
 
-pub more_trace_lines : (front : List (List ℕ)) (raw : List ℕ) → AreTraceLines front → begins_witness raw ≡ false → AreTraceLines (front ++ raw ∷ [])
-more_trace_lines [] raw none begins = (begins, tt)
-more_trace_lines (r ∷ front) raw none begins = (none.0, more_trace_lines front raw none.1 begins)
+-- a case of a version
+module _ (v : Version) where
+  -- lines of which none begins a witness
+  abbrev pub AreTraceLines : List (List ℕ) → Type 0
+  AreTraceLines raws = AllByRecursion (λ raw. begins_witness v raw ≡ false) raws
 
--- how far the loop has come: the lines so far are of the trace, and `at` is behind them
-pub record IsCutSoFar (text : List ℕ) (at : ℕ) (left : List (List ℕ)) : Type 0 where
-  pub front : List (List ℕ)
-  pub lines : front ++ left ≡ lines_of text
-  pub none : AreTraceLines front
-  pub here : at ≡ length (concat front)
+  place_found : (front : List (List ℕ)) (raw : List ℕ) (rest : List (List ℕ)) → AreTraceLines front → begins_witness v raw ≡ true → cut_place v (front ++ raw ∷ rest) ≡ length front
+  place_found [] raw rest none begins = rw begins refl
+  place_found (r ∷ front) raw rest none begins = rw none.0 (let there : cut_place v (front ++ raw ∷ rest) ≡ length front = place_found front raw rest none.1 begins in omega arith)
 
-whole : (text : List ℕ) (front left : List (List ℕ)) → front ++ left ≡ lines_of text → text ≡ concat front ++ concat left
-whole text front left lines = sym (concat-lines_of text) ∙ ap concat (sym lines) ∙ concat_both front left
+  place_end : (front : List (List ℕ)) → AreTraceLines front → cut_place v front ≡ length front
+  place_end [] none = refl
+  place_end (r ∷ front) none = rw none.0 (let there : cut_place v front ≡ length front = place_end front none.1 in omega arith)
 
-pub cut_within : (text : List ℕ) (at : ℕ) (left : List (List ℕ)) → IsCutSoFar text at left → at + length (concat left) ≡ length text
-cut_within text at left c =
-    let all = ap length (whole text c.front left c.lines) in
-    let both = length-append (concat c.front) (concat left) in
-    omega (arith, all, both, c.here)
+  pub more_trace_lines : (front : List (List ℕ)) (raw : List ℕ) → AreTraceLines front → begins_witness v raw ≡ false → AreTraceLines (front ++ raw ∷ [])
+  more_trace_lines [] raw none begins = (begins, tt)
+  more_trace_lines (r ∷ front) raw none begins = (none.0, more_trace_lines front raw none.1 begins)
 
-pub cut_start : (text : List ℕ) → IsCutSoFar text 0 (lines_of text)
-cut_start text = record { front = []; lines = refl; none = tt; here = refl }
+  -- how far the loop has come: the lines so far are of the trace, and `at` is behind them
+  pub record IsCutSoFar (text : List ℕ) (at : ℕ) (left : List (List ℕ)) : Type 0 where
+    pub front : List (List ℕ)
+    pub lines : front ++ left ≡ lines_of text
+    pub none : AreTraceLines front
+    pub here : at ≡ length (concat front)
 
-pub cut_more : (text : List ℕ) (at : ℕ) (raw : List ℕ) (left : List (List ℕ)) → IsCutSoFar text at (raw ∷ left) → begins_witness raw ≡ false → IsCutSoFar text (at + length raw) left
-cut_more text at raw left c begins = record {
-  front = c.front ++ raw ∷ [];
-  lines = append_assoc c.front (raw ∷ []) left ∙ c.lines;
-  none = more_trace_lines c.front raw c.none begins;
-  here =
-      let one = ap length (concat_both c.front (raw ∷ [])) in
-      let both = length-append (concat c.front) (raw ++ []) in
-      let same = ap length (append-nil raw) in
-      omega (arith, one, both, same, c.here);
-}
+  whole : (text : List ℕ) (front left : List (List ℕ)) → front ++ left ≡ lines_of text → text ≡ concat front ++ concat left
+  whole text front left lines = sym (concat-lines_of text) ∙ ap concat (sym lines) ∙ concat_both front left
 
-front_is : (text : List ℕ) (at : ℕ) (left : List (List ℕ)) (c : IsCutSoFar text at left) → (take at text ≡ concat c.front) × (drop at text ≡ concat left)
-front_is text at left c =
-    let all = whole text c.front left c.lines in
-    (ap (take at) all ∙ take_at (concat c.front) (concat left) at (sym c.here), ap (drop at) all ∙ drop_at (concat c.front) (concat left) at (sym c.here))
+  pub cut_within : (text : List ℕ) (at : ℕ) (left : List (List ℕ)) → IsCutSoFar text at left → at + length (concat left) ≡ length text
+  cut_within text at left c =
+      let all = ap length (whole text c.front left c.lines) in
+      let both = length-append (concat c.front) (concat left) in
+      omega (arith, all, both, c.here)
 
--- the parts, where the place of the cut is known
-parts_at : (text : List ℕ) (front left : List (List ℕ)) → front ++ left ≡ lines_of text → cut_place (front ++ left) ≡ length front → (trace_part text ≡ concat front) × (witness_part text ≡ concat left)
-parts_at text front left lines place =
-    let same : cut_place (lines_of text) ≡ length front = ap cut_place (sym lines) ∙ place in (
-      ap (λ (n : ℕ). concat (take n (lines_of text))) same ∙ ap (λ (raws : List (List ℕ)). concat (take (length front) raws)) (sym lines) ∙ ap concat (take_at front left (length front) refl),
-      ap (λ (n : ℕ). concat (drop n (lines_of text))) same ∙ ap (λ (raws : List (List ℕ)). concat (drop (length front) raws)) (sym lines) ∙ ap concat (drop_at front left (length front) refl),
-    )
+  pub cut_start : (text : List ℕ) → IsCutSoFar text 0 (lines_of text)
+  cut_start text = record { front = []; lines = refl; none = tt; here = refl }
 
-pub cut_found : (text : List ℕ) (at : ℕ) (raw : List ℕ) (left : List (List ℕ)) → IsCutSoFar text at (raw ∷ left) → begins_witness raw ≡ true → (take at text ≡ trace_part text) × (drop at text ≡ witness_part text)
-cut_found text at raw left c begins =
-    let parts = parts_at text c.front (raw ∷ left) c.lines (place_found c.front raw left c.none begins) in
-    let here = front_is text at (raw ∷ left) c in
-    (here.0 ∙ sym parts.0, here.1 ∙ sym parts.1)
+  pub cut_more : (text : List ℕ) (at : ℕ) (raw : List ℕ) (left : List (List ℕ)) → IsCutSoFar text at (raw ∷ left) → begins_witness v raw ≡ false → IsCutSoFar text (at + length raw) left
+  cut_more text at raw left c begins = record {
+    front = c.front ++ raw ∷ [];
+    lines = append_assoc c.front (raw ∷ []) left ∙ c.lines;
+    none = more_trace_lines c.front raw c.none begins;
+    here =
+        let one = ap length (concat_both c.front (raw ∷ [])) in
+        let both = length-append (concat c.front) (raw ++ []) in
+        let same = ap length (append-nil raw) in
+        omega (arith, one, both, same, c.here);
+  }
 
-pub cut_end : (text : List ℕ) (at : ℕ) → IsCutSoFar text at [] → (take at text ≡ trace_part text) × (drop at text ≡ witness_part text)
-cut_end text at c =
-    let parts = parts_at text c.front [] c.lines (ap cut_place (append-nil c.front) ∙ place_end c.front c.none) in
-    let here = front_is text at [] c in
-    (here.0 ∙ sym parts.0, here.1 ∙ sym parts.1)
+  front_is : (text : List ℕ) (at : ℕ) (left : List (List ℕ)) (c : IsCutSoFar text at left) → (take at text ≡ concat c.front) × (drop at text ≡ concat left)
+  front_is text at left c =
+      let all = whole text c.front left c.lines in
+      (ap (take at) all ∙ take_at (concat c.front) (concat left) at (sym c.here), ap (drop at) all ∙ drop_at (concat c.front) (concat left) at (sym c.here))
 
--- ---- the first fault
+  -- the parts, where the place of the cut is known
+  parts_at : (text : List ℕ) (front left : List (List ℕ)) → front ++ left ≡ lines_of text → cut_place v (front ++ left) ≡ length front → (trace_part v text ≡ concat front) × (witness_part v text ≡ concat left)
+  parts_at text front left lines place =
+      let same : cut_place v (lines_of text) ≡ length front = ap (cut_place v) (sym lines) ∙ place in (
+        ap (λ (n : ℕ). concat (take n (lines_of text))) same ∙ ap (λ (raws : List (List ℕ)). concat (take (length front) raws)) (sym lines) ∙ ap concat (take_at front left (length front) refl),
+        ap (λ (n : ℕ). concat (drop n (lines_of text))) same ∙ ap (λ (raws : List (List ℕ)). concat (drop (length front) raws)) (sym lines) ∙ ap concat (drop_at front left (length front) refl),
+      )
 
-pub trace_fails : (kind : FaultKind) (fault : TextFault) (read : Result Trace TextFault) (w : Result Witness TextFault) → Fails kind fault read → GivesCase (Err (case_fault kind (faults.Trace fault))) (judged read w)
-trace_fails kinds.Header fault read w h = ap (λ (r : Result Trace TextFault). judged r w) (sym h)
-trace_fails kinds.Field fault read w h = ap (λ (r : Result Trace TextFault). judged r w) (sym h)
-trace_fails kinds.Number fault read w h = ap (λ (r : Result Trace TextFault). judged r w) (sym h)
-trace_fails kinds.Hex fault read w h = ap (λ (r : Result Trace TextFault). judged r w) (sym h)
-trace_fails (kinds.Segment why) fault read w h = ap (λ (r : Result Trace TextFault). judged r w) (sym h)
-trace_fails kinds.MomentFalls fault read w h = ap (λ (r : Result Trace TextFault). judged r w) (sym h)
-trace_fails kinds.LineTooLong fault read w h = ap (λ (r : Result Trace TextFault). judged r w) (sym h)
-trace_fails kinds.Cut fault read w h = ap (λ (r : Result Trace TextFault). judged r w) (sym h)
-trace_fails kinds.TooManyLines fault read w h = ap (λ (r : Result Trace TextFault). judged r w) (sym h)
-trace_fails kinds.OutOfMemory fault read w h = tt
+  pub cut_found : (text : List ℕ) (at : ℕ) (raw : List ℕ) (left : List (List ℕ)) → IsCutSoFar text at (raw ∷ left) → begins_witness v raw ≡ true → (take at text ≡ trace_part v text) × (drop at text ≡ witness_part v text)
+  cut_found text at raw left c begins =
+      let parts = parts_at text c.front (raw ∷ left) c.lines (place_found c.front raw left c.none begins) in
+      let here = front_is text at (raw ∷ left) c in
+      (here.0 ∙ sym parts.0, here.1 ∙ sym parts.1)
 
-pub witness_fails : (kind : FaultKind) (fault : TextFault) (t : Trace) (read : Result Witness TextFault) → Fails kind fault read → GivesCase (Err (case_fault kind (faults.Witness fault))) (judged (Ok t) read)
-witness_fails kinds.Header fault t read h = ap (λ (r : Result Witness TextFault). judged (Ok t) r) (sym h)
-witness_fails kinds.Field fault t read h = ap (λ (r : Result Witness TextFault). judged (Ok t) r) (sym h)
-witness_fails kinds.Number fault t read h = ap (λ (r : Result Witness TextFault). judged (Ok t) r) (sym h)
-witness_fails kinds.Hex fault t read h = ap (λ (r : Result Witness TextFault). judged (Ok t) r) (sym h)
-witness_fails (kinds.Segment why) fault t read h = ap (λ (r : Result Witness TextFault). judged (Ok t) r) (sym h)
-witness_fails kinds.MomentFalls fault t read h = ap (λ (r : Result Witness TextFault). judged (Ok t) r) (sym h)
-witness_fails kinds.LineTooLong fault t read h = ap (λ (r : Result Witness TextFault). judged (Ok t) r) (sym h)
-witness_fails kinds.Cut fault t read h = ap (λ (r : Result Witness TextFault). judged (Ok t) r) (sym h)
-witness_fails kinds.TooManyLines fault t read h = ap (λ (r : Result Witness TextFault). judged (Ok t) r) (sym h)
-witness_fails kinds.OutOfMemory fault t read h = tt
+  pub cut_end : (text : List ℕ) (at : ℕ) → IsCutSoFar text at [] → (take at text ≡ trace_part v text) × (drop at text ≡ witness_part v text)
+  cut_end text at c =
+      let parts = parts_at text c.front [] c.lines (ap (cut_place v) (append-nil c.front) ∙ place_end c.front c.none) in
+      let here = front_is text at [] c in
+      (here.0 ∙ sym parts.0, here.1 ∙ sym parts.1)
+
+  -- the parts of a case are the whole of it
+  parts_whole : (text : List ℕ) → trace_part v text ++ witness_part v text ≡ text
+  parts_whole text =
+      let raws = lines_of text in
+      sym (concat_both (take (cut_place v raws) raws) (drop (cut_place v raws) raws)) ∙ ap concat (take-append-drop (cut_place v raws) raws) ∙ concat-lines_of text
+
+  -- the version of a case is that of its trace
+  pub same_version : (text : List ℕ) (t : Trace) → IsTraceText t (trace_part v text) → t.header.version ≡ version_named (lines_of text)
+  same_version text t spelled =
+      sym (trace_named t (trace_part v text) (witness_part v text) spelled) ∙ ap (λ (x : List ℕ). version_named (lines_of x)) (parts_whole text)
+
+-- a case's two parts, read one behind the other, give the case's answer
+pub case_is : (text : List ℕ) (given : Result Verdict CaseFault) → let v = version_named (lines_of text) in GivesTexts given (Some (trace_part v text)) (Some (witness_part v text)) → given ≢ Err faults.Read → GivesCase given (case_result text)
+unfolding case_result
+case_is text given gives unread = by given gives unread
+  where
+    v : Version
+    v = version_named (lines_of text)
+
+    same : texts_result (trace_part v text) (witness_part v text) ≡ case_of v text
+    same = go (trace_of (trace_part v text)) refl
+      where
+        go : (read : Result Trace TextFault) → trace_of (trace_part v text) ≡ read → judged read (witness_behind read (witness_part v text)) ≡ judged read (witness_for v (witness_part v text))
+        go (Err e) is = refl
+        go (Ok t) is = ap (λ (u : Version). judged (Ok t) (witness_for u (witness_part v text))) (same_version v text t (trace_takes (trace_part v text) t is))
+
+    by : (r : Result Verdict CaseFault) → GivesTexts r (Some (trace_part v text)) (Some (witness_part v text)) → r ≢ Err faults.Read → GivesCase r (case_of v text)
+    by (Ok verdict) is unread = is ∙ same
+    by (Err (faults.Trace f)) is unread = is ∙ same
+    by (Err (faults.Witness f)) is unread = is ∙ same
+    by (Err faults.Read) is unread = absurd (unread refl)
+    by (Err faults.OutOfMemory) is unread = tt

@@ -36,7 +36,7 @@ gone o moment n extras none = by_test (is_offered o n) refl
     by_test false is = (rules.LineRange, λ rest. simp (none, is) refl)
 
 -- what the machine is asked to do, where that is found for the line
-abbrev line_act : ℕ → NamedLine → Option Line → Option (Stamped tcp_shape)
+abbrev pub line_act : ℕ → NamedLine → Option Line → Option (Stamped tcp_shape)
 line_act moment named found = option_map (λ step. record { moment = moment; step = step }) (label_step (λ n. found) (L named))
 
 module _ (header : Header) (lines : List Line) (earlier : List Step) where
@@ -95,7 +95,7 @@ module _ (header : Header) (lines : List Line) (earlier : List Step) where
   pub act_is : (w : World tcp_shape) (s : Step) → kept_broken header (order_of header lines (moves earlier)) w s ≡ None → held_act (order_of header lines (moves earlier)) s ≡ act_of header lines s
   act_is w s ok = act_at w s.moment s.label s.span ok
 
--- the rules may be asked of the world of which all is forgotten that may be let go
+-- the rules may be asked of the world of which all is forgotten that may be discarded
 pub broken_forgets : (header : Header) (o : Order) (w : World tcp_shape) (s : Step) → kept_broken header o (forget w) s ≡ kept_broken header o w s
 broken_forgets header o w s = ap (λ (rest : List (Rule × Bool)). first_broken (order_rules o (move_of s) ++ rest)) (by_act (held_act o s))
   where

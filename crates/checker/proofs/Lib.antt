@@ -9,3 +9,9 @@ pub mod PeerLemmas
 pub mod AgainLemmas
 pub mod SpanLemmas
 pub mod CountLemmas
+pub mod LateLemmas
+pub mod AheadLemmas
+pub mod StreamTurns
+pub mod TurnLemmas
+pub mod EndLemmas
+pub mod TextLemmas

@@ -109,11 +109,11 @@ syn_or_reset false true either not_reset = absurd cc
 syn_or_reset false false either not_reset = absurd cc
 
 meets_taking : (h : Header) (s : ℕ) (w : World tcp_shape) (host : Host) (line : ℕ) (how : TakeChoice) (m : Emission) (i : ℕ) (e : Endpoint) → waiting line (pick w.hosts host).inbox ≡ Some m
-    → slice_get (pick w.hosts host).body.endpoints i ≡ Some e → taker (pick w.hosts host).body m ≡ AtEndpoint i e → Waits e → first_broken (if is_syn_sent e.state then syn_sent_rules e how m else connected_rules h (pick w.hosts host).body (name host i) e how m) ≡ None
+    → slice_get (pick w.hosts host).body.endpoints i ≡ Some e → taker (pick w.hosts host).body m ≡ AtEndpoint i e → Waits e → first_broken (if is_syn_sent e.state then syn_sent_rules h.initial e how m else connected_rules h (pick w.hosts host).body (name host i) e how m) ≡ None
     → Meets w (At host (Takes line how)) (name host i) e.stream.peer (endpoint_taken h e how m s).stream.peer
 meets_taking h s w host line how m i e waits there is calm may = go m.flags.rst (is_syn_sent e.state) refl refl may
   where
-    go : (r t : Bool) → m.flags.rst ≡ r → is_syn_sent e.state ≡ t → first_broken (if t then syn_sent_rules e how m else connected_rules h (pick w.hosts host).body (name host i) e how m) ≡ None
+    go : (r t : Bool) → m.flags.rst ≡ r → is_syn_sent e.state ≡ t → first_broken (if t then syn_sent_rules h.initial e how m else connected_rules h (pick w.hosts host).body (name host i) e how m) ≡ None
         → Meets w (At host (Takes line how)) (name host i) e.stream.peer (if r then was_reset e how else if t then met_peer h e how m s else segment_taken h e how m s).stream.peer
     go true t reset sent may = inl refl
     go false true reset sent may = inr (
@@ -126,7 +126,7 @@ meets_taking h s w host line how m i e waits there is calm may = go m.flags.rst 
         segment = m;
         takes = refl;
         waits = waits;
-        syn = syn_or_reset m.flags.syn m.flags.rst (not_false (m.flags.syn || m.flags.rst) (none_all (syn_sent_rules e how m) may).0) reset;
+        syn = syn_or_reset m.flags.syn m.flags.rst (not_false (m.flags.syn || m.flags.rst) (none_all (syn_sent_rules h.initial e how m) may).0) reset;
         made = refl;
         goes = inl (e, there, is);
       },
@@ -152,7 +152,7 @@ moves_taking h s w host line how m good waits may = go (taker (pick w.hosts host
         (λ x there.
         let one : e ≡ x = same_Some e x (sym (taker_there b m i e is) ∙ there) in
         meets_taking h s w host line how m i x waits there (is ∙ ap (λ (y : Endpoint). AtEndpoint i y) one) ((good host).endpoints i x there).waits
-        (subst (λ (y : Endpoint). first_broken (if is_syn_sent y.state then syn_sent_rules y how m else connected_rules h b (name host i) y how m) ≡ None) one may))
+        (subst (λ (y : Endpoint). first_broken (if is_syn_sent y.state then syn_sent_rules h.initial y how m else connected_rules h b (name host i) y how m) ≡ None) one may))
 
 moves_deed : (h : Header) (s : ℕ) (w : World tcp_shape) (host : Host) (d : Deed tcp_shape) → Good w.hosts → Permitted (tcp h) s w (At host d)
     → Moves w (At host d) host (pick w.hosts host).body.endpoints (deed_after (tcp h) host s (suc w.count) (pick w.hosts (other host)).wire (pick w.hosts host) d).body.endpoints

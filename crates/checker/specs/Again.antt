@@ -13,6 +13,8 @@ use Rattle.case_forms.specs.declared.steps.Label.{Label}
 use Rattle.case_forms.specs.declared.steps.Label.TheVariants as labels
 use Rattle.case_forms.specs.declared.steps.Step.{Step}
 use Rattle.case_forms.specs.declared.steps.Witness.{Witness}
+use Rattle.case_forms.specs.declared.version.Version.TheVariants.{One}
+use Rattle.case_forms.specs.declared.version.Initial.TheVariants.{Rfc5681}
 use Rattle.case_forms.specs.Traces.{IsTrace}
 use Rattle.case_forms.specs.Witnesses.{IsWitness}
 use Rattle.checker.specs.Verdicts.{verdict}
@@ -38,6 +40,7 @@ pub record HaveTwo (t : Trace) (v w : Witness) : Type 0 where
   pub trace : IsTrace t
   pub one : IsWitness v
   pub two : IsWitness w
+  pub versions : (t.header.version ≡ v.version) × (t.header.version ≡ w.version)
   pub differ : labels_of v ≡ labels_of w → ⊥
   pub yes_one : IsYes (verdict t v)
   pub yes_two : IsYes (verdict t w)
@@ -45,7 +48,7 @@ pub record HaveTwo (t : Trace) (v w : Witness) : Type 0 where
 -- two threads listen on host 0, on ports 80 and 81, at the same time, and are given the socket numbers 5 and 6
 abbrev pub two_listen : Trace
 two_listen = record {
-  header = record { skew = 0; msl = 120000000; grain = 1000; minrto = 1000000; extra = 0 };
+  header = record { version = One; skew = 0; msl = 120000000; grain = 1000; minrto = 1000000; extra = 0; initial = Rfc5681 };
   lines =
       record { number = 7; moment = 10; thread = 1; event = events.CallBegin (calls.Listen Zero 80 4); span = nowhere }
       ∷ record { number = 8; moment = 10; thread = 2; event = events.CallBegin (calls.Listen Zero 81 4); span = nowhere }
@@ -57,6 +60,7 @@ two_listen = record {
 -- the effects of both calls at 15, in this order
 abbrev pub effects_in_order : Step → Step → Witness
 effects_in_order first second = record {
+  version = One;
   steps =
       record { moment = 10; label = labels.L (record { number = 7; extras = extras.Bare }); span = nowhere }
       ∷ record { moment = 10; label = labels.L (record { number = 8; extras = extras.Bare }); span = nowhere }

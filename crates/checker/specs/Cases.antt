@@ -4,26 +4,28 @@ use Rattle.std.specs.List.{concat, position_or_len}
 use Rattle.bstr.specs.Text.{lines_of}
 use Rattle.case_forms.specs.declared.trace.Trace.{Trace}
 use Rattle.case_forms.specs.declared.steps.Witness.{Witness}
+use Rattle.case_forms.specs.declared.version.Version.{Version}
 use Rattle.line_fields.specs.declared.fault.FaultKind.{FaultKind}
 use Rattle.line_fields.specs.declared.fault.FaultKind.TheVariants as kinds
 use Rattle.line_fields.specs.declared.fault.TextFault.{TextFault}
 use Rattle.trace_reader.specs.TraceText.{trace_of}
-use Rattle.witness.specs.WitnessText.{witness_of}
+use Rattle.trace_reader.specs.Headers.{version_named}
+use Rattle.witness.specs.WitnessText.{witness_for}
 use Rattle.witness.specs.FirstLine.{begins_witness}
 use Rattle.verdict.specs.declared.report.Verdict.{Verdict}
 use Rattle.checker.specs.declared.case.CaseFault.{CaseFault}
 use Rattle.checker.specs.declared.case.CaseFault.TheVariants as faults
 use Rattle.checker.specs.Verdicts.{verdict}
 
--- a case is cut before its first line that begins a witness, or behind its end
-abbrev pub cut_place : List (List ℕ) → ℕ
-cut_place raws = position_or_len begins_witness raws
+-- a case of a version is cut before its first line that begins a witness of this version, or behind its end
+abbrev pub cut_place : Version → List (List ℕ) → ℕ
+cut_place v raws = position_or_len (begins_witness v) raws
 
-abbrev pub trace_part : List ℕ → List ℕ
-trace_part text = concat (take (cut_place (lines_of text)) (lines_of text))
+abbrev pub trace_part : Version → List ℕ → List ℕ
+trace_part v text = concat (take (cut_place v (lines_of text)) (lines_of text))
 
-abbrev pub witness_part : List ℕ → List ℕ
-witness_part text = concat (drop (cut_place (lines_of text)) (lines_of text))
+abbrev pub witness_part : Version → List ℕ → List ℕ
+witness_part v text = concat (drop (cut_place v (lines_of text)) (lines_of text))
 
 -- the trace's fault, else the witness's, else the verdict
 abbrev pub judged : Result Trace TextFault → Result Witness TextFault → Result Verdict CaseFault
@@ -31,13 +33,18 @@ judged (Err fault) read = Err (faults.Trace fault)
 judged (Ok t) (Err fault) = Err (faults.Witness fault)
 judged (Ok t) (Ok w) = Ok (verdict t w)
 
--- the fault of a case that a fault of a text is: want of memory has no place in a text
+-- the fault of a case that a fault of a text is: running out of memory has no place in a text
 abbrev pub case_fault : FaultKind → CaseFault → CaseFault
 case_fault kinds.OutOfMemory fault = faults.OutOfMemory
 case_fault kind fault = fault
 
+-- the result of a case of a version
+abbrev pub case_of : Version → List ℕ → Result Verdict CaseFault
+case_of v text = judged (trace_of (trace_part v text)) (witness_for v (witness_part v text))
+
+-- the version is the one that the first line of its trace names
 unfoldable pub case_result : List ℕ → Result Verdict CaseFault
-case_result text = judged (trace_of (trace_part text)) (witness_of (witness_part text))
+case_result text = case_of (version_named (lines_of text)) text
 
 -- what a function returned is this result, unless memory ran out
 abbrev pub GivesCase : Result Verdict CaseFault → Result Verdict CaseFault → Type 0

@@ -1,4 +1,4 @@
--- The rules of a step asked of what is kept: the lines that are not placed, and the world of which all is forgotten that may be let go.
+-- The rules of a step asked of what is kept: the lines that are not placed, and the world of which all is forgotten that may be discarded.
 use Rattle.std.specs.Prelude.{[], ◌++◌, Option}
 use Rattle.std.specs.Option.{option_map_or}
 use Rattle.case_forms.specs.declared.trace.Header.{Header}

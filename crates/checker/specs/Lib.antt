@@ -7,3 +7,7 @@ pub mod Cases
 pub mod Consequences
 pub mod Peers
 pub mod Again
+pub mod Ahead
+pub mod Streaming
+pub mod Turns
+pub mod Texts

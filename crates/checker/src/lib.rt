@@ -5,16 +5,29 @@
 //! `specs/Judges` what each verdict says; `specs/Verdicts` which verdict it is; `specs/Consequences` what follows from a yes
 //! for streams and windows.
 //!
-//! - `replay`: the replay of a witness, and the verdict
-//! - `case`: a case in one text, cut, read and judged
+//! `check_streams` does the same while both texts are read: `specs/Ahead` says what a trace has left that is read one line
+//! ahead, `specs/Streaming` and `specs/Turns` how far a case has come, and `specs/Texts` what both texts give.
+//!
+//! - `replay`: the replay of a witness of which all is in memory; what one step does
+//! - `ahead`: a trace that is read one line ahead
+//! - `offering`: the lines that a step's moment reaches, and a line that is named before it is reached
+//! - `turns`: one turn for each step, up to the first that is refused
+//! - `steps`: the rest of a witness, which is read for its faults alone
+//! - `two_texts`: a case in two texts, judged while they are read
+//! - `case`: a case in one text, which is cut and judged by the same reading
 //! - `laws`: what holds for every trace and witness; each law is the contract of a call that does nothing. They say when the
 //!   verdict is yes and what it counts, which line is taken first, what follows for streams, windows and peers, also after the
 //!   first n steps, that the verdict stays where the trace is printed and read again, and that a trace may have two witnesses
 #![tactic(auto)]
 
+mod ahead;
 mod case;
 mod laws;
+mod offering;
 mod replay;
+mod steps;
+mod turns;
+mod two_texts;
 
 pub use case::{CaseFault, check_case};
 pub use laws::{
@@ -23,3 +36,4 @@ pub use laws::{
     yes_counts_all_lines,
 };
 pub use replay::check;
+pub use two_texts::check_streams;

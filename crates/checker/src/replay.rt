@@ -32,13 +32,14 @@ use spec_step::{StepFault, apply_hidden, apply_line};
 use std::alloc::{AllocError, Global};
 use verdict::{Rule, Verdict};
 
-/// The verdict on a witness for a trace that some text stands for.
+/// The verdict on a witness for a trace of its version, where some texts stand for both.
 ///
 /// Yes with the counts of lines and of hidden steps exactly where the steps explain the trace; else no at the first
 /// step that breaks a rule, with the least rule that it breaks, or, where none does, with the least line left over.
 pub fn check(alloc: Global, trace: &Trace, witness: &Witness) -> Result<Verdict, OutOfMemory>
     requires trace { IsTrace trace.now }
     requires witness { IsWitness witness.now }
+    requires versions { trace.now.header.version ≡ witness.now.version }
     ensures exact { IfOk result (λ v. v ≡ verdict trace.now witness.now) }
 
     // What the verdict says of the two lists, in places.
@@ -121,8 +122,12 @@ fn offer_all(alloc: Global, header: &Header, lines: &[Line]) -> Result<Window, O
     Ok(window)
 }
 
-// Does a step, or says which rule it breaks.
-fn replay(window: &mut Window, world: &mut World, step: &Step) -> Result<Option<Rule>, OutOfMemory>
+/// Does a step, or says which rule it breaks.
+pub(crate) fn replay(
+    window: &mut Window,
+    world: &mut World,
+    step: &Step,
+) -> Result<Option<Rule>, OutOfMemory>
     requires steps { world.old.steps < most_steps }
     requires label { IsWithinLimits step.now.label }
     ensures rule { IfOk result (λ r. r ≡ kept_broken world.old.header window.old world.old.world step.now) }
@@ -194,14 +199,15 @@ fn counted(steps: &[Step]) -> Verdict
     }
 }
 
-fn takes_line(label: &Label<NamedLine>) -> bool
+/// Whether a step takes a line; else it is hidden.
+pub(crate) fn takes_line(label: &Label<NamedLine>) -> bool
     ensures { result ≡ takes_line label.now }
 {
     matches!(label, Label::L(_))
 }
 
-// The line that a label names, 0 for a hidden step.
-fn line_named(label: &Label<NamedLine>) -> u64
+/// The line that a label names, 0 for a hidden step.
+pub(crate) fn line_named(label: &Label<NamedLine>) -> u64
     ensures { result ≡ line_named label.now }
 {
     match label {

@@ -7,3 +7,4 @@ pub mod ManyLaw
 pub mod ManyWords
 pub mod PlainHex
 pub mod SegmentWords
+pub mod TwoTexts

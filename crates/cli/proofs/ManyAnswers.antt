@@ -63,7 +63,7 @@ lowest (text ∷ cases) (answer ∷ answers) is =
     let others = lowest cases answers (behind_first text cases answer answers is) in
     omega (arith, first, others)
 
--- where no answer is want of memory, each is the case's
+-- where no answer says that memory ran out, each is the case's
 answered : (text : List ℕ) (answer : Result Verdict CaseFault) → IsAnswer text answer → status_of answer ≢ 4 → answer ≡ case_result text
 answered text answer is had = is (λ e. had (ap status_of e))
 

@@ -9,6 +9,7 @@
 //! - `argument`: the segment that a hex text stands for (`specs/HexText`)
 //! - `segment_line`: the line and the status of a segment (`specs/SegmentText`)
 //! - `running`: the whole run, and the answer where memory ran out before it
+//! - `file_words`, `files`: the words that ask for a case in two files, and the run on them
 //! - `many_words`, `many`: the words that ask for many cases, and the run that serves them too (`specs/ManyWords`,
 //!   `specs/Many`); it alone starts threads
 //! - `many_laws`: what the cutting of an input into cases means (`specs/ManyLaw`)
@@ -17,6 +18,8 @@
 #![tactic(auto)]
 
 mod argument;
+mod file_words;
+mod files;
 mod given;
 mod lines;
 mod many;
@@ -24,10 +27,10 @@ mod many_laws;
 mod many_words;
 mod running;
 mod segment_line;
-#[cfg(test)]
-mod tests;
 mod words;
 
+pub use file_words::file_names;
+pub use files::{answer_bad_device, run_files};
 pub use given::given_words;
 pub use many::run_all;
 pub use many_laws::cases_are_cut_back;

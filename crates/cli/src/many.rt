@@ -128,7 +128,7 @@ fn ends_case(raw: &[u8]) -> bool
     ended && text == "end".as_bytes()
 }
 
-// The cases of a text, each copied once. The text is then let go.
+// The cases of a text, each copied once. The text is then discarded.
 fn cut_cases(alloc: Global, text: Vec<u8>) -> Result<Vec<Vec<u8>>, OutOfMemory>
     ensures { IfOk result (λ cases. map (λ case. case.items) cases.items ≡ cases_of text.items) }
 {

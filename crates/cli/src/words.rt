@@ -74,7 +74,7 @@ fn is_dashed(text: &str) -> bool
     text.as_bytes().first() == Some(&b'-')
 }
 
-/// What the words ask for, want of memory aside.
+/// What the words ask for, unless memory ran out.
 pub fn judge<'a>(alloc: Global, words: &'a [&'a str]) -> Result<Asked<'a>, AllocError>
     ensures { IfOk result (λ asked. IsAsked asked (map (λ word. word.now) words.now)) }
 {

@@ -11,7 +11,5 @@
 
 mod ends;
 mod lines;
-#[cfg(test)]
-mod tests;
 
 pub use ends::{Counted, ReadFault};

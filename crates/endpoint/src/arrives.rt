@@ -18,7 +18,7 @@ use machine::{Emission, Endpoint};
 use segment::OutOfMemory;
 
 /// An endpoint takes a segment at a moment in microseconds, in every state but CLOSED (RFC 9293, 3.10.7). Where memory
-/// is wanting, the endpoint stays as it was. Nothing is asked of the segment: `taking` tells whether it may be taken.
+/// runs out, the endpoint stays as it was. Nothing is asked of the segment: the `admits_` functions tell whether it may be taken.
 pub fn take_segment(
     header: &Header,
     endpoint: &mut Endpoint,

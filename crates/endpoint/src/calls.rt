@@ -29,7 +29,18 @@ pub fn endpoint_allows(endpoint: &Endpoint, call: &Call, answer: &Answer) -> boo
         Call::Close(_) | Call::Abort(_) => matches!(answer, Answer::Done),
         Call::Status(_) => match answer {
             Answer::State(told) => is_state(*told, endpoint.state),
-            _ => false,
+            Answer::Done
+            | Answer::Given(_)
+            | Answer::Bytes(_)
+            | Answer::Again
+            | Answer::Eof
+            | Answer::Closed
+            | Answer::NotConn
+            | Answer::Refused
+            | Answer::Reset
+            | Answer::Timeout
+            | Answer::InUse
+            | Answer::BadSocket => false,
         },
         Call::Listen(..) | Call::Connect(..) => false,
     }
@@ -60,7 +71,17 @@ pub(crate) fn await_allows(endpoint: &Endpoint, answer: &Answer) -> bool
     match answer {
         Answer::Done => endpoint.fault.is_none() && endpoint.is_up(),
         Answer::Again => endpoint.fault.is_none() && !endpoint.is_up(),
-        _ => tells_fault(endpoint, answer),
+        Answer::Given(_)
+        | Answer::Bytes(_)
+        | Answer::Eof
+        | Answer::Closed
+        | Answer::NotConn
+        | Answer::Refused
+        | Answer::Reset
+        | Answer::Timeout
+        | Answer::InUse
+        | Answer::BadSocket
+        | Answer::State(_) => tells_fault(endpoint, answer),
     }
 }
 

@@ -17,8 +17,6 @@ mod makes;
 mod recovery;
 mod reset;
 mod same;
-#[cfg(test)]
-mod tests;
 mod timeouts;
 mod wire;
 
@@ -35,4 +33,4 @@ pub use makes::{admits_making, make};
 pub use recovery::{admits_recovery, recover};
 pub use reset::reset_of;
 pub use timeouts::{admits_expiry, expire};
-pub use wire::{admits_in, admits_out, sent};
+pub use wire::{admits_in, is_shown, sent};

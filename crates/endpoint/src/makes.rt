@@ -12,7 +12,9 @@ pub(crate) mod kind;
 pub(crate) mod payload;
 
 use crate::makes::edges::{acknowledgment, is_bad_ack, is_beyond_offer, is_congesting, own_edge};
-use crate::makes::kind::{close_after_reset, is_bad_iss, makes_nothing, may_make, numbered};
+use crate::makes::kind::{
+    close_after_reset, given_shift, is_bad_iss, makes_nothing, may_make, numbered,
+};
 use crate::makes::payload::{has_new_bytes, is_bad_payload, is_bad_place, making_length};
 use case_forms::{SegmentPlan, State, Timer};
 use machine::{Emission, Endpoint, Name};
@@ -56,7 +58,7 @@ pub fn admits_making(endpoint: &Endpoint, making: &SegmentPlan) -> Result<(), Ru
     Ok(())
 }
 
-/// Makes a segment at an endpoint of this name, at a moment in microseconds. Where memory is wanting, the endpoint stays
+/// Makes a segment at an endpoint of this name, at a moment in microseconds. Where memory runs out, the endpoint stays
 /// as it was. Nothing is asked of what is made: `admits_making` tells whether it may be.
 pub fn make(
     alloc: Global,
@@ -106,9 +108,12 @@ pub(crate) fn emission_of(
         flags: making.flags,
         window: making.window,
         payload: Bytes::from(payload),
+        shift: given_shift(endpoint, making),
+        scaled: endpoint.is_scaling(),
         answers: false,
         bytes: Bytes::from(Vec::new(alloc)),
         mss: None,
+        scale: None,
         moment: 0,
     })
 }
@@ -126,10 +131,12 @@ pub(crate) fn change(
     let edge = own_edge(endpoint, making);
     let probe_due = endpoint.probe_due && !has_new_bytes(endpoint, making);
     let iss = endpoint.iss.or(making.iss);
+    let shift = given_shift(endpoint, making);
     let timers = timed(endpoint.timers, making, moment);
     let length = making_length(making);
     endpoint.makings.make(making.pos, length, moment)?;
     endpoint.iss = iss;
+    endpoint.shift = shift;
     endpoint.window.edge = edge;
     endpoint.probe_due = probe_due;
     endpoint.timers = timers;

@@ -39,9 +39,12 @@ pub fn reset_of(alloc: Global, m: &Emission) -> Emission
         },
         window: 0,
         payload: Bytes::from(Vec::new(alloc)),
+        shift: None,
+        scaled: false,
         answers: true,
         bytes: Bytes::from(Vec::new(alloc)),
         mss: None,
+        scale: None,
         moment: 0,
     }
 }

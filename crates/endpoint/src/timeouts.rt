@@ -4,36 +4,37 @@ ghost use Rattle.case_forms.specs.declared.timer.Timer.TheVariants.{Giveup};
 ghost use Rattle.machine.specs.Bounds.{HasRoom};
 ghost use Rattle.machine.specs.Calls.Close.{shut_down};
 ghost use Rattle.machine.specs.Forgetting.{forget_endpoint};
-ghost use Rattle.machine.specs.Timeouts.{expiry_rules, is_above, is_off, is_rto, greatest_values, has_more, may_give_up, after_expiry, after_rto, after_persist};
+ghost use Rattle.machine.specs.Steps.{growth_of, timer_of};
+ghost use Rattle.machine.specs.Timeouts.{expiry_rules, is_above, is_off, is_rto, greatest_values, has_more, may_give_up, after_expiry, after_rto};
+ghost use Rattle.machine.specs.Timeouts.{after_persist};
 ghost use Rattle.machine.specs.declared.endpoint.Fault.TheVariants.{Timeout};
-ghost use Rattle.std.specs.Prelude.{◌≡◌, ◌≢◌, ◌<◌, ◌+◌, ◌^◌, true, Some};
+ghost use Rattle.std.specs.Prelude.{◌≡◌, ◌≢◌, ◌<◌, ◌+◌, ◌^◌, ◌&&◌, true, Some};
 ghost use Rattle.std.specs.Result.{result_err};
 ghost use Rattle.timer_rules.specs.Timers.{is_early};
 ghost use Rattle.verdict.specs.Rules.{first_broken};
 
 use crate::calls::close::shut_down;
-use case_forms::{Growth, Header, Timer};
+use case_forms::{Expired, Growth, Header, Timer};
 use machine::{Endpoint, Fault};
 use timer_rules::{TimerFault, Timers};
 use verdict::Rule;
 use window_rules::on_timeout;
 
-/// Whether a timer may expire at an endpoint at this moment (in microseconds), with this congestion window and slow
-/// start threshold (in bytes) from then on, of which only an expiry of the retransmission timer makes use. An error is
-/// the first rule that is broken.
+/// Whether a timer may expire at an endpoint at this moment, in microseconds; the retransmission timer with what is chosen
+/// there. An error is the first rule that is broken.
 pub fn admits_expiry(
     header: &Header,
     moment: u64,
     endpoint: &Endpoint,
-    timer: Timer,
-    growth: Growth,
+    expired: Expired,
 ) -> Result<(), Rule>
-    ensures { result_err result ≡ first_broken (expiry_rules header.now moment endpoint.now timer growth) }
+    ensures { result_err result ≡ first_broken (expiry_rules header.now moment endpoint.now (timer_of expired) (growth_of expired)) }
 {
+    let timer = timer_of(expired);
     if endpoint.state.is_closed() {
         return Err(Rule::NoEndpoint);
     }
-    if is_rto(timer) && is_above(endpoint, growth) {
+    if grows_above(endpoint, expired) {
         return Err(Rule::Growth);
     }
     if is_off(endpoint, timer) {
@@ -45,14 +46,29 @@ pub fn admits_expiry(
     Ok(())
 }
 
-pub(crate) fn is_rto(timer: Timer) -> bool
-    ensures { result ≡ is_rto timer }
+fn timer_of(expired: Expired) -> Timer
+    ensures { result ≡ timer_of expired }
 {
-    matches!(timer, Timer::Rto)
+    match expired {
+        Expired::Rto(_) => Timer::Rto,
+        Expired::Persist => Timer::Persist,
+        Expired::Msl2 => Timer::Msl2,
+        Expired::Giveup => Timer::Giveup,
+    }
+}
+
+// Whether what is chosen at the retransmission timer is above what it may be.
+fn grows_above(endpoint: &Endpoint, expired: Expired) -> bool
+    ensures { result ≡ (is_rto (timer_of expired) && is_above endpoint.now (growth_of expired)) }
+{
+    match expired {
+        Expired::Rto(growth) => is_above(endpoint, growth),
+        Expired::Persist | Expired::Msl2 | Expired::Giveup => false,
+    }
 }
 
 // The congestion window and the slow start threshold.
-pub(crate) fn greatest_values(endpoint: &Endpoint) -> (u64, u64)
+fn greatest_values(endpoint: &Endpoint) -> (u64, u64)
     ensures { result ≡ greatest_values endpoint.now }
 {
     on_timeout(
@@ -63,14 +79,14 @@ pub(crate) fn greatest_values(endpoint: &Endpoint) -> (u64, u64)
     )
 }
 
-pub(crate) fn is_above(endpoint: &Endpoint, growth: Growth) -> bool
+fn is_above(endpoint: &Endpoint, growth: Growth) -> bool
     ensures { result ≡ is_above endpoint.now growth }
 {
     let greatest = greatest_values(endpoint);
     greatest.0 < growth.cwnd as u64 || greatest.1 < growth.ssthresh as u64
 }
 
-pub(crate) fn is_off(endpoint: &Endpoint, timer: Timer) -> bool
+fn is_off(endpoint: &Endpoint, timer: Timer) -> bool
     ensures { result ≡ is_off endpoint.now timer }
 {
     match timer {
@@ -83,7 +99,7 @@ pub(crate) fn is_off(endpoint: &Endpoint, timer: Timer) -> bool
     }
 }
 
-pub(crate) fn has_more(endpoint: &Endpoint) -> bool
+fn has_more(endpoint: &Endpoint) -> bool
     ensures { result ≡ has_more endpoint.now }
 {
     let end = endpoint.stream.accepted.end();
@@ -94,7 +110,7 @@ pub(crate) fn has_more(endpoint: &Endpoint) -> bool
     }
 }
 
-pub(crate) fn may_give_up(endpoint: &Endpoint) -> bool
+fn may_give_up(endpoint: &Endpoint) -> bool
     ensures { result ≡ may_give_up endpoint.now }
 {
     let is_open = endpoint.stream.una < endpoint.max_made()
@@ -102,7 +118,7 @@ pub(crate) fn may_give_up(endpoint: &Endpoint) -> bool
     (is_open && 3 <= endpoint.tries) || (endpoint.closed && endpoint.state.is_fin_wait_2())
 }
 
-pub(crate) fn is_early(timers: &Timers, timer: Timer, moment: u64, header: &Header) -> bool
+fn is_early(timers: &Timers, timer: Timer, moment: u64, header: &Header) -> bool
     ensures { result ≡ is_early timers.now timer moment header.now }
 {
     match timer {
@@ -113,7 +129,7 @@ pub(crate) fn is_early(timers: &Timers, timer: Timer, moment: u64, header: &Head
     }
 }
 
-pub(crate) fn is_refused_early(timers: &Timers, timer: Timer, moment: u64, header: &Header) -> bool
+fn is_refused_early(timers: &Timers, timer: Timer, moment: u64, header: &Header) -> bool
     requires { timer ≢ Giveup }
     ensures { result ≡ is_early timers.now timer moment header.now }
 {
@@ -124,21 +140,21 @@ pub(crate) fn is_refused_early(timers: &Timers, timer: Timer, moment: u64, heade
 }
 
 /// A timer expires at a moment in microseconds. Behind the retransmission timer the congestion window and the slow start
-/// threshold are these, in bytes, and all that was made may be made again; behind the persist timer a probe is due; the
-/// wait in TIME-WAIT is over, or the endpoint gives up, with a reset that is due.
-pub fn expire(endpoint: &mut Endpoint, timer: Timer, growth: Growth, moment: u64)
+/// threshold are those that are chosen, in bytes, and all that was made may be made again; behind the persist timer a probe
+/// is due; the wait in TIME-WAIT is over, or the endpoint gives up, with a reset that is due.
+pub fn expire(endpoint: &mut Endpoint, expired: Expired, moment: u64)
     requires { HasRoom endpoint.old }
-    ensures { endpoint.new ≡ forget_endpoint (after_expiry endpoint.old timer growth moment) }
+    ensures { endpoint.new ≡ forget_endpoint (after_expiry endpoint.old (timer_of expired) (growth_of expired) moment) }
 {
-    match timer {
-        Timer::Rto => expire_retransmission(endpoint, growth, moment),
-        Timer::Persist => expire_persist(endpoint, moment),
-        Timer::Msl2 => shut_down(endpoint),
-        Timer::Giveup => give_up(endpoint),
+    match expired {
+        Expired::Rto(growth) => expire_retransmission(endpoint, growth, moment),
+        Expired::Persist => expire_persist(endpoint, moment),
+        Expired::Msl2 => shut_down(endpoint),
+        Expired::Giveup => give_up(endpoint),
     }
 }
 
-pub(crate) fn expire_retransmission(endpoint: &mut Endpoint, growth: Growth, moment: u64)
+fn expire_retransmission(endpoint: &mut Endpoint, growth: Growth, moment: u64)
     requires tries { endpoint.old.tries + 1 < 2 ^ 32 }
     requires backs { endpoint.old.backs + 1 < 2 ^ 32 }
     ensures { endpoint.new ≡ after_rto endpoint.old growth moment }
@@ -156,7 +172,7 @@ pub(crate) fn expire_retransmission(endpoint: &mut Endpoint, growth: Growth, mom
     endpoint.syn_lost = endpoint.syn_lost || endpoint.stream.una == 0;
 }
 
-pub(crate) fn expire_persist(endpoint: &mut Endpoint, moment: u64)
+fn expire_persist(endpoint: &mut Endpoint, moment: u64)
     requires { endpoint.old.tries + 1 < 2 ^ 32 }
     ensures { endpoint.new ≡ after_persist endpoint.old moment }
 {
@@ -166,7 +182,7 @@ pub(crate) fn expire_persist(endpoint: &mut Endpoint, moment: u64)
     endpoint.tries += 1;
 }
 
-pub(crate) fn give_up(endpoint: &mut Endpoint)
+fn give_up(endpoint: &mut Endpoint)
     ensures { endpoint.new ≡ record (shut_down endpoint.old) { fault = Some Timeout; reset_due = true } }
 {
     shut_down(endpoint);

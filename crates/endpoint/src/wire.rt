@@ -1,13 +1,13 @@
-//! Segments as bytes on the wire (RFC 9293, 3.1).
+//! Segments as bytes on the wire (RFC 9293, 3.1; RFC 7323, 2.2).
 
 ghost use Rattle.machine.specs.Bounds.{IsSmallEmission};
 ghost use Rattle.machine.specs.Same.{same_bytes};
-ghost use Rattle.machine.specs.Wire.{same_flags, shows, same_bool, out_rules, sent, in_rules};
+ghost use Rattle.machine.specs.Wire.{same_flags, shows, shows_shift, is_shown, sent, in_rules};
 ghost use Rattle.std.specs.Prelude.{◌≡◌, IfOk, ◌+◌, nat_lt};
 ghost use Rattle.std.specs.Result.{result_err};
 ghost use Rattle.verdict.specs.Rules.{first_broken};
 
-use crate::same::same_word;
+use crate::same::{same_bool, same_word};
 use case_forms::{Flags, Header, Wire};
 use machine::Emission;
 use segment::{Flag, OutOfMemory, Segment};
@@ -44,24 +44,26 @@ pub(crate) fn same_flags(segment: &Segment, flags: Flags) -> bool
         && same_bool(segment.has(Flag::Fin), flags.fin)
 }
 
-pub(crate) fn same_bool(a: bool, b: bool) -> bool
-    ensures { result ≡ same_bool a b }
+// A SYN tells the shift that its maker gave, or none. A byte above 14 is read as 14 (RFC 7323, 2.3).
+pub(crate) fn shows_shift(segment: &Segment, m: &Emission) -> bool
+    ensures { result ≡ shows_shift segment.now m.now }
 {
-    a == b
-}
-
-/// Whether what goes out is the made segment. An error is the rule that is broken.
-pub fn admits_out(wire: &Wire, m: &Emission) -> Result<(), Rule>
-    ensures { result_err result ≡ first_broken (out_rules wire.now m.now) }
-{
-    if !shows(&wire.seg, m) {
-        return Err(Rule::BytesDiffer);
+    match (segment.scale, m.shift) {
+        (None, _) => true,
+        (Some(_), None) => false,
+        (Some(told), Some(given)) => told.min(14) == given.min(14),
     }
-    Ok(())
 }
 
-/// The made segment once it went out, at a moment in microseconds: with its bytes, and the MSS that they tell. An error:
-/// memory ran out.
+/// Whether the segment on the wire is the made one. Shifts are looked at where windows may be scaled.
+pub fn is_shown(header: &Header, wire: &Wire, m: &Emission) -> bool
+    ensures { result ≡ is_shown header.now wire.now m.now }
+{
+    shows(&wire.seg, m) && (!(header.version.scales() && m.flags.syn) || shows_shift(&wire.seg, m))
+}
+
+/// The made segment once it went out, at a moment in microseconds: with its bytes, and the MSS and the shift that they
+/// tell. An error: memory ran out.
 pub fn sent(moment: u64, wire: &Wire, m: &Emission) -> Result<Emission, OutOfMemory>
     ensures sent { IfOk result (λ x. x ≡ sent moment wire.now m.now) }
     ensures small { IsSmallEmission m.now → IfOk result IsSmallEmission }
@@ -78,9 +80,12 @@ pub fn sent(moment: u64, wire: &Wire, m: &Emission) -> Result<Emission, OutOfMem
         flags: m.flags,
         window: m.window,
         payload: m.payload.copy()?,
+        shift: m.shift,
+        scaled: m.scaled,
         answers: m.answers,
         bytes: wire.bytes.copy()?,
         mss: wire.seg.mss,
+        scale: wire.seg.scale,
         moment,
     })
 }

@@ -45,7 +45,7 @@ use Rattle.endpoint_state.proofs.Forgets.{IsBounded, bounded, bounded_later, kep
 use Rattle.endpoint_state.proofs.Effects.{after_shut_bounded, after_close_bounded, after_abort_bounded, orphaned_bounded, accepted_bounded, after_send_bounded, after_recv_bounded, after_making_bounded, after_expiry_bounded, after_recovery_bounded}
 use Rattle.endpoint_state.proofs.Takes.{child_bounded, endpoint_taken_bounded}
 
--- a host after so many steps, of which something may still be let go
+-- a host after so many steps, of which something may still be discarded
 record IsBoundedBody (steps : ℕ) (b : Body) : Type 0 where
   pub bounded : All (IsBounded steps) b.endpoints
   pub endpoints : length b.endpoints ≤ steps

@@ -1,4 +1,4 @@
--- A host of which there is nothing to let go.
+-- A host of which there is nothing to discard.
 use Rattle.std.proofs.Common.{◌≡◌, ℕ, List, [], ◌∷◌, ◌++◌, map, ap, sym, refl}
 use Rattle.std.specs.List.{All}
 use Rattle.machine.specs.declared.endpoint.Endpoint.{Endpoint}
@@ -12,7 +12,7 @@ use Rattle.endpoint_state.proofs.Forgotten.{all_same, forget_same, first, later}
 pub body_same : (b : Body) → All HasRoom b.endpoints → forget_body b ≡ b
 body_same b room = ap (λ (es : List Endpoint). let c : Body = record b { endpoints = es } in c) (all_same b.endpoints room)
 
--- an endpoint is added of which there is nothing to let go
+-- an endpoint is added of which there is nothing to discard
 pub forgot_push : (es : List Endpoint) (e : Endpoint) → All HasRoom es → forget_endpoint e ≡ e → es ++ e ∷ [] ≡ map forget_endpoint (es ++ e ∷ [])
 forgot_push [] e room is = ap (λ (x : Endpoint). x ∷ []) (sym is)
 forgot_push (x ∷ es) e room is = let here = forget_same x (first x es room).forgets in let rest = forgot_push es e (later x es room) is in cc

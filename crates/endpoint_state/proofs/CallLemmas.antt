@@ -1,27 +1,26 @@
 -- The rules of a call's effect, and the effect, put together from what code asks.
-use Rattle.std.proofs.Common.{◌≡◌, ℕ, suc, ◌+◌, Bool, true, false, ◌||◌, not, if◌then◌else◌, List, [], ◌∷◌, ◌++◌, Option, None, Some, refl, sym, ap, ◌∙◌, subst, nat_eq}
+use Rattle.std.proofs.Common.{◌≡◌, ℕ, suc, ◌+◌, Bool, true, false, ◌||◌, not, if◌then◌else◌, [], ◌∷◌, ◌++◌, Option, None, Some, refl, sym, ap, ◌∙◌, subst, nat_eq}
 use Rattle.indexmap.specs.IndexMap.{insert_entry}
 use Rattle.case_forms.specs.declared.trace.Header.{Header}
 use Rattle.case_forms.specs.declared.calls.Host.{Host}
 use Rattle.case_forms.specs.declared.calls.Call.{Call}
 use Rattle.case_forms.specs.declared.calls.Answer.{Answer}
-use Rattle.verdict.specs.declared.rule.Rule.{Rule}
 use Rattle.verdict.specs.declared.rule.Rule.TheVariants as rules
 use Rattle.verdict.specs.Rules.{first_broken}
 use Rattle.verdict.proofs.RuleLemmas.{none_both}
-use Rattle.hosts.specs.Tables.{Both, pick, with_host}
-use Rattle.hosts.specs.Hosts.{HostState, World, Turn, Idle, Called, Answered, Effect, turn_of}
+use Rattle.hosts.specs.Tables.{pick}
+use Rattle.hosts.specs.Hosts.{World, Turn, Idle, Called, Answered, Effect, turn_of}
 use Rattle.hosts.specs.HostRules.{Permitted, aim_of, call_rules, fresh_rules, open_rules, effect_rules, step_rules}
 use Rattle.hosts.specs.HostSteps.{effect_after, call_after}
 use Rattle.machine.specs.Bodies.{given}
-use Rattle.machine.specs.Calls.{call_allows, is_bad_socket, after_call}
+use Rattle.machine.specs.Calls.{call_allows, is_bad_socket}
 use Rattle.machine.specs.Machine.{tcp, tcp_shape, gives}
 use Rattle.machine.specs.Machine as acts
 use Rattle.machine.specs.Forgetting.{forget}
 use Rattle.endpoint_state.specs.Worlds.{Progress, after}
-use Rattle.endpoint_state.specs.Calls.{meant, rules_of_call, gives_again, allowed_at}
+use Rattle.endpoint_state.specs.Calls.{meant, gives_again, allowed_at}
 use Rattle.endpoint_state.specs.Sides.{AreReady, forget_hosts}
-use Rattle.endpoint_state.proofs.Progresses.{Hosts_, Threads_, shown, still_hosts, plus_one}
+use Rattle.endpoint_state.proofs.Progresses.{Hosts_, Threads_, shown, plus_one}
 
 -- the least rule that is broken, by two questions
 pub call_refused : (h : Header) (moment : ℕ) (hosts : Hosts_) (call : Call) (answer : Answer) (host : Option Host)

@@ -1,4 +1,4 @@
--- Forgetting keeps what is said of an endpoint's counts, and leaves nothing more to be let go.
+-- Forgetting keeps what is said of an endpoint's counts, and leaves nothing more to be discarded.
 use Rattle.std.proofs.Common.{◌≡◌, ℕ, suc, ◌-◌, ◌*◌, ◌^◌, ◌<◌, ◌≤◌, true, false, List, length, map, ap, arith}
 use Rattle.std.specs.List.{All}
 use Rattle.std.proofs.lemmas.List.Elements.{All-map, All-weaker}
@@ -12,7 +12,7 @@ use Rattle.machine.specs.Bounds.{IsForgotten, IsKept}
 use Rattle.machine.specs.Forgetting.{forget_endpoint}
 use Rattle.machine_laws.proofs.ForgetReads.{forget-forget, next-forget}
 
--- an endpoint after so many steps, of which something may still be let go
+-- an endpoint after so many steps, of which something may still be discarded
 pub record IsBounded (steps : ℕ) (e : Endpoint) : Type 0 where
   pub una : e.stream.una < 2 ^ 63
   pub counted : e.congestion.counted ≤ e.stream.una

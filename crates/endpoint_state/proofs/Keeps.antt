@@ -1,6 +1,6 @@
 -- Effects at one endpoint leave its ports and its listener, so that it is found as before.
-use Rattle.std.proofs.Common.{◌≡◌, ℕ, Bool, true, false, List, Option, None, nat_eq, refl, ap, ◌&&◌, ◌∙◌}
-use Rattle.std.specs.Prelude.{if◌then◌else◌, Result, Ok, Err, OnOk, OnErr}
+use Rattle.std.proofs.Common.{◌≡◌, ℕ, ◌<◌, Bool, true, false, List, Option, None, length, get_or, nat_eq, refl, ap, subst, ◌&&◌, ◌∙◌}
+use Rattle.std.specs.Prelude.{if◌then◌else◌, slice_set}
 use Rattle.std.specs.List.{All}
 use Rattle.std.proofs.lemmas.Option.{none-some}
 use Rattle.case_forms.specs.declared.trace.Header.{Header}
@@ -27,7 +27,7 @@ use Rattle.machine.specs.Forgetting.{forget_endpoint}
 use Rattle.endpoint_state.specs.Indexes.{IsIndexed}
 use Rattle.endpoint_state.specs.Changes.{Keeps, changed}
 use Rattle.endpoint_state.proofs.IndexLemmas.{indexed_modify}
-use Rattle.endpoint_state.proofs.Forgotten.{modify_forgets}
+use Rattle.endpoint_state.proofs.Forgotten.{changed_at, modify_forgets}
 
 pub keeps_same : (e : Endpoint) → Keeps e e
 keeps_same e = record { lport = refl; rport = refl; listener = λ l is. is }
@@ -83,8 +83,8 @@ keeps_received bytes e = record { lport = refl; rport = refl; listener = λ l is
 pub keeps_accepted : (e : Endpoint) → Keeps e (record e { listener = None })
 keeps_accepted e = record { lport = refl; rport = refl; listener = λ l is. absurd (none-some l is) }
 
--- also where memory may have run out
-pub indexed_tried : {A E : Type 0} (r : Result A E) (find : ℕ → ℕ → Option ℕ) (child : ℕ → ℕ → Bool) (es new : List Endpoint) → IsIndexed find child es → All HasRoom es → (i : ℕ) (f : Endpoint → Endpoint) → ((e : Endpoint) → Keeps e (f e))
-    → OnOk r (new ≡ changed es i f) → OnErr r (new ≡ es) → IsIndexed find child new
-indexed_tried (Ok x) find child es new index room i f keeps ok err = rw ok (indexed_changed find child es index room i f keeps)
-indexed_tried (Err x) find child es new index room i f keeps ok err = rw err index
+-- the endpoint read at a place, changed and written back, is found as before
+pub indexed_at : (find : ℕ → ℕ → Option ℕ) (child : ℕ → ℕ → Bool) (es now : List Endpoint) (i : ℕ) (x y : Endpoint) (f : Endpoint → Endpoint) → IsIndexed find child es → es ≡ now → All HasRoom now → i < length es → x ≡ get_or es i x → y ≡ forget_endpoint (f x)
+    → ((e : Endpoint) → Keeps e (f e)) → IsIndexed find child (slice_set es i y)
+indexed_at find child es now i x y f index is room within read new keeps =
+    rw (changed_at es now i x y f is room within read new) (indexed_changed find child now (subst (λ (es : List Endpoint). IsIndexed find child es) is index) room i f keeps)

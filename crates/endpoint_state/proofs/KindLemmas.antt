@@ -1,5 +1,5 @@
 -- What a deed of each kind leaves at one host is what the kernel's deed leaves of both, with all discarded that may be.
-use Rattle.std.proofs.Common.{◌≡◌, ℕ, List, Option, None, Some, refl, sym, ap, ◌∙◌, nat_eq}
+use Rattle.std.proofs.Common.{◌≡◌, ℕ, Option, None, Some, refl, sym, ap, ◌∙◌, nat_eq}
 use Rattle.std.specs.Map.{lookup}
 use Rattle.indexmap.specs.IndexMap.{insert_entry}
 use Rattle.case_forms.specs.declared.trace.Header.{Header}
@@ -7,14 +7,14 @@ use Rattle.case_forms.specs.declared.trace.Wire.{Wire}
 use Rattle.case_forms.specs.declared.calls.Host.{Host}
 use Rattle.case_forms.specs.declared.calls.Host.TheVariants.{Zero, One}
 use Rattle.hosts.specs.Tables.{Both, pick, other, with_host, on, waiting, settled, unsent}
-use Rattle.hosts.specs.Hosts.{HostState, Answers, Deed, Drops, Gets, Sends}
-use Rattle.hosts.specs.HostSteps.{deed_after}
+use Rattle.hosts.specs.Hosts.{HostState, Answers, Drops, Gets, Sends}
+use Rattle.hosts.specs.HostSteps.{inbox_after}
 use Rattle.machine.specs.declared.endpoint.Emission.{Emission}
 use Rattle.machine.specs.Reset.{reset_of}
-use Rattle.machine.specs.Machine.{tcp, tcp_shape}
+use Rattle.machine.specs.Machine.{tcp_shape}
 use Rattle.machine.specs.Forgetting.{forget_host}
 use Rattle.endpoint_state.specs.Kept.{IsReady}
-use Rattle.endpoint_state.specs.Kinds.{answered_one, dropped_one, got_one, sent_one}
+use Rattle.endpoint_state.specs.Kinds.{answered_one, dropped_one, sent_one}
 use Rattle.endpoint_state.specs.Sides.{AreReady, forget_hosts, hosts_after}
 use Rattle.endpoint_state.proofs.Still.{still_body, still_host}
 
@@ -37,8 +37,14 @@ tables hosts host x are same = lent hosts host x x are (sym (ap (λ b. record x 
 pub sent_hosts : (hd : Header) (moment fresh line number : ℕ) (w : Wire) (hosts : Both Host_) (host : Host) → AreReady hosts → with_host hosts host (sent_one moment line number w (pick hosts host)) ≡ hosts_after hd moment fresh hosts host (Sends line number w)
 sent_hosts hd moment fresh line number w hosts host are = tables hosts host (sent_one moment line number w (pick hosts host)) are refl
 
-pub got_hosts : (hd : Header) (moment fresh line copied : ℕ) (w : Wire) (hosts : Both Host_) (host : Host) → AreReady hosts → with_host hosts host (got_one (pick hosts (other host)).wire line copied (pick hosts host)) ≡ hosts_after hd moment fresh hosts host (Gets line copied w)
-got_hosts hd moment fresh line copied w hosts host are = tables hosts host (got_one (pick hosts (other host)).wire line copied (pick hosts host)) are refl
+-- a copy of what that line of the other host put on its wire joins the inbox
+pub came_hosts : (hd : Header) (moment fresh line copied : ℕ) (w : Wire) (m : Emission) (hosts : Both Host_) (host : Host) (x : Host_) → AreReady hosts → lookup (nat_eq copied) (pick hosts (other host)).wire ≡ Some m
+    → x ≡ record (pick hosts host) { inbox = insert_entry nat_eq (pick hosts host).inbox line (Some m) } → with_host hosts host x ≡ hosts_after hd moment fresh hosts host (Gets line copied w)
+came_hosts hd moment fresh line copied w m hosts host x are found is =
+    let k = pick hosts host in
+    let y : Host_ = record k { inbox = inbox_after (pick hosts (other host)).wire line copied k.inbox } in
+    let joined : x ≡ y = is ∙ rw found refl in
+    ap (λ (z : Host_). with_host hosts host z) joined ∙ tables hosts host y are refl
 
 pub dropped_hosts : (hd : Header) (moment fresh line : ℕ) (hosts : Both Host_) (host : Host) → AreReady hosts → with_host hosts host (dropped_one line (pick hosts host)) ≡ hosts_after hd moment fresh hosts host (Drops line)
 dropped_hosts hd moment fresh line hosts host are = tables hosts host (dropped_one line (pick hosts host)) are refl

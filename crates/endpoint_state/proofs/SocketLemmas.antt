@@ -56,7 +56,7 @@ accepted_first b l n child es xs ss first e x s = by (queue_of b l) refl first
         subst (λ (k : ℕ). (let a : Body = record { endpoints = es; listeners = xs; sockets = ss } in a) ≡ forget_body (accepted_from b l n (k ∷ q))) (sym same)
         (body_is es _ xs _ ss _ e (x ∙ listeners) s)
 
--- an endpoint that is opened has nothing to let go
+-- an endpoint that is opened has nothing to discard
 pub opened : (b : Body) (n lport rport : ℕ) → All HasRoom b.endpoints
     → with_socket (record b { endpoints = b.endpoints ++ new_endpoint lport rport None states.SynSent ∷ [] }) n (Ends (length b.endpoints))
     ≡ forget_body (with_socket (record b { endpoints = b.endpoints ++ new_endpoint lport rport None states.SynSent ∷ [] }) n (Ends (length b.endpoints)))

@@ -1,16 +1,16 @@
 -- A call's effect: the rules, and when it may have an answer, each with the words of the machine.
-use Rattle.std.specs.Prelude.{ℕ, Bool, true, false, ◌||◌, not, List, ◌++◌, Option, None, Some}
+use Rattle.std.specs.Prelude.{ℕ, Bool, false, ◌||◌, List, Option}
 use Rattle.std.specs.Option.{option_map_or}
 use Rattle.case_forms.specs.declared.calls.Host.{Host}
 use Rattle.case_forms.specs.declared.calls.Call.{Call}
 use Rattle.case_forms.specs.declared.calls.Answer.{Answer}
 use Rattle.verdict.specs.declared.rule.Rule.{Rule}
 use Rattle.hosts.specs.Tables.{Both, pick}
-use Rattle.hosts.specs.Hosts.{HostState, Aim}
+use Rattle.hosts.specs.Hosts.{HostState}
 use Rattle.hosts.specs.HostRules.{aim_of, call_rules}
 use Rattle.machine.specs.Bodies.{given}
 use Rattle.machine.specs.Calls.{call_allows, is_bad_socket}
-use Rattle.machine.specs.Machine.{tcp, tcp_shape, aim, gives}
+use Rattle.machine.specs.Machine.{tcp, tcp_shape, aim}
 use Rattle.endpoint_state.specs.Worlds.{Progress}
 
 -- the host that a call means, if there is one

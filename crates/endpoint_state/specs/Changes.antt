@@ -1,4 +1,4 @@
--- Endpoints of which one changes, and nothing is kept that may be let go.
+-- Endpoints of which one changes, and nothing is kept that may be discarded.
 use Rattle.std.specs.Prelude.{◌≡◌, ℕ, List, [], ◌∷◌, Some, map}
 use Rattle.machine.specs.Calls.Close.{orphaned}
 use Rattle.streams.specs.Lists.{modify}

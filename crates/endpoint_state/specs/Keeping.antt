@@ -35,10 +35,11 @@ IsSmallAct (Resets m) = Unit {0}
 IsSmallAct (Expires expiry growth) = Unit {0}
 IsSmallAct (Recovers recovery) = Unit {0}
 
--- a host begins with nothing; a permitted act is one step more, and what may be let go is let go then
+-- a host begins with nothing; a permitted act is one step more, and what may be discarded is discarded then
 pub record ActsKeep : Type 0 where
   pub starts : IsKeptBody 0 empty
-  pub acts : (h : Header) (me : Host) (moment steps : ℕ) (b : Body) (act : Act) → IsSmallAct act → first_broken (act_rules h me moment b act) ≡ None → IsKeptBody steps b → IsKeptBody (suc steps) (forget_body (act_after h me moment b act))
+  pub acts : (h : Header) (me : Host) (moment steps : ℕ) (b : Body) (act : Act) → IsSmallAct act
+      → first_broken (act_rules h me moment b act) ≡ None → IsKeptBody steps b → IsKeptBody (suc steps) (forget_body (act_after h me moment b act))
 
 -- what holds after so many steps holds after one more in which nothing happens
 pub record KeptLonger : Type 0 where

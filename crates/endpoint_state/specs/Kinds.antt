@@ -1,22 +1,30 @@
--- One host after each kind of deed, by what the deed reads: table by table.
-use Rattle.std.specs.Prelude.{ℕ, nat_eq, List, ◌∷◌}
+-- One host at each kind of deed: the rules, and table by table what it has then, each by what the deed reads.
+use Rattle.std.specs.Prelude.{ℕ, nat_eq, Bool, true, List, []}
 use Rattle.indexmap.specs.IndexMap.{insert_entry}
 use Rattle.case_forms.specs.declared.trace.Header.{Header}
 use Rattle.case_forms.specs.declared.trace.Wire.{Wire}
 use Rattle.case_forms.specs.declared.calls.Host.{Host}
+use Rattle.case_forms.specs.declared.calls.Ports.{Ports}
+use Rattle.case_forms.specs.declared.taken_line.Expired.{Expired}
 use Rattle.case_forms.specs.declared.steps.SegmentPlan.{SegmentPlan}
 use Rattle.case_forms.specs.declared.steps.TakeChoice.{TakeChoice}
 use Rattle.hosts.specs.Tables.{on, unsent, waiting}
-use Rattle.hosts.specs.Hosts.{HostState}
-use Rattle.hosts.specs.HostSteps.{inbox_after, inbox_settled, made_gone_out, wire_after}
-use Rattle.machine.specs.declared.endpoint.Emission.{Emission}
-use Rattle.machine.specs.Bodies.{at_ports}
-use Rattle.machine.specs.Machine.{act_makes, tcp_shape}
+use Rattle.hosts.specs.Hosts.{HostState, Deed, Expires}
+use Rattle.hosts.specs.HostSteps.{inbox_settled, made_gone_out, wire_after}
+use Rattle.machine.specs.Bodies.{at_ports, Body}
+use Rattle.machine.specs.Machine.{act_makes, tcp_shape, rules_at}
 use Rattle.machine.specs.Machine as acts
 use Rattle.machine.specs.Makes.{after_making}
-use Rattle.machine.specs.Arrives.{after_taking, taker}
-use Rattle.machine.specs.Reset.{reset_of}
+use Rattle.machine.specs.Arrives.{after_taking, taker, taker_rules}
+use Rattle.machine.specs.Reset.{reset_of, reset_rules}
+use Rattle.machine.specs.Steps.{growth_of, timer_of}
 use Rattle.machine.specs.Wire.{sent}
+use Rattle.machine.specs.Timeouts.{after_expiry, expiry_rules}
+use Rattle.machine.specs.Recovery.{after_recovery, recovery_rules}
+use Rattle.hosts.specs.HostRules.{just}
+use Rattle.case_forms.specs.declared.timer.Recovery.{Recovery}
+use Rattle.verdict.specs.declared.rule.Rule.{Rule}
+use Rattle.verdict.specs.declared.rule.Rule.TheVariants as rules
 
 -- a segment is made, under the fresh number
 abbrev pub made_one : Host → (moment fresh : ℕ) → SegmentPlan → HostState tcp_shape → HostState tcp_shape
@@ -28,10 +36,6 @@ made_one me moment fresh plan h = record h {
 -- the segment of that number stands on the wire with that line
 abbrev pub sent_one : (moment line number : ℕ) → Wire → HostState tcp_shape → HostState tcp_shape
 sent_one moment line number wire h = record h { made = made_gone_out number h.made; wire = wire_after sent h.made line number wire moment h.wire }
-
--- a copy of that line of the other host, whose wire is `far`, waits in the inbox
-abbrev pub got_one : List (ℕ × Emission) → (line copied : ℕ) → HostState tcp_shape → HostState tcp_shape
-got_one far line copied h = record h { inbox = inbox_after far line copied h.inbox }
 
 -- what waits with that line is taken, dropped, or answered by a reset under the fresh number
 abbrev pub taken_one : Header → (moment line : ℕ) → TakeChoice → HostState tcp_shape → HostState tcp_shape
@@ -48,3 +52,31 @@ answered_one line fresh h = record h {
   made = on (waiting line h.inbox) h.made (λ e. insert_entry nat_eq h.made fresh (unsent (reset_of e)));
   inbox = inbox_settled line h.inbox;
 }
+
+-- a timer of the endpoint of these ports expires
+abbrev pub expiry_of : Ports → Expired → Deed tcp_shape
+expiry_of ports e = Expires 0 (record { lport = ports.lport; rport = ports.rport; timer = timer_of e }) (growth_of e)
+
+-- the rules of it, and what the host's endpoints are then
+abbrev pub expiring_rules : Header → (moment : ℕ) → Ports → Expired → Body → List (Rule × Bool)
+expiring_rules hd moment ports e b = rules_at b ports.lport ports.rport (λ x. expiry_rules hd moment x (timer_of e) (growth_of e))
+
+abbrev pub expired_body : (moment : ℕ) → Ports → Expired → Body → Body
+expired_body moment ports e b = at_ports b ports.lport ports.rport (λ x. after_expiry x (timer_of e) (growth_of e) moment)
+
+-- the same of fast recovery
+abbrev pub recovering_rules : Recovery → Body → List (Rule × Bool)
+recovering_rules r b = rules_at b r.lport r.rport (λ x. recovery_rules x r.cwnd r.ssthresh)
+
+abbrev pub recovered_body : Recovery → Body → Body
+recovered_body r b = at_ports b r.lport r.rport (λ x. after_recovery x r.cwnd r.ssthresh)
+
+-- the rules of taking, dropping and answering what waits with that line
+abbrev pub taking_rules : Header → Host → (line : ℕ) → TakeChoice → HostState tcp_shape → List (Rule × Bool)
+taking_rules hd me line choice h = on (waiting line h.inbox) (just rules.Inbox true) (λ m. taker_rules hd me h.body choice m (taker h.body m))
+
+abbrev pub dropping_rules : (line : ℕ) → HostState tcp_shape → List (Rule × Bool)
+dropping_rules line h = on (waiting line h.inbox) (just rules.Inbox true) (λ m. [])
+
+abbrev pub answering_rules : (line : ℕ) → HostState tcp_shape → List (Rule × Bool)
+answering_rules line h = on (waiting line h.inbox) (just rules.Inbox true) (λ m. reset_rules h.body m)

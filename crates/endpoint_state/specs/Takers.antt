@@ -1,23 +1,23 @@
 -- Whom a segment finds, by place.
-use Rattle.std.specs.Prelude.{◌≡◌, ◌&&◌, ℕ, false, if◌then◌else◌, Option, None, slice_get}
+use Rattle.std.specs.Prelude.{◌≡◌, ◌&&◌, ℕ, false, if◌then◌else◌, Option, None, Some, slice_get}
 use Rattle.std.specs.Option.{option_map_or, IsSomeAnd}
 use Rattle.machine.specs.Bodies.{Body}
 use Rattle.machine.specs.declared.endpoint.Emission.{Emission}
 use Rattle.case_forms.specs.States.{is_closed, is_syn_received}
 use Rattle.machine.specs.Arrives.Otherwise.Ack.{acknowledges_syn}
 use Rattle.machine.specs.Arrives.{Taker, Nobody, AtListener, AtEndpoint}
-use Rattle.endpoint_state.specs.declared.body.Found.{Found}
-use Rattle.endpoint_state.specs.declared.body.Found.TheVariants as found
+use Rattle.endpoint_state.specs.declared.body.arrives.Found.{Found}
+use Rattle.endpoint_state.specs.declared.body.arrives.Found.TheVariants as found
 
-abbrev pub taker_found : Body → Found → Taker
-taker_found b found.Nobody = Nobody
-taker_found b (found.Listener l) = AtListener l
-taker_found b (found.Endpoint i) = option_map_or (λ e. AtEndpoint i e) (slice_get b.endpoints i) Nobody
+abbrev pub taker_found : Body → Option Found → Taker
+taker_found b None = Nobody
+taker_found b (Some (found.Listener l)) = AtListener l
+taker_found b (Some (found.Endpoint i)) = option_map_or (λ e. AtEndpoint i e) (slice_get b.endpoints i) Nobody
 
 -- an endpoint that is found is not CLOSED
 abbrev pub IsOpen : Body → Found → Type 0
 IsOpen b (found.Endpoint i) = IsSomeAnd (slice_get b.endpoints i) (λ e. is_closed e.state ≡ false)
-IsOpen b _ = Unit
+IsOpen b (found.Listener l) = Unit
 
 -- the listener whose queue the endpoint at a place joins by a segment
 abbrev pub joins_at : Body → Emission → ℕ → Option ℕ

@@ -3,8 +3,8 @@ use Rattle.std.specs.Prelude.{Option, None, Some}
 use Rattle.case_forms.specs.declared.calls.Call.{Call}
 use Rattle.hosts.specs.Hosts.{Turn, Idle, Called, Answered}
 use Rattle.machine.specs.Machine.{tcp_shape}
-use Rattle.endpoint_state.specs.declared.turn.Place.{Place}
-use Rattle.endpoint_state.specs.declared.turn.Place.TheVariants as places
+use Rattle.endpoint_state.specs.declared.threads.Place.{Place}
+use Rattle.endpoint_state.specs.declared.threads.Place.TheVariants as places
 
 abbrev pub turn_shown : Place → Turn tcp_shape
 turn_shown places.Idle = Idle

@@ -7,4 +7,5 @@ use Rattle.machine.specs.declared.endpoint.Thing.TheVariants.{Ends}
 
 -- as many bytes wait at the endpoint that a socket number names
 abbrev pub AreWaiting : Body → ℕ → List ℕ → Type 0
-AreWaiting b n bytes = (i : ℕ) (e : Endpoint) → thing_of b n ≡ Some (Ends i) → slice_get b.endpoints i ≡ Some e → length bytes ≤ length (waiting e.stream.receive)
+AreWaiting b n bytes =
+    (i : ℕ) (e : Endpoint) → thing_of b n ≡ Some (Ends i) → slice_get b.endpoints i ≡ Some e → length bytes ≤ length (waiting e.stream.receive)

@@ -1,4 +1,4 @@
--- What a case has come to: the machine's world, of which all is forgotten that may be let go, and how many steps led there.
+-- What a case has come to: the machine's world, of which all is discarded that may be, and how many steps led there.
 use Rattle.std.specs.Prelude.{ℕ, suc, nat_eq}
 use Rattle.indexmap.specs.IndexMap.{insert_entry}
 use Rattle.case_forms.specs.declared.calls.Host.{Host}

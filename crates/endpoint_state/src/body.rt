@@ -3,15 +3,17 @@
 ghost use Rattle.std.specs.Prelude.{◌≡◌, length, slice_get};
 ghost use Rattle.std.specs.Option.{option_copied};
 ghost use Rattle.machine.specs.Bodies.{empty, endpoint_of, given, is_connected, if_live, is_listening, listener_on, place_of, thing_of};
-ghost use Rattle.case_forms.specs.States.{is_closed};
-ghost use Rattle.machine.specs.Arrives.{endpoint_taker, listener_taker, taker};
-ghost use Rattle.endpoint_state.specs.Takers.{taker_found, IsOpen};
+
+mod arrives;
+mod calls;
+mod makes;
+mod recovery;
+mod timeouts;
 
 use crate::endpoints::Endpoints;
 use crate::listeners::Listeners;
-use case_forms::State;
 use indexmap::IndexMap;
-use machine::{Emission, Endpoint, Listener, Socket, Thing};
+use machine::{Endpoint, Listener, Socket, Thing};
 use std::alloc::Global;
 use std::marker::Model;
 
@@ -30,17 +32,6 @@ impl Model for Body {
     ghost Value = { Body };
 
     ghost view = { λ a. record { endpoints = a.endpoints; listeners = a.listeners; sockets = a.sockets.entries } };
-}
-
-/// Whom a segment finds (RFC 9293, 3.10.7).
-#[derive(Clone, Copy, Debug, PartialEq, Eq)]
-pub enum Found {
-    /// No endpoint of its ports that is not CLOSED, and no open listener on its destination port.
-    Nobody,
-    /// The listener at this place.
-    Listener(u32),
-    /// The endpoint at this place, which is not CLOSED.
-    Endpoint(u32),
 }
 
 impl Body {
@@ -115,7 +106,7 @@ impl Body {
         ensures { result ≡ is_connected self.now lport rport }
     {
         match self.endpoint_of(lport, rport) {
-            Some(endpoint) => !is_closed(endpoint.state),
+            Some(endpoint) => !endpoint.state.is_closed(),
             None => false,
         }
     }
@@ -133,43 +124,6 @@ impl Body {
     {
         self.listener_on(port).is_some()
     }
-
-    /// Whom a segment finds that comes in.
-    pub fn taker(&self, m: &Emission) -> Found
-        ensures taker { taker_found self.now result ≡ taker self.now m.now }
-        ensures open { IsOpen self.now result }
-    {
-        match self.place_of(m.rport, m.lport) {
-            Some(place) => self.endpoint_taker(m, place),
-            None => self.listener_taker(m),
-        }
-    }
-
-    fn endpoint_taker(&self, m: &Emission, place: u32) -> Found
-        ensures taker { taker_found self.now result ≡ endpoint_taker self.now m.now place }
-        ensures open { IsOpen self.now result }
-    {
-        match self.endpoint_at(place) {
-            Some(endpoint) => {
-                if is_closed(endpoint.state) {
-                    self.listener_taker(m)
-                } else {
-                    Found::Endpoint(place)
-                }
-            }
-            None => self.listener_taker(m),
-        }
-    }
-
-    fn listener_taker(&self, m: &Emission) -> Found
-        ensures taker { taker_found self.now result ≡ listener_taker self.now m.now }
-        ensures open { IsOpen self.now result }
-    {
-        match self.listener_on(m.rport) {
-            Some(place) => Found::Listener(place),
-            None => Found::Nobody,
-        }
-    }
 }
 
 fn if_live(socket: Socket) -> Option<Thing>
@@ -180,10 +134,4 @@ fn if_live(socket: Socket) -> Option<Thing>
     } else {
         None
     }
-}
-
-fn is_closed(state: State) -> bool
-    ensures { result ≡ is_closed state }
-{
-    matches!(state, State::Closed)
 }

@@ -1,24 +1,41 @@
-//! The endpoints of a host, found by their ports.
+//! The endpoints of a host: found by their ports, and each changed in its place.
 
-ghost use Rattle.std.specs.Prelude.{◌≡◌, ◌+◌, ◌<◌, ◌^◌, ℕ, true, [], ◌∷◌, ◌++◌, None, length, slice_get, OnOk, OnErr};
-ghost use Rattle.std.specs.Option.{option_copied};
+ghost use Rattle.std.specs.Prelude.{◌≡◌, ◌+◌, ◌<◌, ◌^◌, ℕ, true, [], ◌∷◌, ◌++◌, None, length, slice_get, OnOk, OnErr, ◌≤◌, false, Some, is_some, IfOk, map};
+ghost use Rattle.std.specs.Option.{option_copied, option_map, IfSome, IsSomeAnd};
 ghost use Rattle.machine.specs.Bodies.{has_ports, last_from};
 ghost use Rattle.endpoint_state.specs.Indexes.{is_child_in};
+ghost use Rattle.std.specs.List.{All};
+ghost use Rattle.machine.specs.Bounds.{greatest_position, HasRoom, IsSmallEmission};
+ghost use Rattle.machine.specs.Calls.Send.{after_send};
+ghost use Rattle.machine.specs.Calls.Receive.{after_recv};
+ghost use Rattle.machine.specs.Calls.Close.{after_abort, after_close, after_shut, orphaned};
+ghost use Rattle.machine.specs.Forgetting.{forget_endpoint};
+ghost use Rattle.case_forms.specs.States.{is_closed};
+ghost use Rattle.machine.specs.Makes.{after_making, emission_of};
+ghost use Rattle.machine.specs.Arrives.{endpoint_taken};
+ghost use Rattle.machine.specs.Steps.{growth_of, timer_of};
+ghost use Rattle.machine.specs.Timeouts.{after_expiry};
+ghost use Rattle.machine.specs.Recovery.{after_recovery};
+ghost use Rattle.streams.specs.Received.{waiting};
+ghost use Rattle.endpoint_state.specs.Changes.{changed, orphan_each};
+ghost use Rattle.streams.specs.Lists.{modify};
 
+use case_forms::{Expired, Header, SegmentPlan, TakeChoice};
+use endpoint::take_segment;
 use indexmap::IndexMap;
-use machine::Endpoint;
+use machine::{Emission, Endpoint, Name};
 use segment::OutOfMemory;
 use std::alloc::Global;
 use std::marker::Model;
 
 /// The endpoints of a host, in the order of creation, which contracts see as a list.
 #[derive(Drop)]
-pub struct Endpoints {
-    pub(crate) all: Vec<Endpoint>,
+pub(crate) struct Endpoints {
+    all: Vec<Endpoint>,
     /// For each pair of ports, the endpoint created last there.
     places: IndexMap<(u16, u16), u32>,
     /// For each listener that made some, the endpoints that it made. None is ever taken out.
-    pub(crate) children: IndexMap<u32, Vec<u32>>,
+    children: IndexMap<u32, Vec<u32>>,
 }
 
 impl Model for Endpoints {
@@ -34,7 +51,7 @@ impl Model for Endpoints {
 }
 
 impl Endpoints {
-    pub fn new(alloc: Global) -> Endpoints
+    pub(crate) fn new(alloc: Global) -> Endpoints
         ensures { result ≡ [] }
     {
         Endpoints {
@@ -44,28 +61,28 @@ impl Endpoints {
         }
     }
 
-    pub fn len(&self) -> usize
+    pub(crate) fn len(&self) -> usize
         ensures { result ≡ length self.now }
     {
         self.all.len()
     }
 
     /// The endpoint at a place.
-    pub fn get(&self, place: u32) -> Option<&Endpoint>
+    pub(crate) fn get(&self, place: u32) -> Option<&Endpoint>
         ensures { option_copied result ≡ slice_get self.now place }
     {
         self.all.get(place as usize)
     }
 
     /// The place of the endpoint created last with these ports.
-    pub fn place_of(&self, lport: u16, rport: u16) -> Option<u32>
+    pub(crate) fn place_of(&self, lport: u16, rport: u16) -> Option<u32>
         ensures { result ≡ last_from (has_ports lport rport) 0 None self.now }
     {
         self.places.get(&(lport, rport)).copied()
     }
 
     /// One more endpoint is added at the end. Where memory runs out nothing is changed.
-    pub fn add(&mut self, alloc: Global, endpoint: Endpoint) -> Result<(), OutOfMemory>
+    pub(crate) fn add(&mut self, alloc: Global, endpoint: Endpoint) -> Result<(), OutOfMemory>
         requires { length self.old + 1 < 2 ^ 32 }
         ensures ok { OnOk result (self.new ≡ self.old ++ endpoint ∷ []) }
         ensures err { OnErr result (self.new ≡ self.old) }
@@ -100,4 +117,199 @@ fn add_child(
     places.push(place)?;
     children.insert(listener, places)?;
     Ok(())
+}
+
+impl Endpoints {
+    /// The endpoint of this name makes a segment, at a moment in microseconds. Where memory runs out nothing is changed.
+    pub(crate) fn make(
+        &mut self,
+        alloc: Global,
+        me: Name,
+        making: &SegmentPlan,
+        moment: u64,
+    ) -> Result<Emission, OutOfMemory>
+        requires kept { All HasRoom self.old }
+        requires small { making.now.pos ≤ greatest_position }
+        requires there { is_some (slice_get self.old me.number) ≡ true }
+        ensures made { IfOk result (λ m. option_map (λ e. emission_of me e making.now) (slice_get self.old me.number) ≡ Some m) }
+        ensures small { IfOk result IsSmallEmission }
+        ensures ok { OnOk result (self.new ≡ changed self.old me.number (λ e. after_making e making.now moment)) }
+        ensures err { OnErr result (self.new ≡ self.old) }
+    {
+        let place = me.number as usize;
+        if place < self.all.len() {
+            let emission = make_one(alloc, &mut self.all[place], me, making, moment)?;
+            return Ok(emission);
+        }
+        unreachable!()
+    }
+
+    /// A timer of the endpoint at a place expires, at a moment in microseconds.
+    pub(crate) fn expire(&mut self, place: u32, expired: Expired, moment: u64)
+        requires { All HasRoom self.old }
+        ensures { self.new ≡ changed self.old place (λ e. after_expiry e (timer_of expired) (growth_of expired) moment) }
+    {
+        let place = place as usize;
+        if place < self.all.len() {
+            endpoint::expire(&mut self.all[place], expired, moment);
+        }
+    }
+
+    /// Fast recovery begins at the endpoint at a place, with this congestion window and slow start threshold (in bytes).
+    pub(crate) fn recover(&mut self, place: u32, cwnd: u32, ssthresh: u32)
+        requires { All HasRoom self.old }
+        ensures { self.new ≡ changed self.old place (λ e. after_recovery e cwnd ssthresh) }
+    {
+        let place = place as usize;
+        if place < self.all.len() {
+            endpoint::recover(&mut self.all[place], cwnd, ssthresh);
+        }
+    }
+
+    /// The endpoint at a place ends sending (RFC 9293, 3.10.4).
+    pub(crate) fn shut(&mut self, place: u32)
+        requires { All HasRoom self.old }
+        ensures { self.new ≡ changed self.old place after_shut }
+    {
+        let place = place as usize;
+        if place < self.all.len() {
+            endpoint::shut(&mut self.all[place]);
+        }
+    }
+
+    /// The endpoint at a place is closed by its socket (RFC 9293, 3.10.4).
+    pub(crate) fn close(&mut self, place: u32)
+        requires { All HasRoom self.old }
+        ensures { self.new ≡ changed self.old place after_close }
+    {
+        let place = place as usize;
+        if place < self.all.len() {
+            endpoint::close(&mut self.all[place]);
+        }
+    }
+
+    /// The endpoint at a place is aborted (RFC 9293, 3.10.5).
+    pub(crate) fn abort(&mut self, place: u32)
+        requires { All HasRoom self.old }
+        ensures { self.new ≡ changed self.old place after_abort }
+    {
+        let place = place as usize;
+        if place < self.all.len() {
+            endpoint::abort(&mut self.all[place]);
+        }
+    }
+
+    /// The endpoint at a place is accepted: it is no longer its listener's.
+    pub(crate) fn accept(&mut self, place: u32)
+        requires { All HasRoom self.old }
+        ensures { self.new ≡ changed self.old place (λ e. record e { listener = None }) }
+    {
+        let place = place as usize;
+        if place < self.all.len() {
+            endpoint::accept(&mut self.all[place]);
+        }
+    }
+
+    /// The endpoint at a place takes a segment that it may take, at a moment in microseconds. Where memory runs out
+    /// nothing is changed.
+    pub(crate) fn take(
+        &mut self,
+        header: &Header,
+        place: u32,
+        how: TakeChoice,
+        m: &Emission,
+        moment: u64,
+    ) -> Result<(), OutOfMemory>
+        requires kept { All HasRoom self.old }
+        requires small { IsSmallEmission m.now }
+        requires open { IsSomeAnd (slice_get self.old place) (λ e. is_closed e.state ≡ false) }
+        ensures ok { OnOk result (self.new ≡ changed self.old place (λ e. endpoint_taken header.now e how m.now moment)) }
+        ensures err { OnErr result (self.new ≡ self.old) }
+    {
+        let place = place as usize;
+        if place < self.all.len() {
+            take_segment(header, &mut self.all[place], how, m, moment)?;
+            return Ok(());
+        }
+        Ok(())
+    }
+
+    /// The first bytes of a `send` are accepted at the endpoint at a place: so many. Where memory runs out nothing is
+    /// changed.
+    pub(crate) fn send(&mut self, place: u32, bytes: &[u8], count: u32) -> Result<(), OutOfMemory>
+        requires { All HasRoom self.old }
+        ensures ok { OnOk result (self.new ≡ changed self.old place (after_send bytes.now count)) }
+        ensures err { OnErr result (self.new ≡ self.old) }
+    {
+        let place = place as usize;
+        if place < self.all.len() {
+            endpoint::send(&mut self.all[place], bytes, count)?;
+            return Ok(());
+        }
+        Ok(())
+    }
+
+    /// The bytes of a `recv` are delivered at the endpoint at a place, where no more than these wait.
+    pub(crate) fn deliver(&mut self, place: u32, bytes: &[u8])
+        requires kept { All HasRoom self.old }
+        requires waiting { IfSome (slice_get self.old place) (λ e. length bytes.now ≤ length (waiting e.stream.receive)) }
+        ensures { self.new ≡ changed self.old place (after_recv bytes.now) }
+    {
+        let place = place as usize;
+        if place < self.all.len() {
+            endpoint::deliver(&mut self.all[place], bytes);
+        }
+    }
+}
+
+fn make_one(
+    alloc: Global,
+    endpoint: &mut Endpoint,
+    me: Name,
+    making: &SegmentPlan,
+    moment: u64,
+) -> Result<Emission, OutOfMemory>
+    requires room { HasRoom endpoint.old }
+    requires small { making.now.pos ≤ greatest_position }
+    ensures made { IfOk result (λ m. m ≡ emission_of me endpoint.old making.now) }
+    ensures small { IfOk result IsSmallEmission }
+    ensures ok { OnOk result (endpoint.new ≡ forget_endpoint (after_making endpoint.old making.now moment)) }
+    ensures err { OnErr result (endpoint.new ≡ endpoint.old) }
+{
+    let una = endpoint.stream.una;
+    let emission = endpoint::make(alloc, endpoint, me, making, moment)?;
+    endpoint.makings.forget_below(una);
+    Ok(emission)
+}
+
+impl Endpoints {
+    /// The children of a listener that were not accepted are aborted (RFC 9293, 3.10.5). No other endpoint is looked at.
+    pub(crate) fn orphan(&mut self, listener: u32)
+        requires { All HasRoom self.old }
+        ensures { self.new ≡ map (orphaned listener) self.old }
+    {
+        if let Some(children) = self.children.get(&listener) {
+            orphan_each(&mut self.all, children.as_slice(), listener);
+        }
+    }
+}
+
+fn orphan_each(endpoints: &mut Vec<Endpoint>, children: &[u32], listener: u32)
+    requires { All HasRoom endpoints.old.items }
+    ensures { endpoints.new.items ≡ orphan_each listener children.now endpoints.old.items }
+{
+    for child in children {
+        orphan_at(endpoints, *child as usize, listener);
+    }
+}
+
+fn orphan_at(endpoints: &mut Vec<Endpoint>, place: usize, listener: u32)
+    requires { All HasRoom endpoints.old.items }
+    ensures items { endpoints.new.items ≡ modify endpoints.old.items place (orphaned listener) }
+    ensures kept { All HasRoom endpoints.new.items }
+{
+    if place < endpoints.len() {
+        let endpoint = &mut endpoints[place];
+        endpoint::orphan(listener, endpoint);
+    }
 }

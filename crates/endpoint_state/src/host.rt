@@ -1,41 +1,37 @@
 //! What one host has, and what it does. Moments are in microseconds, windows and thresholds in bytes. Where memory runs out
 //! nothing is changed.
 
-ghost use Rattle.std.specs.Prelude.{◌≡◌, ◌≤◌, nat_eq, true, [], OnOk, OnErr};
+ghost use Rattle.std.specs.Prelude.{◌≡◌, ◌≤◌, true, [], Some, nat_eq, IfOk, OnOk, OnErr};
 ghost use Rattle.std.specs.Map.{lookup};
 ghost use Rattle.indexmap.specs.IndexMap.{insert_entry};
-ghost use Rattle.verdict.specs.declared.rule.Rule.TheVariants as rule_names;
-ghost use Rattle.hosts.specs.Tables.{on, waiting};
 ghost use Rattle.std.specs.Option.{IfSome, option_copied};
 ghost use Rattle.std.specs.Result.{result_err};
 ghost use Rattle.verdict.specs.Rules.{first_broken};
 ghost use Rattle.hosts.specs.HostSteps.{empty_host};
-ghost use Rattle.hosts.specs.HostRules.{arrival_rules, just, sending_rules};
+ghost use Rattle.hosts.specs.HostRules.{arrival_rules, sending_rules};
 ghost use Rattle.machine.specs.Wire.{in_rules, out_rules};
-ghost use Rattle.machine.specs.Bodies.{at_ports, given};
+ghost use Rattle.machine.specs.Bodies.{given};
 ghost use Rattle.machine.specs.Makes.{making_rules};
-ghost use Rattle.machine.specs.Arrives.{taker, taker_rules};
-ghost use Rattle.machine.specs.Reset.{reset_rules};
-ghost use Rattle.machine.specs.Timeouts.{after_expiry, expiry_rules};
-ghost use Rattle.machine.specs.Recovery.{after_recovery, recovery_rules};
 ghost use Rattle.machine.specs.Calls.{call_allows, after_call};
 ghost use Rattle.machine.specs.Machine.{act_makes, rules_at, tcp};
 ghost use Rattle.machine.specs.Machine as acts;
 ghost use Rattle.machine.specs.Forgetting.{forget_host};
 ghost use Rattle.machine.specs.Bounds.{greatest_position, IsSmallEmission};
 ghost use Rattle.endpoint_state.specs.Kept.{IsReady};
-ghost use Rattle.endpoint_state.specs.Kinds.{answered_one, dropped_one, got_one, made_one, sent_one, taken_one};
+ghost use Rattle.endpoint_state.specs.Faults.{fault_rule};
+ghost use Rattle.endpoint_state.specs.Kinds.{answered_one, dropped_one, made_one, sent_one, taken_one, answering_rules, dropping_rules, expired_body};
+ghost use Rattle.endpoint_state.specs.Kinds.{expiring_rules, recovered_body, recovering_rules, taking_rules};
 
-use crate::arriving::{admits_arrival, arrive, settle, waiting};
+use crate::arriving::{admitted_arrival, settle, waiting};
 use crate::body::Body;
-use crate::made::Made;
-use crate::sending::{admits_sending, send};
+use crate::fault::StepFault;
+use crate::made::{Made, admitted_sending, send};
 use case_forms::{
-    Answer, Call, Expiry, Growth, Header, Host, Recovery, SegmentPlan, TakeChoice, Wire,
+    Answer, Call, Expired, Header, Host, Ports, Recovery, SegmentPlan, TakeChoice, Wire,
 };
 use endpoint::reset_of;
 use indexmap::IndexMap;
-use machine::Emission;
+use machine::{Emission, Name};
 use segment::OutOfMemory;
 use std::alloc::Global;
 use std::marker::Model;
@@ -60,60 +56,68 @@ impl Model for HostState {
     ghost view = { λ a. record { body = a.body; made = a.made.entries; wire = a.wire.entries; inbox = a.inbox.entries } };
 }
 
-/// A segment is made under this number, and waits to go out.
+/// A segment is made under this number, and waits to go out. An error is the first rule that is broken, or that memory ran
+/// out; nothing is changed then.
 pub(crate) fn make(
     alloc: Global,
     me: Host,
     host: &mut HostState,
-    making: &SegmentPlan,
+    plan: &SegmentPlan,
     moment: u64,
     fresh: u32,
-) -> Result<(), OutOfMemory>
+) -> Result<(), StepFault>
     requires ready { IsReady host.old }
-    requires small { making.now.pos ≤ greatest_position }
-    ensures ok { OnOk result (host.new ≡ forget_host (made_one me moment fresh making.now host.old)) }
-    ensures small { OnOk result (IfSome (act_makes me host.old.body (acts.Makes making.now)) IsSmallEmission) }
+    requires small { plan.now.pos ≤ greatest_position }
+    ensures fault { fault_rule result ≡ first_broken (rules_at host.old.body plan.now.lport plan.now.rport (λ e. making_rules e plan.now)) }
+    ensures ok { OnOk result (host.new ≡ forget_host (made_one me moment fresh plan.now host.old)) }
+    ensures small { OnOk result (IfSome (act_makes me host.old.body (acts.Makes plan.now)) IsSmallEmission) }
     ensures err { OnErr result (host.new ≡ host.old) }
 {
+    let number = host.body.admitted_making(plan)?;
     host.made.reserve(1)?;
-    match host.body.make(alloc, me, making, moment)? {
-        Some(emission) => {
-            // There is room for it.
-            host.made.insert(fresh, Made::unsent(emission))?;
-            Ok(())
-        }
-        None => Ok(()),
-    }
+    let me = Name { host: me, number };
+    let emission = host.body.make_at(alloc, me, plan, moment)?;
+    // There is room for it.
+    host.made.insert(fresh, Made::unsent(emission))?;
+    Ok(())
 }
 
-/// The segment of this number goes out with this line.
+/// The segment of this number goes out with this line. An error is the first rule that is broken, or that memory ran out;
+/// nothing is changed then.
 pub(crate) fn send_made(
+    header: &Header,
     host: &mut HostState,
     line: u64,
     number: u32,
     wire: &Wire,
     moment: u64,
-) -> Result<(), OutOfMemory>
+) -> Result<(), StepFault>
+    ensures fault { fault_rule result ≡ first_broken (sending_rules (out_rules header.now) host.old.made number wire.now) }
     ensures ok { OnOk result (host.new ≡ sent_one moment line number wire.now host.old) }
     ensures err { OnErr result (host.new ≡ host.old) }
 {
-    send(&mut host.made, &mut host.wire, line, number, wire, moment)
+    send(
+        header,
+        &mut host.made,
+        &mut host.wire,
+        line,
+        number,
+        wire,
+        moment,
+    )
 }
 
-/// A copy of what the other host put on its wire comes in with this line.
-pub(crate) fn get(
-    host: &mut HostState,
-    far: &HostState,
-    line: u64,
-    copied: u64,
-) -> Result<(), OutOfMemory>
-    ensures ok { OnOk result (host.new ≡ got_one far.now.wire line copied host.old) }
+/// A segment joins the inbox with this line. Where memory runs out nothing is changed.
+pub(crate) fn arrive(host: &mut HostState, line: u64, m: Emission) -> Result<(), OutOfMemory>
+    ensures ok { OnOk result (host.new ≡ record host.old { inbox = insert_entry nat_eq host.old.inbox line (Some m) }) }
     ensures err { OnErr result (host.new ≡ host.old) }
 {
-    arrive(&mut host.inbox, &far.wire, line, copied)
+    host.inbox.insert(line, Some(m))?;
+    Ok(())
 }
 
-/// A segment of elsewhere stands on the host's wire under this line, in place of one that stood there.
+/// A segment of elsewhere stands on the host's wire under this line, in place of one that stood there. Where memory runs out
+/// nothing is changed.
 pub(crate) fn bring(host: &mut HostState, line: u64, emission: &Emission) -> Result<(), OutOfMemory>
     ensures ok { OnOk result (host.new ≡ record host.old { wire = insert_entry nat_eq host.old.wire line emission.now }) }
     ensures err { OnErr result (host.new ≡ host.old) }
@@ -122,67 +126,87 @@ pub(crate) fn bring(host: &mut HostState, line: u64, emission: &Emission) -> Res
     Ok(())
 }
 
-/// The segment that waits under this line is taken.
+/// The segment that waits under this line is taken. An error is the first rule that is broken, or that memory ran out;
+/// nothing is changed then.
 pub(crate) fn take(
     alloc: Global,
     header: &Header,
+    me: Host,
     host: &mut HostState,
     line: u64,
     how: TakeChoice,
     moment: u64,
-) -> Result<(), OutOfMemory>
+) -> Result<(), StepFault>
     requires ready { IsReady host.old }
+    ensures fault { fault_rule result ≡ first_broken (taking_rules header.now me line how host.old) }
     ensures ok { OnOk result (host.new ≡ forget_host (taken_one header.now moment line how host.old)) }
     ensures err { OnErr result (host.new ≡ host.old) }
 {
     let Some(m) = waiting(&host.inbox, line) else {
-        return Ok(());
+        return Err(StepFault::Broken(Rule::Inbox));
     };
-    host.body.take(alloc, header, how, m, moment)?;
+    host.body.take(alloc, header, me, how, m, moment)?;
     settle(&mut host.inbox, line);
     Ok(())
 }
 
-/// The segment that waits under this line is dropped.
-pub(crate) fn drop_waiting(host: &mut HostState, line: u64)
-    ensures { host.new ≡ dropped_one line host.old }
+/// The segment that waits under this line is dropped. An error is the rule that nothing waits; nothing is changed then.
+pub(crate) fn drop_waiting(host: &mut HostState, line: u64) -> Result<(), Rule>
+    ensures rule { result_err result ≡ first_broken (dropping_rules line host.old) }
+    ensures ok { OnOk result (host.new ≡ dropped_one line host.old) }
+    ensures err { OnErr result (host.new ≡ host.old) }
 {
+    host.admits_dropping(line)?;
     settle(&mut host.inbox, line);
+    Ok(())
 }
 
-/// The segment that waits under this line is answered by a reset, which gets this number.
+/// The segment that waits under this line is answered by a reset, which gets this number. An error is the first rule that is
+/// broken, or that memory ran out; nothing is changed then.
 pub(crate) fn answer(
     alloc: Global,
     host: &mut HostState,
     line: u64,
     fresh: u32,
-) -> Result<(), OutOfMemory>
+) -> Result<(), StepFault>
+    ensures fault { fault_rule result ≡ first_broken (answering_rules line host.old) }
     ensures ok { OnOk result (host.new ≡ answered_one line fresh host.old) }
     ensures err { OnErr result (host.new ≡ host.old) }
 {
     let Some(m) = waiting(&host.inbox, line) else {
-        return Ok(());
+        return Err(StepFault::Broken(Rule::Inbox));
     };
+    host.body.admits_reset(m)?;
     let reset = reset_of(alloc, m);
     host.made.insert(fresh, Made::unsent(reset))?;
     settle(&mut host.inbox, line);
     Ok(())
 }
 
-/// A timer expires: then its endpoint's congestion window and slow start threshold.
-pub(crate) fn expire(host: &mut HostState, expiry: Expiry, growth: Growth, moment: u64)
+/// A timer expires. An error is the first rule that is broken; nothing is changed then.
+pub(crate) fn expire(
+    header: &Header,
+    host: &mut HostState,
+    ports: Ports,
+    expired: Expired,
+    moment: u64,
+) -> Result<(), Rule>
     requires { IsReady host.old }
-    ensures { host.new ≡ forget_host (record host.old { body = at_ports host.old.body expiry.lport expiry.rport (λ e. after_expiry e expiry.timer growth moment) }) }
+    ensures rule { result_err result ≡ first_broken (expiring_rules header.now moment ports expired host.old.body) }
+    ensures ok { OnOk result (host.new ≡ forget_host (record host.old { body = expired_body moment ports expired host.old.body })) }
+    ensures err { OnErr result (host.new ≡ host.old) }
 {
-    host.body.expire(expiry, growth, moment);
+    host.body.expire(header, ports, expired, moment)
 }
 
-/// Fast recovery begins.
-pub(crate) fn recover(host: &mut HostState, recovery: Recovery)
+/// Fast recovery begins. An error is the first rule that is broken; nothing is changed then.
+pub(crate) fn recover(host: &mut HostState, recovery: Recovery) -> Result<(), Rule>
     requires { IsReady host.old }
-    ensures { host.new ≡ forget_host (record host.old { body = at_ports host.old.body recovery.lport recovery.rport (λ e. after_recovery e recovery.cwnd recovery.ssthresh) }) }
+    ensures rule { result_err result ≡ first_broken (recovering_rules recovery host.old.body) }
+    ensures ok { OnOk result (host.new ≡ forget_host (record host.old { body = recovered_body recovery host.old.body })) }
+    ensures err { OnErr result (host.new ≡ host.old) }
 {
-    host.body.recover(recovery);
+    host.body.recover(recovery)
 }
 
 /// A call that may have this answer has its effect.
@@ -249,33 +273,41 @@ impl HostState {
     }
 
     /// Whether what goes out is the segment that was made under this number. An error is the first rule that is broken.
-    pub(crate) fn admits_sending(&self, number: u32, wire: &Wire) -> Result<(), Rule>
-        ensures { result_err result ≡ first_broken (sending_rules out_rules self.now.made number wire.now) }
+    pub(crate) fn admits_sending(
+        &self,
+        header: &Header,
+        number: u32,
+        wire: &Wire,
+    ) -> Result<(), Rule>
+        ensures { result_err result ≡ first_broken (sending_rules (out_rules header.now) self.now.made number wire.now) }
     {
-        admits_sending(&self.made, number, wire)
+        admitted_sending(header, &self.made, number, wire)?;
+        Ok(())
     }
 
-    /// Whether what comes in at a moment at the other host is a copy of what this one put on its wire with the line `copied`. An
-    /// error is the first rule that is broken.
-    pub(crate) fn admits_arrival(
+    /// What this host put on its wire with the line `copied`, where what comes in at a moment at the other host is a copy of it.
+    /// An error is the first rule that is broken.
+    pub(crate) fn admitted_arrival(
         &self,
         header: &Header,
         moment: u64,
         copied: u64,
         wire: &Wire,
-    ) -> Result<(), Rule>
-        ensures { result_err result ≡ first_broken (arrival_rules (in_rules header.now moment) self.now.wire copied wire.now) }
+    ) -> Result<&Emission, Rule>
+        ensures rule { result_err result ≡ first_broken (arrival_rules (in_rules header.now moment) self.now.wire copied wire.now) }
+        ensures found { IfOk result (λ m. lookup (nat_eq copied) self.now.wire ≡ Some m.now) }
     {
-        admits_arrival(header, moment, &self.wire, copied, wire)
+        admitted_arrival(header, moment, &self.wire, copied, wire)
     }
 
     /// Whether it may make a segment. An error is the first rule that is broken.
-    pub(crate) fn admits_making(&self, making: &SegmentPlan) -> Result<(), Rule>
+    pub(crate) fn admits_making(&self, plan: &SegmentPlan) -> Result<(), Rule>
         requires ready { IsReady self.now }
-        requires small { making.now.pos ≤ greatest_position }
-        ensures { result_err result ≡ first_broken (rules_at self.now.body making.now.lport making.now.rport (λ e. making_rules e making.now)) }
+        requires small { plan.now.pos ≤ greatest_position }
+        ensures { result_err result ≡ first_broken (rules_at self.now.body plan.now.lport plan.now.rport (λ e. making_rules e plan.now)) }
     {
-        self.body.admits_making(making)
+        self.body.admitted_making(plan)?;
+        Ok(())
     }
 
     /// Whether it may take the segment that waits under this line. An error is the first rule that is broken.
@@ -286,17 +318,18 @@ impl HostState {
         line: u64,
         how: TakeChoice,
     ) -> Result<(), Rule>
-        ensures { result_err result ≡ first_broken (on (waiting line self.now.inbox) (just rule_names.Inbox true) (λ m. taker_rules header.now me self.now.body how m (taker self.now.body m))) }
+        ensures { result_err result ≡ first_broken (taking_rules header.now me line how self.now) }
     {
-        match waiting(&self.inbox, line) {
-            Some(m) => self.body.admits_taking(header, me, how, m),
-            None => Err(Rule::Inbox),
-        }
+        let Some(m) = waiting(&self.inbox, line) else {
+            return Err(Rule::Inbox);
+        };
+        self.body.admitted_taking(header, me, how, m)?;
+        Ok(())
     }
 
     /// Whether it may drop what waits under this line. An error is the rule that nothing does.
     pub(crate) fn admits_dropping(&self, line: u64) -> Result<(), Rule>
-        ensures { result_err result ≡ first_broken (on (waiting line self.now.inbox) (just rule_names.Inbox true) (λ m. [])) }
+        ensures { result_err result ≡ first_broken (dropping_rules line self.now) }
     {
         match waiting(&self.inbox, line) {
             Some(_) => Ok(()),
@@ -306,7 +339,7 @@ impl HostState {
 
     /// Whether it may answer by a reset the segment that waits under this line. An error is the first rule that is broken.
     pub(crate) fn admits_reset(&self, line: u64) -> Result<(), Rule>
-        ensures { result_err result ≡ first_broken (on (waiting line self.now.inbox) (just rule_names.Inbox true) (λ m. reset_rules self.now.body m)) }
+        ensures { result_err result ≡ first_broken (answering_rules line self.now) }
     {
         match waiting(&self.inbox, line) {
             Some(m) => self.body.admits_reset(m),
@@ -314,23 +347,25 @@ impl HostState {
         }
     }
 
-    /// Whether a timer may expire, with this choice of what its endpoint has then. An error is the first rule that is broken.
+    /// Whether a timer may expire. An error is the first rule that is broken.
     pub(crate) fn admits_expiry(
         &self,
         header: &Header,
+        ports: Ports,
+        expired: Expired,
         moment: u64,
-        expiry: Expiry,
-        growth: Growth,
     ) -> Result<(), Rule>
-        ensures { result_err result ≡ first_broken (rules_at self.now.body expiry.lport expiry.rport (λ e. expiry_rules header.now moment e expiry.timer growth)) }
+        ensures { result_err result ≡ first_broken (expiring_rules header.now moment ports expired self.now.body) }
     {
-        self.body.admits_expiry(header, moment, expiry, growth)
+        self.body.admitted_expiry(header, ports, expired, moment)?;
+        Ok(())
     }
 
     /// Whether fast recovery may begin. An error is the first rule that is broken.
     pub(crate) fn admits_recovery(&self, recovery: Recovery) -> Result<(), Rule>
-        ensures { result_err result ≡ first_broken (rules_at self.now.body recovery.lport recovery.rport (λ e. recovery_rules e recovery.cwnd recovery.ssthresh)) }
+        ensures { result_err result ≡ first_broken (recovering_rules recovery self.now.body) }
     {
-        self.body.admits_recovery(recovery)
+        self.body.admitted_recovery(recovery)?;
+        Ok(())
     }
 }

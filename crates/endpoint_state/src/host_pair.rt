@@ -6,7 +6,6 @@ ghost use Rattle.hosts.specs.Tables.{Both, other, pick, with_host};
 ghost use Rattle.hosts.specs.HostSteps.{empty_host};
 ghost use Rattle.machine.specs.Machine.{tcp};
 ghost use Rattle.machine.specs.Calls.{after_call, call_allows};
-ghost use Rattle.endpoint_state.specs.Kinds.{got_one};
 ghost use Rattle.endpoint_state.specs.Sides.{AreReady, forget_hosts};
 ghost use Rattle.endpoint_state.specs.Lending.{LendsSide};
 ghost use Rattle.endpoint_state.specs.Worlds.{hosts_brought};
@@ -68,16 +67,6 @@ impl Hosts {
         }
     }
 
-    /// A copy of what the other host put on its wire comes in at a host with this line.
-    pub(crate) fn get(&mut self, host: Host, line: u64, copied: u64) -> Result<(), OutOfMemory>
-        ensures ok { OnOk result (self.new ≡ with_host self.old host (got_one (pick self.old (other host)).wire line copied (pick self.old host))) }
-        ensures err { OnErr result (self.new ≡ self.old) }
-    {
-        match host {
-            Host::Zero => host::get(&mut self.zero, &self.one, line, copied),
-            Host::One => host::get(&mut self.one, &self.zero, line, copied),
-        }
-    }
 
     /// A segment stands on a host's wire under this line.
     pub(crate) fn bring(
@@ -106,7 +95,8 @@ impl Hosts {
     ) -> Result<(), OutOfMemory>
         requires ready { AreReady self.old }
         requires allowed { call_allows (pick self.old host).body call.now answer.now ≡ true }
-        ensures ok { OnOk result (self.new ≡ forget_hosts (with_host self.old host (record (pick self.old host) { body = after_call (pick self.old host).body call.now answer.now }))) }
+        ensures ok { OnOk result (self.new
+            ≡ forget_hosts (with_host self.old host (record (pick self.old host) { body = after_call (pick self.old host).body call.now answer.now }))) }
         ensures err { OnErr result (self.new ≡ self.old) }
     {
         host::do_call(alloc, self.side(host), call, answer)

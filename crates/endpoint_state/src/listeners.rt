@@ -13,7 +13,7 @@ use std::marker::Model;
 
 /// The listeners of a host, in the order of opening, which contracts see as a list. No two are open on one port.
 #[derive(Drop)]
-pub struct Listeners {
+pub(crate) struct Listeners {
     all: Vec<Listener>,
     /// For each port, the listener opened last there.
     places: IndexMap<u16, u32>,
@@ -33,7 +33,7 @@ impl Model for Listeners {
 }
 
 impl Listeners {
-    pub fn new(alloc: Global) -> Listeners
+    pub(crate) fn new(alloc: Global) -> Listeners
         ensures { result ≡ [] }
     {
         Listeners {
@@ -42,21 +42,21 @@ impl Listeners {
         }
     }
 
-    pub fn len(&self) -> usize
+    pub(crate) fn len(&self) -> usize
         ensures { result ≡ length self.now }
     {
         self.all.len()
     }
 
     /// The listener at a place.
-    pub fn get(&self, place: u32) -> Option<&Listener>
+    pub(crate) fn get(&self, place: u32) -> Option<&Listener>
         ensures { option_copied result ≡ slice_get self.now place }
     {
         self.all.get(place as usize)
     }
 
     /// The place of the open listener on a port.
-    pub fn listener_on(&self, port: u16) -> Option<u32>
+    pub(crate) fn listener_on(&self, port: u16) -> Option<u32>
         ensures { result ≡ last_from (listens_on port) 0 None self.now }
     {
         let place = *self.places.get(&port)?;
@@ -65,7 +65,7 @@ impl Listeners {
     }
 
     /// One more listener is opened, on a port with no open listener. Where memory runs out nothing is changed.
-    pub fn add(&mut self, listener: Listener) -> Result<(), OutOfMemory>
+    pub(crate) fn add(&mut self, listener: Listener) -> Result<(), OutOfMemory>
         requires room { length self.old + 1 < 2 ^ 32 }
         requires free { last_from (listens_on listener.port) 0 None self.old ≡ None }
         ensures ok { OnOk result (self.new ≡ self.old ++ listener ∷ []) }
@@ -79,14 +79,14 @@ impl Listeners {
     }
 
     /// The listener at a place is closed.
-    pub fn close(&mut self, place: u32)
+    pub(crate) fn close(&mut self, place: u32)
         ensures { self.new ≡ modify self.old place (λ x. record x { is_open = false }) }
     {
         close_at(&mut self.all, place as usize);
     }
 
     /// A child joins the queue of the listener at a place. Where memory runs out nothing is changed.
-    pub fn join(&mut self, place: u32, child: u32) -> Result<(), OutOfMemory>
+    pub(crate) fn join(&mut self, place: u32, child: u32) -> Result<(), OutOfMemory>
         ensures ok { OnOk result (self.new ≡ modify self.old place (λ x. record x { queue = x.queue ++ child ∷ [] })) }
         ensures err { OnErr result (self.new ≡ self.old) }
     {
@@ -94,14 +94,14 @@ impl Listeners {
     }
 
     /// The first child leaves the queue of the listener at a place.
-    pub fn leave(&mut self, place: u32)
+    pub(crate) fn leave(&mut self, place: u32)
         ensures { self.new ≡ modify self.old place (λ x. record x { queue = drop 1 x.queue }) }
     {
         leave_at(&mut self.all, place as usize);
     }
 
     /// The last child leaves the queue of the listener at a place.
-    pub fn leave_last(&mut self, place: u32)
+    pub(crate) fn leave_last(&mut self, place: u32)
         ensures { self.new ≡ modify self.old place (λ x. record x { queue = take (length x.queue - 1) x.queue }) }
     {
         leave_last_at(&mut self.all, place as usize);

@@ -1,6 +1,7 @@
 //! Where each thread is, and the lines that begin and end a call.
 
 ghost use Rattle.std.specs.Prelude.{◌≡◌, nat_eq, is_some, false, not, IfOk, OnOk, OnErr};
+ghost use Rattle.endpoint_state.specs.Turns.{turn_shown};
 ghost use Rattle.std.specs.Map.{lookup};
 ghost use Rattle.std.specs.Option.{option_copied, option_map};
 ghost use Rattle.std.specs.Result.{result_err};
@@ -9,15 +10,60 @@ ghost use Rattle.verdict.specs.Rules.{first_broken};
 ghost use Rattle.hosts.specs.HostRules.{begin_rules, end_rules, pending_rules};
 ghost use Rattle.hosts.specs.Hosts.{Answered, Called, Idle, turn_of};
 ghost use Rattle.machine.specs.Same.{same_answer};
-ghost use Rattle.endpoint_state.specs.Turns.{pending_call, turn_shown};
+ghost use Rattle.endpoint_state.specs.Turns.{pending_call};
+ghost use Rattle.endpoint_state.specs.Faults.{fault_rule};
 
-use crate::turn::{Place, Turn};
+use crate::fault::StepFault;
 use case_forms::{Answer, Call, OutOfMemory};
 use indexmap::IndexMap;
+use std::marker::Model;
 use verdict::Rule;
 
+/// Where a thread is in its calls.
+#[derive(Drop)]
+pub(crate) enum Place {
+    /// In no call.
+    Idle,
+    /// In a call that had no effect yet.
+    Called(Call),
+    /// In a call that had its effect, with this answer.
+    Answered(Answer),
+}
+
+/// A thread's place, which contracts see as a `Turn` of the machine.
+#[derive(Drop)]
+pub(crate) struct Turn {
+    place: Place,
+}
+
+impl Model for Turn {
+    ghost use Rattle.hosts.specs.Hosts.{Turn};
+    ghost use Rattle.machine.specs.Machine.{tcp_shape};
+    ghost use Rattle.endpoint_state.specs.Turns.{turn_shown};
+
+    ghost Value = { Turn tcp_shape };
+
+    ghost view = { λ t. turn_shown t.place };
+}
+
+impl Turn {
+    /// A thread at that place.
+    pub(crate) fn at(place: Place) -> Turn
+        ensures { result ≡ turn_shown place }
+    {
+        Turn { place }
+    }
+
+    /// Its place.
+    pub(crate) fn place(&self) -> &Place
+        ensures { turn_shown result.now ≡ self.now }
+    {
+        &self.place
+    }
+}
+
 /// Whether a thread may begin a call: it is in no other. An error is the rule that is broken.
-pub fn admits_begin(threads: &IndexMap<u32, Turn>, thread: u32) -> Result<(), Rule>
+pub(crate) fn admits_begin(threads: &IndexMap<u32, Turn>, thread: u32) -> Result<(), Rule>
     ensures { result_err result ≡ first_broken (begin_rules (turn_of thread threads.now.entries)) }
 {
     match place_in(threads, thread) {
@@ -28,7 +74,11 @@ pub fn admits_begin(threads: &IndexMap<u32, Turn>, thread: u32) -> Result<(), Ru
 
 /// Whether a thread's call may end with this answer: one is open, and had its effect with it. An error is the first rule
 /// that is broken.
-pub fn admits_end(threads: &IndexMap<u32, Turn>, thread: u32, answer: &Answer) -> Result<(), Rule>
+pub(crate) fn admits_end(
+    threads: &IndexMap<u32, Turn>,
+    thread: u32,
+    answer: &Answer,
+) -> Result<(), Rule>
     ensures { result_err result ≡ first_broken (end_rules (λ given answer. not (same_answer given answer)) (turn_of thread threads.now.entries) answer.now) }
 {
     match place_in(threads, thread) {
@@ -46,7 +96,7 @@ pub fn admits_end(threads: &IndexMap<u32, Turn>, thread: u32, answer: &Answer) -
 
 /// The call of a thread that is open and had no effect yet. An error is the first rule that is broken: there is none, or
 /// it had its effect.
-pub fn open_call(threads: &IndexMap<u32, Turn>, thread: u32) -> Result<&Call, Rule>
+pub(crate) fn open_call(threads: &IndexMap<u32, Turn>, thread: u32) -> Result<&Call, Rule>
     ensures call { IfOk result (λ call. turn_of thread threads.now.entries ≡ Called call.now) }
     ensures rule { result_err result ≡ first_broken (pending_rules (turn_of thread threads.now.entries)) }
 {
@@ -58,7 +108,7 @@ pub fn open_call(threads: &IndexMap<u32, Turn>, thread: u32) -> Result<&Call, Ru
 }
 
 /// The call of a thread that is open and had no effect yet. None: there is none, or it had its effect.
-pub fn pending_call(threads: &IndexMap<u32, Turn>, thread: u32) -> Option<&Call>
+pub(crate) fn pending_call(threads: &IndexMap<u32, Turn>, thread: u32) -> Option<&Call>
     ensures { option_copied result ≡ pending_call (turn_of thread threads.now.entries) }
 {
     match place_in(threads, thread) {
@@ -67,26 +117,40 @@ pub fn pending_call(threads: &IndexMap<u32, Turn>, thread: u32) -> Option<&Call>
     }
 }
 
-/// A thread begins a call. Where memory runs out nothing is changed.
-pub fn begin(threads: &mut IndexMap<u32, Turn>, thread: u32, call: &Call) -> Result<(), OutOfMemory>
+/// A thread begins a call. An error is the rule that is broken, or that memory ran out; nothing is changed then.
+pub(crate) fn begin(
+    threads: &mut IndexMap<u32, Turn>,
+    thread: u32,
+    call: &Call,
+) -> Result<(), StepFault>
+    ensures fault { fault_rule result ≡ first_broken (begin_rules (turn_of thread threads.old.entries)) }
     ensures ok { OnOk result (threads.new.entries ≡ insert_entry nat_eq threads.old.entries thread (Called call.now)) }
     ensures err { OnErr result (threads.new.entries ≡ threads.old.entries) }
 {
-    put(threads, thread, Place::Called(call.copy()?))
+    admits_begin(threads, thread)?;
+    put(threads, thread, Place::Called(call.copy()?))?;
+    Ok(())
 }
 
-/// A thread's call ends. Where memory runs out nothing is changed; a thread that called before takes none.
-pub fn finish(threads: &mut IndexMap<u32, Turn>, thread: u32) -> Result<(), OutOfMemory>
+/// A thread's call ends. An error is the first rule that is broken, or that memory ran out; nothing is changed then.
+pub(crate) fn finish(
+    threads: &mut IndexMap<u32, Turn>,
+    thread: u32,
+    answer: &Answer,
+) -> Result<(), StepFault>
+    ensures fault { fault_rule result ≡ first_broken (end_rules
+        (λ given answer. not (same_answer given answer)) (turn_of thread threads.old.entries) answer.now) }
     ensures ok { OnOk result (threads.new.entries ≡ insert_entry nat_eq threads.old.entries thread Idle) }
     ensures err { OnErr result (threads.new.entries ≡ threads.old.entries) }
-    ensures absent { OnErr result (is_some (lookup (nat_eq thread) threads.old.entries) ≡ false) }
 {
-    put(threads, thread, Place::Idle)
+    admits_end(threads, thread, answer)?;
+    put(threads, thread, Place::Idle)?;
+    Ok(())
 }
 
 /// A thread's call has its effect, with this answer. Where memory runs out nothing is changed; a thread that called before
 /// takes none.
-pub fn answered(
+pub(crate) fn answered(
     threads: &mut IndexMap<u32, Turn>,
     thread: u32,
     answer: Answer,

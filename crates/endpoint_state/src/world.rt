@@ -6,23 +6,25 @@ ghost use Rattle.std.specs.Option.{option_copied};
 ghost use Rattle.std.specs.Result.{result_err};
 ghost use Rattle.verdict.specs.Rules.{first_broken};
 ghost use Rattle.hosts.specs.Tables.{pick};
-ghost use Rattle.hosts.specs.Hosts.{At, Begin, Finish, Answers, Does, Drops, Expires, Gets, Makes, Sends, Takes, turn_of};
-ghost use Rattle.hosts.specs.HostRules.{Permitted, step_rules};
+ghost use Rattle.hosts.specs.Hosts.{At, Begin, Finish, Answers, Does, Drops, Gets, Makes, Sends, Takes, turn_of};
+ghost use Rattle.hosts.specs.HostRules.{step_rules};
 ghost use Rattle.machine.specs.Bounds.{greatest_position, most_steps, IsSmallEmission};
 ghost use Rattle.machine.specs.Machine.{tcp};
+ghost use Rattle.endpoint_state.specs.Faults.{fault_rule};
 ghost use Rattle.endpoint_state.specs.Kept.{IsKeptWorld};
+ghost use Rattle.endpoint_state.specs.Kinds.{expiry_of};
 ghost use Rattle.endpoint_state.specs.Turns.{pending_call};
 ghost use Rattle.endpoint_state.specs.Worlds.{after, brought, start};
 ghost use Rattle.endpoint_state.specs.Sides.{AreReady};
 
 use crate::body::Body;
+use crate::fault::StepFault;
 use crate::host;
 use crate::host_pair::Hosts;
 use crate::made::Made;
-use crate::threads::{admits_begin, admits_end, begin, finish, pending_call};
-use crate::turn::Turn;
+use crate::threads::{Turn, admits_begin, admits_end, begin, finish, pending_call};
 use case_forms::{
-    Answer, Call, Expiry, Growth, Header, Host, Recovery, SegmentPlan, TakeChoice, Wire,
+    Answer, Call, Expired, Header, Host, Ports, Recovery, SegmentPlan, TakeChoice, Wire,
 };
 use indexmap::IndexMap;
 use machine::Emission;
@@ -161,7 +163,9 @@ impl World {
     pub fn admits_sending(&self, host: Host, number: u32, wire: &Wire) -> Result<(), Rule>
         ensures { result_err result ≡ first_broken (step_rules (tcp self.now.header) 0 self.now.world (At host (Sends 0 number wire.now))) }
     {
-        self.hosts.near(host).admits_sending(number, wire)
+        self.hosts
+            .near(host)
+            .admits_sending(&self.header, number, wire)
     }
 
     /// Whether a copy of the other host's line `copied` may come in so, at a moment in microseconds. An error is the first
@@ -177,16 +181,17 @@ impl World {
     {
         self.hosts
             .far(host)
-            .admits_arrival(&self.header, moment, copied, wire)
+            .admitted_arrival(&self.header, moment, copied, wire)?;
+        Ok(())
     }
 
     /// Whether a host may make a segment, at a position up to the greatest. An error is the first rule that is broken.
-    pub fn admits_making(&self, host: Host, making: &SegmentPlan) -> Result<(), Rule>
+    pub fn admits_making(&self, host: Host, plan: &SegmentPlan) -> Result<(), Rule>
         requires steps { self.now.steps < most_steps }
-        requires small { making.now.pos ≤ greatest_position }
-        ensures { result_err result ≡ first_broken (step_rules (tcp self.now.header) 0 self.now.world (At host (Makes making.now))) }
+        requires small { plan.now.pos ≤ greatest_position }
+        ensures { result_err result ≡ first_broken (step_rules (tcp self.now.header) 0 self.now.world (At host (Makes plan.now))) }
     {
-        self.hosts.near(host).admits_making(making)
+        self.hosts.near(host).admits_making(plan)
     }
 
     /// Whether a host may take the segment that came in with this line, at a moment in microseconds. An error is the first rule
@@ -220,20 +225,20 @@ impl World {
         self.hosts.near(host).admits_reset(line)
     }
 
-    /// Whether a timer may expire at a moment in microseconds, with this choice of what its endpoint has then. An error is the
-    /// first rule that is broken.
+    /// Whether a timer of the host's endpoint of these ports may expire at a moment in microseconds. An error is the first rule
+    /// that is broken.
     pub fn admits_expiry(
         &self,
         host: Host,
         moment: u64,
-        expiry: Expiry,
-        growth: Growth,
+        ports: Ports,
+        expired: Expired,
     ) -> Result<(), Rule>
-        ensures { result_err result ≡ first_broken (step_rules (tcp self.now.header) moment self.now.world (At host (Expires 0 expiry growth))) }
+        ensures { result_err result ≡ first_broken (step_rules (tcp self.now.header) moment self.now.world (At host (expiry_of ports expired))) }
     {
         self.hosts
             .near(host)
-            .admits_expiry(&self.header, moment, expiry, growth)
+            .admits_expiry(&self.header, ports, expired, moment)
     }
 
     /// Whether fast recovery may begin (RFC 5681, 3.2). An error is the first rule that is broken.
@@ -243,10 +248,10 @@ impl World {
         self.hosts.near(host).admits_recovery(recovery)
     }
 
-    /// A thread begins a call. The error is that memory ran out, and then nothing is changed.
-    pub fn begin(&mut self, thread: u32, call: &Call) -> Result<(), OutOfMemory>
-        requires steps { self.old.steps < most_steps }
-        requires permitted { Permitted (tcp self.old.header) 0 self.old.world (Begin 0 thread call.now) }
+    /// A thread begins a call. An error is the rule that is broken, or that memory ran out; the world is then as it was.
+    pub fn begin(&mut self, thread: u32, call: &Call) -> Result<(), StepFault>
+        requires { self.old.steps < most_steps }
+        ensures fault { fault_rule result ≡ first_broken (step_rules (tcp self.old.header) 0 self.old.world (Begin 0 thread call.now)) }
         ensures ok { OnOk result (self.new ≡ after self.old 0 (Begin 0 thread call.now)) }
         ensures err { OnErr result (self.new ≡ self.old) }
     {
@@ -255,43 +260,36 @@ impl World {
         Ok(())
     }
 
-    /// A thread's call ends. The error is that memory ran out, and then nothing is changed.
-    pub fn finish(&mut self, thread: u32, answer: &Answer) -> Result<(), OutOfMemory>
-        requires steps { self.old.steps < most_steps }
-        requires permitted { Permitted (tcp self.old.header) 0 self.old.world (Finish 0 thread answer.now) }
+    /// A thread's call ends. An error is the first rule that is broken, or that memory ran out; the world is then as it was.
+    pub fn finish(&mut self, thread: u32, answer: &Answer) -> Result<(), StepFault>
+        requires { self.old.steps < most_steps }
+        ensures fault { fault_rule result ≡ first_broken (step_rules (tcp self.old.header) 0 self.old.world (Finish 0 thread answer.now)) }
         ensures ok { OnOk result (self.new ≡ after self.old 0 (Finish 0 thread answer.now)) }
         ensures err { OnErr result (self.new ≡ self.old) }
     {
-        finish(&mut self.threads, thread)?;
+        finish(&mut self.threads, thread, answer)?;
         self.steps += 1;
         Ok(())
     }
 
-    /// A host makes a segment, at a moment in microseconds; it gets the next number. The error is that memory ran out, and then
-    /// nothing is changed.
-    pub fn make(&mut self, host: Host, making: &SegmentPlan, moment: u64) -> Result<(), OutOfMemory>
+    /// A host makes a segment, at a moment in microseconds; it gets the next number. An error is the first rule that is broken,
+    /// or that memory ran out; the world is then as it was.
+    pub fn make(&mut self, host: Host, plan: &SegmentPlan, moment: u64) -> Result<(), StepFault>
         requires steps { self.old.steps < most_steps }
-        requires small { making.now.pos ≤ greatest_position }
-        requires permitted { Permitted (tcp self.old.header) moment self.old.world (At host (Makes making.now)) }
-        ensures ok { OnOk result (self.new ≡ after self.old moment (At host (Makes making.now))) }
+        requires small { plan.now.pos ≤ greatest_position }
+        ensures fault { fault_rule result ≡ first_broken (step_rules (tcp self.old.header) moment self.old.world (At host (Makes plan.now))) }
+        ensures ok { OnOk result (self.new ≡ after self.old moment (At host (Makes plan.now))) }
         ensures err { OnErr result (self.new ≡ self.old) }
     {
         let fresh = self.count + 1;
-        host::make(
-            self.alloc,
-            host,
-            self.hosts.side(host),
-            making,
-            moment,
-            fresh,
-        )?;
+        host::make(self.alloc, host, self.hosts.side(host), plan, moment, fresh)?;
         self.count = fresh;
         self.steps += 1;
         Ok(())
     }
 
-    /// The segment that a host made under this number goes out with this line, at a moment in microseconds. The error is that
-    /// memory ran out, and then nothing is changed.
+    /// The segment that a host made under this number goes out with this line, at a moment in microseconds. An error is the first
+    /// rule that is broken, or that memory ran out; the world is then as it was.
     pub fn send(
         &mut self,
         host: Host,
@@ -299,19 +297,26 @@ impl World {
         number: u32,
         wire: &Wire,
         moment: u64,
-    ) -> Result<(), OutOfMemory>
-        requires steps { self.old.steps < most_steps }
-        requires permitted { Permitted (tcp self.old.header) moment self.old.world (At host (Sends line number wire.now)) }
+    ) -> Result<(), StepFault>
+        requires { self.old.steps < most_steps }
+        ensures fault { fault_rule result ≡ first_broken (step_rules (tcp self.old.header) moment self.old.world (At host (Sends line number wire.now))) }
         ensures ok { OnOk result (self.new ≡ after self.old moment (At host (Sends line number wire.now))) }
         ensures err { OnErr result (self.new ≡ self.old) }
     {
-        host::send_made(self.hosts.side(host), line, number, wire, moment)?;
+        host::send_made(
+            &self.header,
+            self.hosts.side(host),
+            line,
+            number,
+            wire,
+            moment,
+        )?;
         self.steps += 1;
         Ok(())
     }
 
-    /// A copy of the other host's line `copied` comes in with this line, at a moment in microseconds, and waits in the inbox.
-    /// The error is that memory ran out, and then nothing is changed.
+    /// A copy of the other host's line `copied` comes in with this line, at a moment in microseconds, and waits in the inbox. An
+    /// error is the first rule that is broken, or that memory ran out; the world is then as it was.
     pub fn arrive(
         &mut self,
         host: Host,
@@ -319,34 +324,40 @@ impl World {
         copied: u64,
         wire: &Wire,
         moment: u64,
-    ) -> Result<(), OutOfMemory>
-        requires steps { self.old.steps < most_steps }
-        requires permitted { Permitted (tcp self.old.header) moment self.old.world (At host (Gets line copied wire.now)) }
+    ) -> Result<(), StepFault>
+        requires { self.old.steps < most_steps }
+        ensures fault { fault_rule result ≡ first_broken (step_rules (tcp self.old.header) moment self.old.world (At host (Gets line copied wire.now))) }
         ensures ok { OnOk result (self.new ≡ after self.old moment (At host (Gets line copied wire.now))) }
         ensures err { OnErr result (self.new ≡ self.old) }
     {
-        self.hosts.get(host, line, copied)?;
+        let copy = self
+            .hosts
+            .far(host)
+            .admitted_arrival(&self.header, moment, copied, wire)?
+            .copy()?;
+        host::arrive(self.hosts.side(host), line, copy)?;
         self.steps += 1;
         Ok(())
     }
 
-    /// A host takes what came in with this line, at a moment in microseconds. The error is that memory ran out, and then nothing
-    /// is changed.
+    /// A host takes what came in with this line, at a moment in microseconds. An error is the first rule that is broken, or that
+    /// memory ran out; the world is then as it was.
     pub fn take(
         &mut self,
         host: Host,
         line: u64,
         how: TakeChoice,
         moment: u64,
-    ) -> Result<(), OutOfMemory>
-        requires steps { self.old.steps < most_steps }
-        requires permitted { Permitted (tcp self.old.header) moment self.old.world (At host (Takes line how)) }
+    ) -> Result<(), StepFault>
+        requires { self.old.steps < most_steps }
+        ensures fault { fault_rule result ≡ first_broken (step_rules (tcp self.old.header) moment self.old.world (At host (Takes line how))) }
         ensures ok { OnOk result (self.new ≡ after self.old moment (At host (Takes line how))) }
         ensures err { OnErr result (self.new ≡ self.old) }
     {
         host::take(
             self.alloc,
             &self.header,
+            host,
             self.hosts.side(host),
             line,
             how,
@@ -356,21 +367,24 @@ impl World {
         Ok(())
     }
 
-    /// A host drops what came in with this line, at a moment in microseconds.
-    pub fn drop_arrival(&mut self, host: Host, line: u64, moment: u64)
-        requires steps { self.old.steps < most_steps }
-        requires permitted { Permitted (tcp self.old.header) moment self.old.world (At host (Drops line)) }
-        ensures { self.new ≡ after self.old moment (At host (Drops line)) }
+    /// A host drops what came in with this line, at a moment in microseconds. An error is the first rule that is broken; the world
+    /// is then as it was.
+    pub fn drop_arrival(&mut self, host: Host, line: u64, moment: u64) -> Result<(), Rule>
+        requires { self.old.steps < most_steps }
+        ensures rule { result_err result ≡ first_broken (step_rules (tcp self.old.header) moment self.old.world (At host (Drops line))) }
+        ensures ok { OnOk result (self.new ≡ after self.old moment (At host (Drops line))) }
+        ensures err { OnErr result (self.new ≡ self.old) }
     {
-        host::drop_waiting(self.hosts.side(host), line);
+        host::drop_waiting(self.hosts.side(host), line)?;
         self.steps += 1;
+        Ok(())
     }
 
     /// A host answers by a reset what came in with this line, at a moment in microseconds; the reset gets the next number, and
-    /// goes out later. The error is that memory ran out, and then nothing is changed.
-    pub fn answer(&mut self, host: Host, line: u64, moment: u64) -> Result<(), OutOfMemory>
-        requires steps { self.old.steps < most_steps }
-        requires permitted { Permitted (tcp self.old.header) moment self.old.world (At host (Answers line)) }
+    /// goes out later. An error is the first rule that is broken, or that memory ran out; the world is then as it was.
+    pub fn answer(&mut self, host: Host, line: u64, moment: u64) -> Result<(), StepFault>
+        requires { self.old.steps < most_steps }
+        ensures fault { fault_rule result ≡ first_broken (step_rules (tcp self.old.header) moment self.old.world (At host (Answers line))) }
         ensures ok { OnOk result (self.new ≡ after self.old moment (At host (Answers line))) }
         ensures err { OnErr result (self.new ≡ self.old) }
     {
@@ -381,23 +395,35 @@ impl World {
         Ok(())
     }
 
-    /// A timer expires, at a moment in microseconds, with this choice of what its endpoint has then.
-    pub fn expire(&mut self, host: Host, expiry: Expiry, growth: Growth, moment: u64)
-        requires steps { self.old.steps < most_steps }
-        requires permitted { Permitted (tcp self.old.header) moment self.old.world (At host (Expires 0 expiry growth)) }
-        ensures { self.new ≡ after self.old moment (At host (Expires 0 expiry growth)) }
+    /// A timer of the host's endpoint of these ports expires, at a moment in microseconds. An error is the first rule that is
+    /// broken; the world is then as it was.
+    pub fn expire(
+        &mut self,
+        host: Host,
+        ports: Ports,
+        expired: Expired,
+        moment: u64,
+    ) -> Result<(), Rule>
+        requires { self.old.steps < most_steps }
+        ensures rule { result_err result ≡ first_broken (step_rules (tcp self.old.header) moment self.old.world (At host (expiry_of ports expired))) }
+        ensures ok { OnOk result (self.new ≡ after self.old moment (At host (expiry_of ports expired))) }
+        ensures err { OnErr result (self.new ≡ self.old) }
     {
-        host::expire(self.hosts.side(host), expiry, growth, moment);
+        host::expire(&self.header, self.hosts.side(host), ports, expired, moment)?;
         self.steps += 1;
+        Ok(())
     }
 
-    /// Fast recovery begins, at a moment in microseconds (RFC 5681, 3.2).
-    pub fn recover(&mut self, host: Host, recovery: Recovery, moment: u64)
-        requires steps { self.old.steps < most_steps }
-        requires permitted { Permitted (tcp self.old.header) moment self.old.world (At host (Does recovery)) }
-        ensures { self.new ≡ after self.old moment (At host (Does recovery)) }
+    /// Fast recovery begins, at a moment in microseconds (RFC 5681, 3.2). An error is the first rule that is broken; the world is
+    /// then as it was.
+    pub fn recover(&mut self, host: Host, recovery: Recovery, moment: u64) -> Result<(), Rule>
+        requires { self.old.steps < most_steps }
+        ensures rule { result_err result ≡ first_broken (step_rules (tcp self.old.header) moment self.old.world (At host (Does recovery))) }
+        ensures ok { OnOk result (self.new ≡ after self.old moment (At host (Does recovery))) }
+        ensures err { OnErr result (self.new ≡ self.old) }
     {
-        host::recover(self.hosts.side(host), recovery);
+        host::recover(self.hosts.side(host), recovery)?;
         self.steps += 1;
+        Ok(())
     }
 }

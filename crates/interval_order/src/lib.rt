@@ -6,8 +6,12 @@
 //! in the order is left to the machine above.
 //!
 //! - `window`: the lines that wait for their step, and the steps that may take them
+//! - `laws`: what lines that are offered later mean to a step, and how many lines wait; each law is the contract of a call
+//!   that does nothing
 #![tactic(auto)]
 
+mod laws;
 mod window;
 
+pub use laws::{few_lines_wait, late_lines_are_refused, later_lines_dont_matter};
 pub use window::Window;

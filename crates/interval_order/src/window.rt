@@ -15,6 +15,7 @@ ghost use Rattle.std.specs.Result.{result_err};
 ghost use Rattle.case_forms.specs.Traces.{first_event_line};
 ghost use Rattle.verdict.specs.Rules.{first_broken};
 ghost use Rattle.interval_order.specs.Orders.{taking, passing, held_line, is_offered, with_line, order_after};
+ghost use Rattle.interval_order.specs.Later.{waits, late_by};
 ghost use Rattle.interval_order.specs.OrderRules.{extras_of, has_earlier, thread_order, order_rules, has_overdue, first_overdue};
 
 use case_forms::{Event, Header, Line, OutOfMemory, Timer};
@@ -143,6 +144,40 @@ impl Window {
         is_past(waiting.line.moment, self.header.skew, moment).then_some(*number)
     }
 
+    /// Whether a line of this thread waits.
+    pub fn waits(&self, thread: u32) -> bool
+        ensures { result ≡ waits self.now thread }
+    {
+        match self.latest.get(&thread) {
+            Some(last) => self.waiting.contains_key(last),
+            None => false,
+        }
+    }
+
+    /// The least rule that a step breaks which takes this line, where the line is not offered yet and the step's moment
+    /// is below the line's. `is_behind` says whether a line of its thread stands before it that is not offered either.
+    pub fn late_rule(&self, line: &Line, is_behind: bool, extras: u8, moment: u64) -> Rule
+        ensures { result ≡ late_by self.now is_behind line.now extras moment }
+    {
+        if extras != extras_of(&line.event) {
+            return Rule::LineRange;
+        }
+        if self.waits(line.thread) || is_behind {
+            return Rule::ThreadOrder;
+        }
+        if moment < self.last {
+            return Rule::MomentFalls;
+        }
+        Rule::MomentOff
+    }
+
+    /// The number of the next line that is to be offered.
+    pub fn next_number(&self) -> u64
+        ensures { result ≡ self.now.next }
+    {
+        self.next
+    }
+
     /// The number of the first line that waits, if one does.
     pub fn first_left(&self) -> Option<u64>
         ensures { result ≡ option_map (λ e. e.0) (slice_get self.now.held 0) }
@@ -237,106 +272,4 @@ fn is_past(from: u64, skew: u64, moment: u64) -> bool
     ensures { result ≡ nat_lt (from + skew) moment }
 {
     from < moment && skew < moment - from
-}
-
-#[cfg(test)]
-mod tests {
-    use super::*;
-    use case_forms::{Call, Span};
-
-    const HEADER: Header = Header {
-        skew: 5,
-        msl: 1,
-        grain: 0,
-        minrto: 0,
-        extra: 0,
-    };
-
-    fn line(number: u64, moment: u64, thread: u32) -> Line
-        ensures number { result.number ≡ number }
-        ensures moment { result.moment ≡ moment }
-    {
-        Line {
-            number,
-            moment,
-            thread,
-            event: Event::CallBegin(Call::Close(2)),
-            span: Span {
-                line: number,
-                start: 0,
-                stop: 0,
-            },
-        }
-    }
-
-    // The window with these lines, each a moment and a thread, as long as the moments don't fall.
-    fn window_of(alloc: Global, lines: &[(u64, u32)]) -> Result<Window, OutOfMemory> {
-        let mut window = Window::new(alloc, &HEADER);
-        let mut number = HEADER.first_event_line();
-        let mut since = 0;
-        for (moment, thread) in lines {
-            if *moment < since || number > 1_000_000 {
-                return Ok(window);
-            }
-            since = *moment;
-            window.offer(line(number, since, *thread))?;
-            number += 1;
-        }
-        Ok(window)
-    }
-
-    // Lines 7 and 8 of thread 1, line 9 of thread 2.
-    const LINES: [(u64, u32); 3] = [(100, 1), (102, 1), (103, 2)];
-
-    #[test]
-    fn a_thread_keeps_its_order(rt: HostRuntime) {
-        let mut window = window_of(rt.alloc(), &LINES).expect(&rt, "memory");
-        assert_eq!(rt; window.place(8, 0, 103).err(), Some(Rule::ThreadOrder));
-        assert_eq!(rt;
-            window.place(7, 0, 103).map(|line| line.number).ok(),
-            Some(7)
-        );
-        assert_eq!(rt;
-            window.place(8, 0, 103).map(|line| line.number).ok(),
-            Some(8)
-        );
-        assert_eq!(rt; window.place(8, 1, 103).err(), Some(Rule::LineAgain));
-        assert_eq!(rt; window.first_left(), Some(9));
-    }
-
-    #[test]
-    fn a_later_line_may_come_first_within_the_skew(rt: HostRuntime) {
-        let mut window = window_of(rt.alloc(), &LINES).expect(&rt, "memory");
-        assert_eq!(rt; window.place(9, 0, 102).err(), Some(Rule::MomentOff));
-        assert!(rt; window.place(9, 0, 105).is_ok());
-        assert_eq!(rt; window.place(7, 0, 104).err(), Some(Rule::MomentFalls));
-        assert!(rt; window.place(7, 0, 105).is_ok());
-        assert_eq!(rt; window.place(8, 0, 108).err(), Some(Rule::MomentOff));
-    }
-
-    #[test]
-    fn a_line_waits_no_longer_than_the_skew(rt: HostRuntime) {
-        let mut window = window_of(rt.alloc(), &LINES).expect(&rt, "memory");
-        assert_eq!(rt; window.overdue(105), None);
-        assert_eq!(rt; window.overdue(106), Some(7));
-        assert!(rt; window.pass(105).is_ok());
-        assert_eq!(rt; window.pass(106).err(), Some(Rule::Overdue));
-        assert_eq!(rt; window.place(9, 0, 106).err(), Some(Rule::Overdue));
-        assert_eq!(rt; window.place(7, 1, 106).err(), Some(Rule::LineRange));
-    }
-
-    // A step takes no time that grows with the lines.
-    #[test]
-    fn many_lines_wait_at_once(rt: HostRuntime) {
-        let mut lines = Vec::new(rt.alloc());
-        for place in 0..200_000u32 {
-            lines.push((100, place % 20_000)).expect(&rt, "memory");
-        }
-        let mut window = window_of(rt.alloc(), &lines).expect(&rt, "memory");
-        for place in 0..180_000u64 {
-            assert!(rt; window.place(7 + place, 0, 100).is_ok());
-        }
-        assert_eq!(rt; window.held(), 20_000);
-        assert_eq!(rt; window.first_left(), Some(180_007));
-    }
 }

@@ -27,8 +27,8 @@ mod timers;
 pub use answers::{answer, answer_law};
 pub use case_forms::{OutOfMemory, Span};
 pub use fault::{FaultKind, ReadFault, TextFault};
-pub use fields::{Fields, Token};
-pub use lines::{content, exact_line, fields_of};
+pub use fields::{Fields, Token, is_text};
+pub use lines::{content, exact_line, fields_of, text_of};
 pub use printing::{
     push_answer, push_end, push_hex, push_host, push_number, push_space, push_word,
 };

@@ -27,9 +27,10 @@ pub fn content(raw: &[u8]) -> (&[u8], bool)
     }
 }
 
-// The text of a line of that number, if the line is within its limits.
+/// The text of the line of that number, whose bytes are given with the line's end. LineTooLong, Cut and TooManyLines are
+/// asked in this order, each at the whole line.
 #[tactic(auto, unfolding(crate::specs::Lines::line_text))]
-fn text_of(number: u64, raw: &[u8]) -> Result<&[u8], TextFault>
+pub fn text_of(number: u64, raw: &[u8]) -> Result<&[u8], TextFault>
     ensures { Gives (λ text. text.now) result (line_text number raw.now) }
 {
     let (text, ended) = content(raw);
@@ -59,8 +60,7 @@ fn text_of(number: u64, raw: &[u8]) -> Result<&[u8], TextFault>
     Ok(text)
 }
 
-/// The fields of the line of that number, whose bytes are given with the line's end. LineTooLong, Cut and TooManyLines
-/// are asked in this order, each at the whole line.
+/// The fields of the line of that number, whose bytes are given with the line's end, with the faults of `text_of`.
 #[tactic(auto, unfolding(crate::specs::Lines::line_rest))]
 pub fn fields_of(number: u64, raw: &[u8]) -> Result<Fields<'_>, TextFault>
     ensures { Gives (λ fields. fields) result (line_rest number raw.now) }

@@ -1,9 +1,11 @@
 -- Cases written out, for facts that are computed: the lines and steps of both texts as words.
-use Rattle.std.proofs.Common.{ℕ, Bool, true, false, List, [], Option}
+use Rattle.std.proofs.Common.{ℕ, Bool, true, false, List, [], Option, None}
 use Rattle.std.specs.Option.{option_map}
 use Rattle.case_forms.specs.declared.calls.Host.{Host}
 use Rattle.case_forms.specs.declared.calls.Call.{Call}
 use Rattle.case_forms.specs.declared.calls.Answer.{Answer}
+use Rattle.case_forms.specs.declared.version.Version.TheVariants.{One}
+use Rattle.case_forms.specs.declared.version.Initial.TheVariants.{Rfc5681}
 use Rattle.case_forms.specs.declared.trace.Header.{Header}
 use Rattle.case_forms.specs.declared.trace.Wire.{Wire}
 use Rattle.case_forms.specs.declared.trace.Event.{Event}
@@ -22,7 +24,7 @@ use Rattle.segment.specs.Encoding.{encoding, as_written}
 
 -- the header, but for the maximum segment lifetime and what a listen queue may hold above its backlog
 abbrev pub header : (msl extra : ℕ) → Header
-header msl extra = record { skew = 0; msl = msl; grain = 1000; minrto = 1000000; extra = extra }
+header msl extra = record { version = One; skew = 0; msl = msl; grain = 1000; minrto = 1000000; extra = extra; initial = Rfc5681 }
 
 abbrev pub nowhere : Span
 nowhere = record { line = 0; start = 0; stop = 0 }
@@ -30,7 +32,7 @@ nowhere = record { line = 0; start = 0; stop = 0 }
 -- a segment on the wire
 abbrev pub packet : (src dst seq ack flags window : ℕ) → Option ℕ → List ℕ → Wire
 packet src dst seq ack flags window mss payload =
-    let shown : Segment = record { src = src; dst = dst; seq = record { 0 = seq }; ack = record { 0 = ack }; flags = flags; window = window; mss = mss; options = []; payload = payload } in
+    let shown : Segment = record { src = src; dst = dst; seq = record { 0 = seq }; ack = record { 0 = ack }; flags = flags; window = window; mss = mss; scale = None; options = []; payload = payload } in
     record { bytes = encoding shown; seg = as_written shown }
 
 abbrev pub line : (number moment thread : ℕ) → Event → lines.Line
@@ -72,7 +74,7 @@ effects moment thread answer = step moment (labels.D thread answer)
 
 abbrev pub makes : ℕ → Host → (lport rport pos len : ℕ) → Flags → ℕ → Option ℕ → witness.Step
 makes moment host lport rport pos len flags window iss =
-    step moment (labels.M host (record { lport = lport; rport = rport; pos = pos; len = len; flags = flags; window = window; iss = option_map (λ n. record { 0 = n }) iss }))
+    step moment (labels.M host (record { lport = lport; rport = rport; pos = pos; len = len; flags = flags; window = window; iss = option_map (λ n. record { 0 = n }) iss; shift = None }))
 
 abbrev pub consumes : ℕ → Host → (number cwnd : ℕ) → (keep sample : Bool) → witness.Step
 consumes moment host number cwnd keep sample = step moment (labels.T host number (record { cwnd = cwnd; keep = keep; sample = sample }))

@@ -38,7 +38,7 @@ taker b m = option_map_or (endpoint_taker b m) (place_of b m.rport m.lport) (lis
 abbrev pub taker_rules : Header → Host → Body → TakeChoice → Emission → Taker → List (Rule × Bool)
 taker_rules h me b how m Nobody = (rules.NoEndpoint, true) ∷ []
 taker_rules h me b how m (AtListener l) = listener_rules how m
-taker_rules h me b how m (AtEndpoint i e) = if is_syn_sent e.state then syn_sent_rules e how m else connected_rules h b (record { host = me; number = i }) e how m
+taker_rules h me b how m (AtEndpoint i e) = if is_syn_sent e.state then syn_sent_rules h.initial e how m else connected_rules h b (record { host = me; number = i }) e how m
 
 abbrev pub endpoint_taken : Header → Endpoint → TakeChoice → Emission → ℕ → Endpoint
 endpoint_taken h e how m moment = if m.flags.rst then was_reset e how else if is_syn_sent e.state then met_peer h e how m moment else taken h e how m moment

@@ -1,4 +1,5 @@
--- What the sums and the counts of code need. Counts that grow by one in a step are at most the steps done, positions stay below a limit, and nothing is kept that may be let go.
+-- What the sums and the counts of code need. Counts that grow by one in a step are at most the steps done, positions stay below a limit,
+-- and nothing is kept that may be discarded.
 use Rattle.std.specs.Prelude.{◌≡◌, ◌≤◌, ◌<◌, ℕ, ◌+◌, ◌*◌, ◌^◌, true, false, length}
 use Rattle.std.specs.List.{All}
 use Rattle.case_forms.specs.States.{is_closed, is_syn_sent}
@@ -17,7 +18,7 @@ pub record IsSmallEmission (m : Emission) : Type 0 where
   pub ack : m.ack < 2 ^ 63
   pub payload : length m.payload ≤ 65535
 
--- the endpoint keeps nothing that may be let go
+-- the endpoint keeps nothing that may be discarded
 pub record IsForgotten (e : Endpoint) : Type 0 where
   pub accepted : below e.stream.una e.stream.accepted ≡ e.stream.accepted
   pub received : forgotten e.stream.receive ≡ e.stream.receive
@@ -42,7 +43,7 @@ pub record IsKeptBody (steps : ℕ) (b : Body) : Type 0 where
   pub endpoints : length b.endpoints ≤ steps
   pub listeners : length b.listeners ≤ steps
 
--- what a step may add to an endpoint fits into its counts, and nothing is kept that may be let go
+-- what a step may add to an endpoint fits into its counts, and nothing is kept that may be discarded
 pub record HasRoom (e : Endpoint) : Type 0 where
   pub una : e.stream.una < 2 ^ 63
   pub counted : e.congestion.counted < 2 ^ 63

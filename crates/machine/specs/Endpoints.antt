@@ -1,4 +1,4 @@
--- Endpoints at their creation, and what is read of one: its positions, its windows, what it has in flight (RFC 9293, 3.3.1).
+-- Endpoints at their creation, and what is read of one: its positions, its windows, what it has in flight (RFC 9293, 3.3.1; RFC 7323, 2).
 pub use Rattle.machine.specs.declared.endpoint.Name.{Name}
 pub use Rattle.machine.specs.declared.endpoint.Stream.{Stream}
 pub use Rattle.machine.specs.declared.endpoint.Window.{Window}
@@ -10,7 +10,8 @@ pub use Rattle.machine.specs.declared.endpoint.Listener.{Listener}
 pub use Rattle.machine.specs.declared.endpoint.Thing.{Thing}
 pub use Rattle.machine.specs.declared.endpoint.Thing.TheVariants.{Listens, Ends}
 pub use Rattle.machine.specs.declared.endpoint.Socket.{Socket}
-use Rattle.std.specs.Prelude.{ℕ, ◌+◌, ◌-◌, nat_le, Bool, true, false, ◌&&◌, [], length, Option, None}
+use Rattle.std.specs.Prelude.{ℕ, ◌+◌, ◌-◌, nat_le, Bool, true, false, not, ◌&&◌, if◌then◌else◌, [], length, Option, None, is_some}
+use Rattle.std.specs.Option.{option_map_or}
 use Rattle.case_forms.specs.declared.calls.State.{State}
 use Rattle.streams.specs.Received as received
 use Rattle.window_rules.specs.Windows as windows
@@ -24,6 +25,8 @@ new_endpoint lport rport listener state = record {
   listener = listener;
   iss = None;
   irs = None;
+  shift = None;
+  peer_shift = None;
   state = state;
   fault = None;
   reset_due = false;
@@ -67,3 +70,15 @@ flag_count false = 0
 
 abbrev pub segment_length : Emission → ℕ
 segment_length m = length m.payload + flag_count m.flags.syn + flag_count m.flags.fin
+
+-- scaling is in force: it gave a shift, and the SYN that it took told one (RFC 7323, 2.2)
+abbrev pub is_scaling : Endpoint → Bool
+is_scaling e = is_some e.shift && is_some e.peer_shift
+
+-- a window in bytes: by the shift where scaling is in force, but for the window of a SYN (RFC 7323, 2.2 and 2.3)
+abbrev pub window_in : (scaling syn : Bool) → Option ℕ → ℕ → ℕ
+window_in scaling syn shift window = if scaling && not syn then option_map_or (windows.scaled_window window) shift window else window
+
+-- the window that a segment offers here, in bytes
+abbrev pub peer_window : Endpoint → Emission → ℕ
+peer_window e m = window_in (is_scaling e) m.flags.syn e.peer_shift m.window

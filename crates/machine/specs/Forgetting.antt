@@ -1,4 +1,4 @@
--- What a host may let go: delivered bytes, and bytes and makings below the oldest position that is not acknowledged. Something fixed stands in their places.
+-- What a host may discard: delivered bytes, and bytes and makings below the oldest position that is not acknowledged. Something fixed stands in their places.
 use Rattle.std.specs.Prelude.{map}
 use Rattle.streams.specs.Forgetting.{below, forgotten, made_below}
 use Rattle.hosts.specs.Hosts.{HostState, World}

@@ -12,11 +12,11 @@ use Rattle.streams.specs.Makings.{made}
 use Rattle.streams.specs.Sent.{piece}
 use Rattle.timer_rules.specs.Timers.{armed}
 use Rattle.timer_rules.specs.declared.timers.Timers.{Timers}
-use Rattle.machine.specs.Endpoints.{Name, Endpoint, Emission, next}
+use Rattle.machine.specs.Endpoints.{Name, Endpoint, Emission, next, is_scaling}
 use Rattle.machine.specs.Calls.Close.{shut_down}
-use Rattle.machine.specs.Makes.Kind.{may_make, makes_nothing, is_bad_iss, word_zero, numbered}
+use Rattle.machine.specs.Makes.Kind.{may_make, makes_nothing, is_bad_iss, given_shift, word_zero, numbered}
 use Rattle.machine.specs.Makes.Payload.{making_length, has_new_bytes, is_bad_payload, is_bad_place}
-use Rattle.machine.specs.Makes.Edges.{is_bad_ack, is_beyond_offer, is_congesting}
+use Rattle.machine.specs.Makes.Edges.{is_bad_ack, own_window, is_beyond_offer, is_congesting}
 
 -- the rules of making, at the endpoint of the ports
 abbrev pub making_rules : Endpoint → SegmentPlan → List (Rule × Bool)
@@ -39,9 +39,12 @@ emission_of me e m = record {
   flags = m.flags;
   window = m.window;
   payload = piece e.stream.accepted m.pos m.len;
+  shift = given_shift e m;
+  scaled = is_scaling e;
   answers = false;
   bytes = [];
   mss = None;
+  scale = None;
   moment = 0;
 }
 
@@ -53,8 +56,9 @@ timed t m moment = if nat_lt 0 (making_length m) && not (is_some t.rto_armed) th
 abbrev pub endpoint_made : Endpoint → SegmentPlan → ℕ → Endpoint
 endpoint_made e m moment = record e {
   iss = option_or e.iss m.iss;
+  shift = given_shift e m;
   makings = made e.makings m.pos (making_length m) moment;
-  window = record e.window { edge = if m.flags.ack then max e.window.edge (next e + m.window) else e.window.edge };
+  window = record e.window { edge = if m.flags.ack then max e.window.edge (next e + own_window e m) else e.window.edge };
   probe_due = e.probe_due && not (has_new_bytes e m);
   timers = timed e.timers m moment;
 }

@@ -39,8 +39,11 @@ reset_of m = record {
   flags = record { ack = not m.flags.ack; rst = true; syn = false; fin = false };
   window = 0;
   payload = [];
+  shift = None;
+  scaled = false;
   answers = true;
   bytes = [];
   mss = None;
+  scale = None;
   moment = 0;
 }

@@ -1,5 +1,5 @@
--- When two names, numbers (RFC 9293, 3.4), lists of bytes, states or answers are the same.
-use Rattle.std.specs.Prelude.{ℕ, ◌==◌, Bool, true, false, ◌&&◌, List, [], ◌∷◌}
+-- When two truth values, names, numbers (RFC 9293, 3.4), lists of bytes, states or answers are the same.
+use Rattle.std.specs.Prelude.{ℕ, ◌==◌, Bool, true, false, not, ◌&&◌, if◌then◌else◌, List, [], ◌∷◌}
 use Rattle.seqno.specs.declared.word.Word.{Word}
 use Rattle.case_forms.specs.declared.calls.Answer.{Answer}
 use Rattle.case_forms.specs.declared.calls.Answer.TheVariants as answers
@@ -7,6 +7,9 @@ use Rattle.case_forms.specs.declared.calls.State.{State}
 use Rattle.case_forms.specs.declared.calls.State.TheVariants as states
 use Rattle.hosts.specs.Tables.{host_is}
 use Rattle.machine.specs.Endpoints.{Name}
+
+abbrev pub same_bool : Bool → Bool → Bool
+same_bool a b = if a then b else not b
 
 abbrev pub same_name : Name → Name → Bool
 same_name a b = host_is a.host b.host && a.number == b.number

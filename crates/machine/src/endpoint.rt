@@ -1,7 +1,7 @@
 //! What a host has, as values: endpoints, segments that were made, listeners, and what socket numbers name.
 
 ghost use Rattle.std.specs.Prelude.{◌≡◌, ◌<◌, ◌^◌, IfOk};
-ghost use Rattle.machine.specs.Endpoints.{flight, is_up, max_made, new_endpoint, next, receive_window, segment_length};
+ghost use Rattle.machine.specs.Endpoints.{flight, is_scaling, is_up, max_made, new_endpoint, next, peer_window, receive_window, segment_length, window_in};
 
 use crate::queue::Queue;
 use case_forms::{Flags, Host, State};
@@ -10,7 +10,7 @@ use seqno::Word;
 use std::alloc::Global;
 use streams::{Makings, ReceiveBuffer, SendBuffer};
 use timer_rules::Timers;
-use window_rules::Congestion;
+use window_rules::{Congestion, scaled_window};
 
 /// An endpoint, by its host and its place in the order of creation there. A name is never given twice.
 #[derive(Clone, Copy, Debug, PartialEq, Eq)]
@@ -38,7 +38,7 @@ pub struct Stream {
 #[derive(Clone, Copy, Debug, PartialEq, Eq)]
 pub struct Window {
     /// The offered window in bytes (SND.WND).
-    pub wnd: u16,
+    pub wnd: u32,
     /// The position of the segment by which it was taken (SND.WL1).
     pub wl1: u64,
     /// The position that this segment acknowledged (SND.WL2).
@@ -68,6 +68,10 @@ pub struct Endpoint {
     pub iss: Option<Word>,
     /// The initial receive sequence number, once the peer's SYN was taken.
     pub irs: Option<Word>,
+    /// By how many bits it shifts the windows that it offers, if it gave a shift with its `iss` (RFC 7323, 2.2).
+    pub shift: Option<u8>,
+    /// The byte that tells the shift of the peer's windows, if the SYN that was taken has one; read as 14 above 14.
+    pub peer_shift: Option<u8>,
     pub state: State,
     /// Why it failed, if it did.
     pub fault: Option<Fault>,
@@ -110,6 +114,8 @@ impl Endpoint {
             listener,
             iss: None,
             irs: None,
+            shift: None,
+            peer_shift: None,
             state,
             fault: None,
             reset_due: false,
@@ -173,6 +179,32 @@ impl Endpoint {
     {
         1 <= self.stream.una && 1 <= self.next()
     }
+
+    /// Whether windows are scaled: it gave a shift, and the SYN that it took told one (RFC 7323, 2.2).
+    pub fn is_scaling(&self) -> bool
+        ensures { result ≡ is_scaling self.now }
+    {
+        self.shift.is_some() && self.peer_shift.is_some()
+    }
+
+    /// The window that a segment of the peer's offers here, in bytes.
+    pub fn peer_window(&self, m: &Emission) -> u32
+        ensures value { result ≡ peer_window self.now m.now }
+        ensures small { result < 2 ^ 30 }
+    {
+        window_in(self.is_scaling(), m.flags.syn, self.peer_shift, m.window)
+    }
+}
+
+/// A window in bytes: by the shift where scaling is in force, but for the window of a SYN (RFC 7323, 2.2 and 2.3).
+pub fn window_in(scaling: bool, syn: bool, shift: Option<u8>, window: u16) -> u32
+    ensures value { result ≡ window_in scaling syn shift window }
+    ensures small { result < 2 ^ 30 }
+{
+    match shift {
+        Some(shift) if scaling && !syn => scaled_window(window, shift),
+        _ => u32::from(window),
+    }
 }
 
 /// A segment that was made (RFC 9293, 3.1).
@@ -192,12 +224,18 @@ pub struct Emission {
     pub flags: Flags,
     pub window: u16,
     pub payload: Bytes,
+    /// By how many bits its maker shifts the windows that it offers, if it gave a shift (RFC 7323, 2.2).
+    pub shift: Option<u8>,
+    /// Windows were scaled at its maker when it was made.
+    pub scaled: bool,
     /// A reset that answers a segment.
     pub answers: bool,
     /// Its bytes, once it went out; none before.
     pub bytes: Bytes,
     /// The MSS that its options tell, once it went out.
     pub mss: Option<u16>,
+    /// The byte that tells a shift of windows among its options, once it went out.
+    pub scale: Option<u8>,
     /// When it went out, in microseconds.
     pub moment: u64,
 }
@@ -227,9 +265,12 @@ impl Emission {
             flags: self.flags,
             window: self.window,
             payload: self.payload.copy()?,
+            shift: self.shift,
+            scaled: self.scaled,
             answers: self.answers,
             bytes: self.bytes.copy()?,
             mss: self.mss,
+            scale: self.scale,
             moment: self.moment,
         })
     }

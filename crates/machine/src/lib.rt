@@ -10,11 +10,13 @@
 //! - `specs/Timeouts`, `specs/Recovery`, `specs/Reset`, `specs/Wire`: expiries, fast recovery, resets that answer, the wire;
 //!   all these have the names of the modules of `endpoint`, whose code does what they say
 //! - `specs/Machine`: all of it as one machine of two hosts; `specs/Steps`: which step a line of a witness asks for
-//! - `specs/Forgetting`: what may be let go; `specs/Bounds`: what holds of all that is kept after so many steps
+//! - `specs/Forgetting`: what may be discarded; `specs/Bounds`: what holds of all that is kept after so many steps
 #![tactic(auto)]
 
 mod endpoint;
 mod queue;
 
-pub use endpoint::{Emission, Endpoint, Fault, Listener, Name, Socket, Stream, Thing, Window};
+pub use endpoint::{
+    Emission, Endpoint, Fault, Listener, Name, Socket, Stream, Thing, Window, window_in,
+};
 pub use queue::Queue;

@@ -47,7 +47,7 @@ ascend_taker h host b how m Nobody = refl
 ascend_taker h host b how m (AtListener l) = refl
 ascend_taker h host b how m (AtEndpoint i e) = go (is_syn_sent e.state)
   where
-    go : (s : Bool) → ascend 6 (if s then syn_sent_rules e how m else connected_rules h b (record { host = host; number = i }) e how m) ≡ true
+    go : (s : Bool) → ascend 6 (if s then syn_sent_rules h.initial e how m else connected_rules h b (record { host = host; number = i }) e how m) ≡ true
     go true = refl
     go false = refl
 

@@ -1,4 +1,4 @@
--- Acts of a host: what was let go matters neither to their rules, nor to what the host has then, nor to what is made.
+-- Acts of a host: what was discarded matters neither to their rules, nor to what the host has then, nor to what is made.
 use Rattle.std.proofs.Common.{◌≡◌, ℕ, ◌<◌, Bool, true, false, [], ◌∷◌, Option, None, Some, refl, arith, inl, inr}
 use Rattle.std.specs.Prelude.{if◌then◌else◌, slice_get}
 use Rattle.std.specs.Option.{option_map, option_map_or}
@@ -36,7 +36,7 @@ use Rattle.machine_laws.proofs.ForgetTaken.{endpoint-forgets}
 use Rattle.machine_laws.proofs.ForgetBodies.{append-forgets, body-forget, modify-forgets, place-forget, ports-forgets, rules_at-forget}
 use Rattle.machine_laws.proofs.ForgetCalls.{call_allows-forget, call-forgets}
 
--- whom a segment finds, of which something was let go
+-- whom a segment finds, of which something was discarded
 abbrev forget_taker : Taker → Taker
 forget_taker Nobody = Nobody
 forget_taker (AtListener l) = AtListener l
@@ -76,9 +76,9 @@ taker_rules-forget h me b how m (AtEndpoint i e) = by (is_syn_sent e.state)
     name : Name
     name = record { host = me; number = i }
 
-    by : (sent : Bool) → (if sent then syn_sent_rules (forget_endpoint e) how m else connected_rules h (forget_body b) name (forget_endpoint e) how m)
-        ≡ (if sent then syn_sent_rules e how m else connected_rules h b name e how m)
-    by true = syn_sent_rules-forget e how m
+    by : (sent : Bool) → (if sent then syn_sent_rules h.initial (forget_endpoint e) how m else connected_rules h (forget_body b) name (forget_endpoint e) how m)
+        ≡ (if sent then syn_sent_rules h.initial e how m else connected_rules h b name e how m)
+    by true = syn_sent_rules-forget h.initial e how m
     by false = connected_rules-forget h b name e how m
 
 nothing-forget : (m : Emission) (t : Taker) → finds_nothing m (forget_taker t) ≡ finds_nothing m t

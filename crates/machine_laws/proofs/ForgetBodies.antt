@@ -1,4 +1,4 @@
--- A host's endpoints, of which something was let go.
+-- A host's endpoints, of which something was discarded.
 use Rattle.std.proofs.Common.{◌≡◌, ℕ, zero, suc, Bool, true, List, [], ◌∷◌, ◌++◌, Option, None, Some, map, refl}
 use Rattle.std.specs.Prelude.{if◌then◌else◌, slice_get}
 use Rattle.std.specs.Option.{option_map, option_map_or}

@@ -1,4 +1,4 @@
--- Calls: what was let go matters neither to their answers nor to what the host has then.
+-- Calls: what was discarded matters neither to their answers nor to what the host has then.
 use Rattle.std.proofs.Common.{◌≡◌, ℕ, Bool, false, not, List, [], ◌∷◌, Option, None, Some, refl, ap}
 use Rattle.std.specs.Prelude.{slice_get}
 use Rattle.std.specs.Option.{option_map_or}

@@ -1,4 +1,4 @@
--- What an endpoint has after an effect: the same is kept of it, whether or not something was let go before.
+-- What an endpoint has after an effect: the same is kept of it, whether or not something was discarded before.
 use Rattle.std.proofs.Common.{◌≡◌, ℕ, suc, ◌+◌, ◌-◌, Bool, true, false, List, None, length, take, replicate, refl, ap, ◌∙◌, arith}
 use Rattle.std.specs.Prelude.{◌==◌, if◌then◌else◌}
 use Rattle.std.specs.Option.{option_map_or}

@@ -1,4 +1,4 @@
--- What is read of an endpoint, of which nothing was let go.
+-- What is read of an endpoint, of which nothing was discarded.
 use Rattle.std.proofs.Common.{◌≡◌, ℕ, suc, ◌+◌, ◌-◌, ◌≤◌, List, take, refl, ap, arith}
 use Rattle.streams.specs.declared.making.Made.{Made}
 use Rattle.streams.specs.Cells.{leading}
@@ -32,7 +32,7 @@ again-forget e upto = ap (λ (xs : List Made). any_again (take (upto - e.stream.
 pub piece-forget : (e : Endpoint) (position count : ℕ) → e.stream.una ≤ position → piece (forget_endpoint e).stream.accepted position count ≡ piece e.stream.accepted position count
 piece-forget e position count h = ap (take count) (drop-covered 0 (e.stream.una - 1) (position - 1) e.stream.accepted (omega arith))
 
--- what was let go of twice was let go of once
+-- what was discarded twice was discarded once
 pub forget-forget : (e : Endpoint) → forget_endpoint (forget_endpoint e) ≡ forget_endpoint e
 forget-forget e =
     let una = e.stream.una in

@@ -1,4 +1,4 @@
--- The rules at an endpoint read nothing that was let go.
+-- The rules at an endpoint read nothing that was discarded.
 use Rattle.std.proofs.Common.{◌≡◌, ℕ, false, Option, None, Some, refl}
 use Rattle.std.specs.Option.{option_map_or}
 use Rattle.case_forms.specs.declared.trace.Header.{Header}
@@ -19,6 +19,7 @@ use Rattle.machine.specs.Arrives.Otherwise.Sequence.{is_acceptable_at, place_tak
 use Rattle.machine.specs.Arrives.Otherwise.{connected_rules}
 use Rattle.machine.specs.Arrives.SynSent.{syn_sent_rules}
 use Rattle.case_forms.specs.declared.timer.Growth.{Growth}
+use Rattle.case_forms.specs.declared.version.Initial.{Initial}
 use Rattle.machine.specs.Timeouts.{expiry_rules}
 use Rattle.machine.specs.Recovery.{recovery_rules}
 use Rattle.machine.specs.Forgetting.{forget_endpoint}
@@ -39,8 +40,8 @@ recv-forget e most answers.Again = rw (ended-forget e, waiting-forget e) refl
 recv-forget e most answers.NotConn = rw (next-forget e) refl
 recv-forget e most _ = refl
 
-pub syn_sent_rules-forget : (e : Endpoint) (how : TakeChoice) (m : Emission) → syn_sent_rules (forget_endpoint e) how m ≡ syn_sent_rules e how m
-syn_sent_rules-forget e how m = rw (max_made-forget e, again-forget e 1) refl
+pub syn_sent_rules-forget : (initial : Initial) (e : Endpoint) (how : TakeChoice) (m : Emission) → syn_sent_rules initial (forget_endpoint e) how m ≡ syn_sent_rules initial e how m
+syn_sent_rules-forget initial e how m = rw (max_made-forget e, again-forget e 1) refl
 
 place_taken-forget : (e : Endpoint) (m : Emission) → place_taken (forget_endpoint e) m ≡ place_taken e m
 place_taken-forget e m = rw (next-forget e) refl

@@ -1,4 +1,4 @@
--- What an endpoint has once it took a segment: the same is kept of it, whether or not something was let go before.
+-- What an endpoint has once it took a segment: the same is kept of it, whether or not something was discarded before.
 use Rattle.std.proofs.Common.{◌≡◌, ℕ, suc, ◌-◌, ◌≤◌, Bool, true, false, List, Option, length, max, refl, sym, ap, ◌∙◌, arith}
 use Rattle.std.specs.Prelude.{◌==◌, ◌&&◌, if◌then◌else◌}
 use Rattle.std.proofs.lemmas.Bool.Decides.{nat_tests}

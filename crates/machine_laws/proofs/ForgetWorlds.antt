@@ -1,4 +1,4 @@
--- Steps of a world, of which something was let go.
+-- Steps of a world, of which something was discarded.
 use Rattle.std.proofs.Common.{◌≡◌, ℕ, suc, true, nat_eq, List, Option, None, Some, refl, ap}
 use Rattle.std.specs.Map.{lookup}
 use Rattle.indexmap.specs.IndexMap.{insert_entry}
@@ -45,7 +45,7 @@ deed_rules-forget h me moment far s (Answers line) =
     on-same (waiting line s.inbox) (just rules.Inbox true) (λ e. acts.act_rules h me moment (forget_body s.body) (acts.Resets e)) (λ e. acts.act_rules h me moment s.body (acts.Resets e))
     (λ e. act_rules-forget h me moment s.body (acts.Resets e))
 
--- both hosts, of which something was let go
+-- both hosts, of which something was discarded
 abbrev forget_hosts : Both (HostState tcp_shape) → Both (HostState tcp_shape)
 forget_hosts hosts = record { zero = forget_host hosts.zero; one = forget_host hosts.one }
 

@@ -253,10 +253,10 @@ changes_met a h me e how m moment g good waits =
     met_state false y = cc
 
 changes_endpoint : (a : Hosts) (h : Header) (b : Body) (me : Name) (e : Endpoint) (how : TakeChoice) (m : Emission) (moment : ℕ) → GoodEnd a me e → GoodEmission a m
-    → first_broken (if is_syn_sent e.state then syn_sent_rules e how m else connected_rules h b me e how m) ≡ None → Changes a me nothing e (endpoint_taken h e how m moment)
+    → first_broken (if is_syn_sent e.state then syn_sent_rules h.initial e how m else connected_rules h b me e how m) ≡ None → Changes a me nothing e (endpoint_taken h e how m moment)
 changes_endpoint a h b me e how m moment g good may = go m.flags.rst (is_syn_sent e.state) refl refl may
   where
-    go : (r s : Bool) → m.flags.rst ≡ r → is_syn_sent e.state ≡ s → first_broken (if s then syn_sent_rules e how m else connected_rules h b me e how m) ≡ None
+    go : (r s : Bool) → m.flags.rst ≡ r → is_syn_sent e.state ≡ s → first_broken (if s then syn_sent_rules h.initial e how m else connected_rules h b me e how m) ≡ None
         → Changes a me nothing e (if r then was_reset e how else if s then met_peer h e how m moment else taken h e how m moment)
     go true s is x may = changes_plain a me e (was_reset e how) g refl (λ y. absurd cc)
     go false true is x may = changes_met a h me e how m moment g good x
@@ -302,4 +302,4 @@ moves_taking a h host b how m moment g good may = go (taker b m) refl may
         (λ x there.
         let one : e ≡ x = same_Some e x (sym at ∙ there) in
         changes_endpoint a h b (name host i) x how m moment (g i x there) good
-        (subst (λ (y : Endpoint). first_broken (if is_syn_sent y.state then syn_sent_rules y how m else connected_rules h b (name host i) y how m) ≡ None) one may))
+        (subst (λ (y : Endpoint). first_broken (if is_syn_sent y.state then syn_sent_rules h.initial y how m else connected_rules h b (name host i) y how m) ≡ None) one may))

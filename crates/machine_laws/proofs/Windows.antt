@@ -140,12 +140,12 @@ chosen h e how m moment = go m.flags.rst (is_syn_sent e.state)
     go false true = (refl, refl)
     go false false = (refl, refl)
 
-allowed : (h : Header) (b : Body) (me : Name) (e : Endpoint) (how : TakeChoice) (m : Emission) → first_broken (if is_syn_sent e.state then syn_sent_rules e how m else connected_rules h b me e how m) ≡ None → how.cwnd ≤ greatest_taking e m
+allowed : (h : Header) (b : Body) (me : Name) (e : Endpoint) (how : TakeChoice) (m : Emission) → first_broken (if is_syn_sent e.state then syn_sent_rules h.initial e how m else connected_rules h b me e how m) ≡ None → how.cwnd ≤ greatest_taking h.initial e m
 allowed h b me e how m may = go (is_syn_sent e.state) may
   where
-    go : (s : Bool) → first_broken (if s then syn_sent_rules e how m else connected_rules h b me e how m) ≡ None → how.cwnd ≤ (if s then greatest_at_syn e m else greatest_window e m)
-    go true may = at_most_from (greatest_at_syn e m) how.cwnd (none_all (syn_sent_rules e how m) may).1.1.0
-    go false may = at_most_from (greatest_window e m) how.cwnd (none_all (connected_rules h b me e how m) may).1.1.1.1.1.0
+    go : (s : Bool) → first_broken (if s then syn_sent_rules h.initial e how m else connected_rules h b me e how m) ≡ None → how.cwnd ≤ (if s then greatest_at_syn h.initial e m else greatest_window h.initial e m)
+    go true may = at_most_from (greatest_at_syn h.initial e m) how.cwnd (none_all (syn_sent_rules h.initial e how m) may).1.1.0
+    go false may = at_most_from (greatest_window h.initial e m) how.cwnd (none_all (connected_rules h b me e how m) may).1.1.1.1.1.0
 
 follows_taking : (h : Header) (s : ℕ) (w : World tcp_shape) (host : Host) (line : ℕ) (how : TakeChoice) (m : Emission) → waiting line (pick w.hosts host).inbox ≡ Some m → first_broken (taker_rules h host (pick w.hosts host).body how m (taker (pick w.hosts host).body m)) ≡ None
     → Follows w (At host (Takes line how)) host (pick w.hosts host).body.endpoints (after_taking h (pick w.hosts host).body how m s (taker (pick w.hosts host).body m)).endpoints
@@ -294,8 +294,8 @@ timeout_leaves h s w host line x growth i e may is at there = subst Bound (sym i
 taking_leaves : (h : Header) (s : ℕ) (w : World tcp_shape) (host : Host) (line : ℕ) (how : TakeChoice) (m : Emission) (i : ℕ) (e : Endpoint)
     → Permitted (tcp h) s w (At host (Takes line how))
     → waiting line (pick w.hosts host).inbox ≡ Some m → taker (pick w.hosts host).body m ≡ AtEndpoint i e
-    → Leaves h s w (At host (Takes line how)) (name host i) (λ c. (c.cwnd ≤ greatest_taking e m) × (c.ssthresh ≡ e.congestion.ssthresh))
-taking_leaves h s w host line how m i e may waits is = (endpoint_taken h e how m s, left, (subst (λ k. k ≤ greatest_taking e m) (sym value.0) (allowed h b (name host i) e how m mine), value.1))
+    → Leaves h s w (At host (Takes line how)) (name host i) (λ c. (c.cwnd ≤ greatest_taking h.initial e m) × (c.ssthresh ≡ e.congestion.ssthresh))
+taking_leaves h s w host line how m i e may waits is = (endpoint_taken h e how m s, left, (subst (λ k. k ≤ greatest_taking h.initial e m) (sym value.0) (allowed h b (name host i) e how m mine), value.1))
   where
     k : HostState tcp_shape
     k = pick w.hosts host
@@ -312,7 +312,7 @@ taking_leaves h s w host line how m i e may waits is = (endpoint_taken h e how m
         let one : t.0 ≡ m = same_Some t.0 m (sym t.1 ∙ waits) in
         subst (λ (x : Emission). first_broken (taker_rules h host b how x (taker b x)) ≡ None) one t.2
 
-    mine : first_broken (if is_syn_sent e.state then syn_sent_rules e how m else connected_rules h b (name host i) e how m) ≡ None
+    mine : first_broken (if is_syn_sent e.state then syn_sent_rules h.initial e how m else connected_rules h b (name host i) e how m) ≡ None
     mine = subst (λ (t : Taker). first_broken (taker_rules h host b how m t) ≡ None) is passed
 
     here : slice_get (after_taking h b how m s (taker b m)).endpoints i ≡ Some (endpoint_taken h e how m s)
@@ -352,7 +352,7 @@ others_stay h s w step me e x no_taking no_timeout no_recovery = (x.0, x.1, go x
 pub follow : (h : Header) (s : ℕ) (w : World tcp_shape) (step : Step tcp_shape) → Permitted (tcp h) s w step → WindowsFollow h s w step
 follow h s w step may = record {
   takes =
-      λ me e m there a. subst (λ (y : Step tcp_shape). Leaves h s w y me (λ c. (c.cwnd ≤ greatest_taking e m) × (c.ssthresh ≡ e.congestion.ssthresh))) (sym a.2)
+      λ me e m there a. subst (λ (y : Step tcp_shape). Leaves h s w y me (λ c. (c.cwnd ≤ greatest_taking h.initial e m) × (c.ssthresh ≡ e.congestion.ssthresh))) (sym a.2)
       (taking_leaves h s w me.host a.0 a.1 m me.number e (subst (λ (y : Step tcp_shape). Permitted (tcp h) s w y) a.2 may) a.3 a.4);
   times_out =
       λ me e there a. subst (λ (y : Step tcp_shape). Leaves h s w y me (λ c. (c.cwnd ≤ (greatest_values e).0) × (c.ssthresh ≤ (greatest_values e).1))) (sym a.3)

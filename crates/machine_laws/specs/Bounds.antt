@@ -23,6 +23,7 @@ use Rattle.machine.specs.Arrives.{taker, AtEndpoint}
 use Rattle.case_forms.specs.declared.timer.Expiry.{Expiry}
 use Rattle.case_forms.specs.declared.timer.Growth.{Growth}
 use Rattle.case_forms.specs.declared.timer.Recovery.{Recovery}
+use Rattle.case_forms.specs.declared.version.Initial.{Initial}
 use Rattle.machine.specs.Timeouts.{greatest_values}
 use Rattle.machine.specs.Machine as acts
 use Rattle.machine.specs.Machine.{act_makes, tcp, tcp_shape}
@@ -39,8 +40,8 @@ NewDataFits w host m = (e : Endpoint) × (endpoint_of (pick w.hosts host).body m
     × ((x : Emission) → act_makes host (pick w.hosts host).body (acts.Makes m) ≡ Some x → 0 < length x.payload → max_made e < x.pos + length x.payload → InBothWindows e (x.pos + length x.payload))
 
 -- the greatest congestion window that taking a segment allows
-abbrev pub greatest_taking : Endpoint → Emission → ℕ
-greatest_taking e m = if is_syn_sent e.state then greatest_at_syn e m else greatest_window e m
+abbrev pub greatest_taking : Initial → Endpoint → Emission → ℕ
+greatest_taking initial e m = if is_syn_sent e.state then greatest_at_syn initial e m else greatest_window initial e m
 
 -- the step takes this segment, which waits for it, at the endpoint
 abbrev pub TakesThere : World tcp_shape → Step tcp_shape → Name → Endpoint → Emission → Type 0
@@ -64,7 +65,7 @@ Leaves h moment w step me P = (f : Endpoint) × (find (after (tcp h) moment w st
 pub record WindowsFollow (h : Header) (moment : ℕ) (w : World tcp_shape) (step : Step tcp_shape) : Type 0 where
   -- where a segment is taken, cwnd is at most the greatest that this allows, and ssthresh stays
   pub takes : (me : Name) (e : Endpoint) (m : Emission) → find w.hosts me ≡ Some e → TakesThere w step me e m
-      → Leaves h moment w step me (λ c. (c.cwnd ≤ greatest_taking e m) × (c.ssthresh ≡ e.congestion.ssthresh))
+      → Leaves h moment w step me (λ c. (c.cwnd ≤ greatest_taking h.initial e m) × (c.ssthresh ≡ e.congestion.ssthresh))
   -- where the retransmission timer expires, both are at most the greatest that a timeout allows
   pub times_out : (me : Name) (e : Endpoint) → find w.hosts me ≡ Some e → TimesOut w step me
       → Leaves h moment w step me (λ c. (c.cwnd ≤ (greatest_values e).0) × (c.ssthresh ≤ (greatest_values e).1))

@@ -1,8 +1,8 @@
-//! Forgetting is free: a world that lets go what may be let go is as good as the whole one.
+//! Forgetting is free: a world that discards what may be discarded is as good as the whole one.
 
 ghost use Rattle.machine_laws.specs.ForgettingLaws.{ForgettingIsFree, RunsForget};
 
-/// What may be let go matters to no rule of a step, and to nothing that is kept.
+/// What may be discarded matters to no rule of a step, and to nothing that is kept.
 pub fn forgetting_is_free()
     ensures { ForgettingIsFree }
 {}

@@ -4,10 +4,10 @@
 //!
 //! - `laws`: what reads are told, what the end says, what is acknowledged, how far new data reaches, how windows
 //!   move, that rules stand in the order of their numbers, which copies are too old
-//! - `forgetting`: what may be let go matters to no rule, and to nothing that is kept
+//! - `forgetting`: what may be discarded matters to no rule, and to nothing that is kept
 //!
 //! What is said of it stands in specs/: `Runs` has what the steps of a run say by themselves, `Consequences` what follows of
-//! streams, `Bounds` what follows of windows, `Ascending` the rules' numbers, and `ForgettingLaws` what may be let go.
+//! streams, `Bounds` what follows of windows, `Ascending` the rules' numbers, and `ForgettingLaws` what may be discarded.
 #![tactic(auto)]
 
 mod forgetting;

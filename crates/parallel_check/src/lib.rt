@@ -11,8 +11,6 @@
 
 mod gather;
 mod plain;
-#[cfg(test)]
-mod tests;
 mod work;
 
 pub use plain::{CaseResult, check_many_plain};

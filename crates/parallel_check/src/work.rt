@@ -121,7 +121,7 @@ fn check_named<C: Cases + Send + Sync, G: Gate + Sync, H: Threads + Wait + Sync>
 }
 
 /// Checks all cases by this many threads, 1 to 64 of them. Where a thread can't be started this one does its work. A case
-/// for which memory runs out is answered so, and the others as ever; `Err` is want of memory for the list itself.
+/// for which memory runs out is answered so, and the others as ever; `Err` says that memory ran out for the list itself.
 pub fn check_many<G: Gate + Sync, H: Threads + Wait + Sync>(
     rt: &H,
     alloc: Global,

@@ -4,7 +4,7 @@
 //! - `flag`: the flags, by name
 //! - `bytes`: bytes that a value holds
 //! - `fault`: why bytes are no segment, and why a segment has no bytes
-//! - `options`: the items of a list of options
+//! - `options`: the items of a list of options, and the MSS and the shift that they tell
 //! - `reading`: the segment that bytes stand for
 //! - `writing`: the bytes of a segment
 //!
@@ -20,8 +20,6 @@ mod fields;
 mod flag;
 mod options;
 mod reading;
-#[cfg(test)]
-mod tests;
 mod writing;
 
 pub use bytes::Bytes;

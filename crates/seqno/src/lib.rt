@@ -13,8 +13,6 @@
 #![tactic(auto)]
 
 mod laws;
-#[cfg(test)]
-mod tests;
 mod window;
 mod word;
 

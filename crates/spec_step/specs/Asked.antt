@@ -1,5 +1,5 @@
 -- What a step asks of the world: which rules, and what the world is after it.
-use Rattle.std.specs.Prelude.{◌≡◌, ℕ, Bool, List, [], Option, None}
+use Rattle.std.specs.Prelude.{ℕ, Bool, List, [], Option}
 use Rattle.std.specs.Option.{option_map_or}
 use Rattle.verdict.specs.declared.rule.Rule.{Rule}
 use Rattle.verdict.specs.Rules.{first_broken}
@@ -19,6 +19,3 @@ asked_rules p moment asked = option_map_or (step_rules (tcp p.header) moment p.w
 -- what the case has come to after it: where it is none, the world stays
 abbrev pub asked_after : Progress → ℕ → Option (Step tcp_shape) → Progress
 asked_after p moment asked = option_map_or (after p moment) asked p
-
-abbrev pub IsPermitted : Progress → ℕ → Option (Step tcp_shape) → Type 0
-IsPermitted p moment asked = first_broken (asked_rules p moment asked) ≡ None

@@ -7,16 +7,17 @@ ghost use Rattle.verdict.specs.Rules.{first_broken};
 ghost use Rattle.hosts.specs.Hosts.{Effect};
 ghost use Rattle.machine.specs.Bounds.{most_steps};
 ghost use Rattle.machine.specs.Steps.{hidden_step};
+ghost use Rattle.endpoint_state.specs.Faults.{fault_rule};
 ghost use Rattle.endpoint_state.specs.Worlds.{after};
 ghost use Rattle.spec_step.specs.Faults.{IfBroken};
-ghost use Rattle.spec_step.specs.Asked.{broken_by, asked_rules, asked_after, IsPermitted};
+ghost use Rattle.spec_step.specs.Asked.{broken_by, asked_rules, asked_after};
 
-use crate::step::StepFault;
-use case_forms::{Answer, Label, OutOfMemory};
-use endpoint_state::{World, do_call};
+use case_forms::{Answer, Label};
+use endpoint_state::{StepFault, World};
 use verdict::Rule;
 
 /// Does a step that takes no line, as `apply` does any step. A label that takes one asks for nothing here.
+#[tactic(auto, using(crate::proofs::FaultLemmas::admitted, crate::proofs::FaultLemmas::broken, crate::proofs::FaultLemmas::memory))]
 pub fn apply_hidden<Taken>(
     world: &mut World,
     moment: u64,
@@ -30,12 +31,20 @@ pub fn apply_hidden<Taken>(
     ensures memory { result ≡ Err StepFault.OutOfMemory → first_broken (asked_rules world.old moment (hidden_step label.now)) ≡ None }
     ensures err { OnErr result (world.new ≡ world.old) }
 {
-    if let Err(rule) = admits_hidden(world, moment, label) {
-        return Err(StepFault::Broken(rule));
-    }
-    match perform(world, moment, label) {
-        Ok(()) => Ok(()),
-        Err(_) => Err(StepFault::OutOfMemory),
+    match label {
+        Label::L(_) => Ok(()),
+        Label::D { thread, answer } => have_effect(world, moment, *thread, answer),
+        Label::M { host, plan } => world.make(*host, plan, moment),
+        Label::T { host, line, choice } => world.take(*host, *line, *choice, moment),
+        Label::K { host, line } => {
+            world.drop_arrival(*host, *line, moment)?;
+            Ok(())
+        }
+        Label::R { host, line } => world.answer(*host, *line, moment),
+        Label::F { host, recovery } => {
+            world.recover(*host, *recovery, moment)?;
+            Ok(())
+        }
     }
 }
 
@@ -68,31 +77,6 @@ fn admits_effect(world: &World, moment: u64, thread: u32, answer: &Answer) -> Re
     endpoint_state::admits_effect(world, thread, answer)
 }
 
-// Does a step that is admitted.
-fn perform<Taken>(world: &mut World, moment: u64, label: &Label<Taken>) -> Result<(), OutOfMemory>
-    requires steps { world.old.steps < most_steps }
-    requires label { IsWithinLimits label.now }
-    requires permitted { IsPermitted world.old moment (hidden_step label.now) }
-    ensures ok { OnOk result (world.new ≡ asked_after world.old moment (hidden_step label.now)) }
-    ensures err { OnErr result (world.new ≡ world.old) }
-{
-    match label {
-        Label::L(_) => Ok(()),
-        Label::D { thread, answer } => have_effect(world, moment, *thread, answer),
-        Label::M { host, plan } => world.make(*host, plan, moment),
-        Label::T { host, line, choice } => world.take(*host, *line, *choice, moment),
-        Label::K { host, line } => {
-            world.drop_arrival(*host, *line, moment);
-            Ok(())
-        }
-        Label::R { host, line } => world.answer(*host, *line, moment),
-        Label::F { host, recovery } => {
-            world.recover(*host, *recovery, moment);
-            Ok(())
-        }
-    }
-}
-
 // A call has its effect, which reads no moment.
 #[tactic(auto, using(endpoint_state::proofs::CallLemmas::effect_at_any_moment, endpoint_state::proofs::CallLemmas::after_at_any_moment))]
 fn have_effect(
@@ -100,11 +84,11 @@ fn have_effect(
     moment: u64,
     thread: u32,
     answer: &Answer,
-) -> Result<(), OutOfMemory>
-    requires steps { world.old.steps < most_steps }
-    requires permitted { broken_by world.old moment (Effect thread answer.now) ≡ None }
+) -> Result<(), StepFault>
+    requires { world.old.steps < most_steps }
+    ensures fault { fault_rule result ≡ broken_by world.old moment (Effect thread answer.now) }
     ensures ok { OnOk result (world.new ≡ after world.old moment (Effect thread answer.now)) }
     ensures err { OnErr result (world.new ≡ world.old) }
 {
-    do_call(world, thread, answer)
+    world.effect(thread, answer)
 }

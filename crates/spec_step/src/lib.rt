@@ -5,21 +5,18 @@
 //!
 //! - `line`: a step that takes a line: the least rule that it breaks, and the world after it
 //! - `hidden`: a step that takes none: the same
-//! - `expired`: a timer's line
 //! - `step`: any step
 //! - `wires`: what stands on a host's wire under a line, and a segment that is brought there, which is no step
 #![tactic(auto)]
 
-mod expired;
 mod hidden;
 mod line;
 mod step;
-#[cfg(test)]
-mod tests;
 mod wires;
 
+pub use endpoint_state::StepFault;
 pub use hidden::apply_hidden;
 pub use line::apply_line;
 pub use machine::Emission;
-pub use step::{Label, StepFault, admits, apply};
+pub use step::{Label, admits, apply};
 pub use wires::{bring, sent};

@@ -12,23 +12,11 @@ ghost use Rattle.spec_step.specs.Faults.{IfBroken};
 use crate::hidden::{admits_hidden, apply_hidden};
 use crate::line::{admits_line, apply_line};
 use case_forms::TakenLine;
-use endpoint_state::World;
-use thiserror::Error;
+use endpoint_state::{StepFault, World};
 use verdict::Rule;
 
 /// What a step does: a label of a witness in which the line that it takes stands in place of its number.
 pub type Label = case_forms::Label<TakenLine>;
-
-/// Why a step was not done. The world is then as it was.
-#[derive(Clone, Copy, Debug, PartialEq, Eq, Error)]
-pub enum StepFault {
-    /// The step breaks this rule, and none that is less.
-    #[error("the step breaks the rule {0}")]
-    Broken(Rule),
-    /// The step breaks no rule, and memory ran out.
-    #[error("memory ran out")]
-    OutOfMemory,
-}
 
 /// Whether the machine admits a step at a moment, in microseconds. An error is the least rule that the step breaks.
 pub fn admits(world: &World, moment: u64, label: &Label) -> Result<(), Rule>

@@ -43,7 +43,7 @@ covered-cut y zero xs = let same : min 0 (length xs) ≡ 0 = omega arith in rw s
 covered-cut y (suc k) [] = let same : min (suc k) 0 ≡ 0 = omega arith in rw same refl
 covered-cut {X} y (suc k) (x ∷ xs) = let same : min (suc k) (suc (length xs)) ≡ suc (min k (length xs)) = omega arith in rw same (ap (λ (ys : List X). y ∷ ys) (covered-cut y k xs))
 
--- what is shown of a list whose front was let go, once more of it is
+-- what is shown of a list whose front was discarded, once more of it is
 pub covered-gone : {X : Type 0} (y : X) (gone n count : ℕ) (xs : List X) → count ≡ min (n - gone) (length xs) → replicate (gone + count) y ++ drop count xs ≡ covered y n (replicate gone y ++ xs)
 covered-gone {X} y gone n count xs e =
     let far = covered-behind y gone n xs in

@@ -54,7 +54,7 @@ fade-put_all n xs p [] = fade-fade n n xs (omega arith)
 fade-put_all n xs p (c ∷ cs) =
     sym (fade-put_all n (put (fade n xs) p c) (suc p) cs) ∙ (ap (λ (ys : List (Option Cell)). fade n (put_all ys (suc p) cs)) (fade-put n xs p c) ∙ fade-put_all n (put xs p c) (suc p) cs)
 
--- marking what was let go as made again leaves it as it is
+-- marking what was discarded as made again leaves it as it is
 pub below-mark : (una position count : ℕ) (all new : List Made) → made_below una (mark position count (made_below una all) ++ new) ≡ made_below una (mark position count all ++ new)
 below-mark zero position count all new = refl
 below-mark (suc una) position count [] new = refl

@@ -1,4 +1,4 @@
--- A receive buffer against what it shows: the cells that were let go stand in front of those that it keeps.
+-- A receive buffer against what it shows: the cells that were discarded stand in front of those that it keeps.
 use Rattle.std.proofs.Common.{ℕ, ◌+◌, ◌-◌, ◌<◌, ◌≤◌, List, [], ◌∷◌, ◌++◌, length, drop, get_or, replicate, Option, None, Some, Bool, false, ◌≡◌, refl, sym, ap, ◌∙◌, arith, append_assoc, zero, suc}
 use Rattle.std.proofs.lemmas.List.{replicate-append-replicate}
 use Rattle.std.proofs.lemmas.Option.{slice_get_read}
@@ -11,7 +11,7 @@ use Rattle.streams.specs.Forgetting.{fade}
 use Rattle.streams.specs.Views.{gone_cells}
 use Rattle.streams.proofs.Writes.{front_from, leading_front, length_body, length_front, length_put_all}
 
--- what was let go stands in front
+-- what was discarded stands in front
 pub replicated : (n : ℕ) (xs : List (Option Cell)) → length (front (replicate n (Some (Byte 0)) ++ xs)) ≡ n + length (front xs)
 replicated zero xs = omega arith
 replicated (suc n) xs = let more = replicated n xs in omega arith
@@ -99,7 +99,7 @@ pub get_gone : (n : ℕ) (xs : List (Option Cell)) (i : ℕ) → slice_get (gone
 get_gone zero xs i = let same : 0 + i ≡ i = omega arith in rw same refl
 get_gone (suc n) xs i = let same : suc n + i ≡ suc (n + i) = omega arith in rw same (get_behind n xs i)
 
--- nothing that was let go is a FIN
+-- nothing that was discarded is a FIN
 faded_fin : (n : ℕ) (xs : List (Option Cell)) (i : ℕ) → i < n → is_fin (slice_get (replicate n (Some (Byte 0)) ++ xs) i) ≡ false
 faded_fin zero xs i h = absurd (omega arith)
 faded_fin (suc n) xs zero h = refl

@@ -212,7 +212,7 @@ moment_found xs i skip r h e l = rw (here xs i r h e) (moment_inside skip r.coun
 pub moment_none : (xs : List Run) (i skip : ℕ) → length xs ≤ i → made_moment (expand (drop i xs)) skip ≡ None
 moment_none xs i skip h = rw (drop_all i xs h) refl
 
--- what is shown, behind positions that were let go
+-- what is shown, behind positions that were discarded
 pub again_gone : (gone from upto first : ℕ) (all : List Made) → first ≡ max from gone → any_again (take (upto - first) (drop (first - gone) all)) ≡ made_again (replicate gone (once 0) ++ all) from upto
 again_gone gone from upto first all e = elim (cases_lt from gone) [
   | inl lt ↦ (
@@ -224,7 +224,7 @@ again_gone gone from upto first all e = elim (cases_lt from gone) [
       rw (drop-past from gone (once 0) all ge, same) refl)
 ]
 
--- how many positions the runs have, once some that were let go were brought back
+-- how many positions the runs have, once some that were discarded were brought back
 pub known_long : (gone opened end : ℕ) (runs now : List Run) → replicate opened (once 0) ++ expand now ≡ replicate gone (once 0) ++ expand runs → end ≡ gone + length (expand runs) → end ≡ opened + length (expand now)
 known_long gone opened end runs now same e =
     let whole = ap length same in

@@ -1,4 +1,5 @@
--- What may be let go: bytes that were delivered, and bytes and makings below the oldest position that is not acknowledged (RFC 9293, 3.3.1: SND.UNA). Something fixed stands in their places.
+-- What may be discarded: bytes that were delivered, and bytes and makings below the oldest position that is not acknowledged (RFC 9293,
+-- 3.3.1: SND.UNA). Something fixed stands in their places.
 use Rattle.std.specs.Prelude.{◌≡◌, ℕ, zero, suc, ◌-◌, ◌≤◌, Bool, List, [], ◌∷◌, ◌++◌, length, Option, None, Some}
 use Rattle.streams.specs.declared.cell.Cell.{Cell}
 use Rattle.streams.specs.declared.cell.Cell.TheVariants.{Syn, Byte, Fin}
@@ -15,13 +16,13 @@ faded (Some Syn) = Some Syn
 faded (Some (Byte value)) = Some (Byte 0)
 faded (Some Fin) = Some Fin
 
--- the first so many are let go
+-- the first so many are discarded
 abbrev pub fade : ℕ → List (Option Cell) → List (Option Cell)
 fade zero taken = taken
 fade (suc count) [] = []
 fade (suc count) (x ∷ taken) = faded x ∷ fade count taken
 
--- the bytes that were delivered are let go
+-- the bytes that were delivered are discarded
 abbrev pub forgotten : Receiving → Receiving
 forgotten r = record r { taken = fade (suc r.delivered) r.taken }
 
@@ -29,15 +30,15 @@ forgotten r = record r { taken = fade (suc r.delivered) r.taken }
 abbrev pub blank : ℕ → List ℕ → List ℕ
 blank count bytes = covered 0 count bytes
 
--- of the bytes that were accepted those below this position are let go
+-- of the bytes that were accepted those below this position are discarded
 abbrev pub below : ℕ → List ℕ → List ℕ
 below una accepted = blank (una - 1) accepted
 
--- the makings below this position are let go: as if they had been made once, at the moment 0
+-- the makings below this position are discarded: as if they had been made once, at the moment 0
 abbrev pub made_below : ℕ → List Made → List Made
 made_below una all = covered (once 0) una all
 
--- nothing that an endpoint does with its streams reads what was let go, and letting go sooner or later is the same
+-- nothing that an endpoint does with its streams reads what was discarded, and discarding sooner or later is the same
 pub record ForgettingStreams : Type 0 where
   pub counts : (r : Receiving) → next (forgotten r) ≡ next r
   pub ends : (r : Receiving) → is_ended (forgotten r) ≡ is_ended r

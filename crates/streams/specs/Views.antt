@@ -1,4 +1,4 @@
--- What the buffers show of what they let go: something fixed at each position.
+-- What the buffers show of what they discarded: something fixed at each position.
 use Rattle.std.specs.Prelude.{ℕ, zero, suc, List, [], ◌∷◌, ◌++◌, Option, Some, replicate}
 use Rattle.streams.specs.declared.cell.Cell.{Cell}
 use Rattle.streams.specs.declared.cell.Cell.TheVariants.{Syn, Byte}

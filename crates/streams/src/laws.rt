@@ -3,12 +3,12 @@
 ghost use Rattle.streams.specs.Forgetting.{ForgettingMakings, ForgettingStreams};
 ghost use Rattle.streams.specs.InOrder.{StartsArePrefixes, StreamsInOrder};
 
-/// Nothing that an endpoint does with its streams reads what was let go.
+/// Nothing that an endpoint does with its streams reads what was discarded.
 pub fn forgetting_streams()
     ensures { ForgettingStreams }
 {}
 
-/// Nothing that is asked of makings reads those that were let go.
+/// Nothing that is asked of makings reads those that were discarded.
 pub fn forgetting_makings()
     ensures { ForgettingMakings }
 {}

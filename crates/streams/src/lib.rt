@@ -10,9 +10,9 @@
 //! - `making`, `makings`: when a position was made, and whether it was made again; `runs` keeps that by segments
 //! - `laws`: that nothing reads what is forgotten, and that reads are given what the peer sent, in order
 //!
-//! Each buffer shows the whole list from position 0 on, with something fixed in the places of what it let go. What must
+//! Each buffer shows the whole list from position 0 on, with something fixed in the places of what it discarded. What must
 //! hold stands in specs/: `Cells` first, then `Received` and `Sent`, then `Makings`, in `InOrder` what follows, and in
-//! `Forgetting` what may be let go. Which bytes may be kept, read or made is for the rules above to say.
+//! `Forgetting` what may be discarded. Which bytes may be kept, read or made is for the rules above to say.
 #![tactic(auto)]
 
 mod cell;
@@ -24,8 +24,6 @@ mod makings;
 mod receive;
 mod runs;
 mod send;
-#[cfg(test)]
-mod tests;
 
 pub use cell::Cell;
 pub use laws::{forgetting_makings, forgetting_streams, starts_are_prefixes, streams_in_order};

@@ -1,6 +1,6 @@
 //! When each position of a stream was made, and whether it was made again (RFC 6298, 3).
 //!
-//! Positions that one segment made are kept as one run, and those that were acknowledged are let go: they show as made
+//! Positions that one segment made are kept as one run, and those that were acknowledged are discarded: they show as made
 //! once at the moment 0. `specs/Makings` says what each call does.
 
 ghost use Rattle.std.specs.Prelude.{◌≡◌, ◌+◌, ◌<◌, ◌^◌, [], OnOk, OnErr, length};
@@ -17,7 +17,7 @@ use std::marker::Model;
 pub struct Makings {
     /// The positions from `gone` on that were made, in runs.
     runs: VecDeque<Run>,
-    /// How many positions were let go.
+    /// How many positions were discarded.
     gone: u64,
     /// The position behind the last that was made.
     end: u64,

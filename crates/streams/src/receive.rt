@@ -2,7 +2,7 @@
 //!
 //! The buffer keeps what was taken from the first byte on that was not delivered, a cell for each position up to the
 //! furthest that was taken; a position that is missing has `None`. So memory grows with what waits and with the gaps in
-//! it, not with the stream. A delivered byte is let go, and shows as 0. `specs/Received` says what each call does.
+//! it, not with the stream. A delivered byte is discarded, and shows as 0. `specs/Received` says what each call does.
 
 ghost use Rattle.std.specs.Prelude.{◌≡◌, ℕ, ◌+◌, ◌-◌, ◌≤◌, ◌<◌, ◌^◌, nat_lt, OnOk, OnErr, IfOk, Some, length, take, drop};
 ghost use Rattle.std.specs.VecDeque.{deque_len, deque_capacity};
@@ -22,7 +22,7 @@ use std::marker::Model;
 pub struct ReceiveBuffer {
     /// What was taken, by position, from `gone` on.
     cells: VecDeque<Option<Cell>>,
-    /// How many positions were let go: the SYN's and those of the delivered bytes.
+    /// How many positions were discarded: the SYN's and those of the delivered bytes.
     gone: u64,
     /// How many of `cells` stand in front of the first gap.
     ready: usize,

@@ -73,8 +73,8 @@ pub(crate) fn forget(runs: &mut VecDeque<Run>, count: u64)
     }
 }
 
-/// Brings back the `gone` positions that were let go, as one run, if this position is one of them, where there is room
-/// for a run. Answers how many are still let go.
+/// Brings back the `gone` positions that were discarded, as one run, if this position is one of them, where there is room
+/// for a run. Answers how many are still discarded.
 pub(crate) fn reopen(runs: &mut VecDeque<Run>, gone: u64, position: u64) -> u64
     requires { deque_len runs.old < deque_capacity runs.old }
     ensures within { result ≤ position }

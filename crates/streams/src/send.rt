@@ -1,6 +1,6 @@
 //! What an endpoint sends (RFC 9293, 3.10.3): the bytes that its sends accepted, until they are acknowledged.
 //!
-//! The buffer keeps the bytes from the oldest on that may be made again. Bytes that were let go show as 0.
+//! The buffer keeps the bytes from the oldest on that may be made again. Bytes that were discarded show as 0.
 //! `specs/Sent` says what each call does.
 
 ghost use Rattle.std.specs.Prelude.{◌≡◌, ℕ, ◌+◌, ◌≤◌, ◌<◌, ◌^◌, List, [], ◌++◌, OnOk, OnErr, IfOk, length, slice_index_or, drop, replicate, take};
@@ -19,7 +19,7 @@ use std::marker::Model;
 pub struct SendBuffer {
     /// The bytes, from data byte `gone` on.
     bytes: VecDeque<u8>,
-    /// How many bytes were let go.
+    /// How many bytes were discarded.
     gone: u64,
 }
 
@@ -95,7 +95,7 @@ fn append(all: &mut VecDeque<u8>, bytes: &[u8])
     }
 }
 
-// The byte at a place, `gone` of which were let go.
+// The byte at a place, `gone` of which were discarded.
 fn byte_at(bytes: &VecDeque<u8>, gone: u64, place: u64) -> u8
     requires { place < length (replicate gone 0 ++ bytes.now.items) }
     ensures { result ≡ slice_index_or (replicate gone 0 ++ bytes.now.items) place 0 }

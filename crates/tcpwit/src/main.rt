@@ -1,15 +1,18 @@
-//! The program `tcpwit`: `cli::run_all` on the process's words, its standard input and its standard output.
+//! The program `tcpwit`: `cli::run_all` on the process's words, its standard input and its standard output; or, where the
+//! words name two files, `cli::run_files` on these.
 #![tactic(auto)]
 
 ghost use Rattle.std.specs.Prelude.{◌≡◌, ◌<◌, ◌^◌, OnErr};
 ghost use Rattle.counted.specs.Counting.{failures_of};
 
-use cli::{answer_bad_memory, given_words, run_all};
+use cli::{answer_bad_device, answer_bad_memory, file_names, given_words, run_all, run_files};
 use counted::Counted;
 use std::alloc::{AllocError, Global};
 use std::env::Args;
+use std::fs;
 use std::io::{BufRead, BufReader, Input, Write};
 use std::process::ExitCode;
+use std::rt::Files;
 use std::sync::Wait;
 use std::thread::Threads;
 
@@ -33,7 +36,7 @@ fn main(rt: HostRuntime) -> ExitCode {
 }
 
 // Runs with the words behind the program's name. Where they find no memory nothing is read or written.
-fn run_given<R: BufRead, W: Write, H: Threads + Wait + Sync>(
+fn run_given<R: BufRead, W: Write, H: Files + Threads + Wait + Sync>(
     rt: &H,
     alloc: Global,
     given: Args,
@@ -48,5 +51,32 @@ fn run_given<R: BufRead, W: Write, H: Threads + Wait + Sync>(
     for word in given.iter().skip(1) {
         words.push(word.as_str())?;
     }
-    Ok(run_all(rt, alloc, words.as_slice(), r, w))
+    let status = match file_names(alloc, words.as_slice())? {
+        Some((trace, witness)) => run_named(rt, alloc, &trace, &witness, w),
+        None => run_all(rt, alloc, words.as_slice(), r, w),
+    };
+    Ok(status)
+}
+
+// Runs on the files of these names.
+fn run_named<W: Write, H: Files>(
+    rt: &H,
+    alloc: Global,
+    trace: &str,
+    witness: &str,
+    w: &mut Counted<W>,
+) -> u8
+    requires { failures_of w.old < 2 ^ 50 }
+{
+    let (Ok(trace), Ok(witness)) = (fs::open(rt, trace), fs::open(rt, witness)) else {
+        return answer_bad_device(w);
+    };
+    let Ok(lines) = BufReader::with_capacity(alloc, INPUT_BYTES, trace) else {
+        return answer_bad_memory(w);
+    };
+    let Ok(steps) = BufReader::with_capacity(alloc, INPUT_BYTES, witness) else {
+        return answer_bad_memory(w);
+    };
+    let (status, _, _) = run_files(alloc, Counted::new(lines), Counted::new(steps), w);
+    status
 }

@@ -11,8 +11,6 @@
 
 mod fault;
 mod laws;
-#[cfg(test)]
-mod tests;
 mod timers;
 
 pub use fault::TimerFault;

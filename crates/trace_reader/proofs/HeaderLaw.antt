@@ -1,96 +1,152 @@
 -- The header's lines are read exactly where their bytes spell them.
-use Rattle.std.proofs.Common.{◌≡◌, ◌≤◌, ◌<◌, ◌^◌, ◌+◌, ℕ, List, [], ◌∷◌, ◌++◌, Bool, true, false, cond, Result, Ok, Err, refl, ap, subst, ◌∙◌, arith}
-use Rattle.std.specs.Prelude.{codes, map}
+use Rattle.std.proofs.Common.{◌≡◌, ◌≤◌, ◌<◌, ◌^◌, ◌+◌, ◌⊎◌, inl, inr, ℕ, List, [], ◌∷◌, ◌++◌, Bool, true, false, cond, Result, Ok, Err, refl, sym, ap, subst, ◌∙◌, append_assoc, arith}
+use Rattle.std.specs.Prelude.{codes, map, ◌==◌}
 use Rattle.std.specs.Fmt.{decimal}
 use Rattle.std.specs.Str.{bytes_eq}
-use Rattle.std.specs.List.{AllByRecursion}
+use Rattle.std.specs.List.{AllByRecursion, concat}
+use Rattle.std.proofs.lemmas.Bool.{eqb-true}
 use Rattle.std.proofs.lemmas.Slice.Eq.{bytes_eq-Decides}
+use Rattle.bstr.specs.Text.{lines_of}
 use Rattle.case_forms.specs.declared.trace.Header.{Header}
+use Rattle.case_forms.specs.declared.version.Version.{Version}
+use Rattle.case_forms.specs.declared.version.Version.TheVariants.{One, Two}
+use Rattle.case_forms.specs.declared.version.Initial.{Initial}
+use Rattle.case_forms.specs.declared.version.Initial.TheVariants.{Rfc5681, Rfc6928}
+use Rattle.line_fields.specs.declared.fault.FaultKind.TheVariants as kinds
 use Rattle.line_fields.specs.declared.fault.TextFault.{TextFault}
 use Rattle.line_fields.specs.Word.{Word, Rest, rest_of}
-use Rattle.line_fields.specs.Reading.{◌>>=◌, missing, next_field, number_field}
-use Rattle.line_fields.specs.Lines.{IsRaw, IsLine, line_rest, exact_line, next_raw}
-use Rattle.line_fields.specs.Reader.{texts}
+use Rattle.line_fields.specs.Reading.{◌>>=◌, fault_at, missing, next_field, number_value, number_field}
+use Rattle.line_fields.specs.Lines.{IsRaw, IsLine, whole_line, line_text, line_rest, next_raw}
+use Rattle.line_fields.specs.Reader.{texts, IsReader}
 use Rattle.line_fields.specs.Spelling.{IsClean, joined}
-use Rattle.line_fields.proofs.Readers.{bind_ok, ok_is, first_takes, first_again, reads_number, no_words}
+use Rattle.line_fields.proofs.Readers.{IsValue, IsNumber, bind_ok, ok_is, first_takes, first_again, is_number_value, reads_field, no_words}
 use Rattle.line_fields.proofs.Joined.{IsClean-decimal}
 use Rattle.line_fields.proofs.Clean.{clean_by, joined_no_return}
-use Rattle.line_fields.proofs.LineRests.{fields_taken, fields_again, is_raw, exact_takes, exact_again}
-use Rattle.trace_reader.specs.Headers.{first_words, header_words, IsHeader, AreLines, header_fault, alone, behind_name, named_number, number_line, next_number, first_line, header_of}
-
--- ---- a name and a number
-
-alone_takes : (fault : TextFault) (m n : ℕ) (ws : List Word) → alone fault m ws ≡ Ok n → (m ≡ n) × (map (λ w. w.text) ws ≡ [])
-alone_takes fault m n [] e = (ok_is m n e, refl)
-alone_takes fault m n (w ∷ ws) e = absurd cc
-
--- the number that was read, and that nothing else was left
-record IsAlone (least most n : ℕ) (ws : List (List ℕ)) : Type 0 where
-  words : ws ≡ decimal n ∷ []
-  low : least ≤ n
-  high : n ≤ most
-
-behind_takes : (fault : TextFault) (least most : ℕ) → most < 2 ^ 64 → (ws : List Word) (r : Rest) (n : ℕ) → behind_name fault least most ws r ≡ Ok n → IsAlone least most n (texts r)
-behind_takes fault least most fits [] r n e = absurd cc
-behind_takes fault least most fits (w ∷ ws) r n e =
-    let b = bind_ok (number_field least most r) (λ x. alone fault x.0 x.1.words) n e in
-    let p = (reads_number least most fits).takes r b.0 b.1 in
-    let q = alone_takes fault b.0.0 n b.0.1.words b.2 in
-    subst (λ (k : ℕ). IsAlone least most k (texts r)) q.0 (record {
-      words = p.2 ∙ ap (λ (us : List (List ℕ)). us ++ texts b.0.1) p.1.2 ∙ ap (λ (us : List (List ℕ)). decimal b.0.0 ∷ us) q.1;
-      low = p.1.0;
-      high = p.1.1;
-    })
-
-guard_name : (b : Bool) (fault : TextFault) (read : Result ℕ TextFault) (n : ℕ) → cond b read (Err fault) ≡ Ok n → (b ≡ true) × (read ≡ Ok n)
-guard_name true fault read n e = (refl, e)
-guard_name false fault read n e = absurd cc
-
-named_takes : (fault : TextFault) (name : List ℕ) (least most : ℕ) → most < 2 ^ 64 → (r : Rest) (n : ℕ) → named_number fault name least most r ≡ Ok n → (texts r ≡ name ∷ decimal n ∷ []) × (least ≤ n) × (n ≤ most)
-named_takes fault name least most fits r n e =
-    let b = bind_ok (next_field r) (λ w. cond (bytes_eq w.0.text name) (behind_name fault least most w.1.words w.1) (Err fault)) n e in
-    let front = first_takes (missing r) r.line r.stop r.words b.0 b.1 in
-    let g = guard_name (bytes_eq b.0.0.text name) fault (behind_name fault least most b.0.1.words b.0.1) n b.2 in
-    let word = (bytes_eq-Decides b.0.0.text name).0 g.0 in
-    let p = behind_takes fault least most fits b.0.1.words b.0.1 n g.1 in
-    (front ∙ ap (λ (t : List ℕ). t ∷ texts b.0.1) word ∙ ap (λ (us : List (List ℕ)). name ∷ us) p.words, p.low, p.high)
-
-behind_some : (fault : TextFault) (least most : ℕ) (ws : List Word) (r : Rest) (t : List ℕ) → map (λ w. w.text) ws ≡ t ∷ [] → behind_name fault least most ws r ≡ (number_field least most r >>= λ x. alone fault x.0 x.1.words)
-behind_some fault least most [] r t e = absurd cc
-behind_some fault least most (w ∷ ws) r t e = refl
-
-named_again : (fault : TextFault) (name : List ℕ) (least most : ℕ) → most < 2 ^ 64 → (r : Rest) (n : ℕ) → texts r ≡ name ∷ decimal n ∷ [] → least ≤ n → n ≤ most → named_number fault name least most r ≡ Ok n
-named_again fault name least most fits r n e low high =
-    let x = first_again (missing r) r.line r.stop r.words name (decimal n ∷ []) e in
-    let word : bytes_eq x.0.0.text name ≡ true = (bytes_eq-Decides x.0.0.text name).1 x.2 in
-    let some = behind_some fault least most x.0.1.words x.0.1 (decimal n) x.3 in
-    let q = (reads_number least most fits).again x.0.1 n (decimal n ∷ []) [] tt (low, high, refl) x.3 in
-    let left = no_words q.0.words q.2 in
-    rw (x.1, word, some, q.1) (ap (alone fault n) left)
-
-number_takes : (number : ℕ) (name : List ℕ) (least most : ℕ) → most < 2 ^ 64 → (raw : List ℕ) (n : ℕ) → number_line number name least most raw ≡ Ok n → IsLine number (joined (name ∷ decimal n ∷ [])) raw × (least ≤ n) × (n ≤ most)
-unfolding number_line
-number_takes number name least most fits raw n e =
-    let b = bind_ok (line_rest number raw) (λ r. named_number (header_fault number r) name least most r) n e in
-    let r = fields_taken number raw b.0 b.1 in
-    let p = named_takes (header_fault number b.0) name least most fits b.0 n b.2 in
-    (subst (λ (ws : List (List ℕ)). IsLine number (joined ws) raw) p.0 r.line, p.1, p.2)
-
-number_again : (number : ℕ) (name : List ℕ) (least most : ℕ) → most < 2 ^ 64 → IsClean name → (raw : List ℕ) (n : ℕ) → IsLine number (joined (name ∷ decimal n ∷ [])) raw → least ≤ n → n ≤ most → number_line number name least most raw ≡ Ok n
-unfolding number_line
-number_again number name least most fits clean raw n line low high =
-    let rest = fields_again number raw name (decimal n ∷ []) (clean, (IsClean-decimal n (omega arith), tt)) line in
-    ap (λ (x : Result Rest TextFault). x >>= λ r. named_number (header_fault number r) name least most r) rest.0
-    ∙ named_again (header_fault number (rest_of number (joined (name ∷ decimal n ∷ [])))) name least most fits (rest_of number (joined (name ∷ decimal n ∷ []))) n rest.1 low high
-
--- ---- the next line
+use Rattle.line_fields.proofs.Endings.{ending_again}
+use Rattle.line_fields.proofs.Texts.{lines_of-raw}
+use Rattle.line_fields.proofs.LineRests.{fields_taken, fields_again, is_raw, text_takes, text_again}
+use Rattle.trace_reader.specs.Headers.{first_words, initial_number, initial_words, header_words, IsHeader, AreLines, header_fault, some_left, named_rest, alone, value_line, next_value, version_in, first_version, version_named, first_line, initial_of, initial_value, initial_field, initial_line, header_of}
 
 abbrev pub Raws : Type 0
 Raws = List (List ℕ)
 
+-- what a line is read as, up to its name
+abbrev Named : Type 0
+Named = Rest × TextFault
+
+-- ---- a name, and what is behind it
+
+some_taken : (fault : TextFault) (ws : List Word) (r : Rest) (x : Named) → some_left fault ws r ≡ Ok x → x ≡ (r, fault)
+some_taken fault [] r x e = absurd cc
+some_taken fault (w ∷ ws) r x e = sym (ok_is (r, fault) x e)
+
+some_given : (fault : TextFault) (ws : List Word) (r : Rest) (t : List ℕ) → map (λ w. w.text) ws ≡ t ∷ [] → some_left fault ws r ≡ Ok (r, fault)
+some_given fault [] r t e = absurd cc
+some_given fault (w ∷ ws) r t e = refl
+
+guard_name : (b : Bool) (fault : TextFault) (read : Result Named TextFault) (x : Named) → cond b read (Err fault) ≡ Ok x → (b ≡ true) × (read ≡ Ok x)
+guard_name true fault read x e = (refl, e)
+guard_name false fault read x e = absurd cc
+
+abbrev behind_name : ℕ → List ℕ → Rest → Word × Rest → Result Named TextFault
+behind_name number name r w = cond (bytes_eq w.0.text name) (some_left (header_fault number r) w.1.words w.1) (Err (header_fault number r))
+
+named_takes : (number : ℕ) (name raw : List ℕ) (x : Named) → named_rest number name raw ≡ Ok x → IsLine number (joined (name ∷ texts x.0)) raw
+unfolding named_rest
+named_takes number name raw x e =
+    let a = bind_ok (line_rest number raw) (λ r. next_field r >>= behind_name number name r) x e in
+    let b = bind_ok (next_field a.0) (behind_name number name a.0) x a.2 in
+    let r = fields_taken number raw a.0 a.1 in
+    let front = first_takes (missing a.0) a.0.line a.0.stop a.0.words b.0 b.1 in
+    let g = guard_name (bytes_eq b.0.0.text name) (header_fault number a.0) (some_left (header_fault number a.0) b.0.1.words b.0.1) x b.2 in
+    let word = (bytes_eq-Decides b.0.0.text name).0 g.0 in
+    let left = some_taken (header_fault number a.0) b.0.1.words b.0.1 x g.1 in
+    let same : texts a.0 ≡ name ∷ texts x.0 = front ∙ ap (λ (t : List ℕ). t ∷ texts b.0.1) word ∙ ap (λ (y : Named). name ∷ texts y.0) (sym left) in
+    subst (λ (ws : List (List ℕ)). IsLine number (joined ws) raw) same r.line
+
+-- the one field behind the name is left
+record IsNamed (number : ℕ) (name raw t : List ℕ) : Type 0 where
+  rest : Rest
+  fault : TextFault
+  read : named_rest number name raw ≡ Ok (rest, fault)
+  one : texts rest ≡ t ∷ []
+
+named_again : (number : ℕ) (name raw t : List ℕ) → IsClean name → IsClean t → IsLine number (joined (name ∷ t ∷ [])) raw → IsNamed number name raw t
+unfolding named_rest
+named_again number name raw t clean field line =
+    let whole = rest_of number (joined (name ∷ t ∷ [])) in
+    let rest = fields_again number raw name (t ∷ []) (clean, (field, tt)) line in
+    let x = first_again (missing whole) whole.line whole.stop whole.words name (t ∷ []) rest.1 in
+    let word : bytes_eq x.0.0.text name ≡ true = (bytes_eq-Decides x.0.0.text name).1 x.2 in
+    let some = some_given (header_fault number whole) x.0.1.words x.0.1 t x.3 in
+    let read = ap (λ (r : Result Rest TextFault). r >>= λ q. next_field q >>= behind_name number name q) rest.0 in
+    record { rest = x.0.1; fault = header_fault number whole; read = read ∙ rw (x.1, word, some) refl; one = x.3 }
+
+-- ---- a value behind a name
+
+alone_takes : {A : Type 0} (fault : TextFault) (a b : A) (ws : List Word) → alone fault a ws ≡ Ok b → (a ≡ b) × (map (λ w. w.text) ws ≡ [])
+alone_takes fault a b [] e = (ok_is a b e, refl)
+alone_takes fault a b (w ∷ ws) e = absurd cc
+
+-- the value of one field
+module _ {A : Type 0} (number : ℕ) (name : List ℕ) (read : Rest → Result (A × Rest) TextFault) (V : A → List ℕ → Type 0) (law : IsReader read (λ a ws. (t : List ℕ) × V a t × (ws ≡ t ∷ []))) where
+  record IsValued (a : A) (raw : List ℕ) : Type 0 where
+    text : List ℕ
+    value : V a text
+    line : IsLine number (joined (name ∷ text ∷ [])) raw
+
+  value_takes : (raw : List ℕ) (a : A) → value_line number name read raw ≡ Ok a → IsValued a raw
+  unfolding value_line
+  value_takes raw a e =
+      let x = bind_ok (named_rest number name raw) (λ l. read l.0 >>= λ y. alone l.1 y.0 y.1.words) a e in
+      let y = bind_ok (read x.0.0) (λ y. alone x.0.1 y.0 y.1.words) a x.2 in
+      let line = named_takes number name raw x.0 x.1 in
+      let own = law.takes x.0.0 y.0 y.1 in
+      let last = alone_takes x.0.1 y.0.0 a y.0.1.words y.2 in
+      let one : texts x.0.0 ≡ own.1.0 ∷ [] = own.2 ∙ ap (λ (us : Raws). own.0 ++ us) last.1 ∙ ap (λ (us : Raws). us ++ []) own.1.2 in
+      record {
+        text = own.1.0;
+        value = subst (λ (b : A). V b own.1.0) last.0 own.1.1;
+        line = subst (λ (ws : Raws). IsLine number (joined (name ∷ ws)) raw) one line;
+      }
+
+  value_again : (raw t : List ℕ) (a : A) → IsClean name → IsClean t → IsLine number (joined (name ∷ t ∷ [])) raw → V a t → value_line number name read raw ≡ Ok a
+  unfolding value_line
+  value_again raw t a clean field line value =
+      let named = named_again number name raw t clean field line in
+      let first = named.read in
+      let own = law.again named.rest a (t ∷ []) [] tt (t, value, refl) named.one in
+      let second = own.1 in
+      rw (first, second) (ap (alone named.fault a) (no_words own.0.words own.2))
+
 raw_takes : (number : ℕ) (raws : Raws) (x : List ℕ × Raws) → next_raw number raws ≡ Ok x → raws ≡ x.0 ∷ x.1
 raw_takes number [] x e = absurd cc
 raw_takes number (raw ∷ raws) x e = subst (λ (y : List ℕ × Raws). raw ∷ raws ≡ y.0 ∷ y.1) (ok_is (raw, raws) x e) refl
+
+-- the same of the next line
+module _ {A : Type 0} (number : ℕ) (name : List ℕ) (read : Rest → Result (A × Rest) TextFault) (V : A → List ℕ → Type 0) (law : IsReader read (λ a ws. (t : List ℕ) × V a t × (ws ≡ t ∷ []))) where
+  record IsNext (raws : Raws) (x : A × Raws) : Type 0 where
+    raw : List ℕ
+    first : raws ≡ raw ∷ x.1
+    valued : IsValued number name read V law x.0 raw
+
+  next_takes : (raws : Raws) (x : A × Raws) → next_value number name read raws ≡ Ok x → IsNext raws x
+  unfolding next_value
+  next_takes raws x e =
+      let a = bind_ok (next_raw number raws) (λ y. value_line number name read y.0 >>= λ n. Ok (n, y.1)) x e in
+      let b = bind_ok (value_line number name read a.0.0) (λ n. Ok (n, a.0.1)) x a.2 in
+      subst (λ (y : A × Raws). IsNext raws y) (ok_is (b.0, a.0.1) x b.2) (record { raw = a.0.0; first = raw_takes number raws a.0 a.1; valued = value_takes number name read V law a.0.0 b.0 b.1 })
+
+  next_again : (raw t : List ℕ) (raws : Raws) (a : A) → IsClean name → IsClean t → IsLine number (joined (name ∷ t ∷ [])) raw → V a t → next_value number name read (raw ∷ raws) ≡ Ok (a, raws)
+  unfolding next_value
+  next_again raw t raws a clean field line value =
+      ap (λ (x : Result A TextFault). x >>= λ b. Ok (b, raws)) (value_again number name read V law raw t a clean field line value)
+
+-- ---- numbers
+
+reads_one : (least most : ℕ) → most < 2 ^ 64 → IsReader (number_field least most) (λ n ws. (t : List ℕ) × IsNumber least most n t × (ws ≡ t ∷ []))
+unfolding number_field
+reads_one least most fits = reads_field (number_value least most) (IsNumber least most) (is_number_value least most fits)
 
 record IsNumbered (number : ℕ) (name : List ℕ) (least most : ℕ) (raws : Raws) (x : ℕ × Raws) : Type 0 where
   raw : List ℕ
@@ -99,38 +155,147 @@ record IsNumbered (number : ℕ) (name : List ℕ) (least most : ℕ) (raws : Ra
   low : least ≤ x.0
   high : x.0 ≤ most
 
-next_takes : (number : ℕ) (name : List ℕ) (least most : ℕ) → most < 2 ^ 64 → (raws : Raws) (x : ℕ × Raws) → next_number number name least most raws ≡ Ok x → IsNumbered number name least most raws x
-unfolding next_number
-next_takes number name least most fits raws x e =
-    let a = bind_ok (next_raw number raws) (λ y. number_line number name least most y.0 >>= λ n. Ok (n, y.1)) x e in
-    let b = bind_ok (number_line number name least most a.0.0) (λ n. Ok (n, a.0.1)) x a.2 in
-    let p = number_takes number name least most fits a.0.0 b.0 b.1 in
-    subst (λ (y : ℕ × Raws). IsNumbered number name least most raws y) (ok_is (b.0, a.0.1) x b.2) (record { raw = a.0.0; first = raw_takes number raws a.0 a.1; line = p.0; low = p.1; high = p.2 })
+number_takes : (number : ℕ) (name : List ℕ) (least most : ℕ) → most < 2 ^ 64 → (raws : Raws) (x : ℕ × Raws) → next_value number name (number_field least most) raws ≡ Ok x → IsNumbered number name least most raws x
+number_takes number name least most fits raws x e =
+    let n = next_takes number name (number_field least most) (IsNumber least most) (reads_one least most fits) raws x e in
+    let v = n.valued in
+    record {
+      raw = n.raw;
+      first = n.first;
+      line = subst (λ (t : List ℕ). IsLine number (joined (name ∷ t ∷ [])) n.raw) v.value.0 v.line;
+      low = v.value.1;
+      high = v.value.2;
+    }
 
-next_again : (number : ℕ) (name : List ℕ) (least most : ℕ) → most < 2 ^ 64 → IsClean name → (raw : List ℕ) (raws : Raws) (n : ℕ) → IsLine number (joined (name ∷ decimal n ∷ [])) raw → least ≤ n → n ≤ most
-    → next_number number name least most (raw ∷ raws) ≡ Ok (n, raws)
-unfolding next_number
-next_again number name least most fits clean raw raws n line low high =
-    ap (λ (x : Result ℕ TextFault). x >>= λ m. Ok (m, raws)) (number_again number name least most fits clean raw n line low high)
+number_again : (number : ℕ) (name : List ℕ) (least most : ℕ) → most < 2 ^ 64 → IsClean name → (raw : List ℕ) (raws : Raws) (n : ℕ) → IsLine number (joined (name ∷ decimal n ∷ [])) raw → least ≤ n → n ≤ most
+    → next_value number name (number_field least most) (raw ∷ raws) ≡ Ok (n, raws)
+number_again number name least most fits clean raw raws n line low high =
+    next_again number name (number_field least most) (IsNumber least most) (reads_one least most fits) raw (decimal n) raws n clean (IsClean-decimal n (omega arith)) line (refl, low, high)
 
-record IsFirst (raws rest : Raws) : Type 0 where
+-- ---- the RFC of the first congestion window
+
+-- the text names the RFC
+abbrev IsInitial : Initial → List ℕ → Type 0
+IsInitial i text = text ≡ decimal (initial_number i)
+
+guard_initial : (a b : Bool) (fault : TextFault) (i : Initial) → cond a (Ok Rfc5681) (cond b (Ok Rfc6928) (Err fault)) ≡ Ok i → ((a ≡ true) × (i ≡ Rfc5681)) ⊎ ((b ≡ true) × (i ≡ Rfc6928))
+guard_initial true b fault i e = inl (refl, sym (ok_is Rfc5681 i e))
+guard_initial false true fault i e = inr (refl, sym (ok_is Rfc6928 i e))
+guard_initial false false fault i e = absurd cc
+
+initial_taken : (w : Word) (n : ℕ) (i : Initial) → initial_of w n ≡ Ok i → n ≡ initial_number i
+initial_taken w n i e = elim (guard_initial (n == 5681) (n == 6928) (fault_at kinds.Number w) i e) [
+  | inl a ↦ eqb-true n 5681 a.0 ∙ ap initial_number (sym a.1)
+  | inr b ↦ eqb-true n 6928 b.0 ∙ ap initial_number (sym b.1)
+]
+
+initial_given : (w : Word) (i : Initial) → initial_of w (initial_number i) ≡ Ok i
+initial_given w Rfc5681 = refl
+initial_given w Rfc6928 = refl
+
+initial_within : (i : Initial) → (5681 ≤ initial_number i) × (initial_number i ≤ 6928)
+initial_within Rfc5681 = (omega arith, omega arith)
+initial_within Rfc6928 = (omega arith, omega arith)
+
+is_initial : IsValue initial_value IsInitial
+is_initial = record {
+  takes = λ w i e.
+      let b = bind_ok (number_value 5681 6928 w) (initial_of w) i e in
+      let v = (is_number_value 5681 6928 (omega arith)).takes w b.0 b.1 in
+      v.0 ∙ ap decimal (initial_taken w b.0 i b.2);
+  again = λ w i v.
+      let within = initial_within i in
+      ap (λ (x : Result ℕ TextFault). x >>= initial_of w) ((is_number_value 5681 6928 (omega arith)).again w (initial_number i) (v, within.0, within.1)) ∙ initial_given w i;
+}
+
+reads_initial : IsReader initial_field (λ i ws. (t : List ℕ) × IsInitial i t × (ws ≡ t ∷ []))
+unfolding initial_field
+reads_initial = reads_field initial_value IsInitial is_initial
+
+initial_clean : (i : Initial) → IsClean (decimal (initial_number i))
+initial_clean i = let within = initial_within i in IsClean-decimal (initial_number i) (let h = within.1 in omega (arith, h))
+
+-- what was read where version 2 names the RFC, and version 1 doesn't
+record IsNamedInitial (v : Version) (raws : Raws) (x : Initial × Raws) : Type 0 where
+  heads : Raws
+  front : raws ≡ heads ++ x.1
+  limit : v ≡ One → x.0 ≡ Rfc5681
+  lines : AreLines 7 (initial_words v x.0) heads
+
+initial_takes : (v : Version) (raws : Raws) (x : Initial × Raws) → initial_line v raws ≡ Ok x → IsNamedInitial v raws x
+initial_takes One raws x e = subst (λ (y : Initial × Raws). IsNamedInitial One raws y) (ok_is (Rfc5681, raws) x e) (record { heads = []; front = refl; limit = λ one. refl; lines = tt })
+initial_takes Two raws x e =
+    let n = next_takes 7 (codes "initial") initial_field IsInitial reads_initial raws x e in
+    let v = n.valued in
+    record {
+      heads = n.raw ∷ [];
+      front = n.first;
+      limit = λ one. absurd cc;
+      lines = (subst (λ (t : List ℕ). IsLine 7 (joined (codes "initial" ∷ t ∷ [])) n.raw) v.value v.line, tt);
+    }
+
+-- ---- the first line
+
+record IsFirst (raws : Raws) (x : Version × Raws) : Type 0 where
   raw : List ℕ
-  first : raws ≡ raw ∷ rest
-  line : IsLine 1 (joined first_words) raw
+  first : raws ≡ raw ∷ x.1
+  line : IsLine 1 (joined (first_words x.0)) raw
 
-first_clean : AllByRecursion IsClean first_words
-first_clean = (clean_by (codes "trace") refl, (clean_by (codes "1") refl, tt))
+first_clean : (v : Version) → AllByRecursion IsClean (first_words v)
+first_clean One = (clean_by (codes "trace") refl, (clean_by (codes "1") refl, tt))
+first_clean Two = (clean_by (codes "trace") refl, (clean_by (codes "2") refl, tt))
 
-first_taken : (raws rest : Raws) → first_line raws ≡ Ok rest → IsFirst raws rest
+guard_version : (a b : Bool) (fault : TextFault) (v : Version) → cond a (Ok One) (cond b (Ok Two) (Err fault)) ≡ Ok v → ((a ≡ true) × (v ≡ One)) ⊎ ((b ≡ true) × (v ≡ Two))
+guard_version true b fault v e = inl (refl, sym (ok_is One v e))
+guard_version false true fault v e = inr (refl, sym (ok_is Two v e))
+guard_version false false fault v e = absurd cc
+
+version_taken : (text : List ℕ) (v : Version) → version_in text ≡ Ok v → text ≡ joined (first_words v)
+version_taken text v e =
+    let same : (u : Version) → bytes_eq text (joined (first_words u)) ≡ true → text ≡ joined (first_words u) = λ u h. (bytes_eq-Decides text (joined (first_words u))).0 h in
+    elim (guard_version (bytes_eq text (joined (first_words One))) (bytes_eq text (joined (first_words Two))) (record { kind = kinds.Header; span = whole_line 1 text }) v e) [
+      | inl a ↦ same One a.0 ∙ ap (λ (u : Version). joined (first_words u)) (sym a.1)
+      | inr b ↦ same Two b.0 ∙ ap (λ (u : Version). joined (first_words u)) (sym b.1)
+    ]
+
+version_given : (v : Version) → version_in (joined (first_words v)) ≡ Ok v
+version_given One = refl
+version_given Two = refl
+
+version_takes : (raw : List ℕ) (v : Version) → first_version raw ≡ Ok v → IsLine 1 (joined (first_words v)) raw
+unfolding first_version
+version_takes raw v e =
+    let b = bind_ok (line_text 1 raw) version_in v e in
+    subst (λ (t : List ℕ). IsLine 1 t raw) (version_taken b.0 v b.2) (text_takes 1 raw b.0 b.1)
+
+version_again : (v : Version) (raw : List ℕ) → IsLine 1 (joined (first_words v)) raw → first_version raw ≡ Ok v
+unfolding first_version
+version_again v raw line =
+    ap (λ (x : Result (List ℕ) TextFault). x >>= version_in) (text_again 1 raw (joined (first_words v)) (joined_no_return (first_words v) (first_clean v)) line) ∙ version_given v
+
+-- it is known from the first line alone
+named_by : (v : Version) (raw : List ℕ) (raws : Raws) → IsLine 1 (joined (first_words v)) raw → version_named (raw ∷ raws) ≡ v
+named_by One raw raws line =
+    let own = ending_again raw (joined (first_words One)) (joined_no_return (first_words One) (first_clean One)) line.ends in
+    let text = own.0 in
+    let ended = own.1 in
+    rw (text, ended) refl
+named_by Two raw raws line =
+    let own = ending_again raw (joined (first_words Two)) (joined_no_return (first_words Two) (first_clean Two)) line.ends in
+    let text = own.0 in
+    let ended = own.1 in
+    rw (text, ended) refl
+
+first_taken : (raws : Raws) (x : Version × Raws) → first_line raws ≡ Ok x → IsFirst raws x
 unfolding first_line
-first_taken raws rest e =
-    let a = bind_ok (next_raw 1 raws) (λ y. exact_line 1 (joined first_words) y.0 >>= λ u. Ok y.1) rest e in
-    let b = bind_ok (exact_line 1 (joined first_words) a.0.0) (λ u. Ok a.0.1) rest a.2 in
-    subst (λ (y : Raws). IsFirst raws y) (ok_is a.0.1 rest b.2) (record { raw = a.0.0; first = raw_takes 1 raws a.0 a.1; line = exact_takes 1 (joined first_words) a.0.0 b.0 b.1 })
+first_taken raws x e =
+    let a = bind_ok (next_raw 1 raws) (λ y. first_version y.0 >>= λ v. Ok (v, y.1)) x e in
+    let b = bind_ok (first_version a.0.0) (λ v. Ok (v, a.0.1)) x a.2 in
+    subst (λ (y : Version × Raws). IsFirst raws y) (ok_is (b.0, a.0.1) x b.2) (record { raw = a.0.0; first = raw_takes 1 raws a.0 a.1; line = version_takes a.0.0 b.0 b.1 })
 
-first_given : (raw : List ℕ) (rest : Raws) → IsLine 1 (joined first_words) raw → first_line (raw ∷ rest) ≡ Ok rest
+first_given : (v : Version) (raw : List ℕ) (rest : Raws) → IsLine 1 (joined (first_words v)) raw → first_line (raw ∷ rest) ≡ Ok (v, rest)
 unfolding first_line
-first_given raw rest line = ap (λ (x : Result (Unit {0}) TextFault). x >>= λ u. Ok rest) (exact_again 1 (joined first_words) raw (joined_no_return first_words first_clean) line)
+first_given v raw rest line = ap (λ (x : Result Version TextFault). x >>= λ u. Ok (u, rest)) (version_again v raw line)
 
 -- ---- the header
 
@@ -140,23 +305,44 @@ Numbered = ℕ × Raws
 abbrev pub Headed : Type 0
 Headed = Header × Raws
 
-abbrev pub with_extra : Numbered → Numbered → Numbered → Numbered → Numbered → Result Headed TextFault
-with_extra s m g i x = Ok (record { skew = s.0; msl = m.0; grain = g.0; minrto = i.0; extra = x.0 }, x.1)
+abbrev pub skew_line : Raws → Result Numbered TextFault
+skew_line raws = next_value 2 (codes "skew") (number_field 0 1000000000) raws
 
-abbrev pub with_minrto : Numbered → Numbered → Numbered → Numbered → Result Headed TextFault
-with_minrto s m g i = next_number 6 (codes "extra") 0 65535 i.1 >>= with_extra s m g i
+abbrev pub msl_line : Raws → Result Numbered TextFault
+msl_line raws = next_value 3 (codes "msl") (number_field 1 3600000000) raws
 
-abbrev pub with_grain : Numbered → Numbered → Numbered → Result Headed TextFault
-with_grain s m g = next_number 5 (codes "minrto") 0 60000000 g.1 >>= with_minrto s m g
+abbrev pub grain_line : Raws → Result Numbered TextFault
+grain_line raws = next_value 4 (codes "grain") (number_field 0 60000000) raws
 
-abbrev pub with_msl : Numbered → Numbered → Result Headed TextFault
-with_msl s m = next_number 4 (codes "grain") 0 60000000 m.1 >>= with_grain s m
+abbrev pub minrto_line : Raws → Result Numbered TextFault
+minrto_line raws = next_value 5 (codes "minrto") (number_field 0 60000000) raws
 
-abbrev pub with_skew : Numbered → Result Headed TextFault
-with_skew s = next_number 3 (codes "msl") 1 3600000000 s.1 >>= with_msl s
+abbrev pub extra_line : Raws → Result Numbered TextFault
+extra_line raws = next_value 6 (codes "extra") (number_field 0 65535) raws
 
-abbrev pub with_first : Raws → Result Headed TextFault
-with_first f = next_number 2 (codes "skew") 0 1000000000 f >>= with_skew
+abbrev pub header_with : Version → ℕ → ℕ → ℕ → ℕ → ℕ → Initial → Header
+header_with v s m g i x n = record { version = v; skew = s; msl = m; grain = g; minrto = i; extra = x; initial = n }
+
+abbrev pub with_initial : Version → ℕ → ℕ → ℕ → ℕ → ℕ → Initial × Raws → Result Headed TextFault
+with_initial v s m g i x n = Ok (header_with v s m g i x n.0, n.1)
+
+abbrev pub with_extra : Version → ℕ → ℕ → ℕ → ℕ → Numbered → Result Headed TextFault
+with_extra v s m g i x = initial_line v x.1 >>= with_initial v s m g i x.0
+
+abbrev pub with_minrto : Version → ℕ → ℕ → ℕ → Numbered → Result Headed TextFault
+with_minrto v s m g i = extra_line i.1 >>= with_extra v s m g i.0
+
+abbrev pub with_grain : Version → ℕ → ℕ → Numbered → Result Headed TextFault
+with_grain v s m g = minrto_line g.1 >>= with_minrto v s m g.0
+
+abbrev pub with_msl : Version → ℕ → Numbered → Result Headed TextFault
+with_msl v s m = grain_line m.1 >>= with_grain v s m.0
+
+abbrev pub with_skew : Version → Numbered → Result Headed TextFault
+with_skew v s = msl_line s.1 >>= with_msl v s.0
+
+abbrev pub with_first : Version × Raws → Result Headed TextFault
+with_first f = skew_line f.1 >>= with_skew f.0
 
 -- the header that was read, and the bytes of its lines
 pub record IsHeaded (raws : List (List ℕ)) (x : Header × List (List ℕ)) : Type 0 where
@@ -169,23 +355,26 @@ pub header_takes : (raws : List (List ℕ)) (x : Header × List (List ℕ)) → 
 unfolding header_of
 header_takes raws x e =
     let a = bind_ok (first_line raws) with_first x e in
-    let b = bind_ok (next_number 2 (codes "skew") 0 1000000000 a.0) with_skew x a.2 in
-    let c = bind_ok (next_number 3 (codes "msl") 1 3600000000 b.0.1) (with_msl b.0) x b.2 in
-    let d = bind_ok (next_number 4 (codes "grain") 0 60000000 c.0.1) (with_grain b.0 c.0) x c.2 in
-    let f = bind_ok (next_number 5 (codes "minrto") 0 60000000 d.0.1) (with_minrto b.0 c.0 d.0) x d.2 in
-    let g = bind_ok (next_number 6 (codes "extra") 0 65535 f.0.1) (with_extra b.0 c.0 d.0 f.0) x f.2 in
+    let v = a.0.0 in
+    let b = bind_ok (skew_line a.0.1) (with_skew v) x a.2 in
+    let c = bind_ok (msl_line b.0.1) (with_msl v b.0.0) x b.2 in
+    let d = bind_ok (grain_line c.0.1) (with_grain v b.0.0 c.0.0) x c.2 in
+    let f = bind_ok (minrto_line d.0.1) (with_minrto v b.0.0 c.0.0 d.0.0) x d.2 in
+    let g = bind_ok (extra_line f.0.1) (with_extra v b.0.0 c.0.0 d.0.0 f.0.0) x f.2 in
+    let k = bind_ok (initial_line v g.0.1) (with_initial v b.0.0 c.0.0 d.0.0 f.0.0 g.0.0) x g.2 in
     let h = first_taken raws a.0 a.1 in
-    let s = next_takes 2 (codes "skew") 0 1000000000 (omega arith) a.0 b.0 b.1 in
-    let m = next_takes 3 (codes "msl") 1 3600000000 (omega arith) b.0.1 c.0 c.1 in
-    let n = next_takes 4 (codes "grain") 0 60000000 (omega arith) c.0.1 d.0 d.1 in
-    let i = next_takes 5 (codes "minrto") 0 60000000 (omega arith) d.0.1 f.0 f.1 in
-    let t = next_takes 6 (codes "extra") 0 65535 (omega arith) f.0.1 g.0 g.1 in
-    let made : Header = record { skew = b.0.0; msl = c.0.0; grain = d.0.0; minrto = f.0.0; extra = g.0.0 } in
-    subst (λ (y : Headed). IsHeaded raws y) (ok_is (made, g.0.1) x g.2) (record {
-      heads = h.raw ∷ s.raw ∷ m.raw ∷ n.raw ∷ i.raw ∷ t.raw ∷ [];
-      front = h.first ∙ ap (λ (us : Raws). h.raw ∷ us) (s.first ∙ ap (λ (us : Raws). s.raw ∷ us) (m.first ∙ ap (λ (us : Raws). m.raw ∷ us) (n.first ∙ ap (λ (us : Raws). n.raw ∷ us) (i.first ∙ ap (λ (us : Raws). i.raw ∷ us) t.first))));
-      limits = record { skew = s.high; msl_least = m.low; msl = m.high; grain = n.high; minrto = i.high; extra = t.high };
-      lines = (h.line, (s.line, (m.line, (n.line, (i.line, (t.line, tt))))));
+    let s = number_takes 2 (codes "skew") 0 1000000000 (omega arith) a.0.1 b.0 b.1 in
+    let m = number_takes 3 (codes "msl") 1 3600000000 (omega arith) b.0.1 c.0 c.1 in
+    let n = number_takes 4 (codes "grain") 0 60000000 (omega arith) c.0.1 d.0 d.1 in
+    let i = number_takes 5 (codes "minrto") 0 60000000 (omega arith) d.0.1 f.0 f.1 in
+    let t = number_takes 6 (codes "extra") 0 65535 (omega arith) f.0.1 g.0 g.1 in
+    let l = initial_takes v g.0.1 k.0 k.1 in
+    let made : Header = header_with v b.0.0 c.0.0 d.0.0 f.0.0 g.0.0 k.0.0 in
+    subst (λ (y : Headed). IsHeaded raws y) (ok_is (made, k.0.1) x k.2) (record {
+      heads = h.raw ∷ s.raw ∷ m.raw ∷ n.raw ∷ i.raw ∷ t.raw ∷ l.heads;
+      front = h.first ∙ ap (λ (us : Raws). h.raw ∷ us) (s.first ∙ ap (λ (us : Raws). s.raw ∷ us) (m.first ∙ ap (λ (us : Raws). m.raw ∷ us) (n.first ∙ ap (λ (us : Raws). n.raw ∷ us) (i.first ∙ ap (λ (us : Raws). i.raw ∷ us) (t.first ∙ ap (λ (us : Raws). t.raw ∷ us) l.front)))));
+      limits = record { skew = s.high; msl_least = m.low; msl = m.high; grain = n.high; minrto = i.high; extra = t.high; initial = l.limit };
+      lines = (h.line, (s.line, (m.line, (n.line, (i.line, (t.line, l.lines))))));
     })
 
 -- the first of some lines
@@ -204,9 +393,21 @@ no_line : (number : ℕ) (raws : Raws) → AreLines number [] raws → raws ≡ 
 no_line number [] h = refl
 no_line number (raw ∷ raws) h = absurd h
 
+initial_again : (v : Version) (i : Initial) (heads rest : Raws) → (v ≡ One → i ≡ Rfc5681) → AreLines 7 (initial_words v i) heads → initial_line v (heads ++ rest) ≡ Ok (i, rest)
+initial_again One i heads rest limit lines =
+    ap (λ (us : Raws). initial_line One (us ++ rest)) (no_line 7 heads lines) ∙ ap (λ (j : Initial). Ok (j, rest)) (sym (limit refl))
+initial_again Two i heads rest limit lines =
+    let a = has_line 7 (codes "initial" ∷ decimal (initial_number i) ∷ []) [] heads lines in
+    let all : heads ≡ a.raw ∷ [] = a.first ∙ ap (λ (us : Raws). a.raw ∷ us) (no_line 8 a.rest a.others) in
+    ap (λ (us : Raws). initial_line Two (us ++ rest)) all
+    ∙ next_again 7 (codes "initial") initial_field IsInitial reads_initial a.raw (decimal (initial_number i)) rest i (clean_by (codes "initial") refl) (initial_clean i) a.line refl
+
 -- the fields of the header's lines from one line on
+abbrev from_initial : Header → List (List (List ℕ))
+from_initial h = initial_words h.version h.initial
+
 abbrev from_extra : Header → List (List (List ℕ))
-from_extra h = (codes "extra" ∷ decimal h.extra ∷ []) ∷ []
+from_extra h = (codes "extra" ∷ decimal h.extra ∷ []) ∷ from_initial h
 
 abbrev from_minrto : Header → List (List (List ℕ))
 from_minrto h = (codes "minrto" ∷ decimal h.minrto ∷ []) ∷ from_extra h
@@ -223,27 +424,32 @@ from_skew h = (codes "skew" ∷ decimal h.skew ∷ []) ∷ from_msl h
 pub header_again : (h : Header) (heads rest : List (List ℕ)) → IsHeader h → AreLines 1 (header_words h) heads → header_of (heads ++ rest) ≡ Ok (h, rest)
 unfolding header_of
 header_again h heads rest limits lines =
-    let a = has_line 1 first_words (from_skew h) heads lines in
+    let a = has_line 1 (first_words h.version) (from_skew h) heads lines in
     let b = has_line 2 (codes "skew" ∷ decimal h.skew ∷ []) (from_msl h) a.rest a.others in
     let c = has_line 3 (codes "msl" ∷ decimal h.msl ∷ []) (from_grain h) b.rest b.others in
     let d = has_line 4 (codes "grain" ∷ decimal h.grain ∷ []) (from_minrto h) c.rest c.others in
     let f = has_line 5 (codes "minrto" ∷ decimal h.minrto ∷ []) (from_extra h) d.rest d.others in
-    let g = has_line 6 (codes "extra" ∷ decimal h.extra ∷ []) [] f.rest f.others in
-    let none = no_line 7 g.rest g.others in
-    let all : heads ≡ a.raw ∷ b.raw ∷ c.raw ∷ d.raw ∷ f.raw ∷ g.raw ∷ [] =
-    a.first ∙ ap (λ (us : Raws). a.raw ∷ us) (b.first ∙ ap (λ (us : Raws). b.raw ∷ us) (c.first ∙ ap (λ (us : Raws). c.raw ∷ us) (d.first ∙ ap (λ (us : Raws). d.raw ∷ us) (f.first ∙ ap (λ (us : Raws). f.raw ∷ us) (g.first ∙ ap (λ (us : Raws). g.raw ∷ us) none))))) in
-    let first = first_given a.raw (b.raw ∷ c.raw ∷ d.raw ∷ f.raw ∷ g.raw ∷ rest) a.line in
-    let skew = next_again 2 (codes "skew") 0 1000000000 (omega arith) (clean_by (codes "skew") refl) b.raw (c.raw ∷ d.raw ∷ f.raw ∷ g.raw ∷ rest) h.skew b.line (omega arith) limits.skew in
-    let msl = next_again 3 (codes "msl") 1 3600000000 (omega arith) (clean_by (codes "msl") refl) c.raw (d.raw ∷ f.raw ∷ g.raw ∷ rest) h.msl c.line limits.msl_least limits.msl in
-    let grain = next_again 4 (codes "grain") 0 60000000 (omega arith) (clean_by (codes "grain") refl) d.raw (f.raw ∷ g.raw ∷ rest) h.grain d.line (omega arith) limits.grain in
-    let minrto = next_again 5 (codes "minrto") 0 60000000 (omega arith) (clean_by (codes "minrto") refl) f.raw (g.raw ∷ rest) h.minrto f.line (omega arith) limits.minrto in
-    let extra = next_again 6 (codes "extra") 0 65535 (omega arith) (clean_by (codes "extra") refl) g.raw rest h.extra g.line (omega arith) limits.extra in
-    ap (λ (us : Raws). first_line (us ++ rest) >>= with_first) all ∙ rw (first, skew, msl, grain, minrto, extra) refl
+    let g = has_line 6 (codes "extra" ∷ decimal h.extra ∷ []) (from_initial h) f.rest f.others in
+    let last = g.rest in
+    let all : heads ≡ a.raw ∷ b.raw ∷ c.raw ∷ d.raw ∷ f.raw ∷ g.raw ∷ last =
+    a.first ∙ ap (λ (us : Raws). a.raw ∷ us) (b.first ∙ ap (λ (us : Raws). b.raw ∷ us) (c.first ∙ ap (λ (us : Raws). c.raw ∷ us) (d.first ∙ ap (λ (us : Raws). d.raw ∷ us) (f.first ∙ ap (λ (us : Raws). f.raw ∷ us) g.first)))) in
+    let first = first_given h.version a.raw (b.raw ∷ c.raw ∷ d.raw ∷ f.raw ∷ g.raw ∷ (last ++ rest)) a.line in
+    let skew = number_again 2 (codes "skew") 0 1000000000 (omega arith) (clean_by (codes "skew") refl) b.raw (c.raw ∷ d.raw ∷ f.raw ∷ g.raw ∷ (last ++ rest)) h.skew b.line (omega arith) limits.skew in
+    let msl = number_again 3 (codes "msl") 1 3600000000 (omega arith) (clean_by (codes "msl") refl) c.raw (d.raw ∷ f.raw ∷ g.raw ∷ (last ++ rest)) h.msl c.line limits.msl_least limits.msl in
+    let grain = number_again 4 (codes "grain") 0 60000000 (omega arith) (clean_by (codes "grain") refl) d.raw (f.raw ∷ g.raw ∷ (last ++ rest)) h.grain d.line (omega arith) limits.grain in
+    let minrto = number_again 5 (codes "minrto") 0 60000000 (omega arith) (clean_by (codes "minrto") refl) f.raw (g.raw ∷ (last ++ rest)) h.minrto f.line (omega arith) limits.minrto in
+    let extra = number_again 6 (codes "extra") 0 65535 (omega arith) (clean_by (codes "extra") refl) g.raw (last ++ rest) h.extra g.line (omega arith) limits.extra in
+    let initial = initial_again h.version h.initial last rest limits.initial g.others in
+    ap (λ (us : Raws). first_line (us ++ rest) >>= with_first) all ∙ rw (first, skew, msl, grain, minrto, extra, initial) refl
+
+words_clean : (v : Version) (i : Initial) → AllByRecursion (AllByRecursion IsClean) (initial_words v i)
+words_clean One i = tt
+words_clean Two i = ((clean_by (codes "initial") refl, (initial_clean i, tt)), tt)
 
 header_clean : (h : Header) → IsHeader h → AllByRecursion (AllByRecursion IsClean) (header_words h)
 header_clean h limits =
     let skew = limits.skew in let msl = limits.msl in let grain = limits.grain in let minrto = limits.minrto in let extra = limits.extra in (
-      first_clean,
+      first_clean h.version,
       (
         (clean_by (codes "skew") refl, (IsClean-decimal h.skew (omega arith), tt)),
         (
@@ -252,7 +458,7 @@ header_clean h limits =
             (clean_by (codes "grain") refl, (IsClean-decimal h.grain (omega arith), tt)),
             (
               (clean_by (codes "minrto") refl, (IsClean-decimal h.minrto (omega arith), tt)),
-              ((clean_by (codes "extra") refl, (IsClean-decimal h.extra (omega arith), tt)), tt),
+              ((clean_by (codes "extra") refl, (IsClean-decimal h.extra (omega arith), tt)), words_clean h.version h.initial),
             ),
           ),
         ),
@@ -268,3 +474,12 @@ lines_raw number (ws ∷ lines) (raw ∷ raws) clean h = (is_raw number ws raw c
 -- what spells a header are lines
 pub header_raw : (h : Header) (heads : List (List ℕ)) → IsHeader h → AreLines 1 (header_words h) heads → AllByRecursion IsRaw heads
 header_raw h heads limits lines = lines_raw 1 (header_words h) heads (header_clean h limits) lines
+
+-- a text that begins with a header names its version
+pub header_named : (h : Header) (heads : List (List ℕ)) (rest : List ℕ) → AreLines 1 (header_words h) heads → version_named (lines_of (concat heads ++ rest)) ≡ h.version
+header_named h heads rest lines =
+    let a = has_line 1 (first_words h.version) (from_skew h) heads lines in
+    let behind = concat a.rest ++ rest in
+    let cut : lines_of (concat heads ++ rest) ≡ a.raw ∷ lines_of behind =
+    ap (λ (us : Raws). lines_of (concat us ++ rest)) a.first ∙ ap lines_of (append_assoc a.raw (concat a.rest) rest) ∙ lines_of-raw a.raw behind (is_raw 1 (first_words h.version) a.raw (first_clean h.version) a.line) in
+    ap version_named cut ∙ named_by h.version a.raw (lines_of behind) a.line

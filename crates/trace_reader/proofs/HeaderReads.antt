@@ -1,13 +1,13 @@
 -- The header of a text whose lines are read as they are asked for: each line behind those before it.
-use Rattle.std.proofs.Common.{◌≡◌, ℕ, List, Option, None, Some, Result, Ok, Err}
+use Rattle.std.proofs.Common.{◌≡◌, Option, None, Some, Result, Ok, Err}
 use Rattle.case_forms.specs.declared.trace.Header.{Header}
 use Rattle.line_fields.specs.declared.fault.TextFault.{TextFault}
 use Rattle.line_fields.specs.declared.fault.ReadFault.{ReadFault}
 use Rattle.line_fields.specs.Reading.{◌>>=◌}
-use Rattle.line_fields.specs.Rows.{with_rest, rest_alone, Reads}
+use Rattle.line_fields.specs.Rows.{with_rest, Reads}
 use Rattle.line_fields.proofs.ReadsLemmas.{reads_then, reads_not}
-use Rattle.trace_reader.specs.Headers.{next_number, first_line, header_of}
-use Rattle.trace_reader.proofs.HeaderLaw.{Raws, Numbered, Headed, with_first}
+use Rattle.trace_reader.specs.Headers.{first_line, header_of}
+use Rattle.trace_reader.proofs.HeaderLaw.{Raws, Headed, with_first}
 
 abbrev Known : Type 0
 Known = Option Raws
@@ -16,30 +16,24 @@ Known = Option Raws
 abbrev Heads : (Raws → Result Headed TextFault) → Known → Known → Result Header ReadFault → Type 0
 Heads read a c r = Reads with_rest read a c r
 
--- ---- the first line
+-- a value, and what is read behind it
+module _ {A : Type 0} (value : Raws → Result (A × Raws) TextFault) (next : A × Raws → Result Headed TextFault) where
+  abbrev pub both : Raws → Result Headed TextFault
+  both raws = value raws >>= next
 
-pub first_then : (a b c : Known) (r : Result Header ReadFault) → Reads rest_alone first_line a b (Ok tt) → Heads with_first b c r → Heads header_of a c r
-unfolding header_of
-first_then a b c r p q = reads_then rest_alone first_line with_rest with_first a b c tt r p q
+  pub value_then : (a b c : Known) (x : A) (r : Result Header ReadFault) → Reads with_rest value a b (Ok x) → Heads (λ rest. next (x, rest)) b c r → Heads both a c r
+  value_then a b c x r p q = reads_then with_rest value with_rest next a b c x r p q
 
-pub first_not : (a b : Known) (f : ReadFault) → Reads rest_alone first_line a b (Err f) → Heads header_of a b (Err f)
-unfolding header_of
-first_not a b f p = reads_not rest_alone first_line with_rest with_first a b b f p
-
--- ---- a number, and what is read behind it
-
-module _ (number : ℕ) (name : List ℕ) (least most : ℕ) (next : Numbered → Result Headed TextFault) where
-  abbrev pub numbered : Raws → Result Headed TextFault
-  numbered raws = next_number number name least most raws >>= next
-
-  pub number_then : (a b c : Known) (n : ℕ) (r : Result Header ReadFault) → Reads with_rest (next_number number name least most) a b (Ok n) → Heads (λ rest. next (n, rest)) b c r → Heads numbered a c r
-  number_then a b c n r p q = reads_then with_rest (next_number number name least most) with_rest next a b c n r p q
-
-  pub number_not : (a b : Known) (f : ReadFault) → Reads with_rest (next_number number name least most) a b (Err f) → Heads numbered a b (Err f)
-  number_not a b f p = reads_not with_rest (next_number number name least most) with_rest next a b b f p
+  pub value_not : (a b : Known) (f : ReadFault) → Reads with_rest value a b (Err f) → Heads both a b (Err f)
+  value_not a b f p = reads_not with_rest value with_rest next a b b f p
 
   -- it is the last
-  pub number_last : (a b : Known) (n : ℕ) (h : Header) → ((rest : Raws) → next (n, rest) ≡ Ok (h, rest)) → Reads with_rest (next_number number name least most) a b (Ok n) → Heads numbered a b (Ok h)
-  number_last None b n h made p = tt
-  number_last (Some raws) None n h made p = absurd p
-  number_last (Some raws) (Some rest) n h made p = rw p (made rest)
+  pub value_last : (a b : Known) (x : A) (h : Header) → ((rest : Raws) → next (x, rest) ≡ Ok (h, rest)) → Reads with_rest value a b (Ok x) → Heads both a b (Ok h)
+  value_last None b x h made p = tt
+  value_last (Some raws) None x h made p = absurd p
+  value_last (Some raws) (Some rest) x h made p = rw p (made rest)
+
+-- the header is its first line and what is behind it
+pub is_header : (a c : Known) (r : Result Header ReadFault) → Heads (both first_line with_first) a c r → Heads header_of a c r
+unfolding header_of
+is_header a c r p = p

@@ -7,13 +7,14 @@ use Rattle.case_forms.specs.declared.trace.Line.{Line}
 use Rattle.case_forms.specs.declared.trace.Trace.{Trace}
 use Rattle.line_fields.specs.declared.fault.TextFault.{TextFault}
 use Rattle.line_fields.specs.declared.fault.ReadFault.TheVariants as reads
+use Rattle.line_fields.specs.Word.{Rest}
 use Rattle.line_fields.specs.Reading.{Fails}
 use Rattle.line_fields.specs.Lines.{line_text, line_rest}
 use Rattle.line_fields.specs.Rows.{rows_of, with_rest, TakesRow, HasNoRow, next_text, FailsAt, Reads}
 use Rattle.line_fields.specs.Left.{Yields, FailsLeft}
 use Rattle.line_fields.proofs.Loop.{Fails-map, with_front}
 use Rattle.line_fields.proofs.LeftLemmas.{left_in, yields_item, yields_none, fails_line, fails_text}
-use Rattle.trace_reader.specs.Headers.{number_line, header_of}
+use Rattle.trace_reader.specs.Headers.{named_rest, value_line, first_version, header_of}
 use Rattle.trace_reader.specs.EventLines.{Place, behind, line_of}
 use Rattle.trace_reader.specs.TraceText.{events_of, trace_of}
 use Rattle.trace_reader.specs.TraceLeft.{with_header, Begins, StandsAt}
@@ -40,9 +41,13 @@ stands place raw line is = let l = reads_line.takes place raw line is in record 
 
 -- ---- the header
 
-pub number_begins : (number : ℕ) (name : List ℕ) (least most : ℕ) (raw : List ℕ) (e : TextFault) → line_text number raw ≡ Err e → number_line number name least most raw ≡ Err e
-unfolding number_line line_rest
-number_begins number name least most raw e is = rw is refl
+pub version_begins : (raw : List ℕ) (e : TextFault) → line_text 1 raw ≡ Err e → first_version raw ≡ Err e
+unfolding first_version
+version_begins raw e is = rw is refl
+
+pub value_begins : {A : Type 0} (number : ℕ) (name : List ℕ) (read : Rest → Result (A × Rest) TextFault) (raw : List ℕ) (e : TextFault) → line_text number raw ≡ Err e → value_line number name read raw ≡ Err e
+unfolding value_line named_rest line_rest
+value_begins number name read raw e is = rw is refl
 
 pub header_begins : (a b : Option (List ℕ)) (h : Header) → Reads with_rest header_of (rows_of a) (rows_of b) (Ok h) → Begins (option_map trace_of a) (option_map (events_of h) (rows_of b)) h
 unfolding trace_of

@@ -1,18 +1,21 @@
 //! The header's lines.
 
 ghost use Rattle.std.specs.Prelude.{◌≡◌, ◌≢◌, ◌≤◌, Err, IfOk, codes};
+ghost use Rattle.bstr.specs.Text.{lines_of};
 ghost use Rattle.counted.specs.Counting.{left_of, failures_of, one_more};
-ghost use Rattle.line_fields.specs.Reading.{Gives};
-ghost use Rattle.line_fields.specs.Rows.{rows_of, with_rest, rest_alone, Reads};
-ghost use Rattle.trace_reader.specs.Headers.{number_line, next_number, first_line, header_of};
+ghost use Rattle.line_fields.specs.Reading.{Gives, number_field};
+ghost use Rattle.line_fields.specs.Rows.{rows_of, with_rest, Reads};
+ghost use Rattle.line_fields.specs.Spelling.{joined};
+ghost use Rattle.trace_reader.specs.Headers.{first_words, begins_trace, version_named, named_rest, value_line, next_value, first_version, first_line, initial_field, initial_line, header_of};
 
-use case_forms::Header;
+use bstr::ByteSlice;
+use case_forms::{Header, Initial, Version};
 use counted::Counted;
-use line_fields::{FaultKind, ReadFault, Span, TextFault, exact_line, fields_of, needed_line};
+use line_fields::{
+    FaultKind, Fields, ReadFault, Span, TextFault, content, fields_of, is_text, needed_line,
+    text_of,
+};
 use std::io::BufRead;
-
-/// The first line, which names the version of the text.
-pub(crate) const FIRST_LINE: &str = "trace 1";
 
 const MAX_SKEW: u64 = 1_000_000_000;
 
@@ -24,12 +27,46 @@ const MAX_MINRTO: u64 = 60_000_000;
 
 const MAX_EXTRA: u64 = 65_535;
 
-// The number of a line that is a name and a number from `least` to `most`. Another word, or another count of fields,
-// is Header at the whole line.
-#[tactic(auto, unfolding(crate::specs::Headers::number_line))]
-fn number_line(number: u64, name: &str, least: u64, most: u64, raw: &[u8]) -> Result<u64, TextFault>
-    ensures value { Gives (λ n. n) result (number_line number name.now least most raw.now) }
-    ensures range { IfOk result (λ n. (least ≤ n) × (n ≤ most)) }
+// The number of the line that names the RFC of the first congestion window.
+const INITIAL_LINE: u64 = 7;
+
+/// The first line, which names the version of the text.
+pub(crate) fn first_text(version: Version) -> &'static str
+    ensures { result.now ≡ joined (first_words version) }
+{
+    match version {
+        Version::One => "trace 1",
+        Version::Two => "trace 2",
+    }
+}
+
+// Whether a line, given with its end, is exactly the first line of a trace of this version, ended by LF or CR LF.
+fn begins_trace(version: Version, raw: &[u8]) -> bool
+    ensures { result ≡ begins_trace version raw.now }
+{
+    let (text, ended) = content(raw);
+    ended && is_text(text, first_text(version))
+}
+
+/// The version that the first line of a text names, where this line is ended; version 1 where it names none.
+pub fn version_named(text: &[u8]) -> Version
+    ensures { result ≡ version_named (lines_of text.now) }
+{
+    match text.lines_with_terminator().next() {
+        Some(raw) if begins_trace(Version::Two, raw) => Version::Two,
+        _ => Version::One,
+    }
+}
+
+// The fields of a line behind its name, of which there is one at least, and the fault of another count of fields. It is
+// Header at the whole line, as another name is.
+#[tactic(auto, unfolding(crate::specs::Headers::named_rest))]
+fn named_rest<'a>(
+    number: u64,
+    name: &str,
+    raw: &'a [u8],
+) -> Result<(Fields<'a>, TextFault), TextFault>
+    ensures { Gives (λ rest. rest) result (named_rest number name.now raw.now) }
 {
     let mut fields = fields_of(number, raw)?;
     let span = Span {
@@ -48,6 +85,16 @@ fn number_line(number: u64, name: &str, least: u64, most: u64, raw: &[u8]) -> Re
     if fields.is_empty() {
         return Err(fault);
     }
+    Ok((fields, fault))
+}
+
+// The number of a line that is a name and a number from `least` to `most`.
+#[tactic(auto, unfolding(crate::specs::Headers::value_line))]
+fn number_line(number: u64, name: &str, least: u64, most: u64, raw: &[u8]) -> Result<u64, TextFault>
+    ensures value { Gives (λ n. n) result (value_line number name.now (number_field least most) raw.now) }
+    ensures range { IfOk result (λ n. (least ≤ n) × (n ≤ most)) }
+{
+    let (mut fields, fault) = named_rest(number, name, raw)?;
     let value = fields.number(least, most)?;
     if !fields.is_empty() {
         return Err(fault);
@@ -55,8 +102,34 @@ fn number_line(number: u64, name: &str, least: u64, most: u64, raw: &[u8]) -> Re
     Ok(value)
 }
 
-// The number of the next line, which is such a line.
-#[tactic(auto, unfolding(crate::specs::Headers::next_number))]
+// The next field, which names one of the two RFCs by its number. Another number is Number.
+#[tactic(auto, unfolding(crate::specs::Headers::initial_field))]
+fn initial_field(fields: &mut Fields) -> Result<Initial, TextFault>
+    ensures { Gives (λ initial. (initial, fields.new)) result (initial_field fields.old) }
+{
+    let field = fields.next()?;
+    match field.number(5681, 6928)? {
+        5681 => Ok(Initial::Rfc5681),
+        6928 => Ok(Initial::Rfc6928),
+        _ => Err(field.fault(FaultKind::Number)),
+    }
+}
+
+// The RFC of the line that is `initial` and its number.
+#[tactic(auto, unfolding(crate::specs::Headers::value_line))]
+fn named_initial(raw: &[u8]) -> Result<Initial, TextFault>
+    ensures { Gives (λ initial. initial) result (value_line 7 (codes "initial") initial_field raw.now) }
+{
+    let (mut fields, fault) = named_rest(INITIAL_LINE, "initial", raw)?;
+    let initial = initial_field(&mut fields)?;
+    if !fields.is_empty() {
+        return Err(fault);
+    }
+    Ok(initial)
+}
+
+// The number of the next line, which is a name and a number.
+#[tactic(auto, unfolding(crate::specs::Headers::next_value))]
 fn next_number<A: BufRead>(
     source: &mut Counted<A>,
     line: &mut Vec<u8>,
@@ -65,7 +138,7 @@ fn next_number<A: BufRead>(
     least: u64,
     most: u64,
 ) -> Result<u64, ReadFault>
-    ensures value { Reads with_rest (next_number number name.now least most)
+    ensures value { Reads with_rest (next_value number name.now (number_field least most))
         (rows_of (left_of A.remaining source.old)) (rows_of (left_of A.remaining source.new)) result }
     ensures range { IfOk result (λ n. (least ≤ n) × (n ≤ most)) }
     ensures read { result ≡ Err ReadFault.Read → failures_of source.new ≡ one_more (failures_of source.old) }
@@ -76,15 +149,71 @@ fn next_number<A: BufRead>(
     Ok(value)
 }
 
-// The first line, which has to stand as it is.
-fn first_line<A: BufRead>(source: &mut Counted<A>, line: &mut Vec<u8>) -> Result<(), ReadFault>
-    ensures line { Reads rest_alone first_line (rows_of (left_of A.remaining source.old)) (rows_of (left_of A.remaining source.new)) result }
+// The RFC of the next line, which is `initial` and its number.
+#[tactic(auto, unfolding(crate::specs::Headers::next_value))]
+fn next_initial<A: BufRead>(
+    source: &mut Counted<A>,
+    line: &mut Vec<u8>,
+) -> Result<Initial, ReadFault>
+    ensures value { Reads with_rest (next_value 7 (codes "initial") initial_field)
+        (rows_of (left_of A.remaining source.old)) (rows_of (left_of A.remaining source.new)) result }
+    ensures read { result ≡ Err ReadFault.Read → failures_of source.new ≡ one_more (failures_of source.old) }
+    ensures same { result ≢ Err ReadFault.Read → failures_of source.new ≡ failures_of source.old }
+{
+    needed_line(source, INITIAL_LINE, line)?;
+    let initial = named_initial(line.as_slice())?;
+    Ok(initial)
+}
+
+// The RFC that gives the first congestion window, by the next line where the version has one for it.
+fn initial_line<A: BufRead>(
+    source: &mut Counted<A>,
+    line: &mut Vec<u8>,
+    version: Version,
+) -> Result<Initial, ReadFault>
+    ensures value { Reads with_rest (initial_line version)
+        (rows_of (left_of A.remaining source.old)) (rows_of (left_of A.remaining source.new)) result }
+    ensures read { result ≡ Err ReadFault.Read → failures_of source.new ≡ one_more (failures_of source.old) }
+    ensures same { result ≢ Err ReadFault.Read → failures_of source.new ≡ failures_of source.old }
+{
+    match version {
+        Version::One => Ok(Initial::Rfc5681),
+        Version::Two => next_initial(source, line),
+    }
+}
+
+// The version whose first line this is. Another text is Header, at the whole line.
+#[tactic(auto, unfolding(crate::specs::Headers::first_version))]
+fn first_version(raw: &[u8]) -> Result<Version, TextFault>
+    ensures { Gives (λ version. version) result (first_version raw.now) }
+{
+    let text = text_of(1, raw)?;
+    if is_text(text, first_text(Version::One)) {
+        return Ok(Version::One);
+    }
+    if is_text(text, first_text(Version::Two)) {
+        return Ok(Version::Two);
+    }
+    let span = Span {
+        line: 1,
+        start: 0,
+        stop: text.len(),
+    };
+    Err(TextFault {
+        kind: FaultKind::Header,
+        span,
+    })
+}
+
+// The version that the first line names.
+fn first_line<A: BufRead>(source: &mut Counted<A>, line: &mut Vec<u8>) -> Result<Version, ReadFault>
+    ensures line { Reads with_rest first_line (rows_of (left_of A.remaining source.old)) (rows_of (left_of A.remaining source.new)) result }
     ensures read { result ≡ Err ReadFault.Read → failures_of source.new ≡ one_more (failures_of source.old) }
     ensures same { result ≢ Err ReadFault.Read → failures_of source.new ≡ failures_of source.old }
 {
     needed_line(source, 1, line)?;
-    exact_line(1, FIRST_LINE, line.as_slice())?;
-    Ok(())
+    let version = first_version(line.as_slice())?;
+    Ok(version)
 }
 
 /// The header of a text, whose lines are taken.
@@ -96,17 +225,20 @@ pub(crate) fn header<A: BufRead>(
     ensures read { result ≡ Err ReadFault.Read → failures_of source.new ≡ one_more (failures_of source.old) }
     ensures same { result ≢ Err ReadFault.Read → failures_of source.new ≡ failures_of source.old }
 {
-    first_line(source, line)?;
+    let version = first_line(source, line)?;
     let skew = next_number(source, line, 2, "skew", 0, MAX_SKEW)?;
     let msl = next_number(source, line, 3, "msl", 1, MAX_MSL)?;
     let grain = next_number(source, line, 4, "grain", 0, MAX_GRAIN)?;
     let minrto = next_number(source, line, 5, "minrto", 0, MAX_MINRTO)?;
     let extra = next_number(source, line, 6, "extra", 0, MAX_EXTRA)? as u16;
+    let initial = initial_line(source, line, version)?;
     Ok(Header {
+        version,
         skew,
         msl,
         grain,
         minrto,
         extra,
+        initial,
     })
 }

@@ -1,6 +1,6 @@
 //! The text of a trace: what stands in it is read, with the first fault and its place, and printed again.
 //!
-//! A text is six lines of a header and, behind them, event lines. specs/TraceText.antt says which text stands for which
+//! A text is six lines of a header, seven in version 2, and behind them event lines. specs/TraceText.antt says which text stands for which
 //! trace, and is the file to read first; the forms of the lines stand in specs/Headers.antt, specs/EventLines.antt, specs/Events.antt and specs/Calls.antt.
 //! Whether the trace can be explained is `checker`'s; here a line is only what it says.
 //!
@@ -21,13 +21,13 @@ mod reading;
 mod stream;
 mod wires;
 
-pub use case_forms::{Answer, Call, Event, Header, Host, Line, Lines, State, Timer, Trace, Wire};
+pub use case_forms::{
+    Answer, Call, Event, Header, Host, Initial, Line, Lines, State, Timer, Trace, Version, Wire,
+};
 pub use counted::Counted;
 pub use events::event_line;
+pub use header::version_named;
 pub use line_fields::{FaultKind, ReadFault, SegFault, Span, TextFault, Token};
 pub use printing::{print_law, print_trace};
 pub use reading::read_trace;
 pub use stream::TraceReader;
-
-#[cfg(test)]
-mod tests;

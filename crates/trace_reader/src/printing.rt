@@ -1,18 +1,20 @@
 //! The printer of a trace.
 
-ghost use Rattle.std.specs.Prelude.{◌≡◌, ◌∷◌, [], ◌++◌, ℕ, List, IfOk, OnOk};
+ghost use Rattle.std.specs.Prelude.{◌≡◌, ◌∷◌, [], ◌++◌, ℕ, List, IfOk, OnOk, map};
+ghost use Rattle.std.specs.List.{concat};
 ghost use Rattle.std.specs.Fmt.{decimal};
 ghost use Rattle.case_forms.specs.declared.trace.Trace.{Trace};
 ghost use Rattle.line_fields.specs.Hosts.{host_number};
 ghost use Rattle.line_fields.specs.Spelling.{plain, hex, number, printed, printed_line, printed_behind};
+ghost use Rattle.trace_reader.specs.Headers.{initial_words};
 ghost use Rattle.trace_reader.specs.Calls.{call_pieces};
 ghost use Rattle.trace_reader.specs.Events.{event_pieces};
 ghost use Rattle.trace_reader.specs.EventLines.{line_pieces};
 ghost use Rattle.trace_reader.specs.TraceText.{IsTraceText};
 ghost use Rattle.trace_reader.specs.Printed.{header_text, trace_text};
 
-use crate::header::FIRST_LINE;
-use case_forms::{Call, Event, Header, Host, Line, OutOfMemory, Trace, Wire};
+use crate::header::first_text;
+use case_forms::{Call, Event, Header, Host, Initial, Line, OutOfMemory, Trace, Version, Wire};
 use line_fields::{
     push_answer, push_end, push_hex, push_host, push_number, push_space, push_word, timer_name,
 };
@@ -28,17 +30,33 @@ fn push_number_line(out: &mut Vec<u8>, name: &str, number: u64) -> Result<(), Ou
     push_end(out)
 }
 
+// Writes the line that names the RFC of the first congestion window, which version 1 doesn't have.
+fn push_initial(out: &mut Vec<u8>, version: Version, initial: Initial) -> Result<(), OutOfMemory>
+    ensures { OnOk result (out.new.items ≡ out.old.items ++ concat (map printed (initial_words version initial))) }
+{
+    let number = match initial {
+        Initial::Rfc5681 => 5681,
+        Initial::Rfc6928 => 6928,
+    };
+    match version {
+        Version::One => Ok(()),
+        Version::Two => push_number_line(out, "initial", number),
+    }
+}
+
 // Writes the header's lines.
 fn push_header(out: &mut Vec<u8>, header: &Header) -> Result<(), OutOfMemory>
     ensures { OnOk result (out.new.items ≡ out.old.items ++ header_text header.now) }
 {
-    push_word(out, FIRST_LINE)?;
+    push_word(out, first_text(header.version))?;
     push_end(out)?;
     push_number_line(out, "skew", header.skew)?;
     push_number_line(out, "msl", header.msl)?;
     push_number_line(out, "grain", header.grain)?;
     push_number_line(out, "minrto", header.minrto)?;
-    push_number_line(out, "extra", u64::from(header.extra))
+    push_number_line(out, "extra", u64::from(header.extra))?;
+    push_initial(out, header.version, header.initial)?;
+    Ok(())
 }
 
 // Writes a number behind a space.

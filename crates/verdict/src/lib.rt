@@ -9,8 +9,6 @@
 
 mod report;
 mod rule;
-#[cfg(test)]
-mod tests;
 
 pub use report::{Verdict, print_verdict};
 pub use rule::Rule;

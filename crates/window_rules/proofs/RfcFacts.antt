@@ -1,7 +1,7 @@
 -- Values of RFC 9293 and RFC 5681, said of the definitions, so that a slip in one of them does not check.
 use Rattle.std.proofs.Common.{◌≡◌, ℕ, true, false, refl}
 use Rattle.window_rules.specs.declared.congestion.Congestion.{Congestion}
-use Rattle.window_rules.specs.Windows.{greatest_window, offered_edge, congestion_edge, initial_window}
+use Rattle.window_rules.specs.Windows.{greatest_window, offered_edge, congestion_edge, initial_window, initial_window_6928, scaled_window}
 use Rattle.window_rules.specs.Growth.{may_grow, counted_after, on_duplicate}
 use Rattle.window_rules.specs.Losses.{on_timeout, recovery_window, on_fast}
 
@@ -44,6 +44,23 @@ default_segments = refl
 
 pub one_segment : initial_window 1460 true ≡ 1460
 one_segment = refl
+
+-- the initial window (RFC 6928, 2)
+pub ten_segments : initial_window_6928 536 ≡ 5360
+ten_segments = refl
+
+pub bytes_at_most : initial_window_6928 1460 ≡ 14600
+bytes_at_most = refl
+
+pub two_large_segments : initial_window_6928 9000 ≡ 18000
+two_large_segments = refl
+
+-- windows by a shift (RFC 7323, 2.2 and 2.3)
+pub shifted_by_seven : scaled_window 512 7 ≡ 65536
+shifted_by_seven = refl
+
+pub a_shift_of_fifteen_is_fourteen : scaled_window 3 15 ≡ scaled_window 3 14
+a_shift_of_fifteen_is_fourteen = refl
 
 -- slow start (RFC 5681, 3.1, equation 2)
 pub slow_by_bytes : may_grow (sending 4000 10000 0) 500 ≡ 4500

@@ -17,8 +17,6 @@ mod congestion;
 mod growth;
 mod laws;
 mod losses;
-#[cfg(test)]
-mod tests;
 mod windows;
 
 pub use congestion::Congestion;
@@ -28,4 +26,7 @@ pub use laws::{
     losses_are_greatest, recovery_is_greatest,
 };
 pub use losses::{on_fast, on_timeout, recovery_window};
-pub use windows::{GREATEST_WINDOW, congestion_edge, initial_window, offered_edge};
+pub use windows::{
+    GREATEST_WINDOW, congestion_edge, initial_window, initial_window_6928, offered_edge,
+    scaled_window,
+};

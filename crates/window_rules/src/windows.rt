@@ -1,7 +1,7 @@
 //! How far new data may reach, and the first congestion window. Positions and windows count bytes.
 
 ghost use Rattle.std.specs.Prelude.{◌≡◌, ◌≤◌, ◌<◌, ◌^◌};
-ghost use Rattle.window_rules.specs.Windows.{greatest_window, capped, offered_edge, limited_transmit, congestion_edge, initial_window};
+ghost use Rattle.window_rules.specs.Windows.{greatest_window, capped, offered_edge, limited_transmit, congestion_edge, initial_window, initial_window_6928, scaled_window};
 
 use crate::congestion::Congestion;
 
@@ -44,6 +44,24 @@ pub fn initial_window(smss: u32, syn_lost: bool) -> u64
         4 * smss
     };
     capped(window)
+}
+
+/// The same by RFC 6928, 2: ten segments, at most 14600 bytes, or two segments where these are more. Lost SYNs aren't
+/// looked at.
+pub fn initial_window_6928(smss: u32) -> u64
+    ensures greatest { result ≡ initial_window_6928 smss }
+    ensures limit { result ≤ greatest_window }
+{
+    let smss = smss as u64;
+    capped((10 * smss).min((2 * smss).max(14_600)))
+}
+
+/// The bytes of a window by a shift; a shift above 14 is read as 14 (RFC 7323, 2.2 and 2.3).
+pub fn scaled_window(window: u16, shift: u8) -> u32
+    ensures value { result ≡ scaled_window window shift }
+    ensures small { result < 2 ^ 30 }
+{
+    u32::from(window) << shift.min(14)
 }
 
 /// A window in bytes, or the greatest if it is above.

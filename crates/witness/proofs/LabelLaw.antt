@@ -1,6 +1,6 @@
 -- The spelling of a label, both ways. A number may follow some forms, so a label is the last of its line.
 use Rattle.std.proofs.Common.{◌≡◌, ◌≤◌, ℕ, List, ◌++◌, Bool, true, false, Option, Some, None, Ok, refl, subst, arith}
-use Rattle.std.specs.Prelude.{codes}
+use Rattle.std.specs.Prelude.{IfSome, codes}
 use Rattle.std.specs.Fmt.{decimal}
 use Rattle.std.specs.List.{AllByRecursion}
 use Rattle.seqno.specs.declared.word.Word.{Word}
@@ -12,6 +12,8 @@ use Rattle.case_forms.specs.declared.steps.Flags.{Flags}
 use Rattle.case_forms.specs.declared.named_line.NamedLine.{NamedLine}
 use Rattle.case_forms.specs.declared.steps.Label.{Label}
 use Rattle.case_forms.specs.declared.steps.Label.TheVariants.{L, D, M, T, K, R, F}
+use Rattle.case_forms.specs.declared.version.Version.{Version}
+use Rattle.case_forms.specs.Witnesses.{IsShift}
 use Rattle.line_fields.specs.Word.{Rest}
 use Rattle.line_fields.specs.Reading.{number_field}
 use Rattle.line_fields.specs.Reader.{texts, Any, Nothing, IsLastReader, IsReader}
@@ -27,12 +29,12 @@ use Rattle.line_fields.proofs.Clean.{clean_by}
 use Rattle.witness.specs.declared.labels.LabelWord.{LabelWord}
 use Rattle.witness.specs.declared.labels.LabelWord.TheVariants as words
 use Rattle.witness.specs.Flags.{flags_field}
-use Rattle.witness.specs.Parts.{endpoint_field, entry_field, bit_field, extras_field, first_number_field}
-use Rattle.witness.specs.Labels.{label_name, all_label_words, bit_number, extras_pieces, AreExtras, iss_pieces, IsIss, label_tail, label_word, label_pieces, IsLabel, IsSpelledLabel}
+use Rattle.witness.specs.Parts.{endpoint_field, entry_field, bit_field, extras_field, Start, start_field}
+use Rattle.witness.specs.Labels.{label_name, all_label_words, bit_number, extras_pieces, AreExtras, iss_pieces, IsIss, shift_pieces, IsStart, label_tail, label_word, label_pieces, IsLabel, IsSpelledLabel}
 use Rattle.witness.specs.LabelFields.{line_label, effect_label, segment_label, taking_label, dropping_label, refusing_label, recovery_label, label_behind, label_field}
 use Rattle.witness.proofs.Made.{IsMade, reads_made, reads_part}
 use Rattle.witness.proofs.FlagsLaw.{flags_piece, reads_flags, flags_clean}
-use Rattle.witness.proofs.PartLaw.{IsWithin, one_piece, reads_within, bit_piece, reads_bit, IsEndpoint, pieces_at, reads_endpoint, IsEntry, pieces_in, reads_entry, reads_extras, reads_iss}
+use Rattle.witness.proofs.PartLaw.{IsWithin, one_piece, reads_within, bit_piece, reads_bit, IsEndpoint, pieces_at, reads_endpoint, IsEntry, pieces_in, reads_entry, reads_extras, FitsStart, start_pieces, reads_start}
 
 -- ---- a line
 
@@ -64,36 +66,36 @@ reads_effect =
 abbrev At : Type 0
 At = Host × ℕ × ℕ
 
-abbrev make_segment : At × (ℕ × (ℕ × (Flags × (ℕ × Option Word)))) → Label NamedLine
-make_segment y = M y.0.0 (record { lport = y.0.1; rport = y.0.2; pos = y.1.0; len = y.1.1.0; flags = y.1.1.1.0; window = y.1.1.1.1.0; iss = y.1.1.1.1.1 })
+abbrev make_segment : At × (ℕ × (ℕ × (Flags × (ℕ × Start)))) → Label NamedLine
+make_segment y = M y.0.0 (record { lport = y.0.1; rport = y.0.2; pos = y.1.0; len = y.1.1.0; flags = y.1.1.1.0; window = y.1.1.1.1.0; iss = y.1.1.1.1.1.0; shift = y.1.1.1.1.1.1 })
 
-abbrev FitsSegment : At × (ℕ × (ℕ × (Flags × (ℕ × Option Word)))) → Type 0
-FitsSegment y = IsEndpoint y.0 × (IsWithin 0 1000000000000000000 y.1.0 × (IsWithin 0 65515 y.1.1.0 × (Unit {0} × (IsWithin 0 65535 y.1.1.1.1.0 × IsIss y.1.1.1.1.1))))
+abbrev FitsSegment : Version → At × (ℕ × (ℕ × (Flags × (ℕ × Start)))) → Type 0
+FitsSegment v y = IsEndpoint y.0 × (IsWithin 0 1000000000000000000 y.1.0 × (IsWithin 0 65515 y.1.1.0 × (Unit {0} × (IsWithin 0 65535 y.1.1.1.1.0 × FitsStart v y.1.1.1.1.1))))
 
-abbrev window_pieces : ℕ × Option Word → List Piece
-window_pieces y = one_piece y.0 ++ iss_pieces y.1
+abbrev window_pieces : ℕ × Start → List Piece
+window_pieces y = one_piece y.0 ++ start_pieces y.1
 
-abbrev flags_pieces : Flags × (ℕ × Option Word) → List Piece
+abbrev flags_pieces : Flags × (ℕ × Start) → List Piece
 flags_pieces y = flags_piece y.0 ++ window_pieces y.1
 
-abbrev len_pieces : ℕ × (Flags × (ℕ × Option Word)) → List Piece
+abbrev len_pieces : ℕ × (Flags × (ℕ × Start)) → List Piece
 len_pieces y = one_piece y.0 ++ flags_pieces y.1
 
-abbrev position_pieces : ℕ × (ℕ × (Flags × (ℕ × Option Word))) → List Piece
+abbrev position_pieces : ℕ × (ℕ × (Flags × (ℕ × Start))) → List Piece
 position_pieces y = one_piece y.0 ++ len_pieces y.1
 
-abbrev all_pieces : At × (ℕ × (ℕ × (Flags × (ℕ × Option Word)))) → List Piece
+abbrev all_pieces : At × (ℕ × (ℕ × (Flags × (ℕ × Start)))) → List Piece
 all_pieces y = pieces_at y.0 ++ position_pieces y.1
 
-reads_segment : IsLastReader segment_label (IsMade make_segment FitsSegment all_pieces)
+reads_segment : (v : Version) → IsLastReader (segment_label v) (IsMade make_segment (FitsSegment v) all_pieces)
 unfolding segment_label
-reads_segment =
+reads_segment v =
     reads_part Nothing endpoint_field IsEndpoint pieces_at _ make_segment _ position_pieces reads_endpoint
     (λ at. reads_part Nothing (number_field 0 1000000000000000000) (IsWithin 0 1000000000000000000) one_piece _ (λ x. make_segment (at, x)) _ len_pieces (reads_within 0 1000000000000000000 (omega arith))
     (λ position. reads_part Nothing (number_field 0 65515) (IsWithin 0 65515) one_piece _ (λ x. make_segment (at, (position, x))) _ flags_pieces (reads_within 0 65515 (omega arith))
     (λ len. reads_part Nothing flags_field (λ f. Unit {0}) flags_piece _ (λ x. make_segment (at, (position, (len, x)))) _ window_pieces reads_flags
-    (λ flags. reads_part Nothing (number_field 0 65535) (IsWithin 0 65535) one_piece _ (λ x. make_segment (at, (position, (len, (flags, x))))) _ iss_pieces (reads_within 0 65535 (omega arith))
-    (λ window. reads_made Nothing first_number_field (λ iss. make_segment (at, (position, (len, (flags, (window, iss)))))) IsIss iss_pieces reads_iss)))))
+    (λ flags. reads_part Nothing (number_field 0 65535) (IsWithin 0 65535) one_piece _ (λ x. make_segment (at, (position, (len, (flags, x))))) _ start_pieces (reads_within 0 65535 (omega arith))
+    (λ window. reads_made Nothing (start_field v) (λ start. make_segment (at, (position, (len, (flags, (window, start)))))) (FitsStart v) start_pieces (reads_start v))))))
 
 -- ---- an inbox entry that is taken, dropped or refused
 
@@ -158,48 +160,50 @@ labels_named words.Dropping = refl
 labels_named words.Refusing = refl
 labels_named words.Recovery = refl
 
--- what was read behind the first word
-abbrev Behind : LabelWord → Rest → Label NamedLine × Rest → Type 0
-Behind k r x = IsBehind label_word label_tail IsLabel k r x.0 x.1
+-- of each version
+module _ (v : Version) where
+  -- what was read behind the first word
+  abbrev Behind : LabelWord → Rest → Label NamedLine × Rest → Type 0
+  Behind k r x = IsBehind label_word label_tail (IsLabel v) k r x.0 x.1
 
--- what was made of parts is known by the parts
-takes_made : {Y : Type 0} (k : LabelWord) (make : Y → Label NamedLine) (Fits : Y → Type 0) (pieces : Y → List Piece) (r : Rest) (x : Label NamedLine × Rest) → ((ws : List (List ℕ)) × IsMade make Fits pieces x.0 ws × (texts r ≡ ws ++ texts x.1))
-    → ((y : Y) → Fits y → IsLabel (make y) × (label_word (make y) ≡ k) × (pieces y ≡ label_tail (make y))) → Behind k r x
-takes_made k make Fits pieces r x p is =
-    let s = p.1 in
-    let own = is s.0 s.2 in
-    is_known label_word label_tail IsLabel k r x.1 x.0 (make s.0) p.0 s.1 own.0 own.1 (subst (λ (ps : List Piece). AreWritten ps p.0) own.2 s.3) p.2
+  -- what was made of parts is known by the parts
+  takes_made : {Y : Type 0} (k : LabelWord) (make : Y → Label NamedLine) (Fits : Y → Type 0) (pieces : Y → List Piece) (r : Rest) (x : Label NamedLine × Rest) → ((ws : List (List ℕ)) × IsMade make Fits pieces x.0 ws × (texts r ≡ ws ++ texts x.1))
+      → ((y : Y) → Fits y → IsLabel v (make y) × (label_word (make y) ≡ k) × (pieces y ≡ label_tail (make y))) → Behind k r x
+  takes_made k make Fits pieces r x p is =
+      let s = p.1 in
+      let own = is s.0 s.2 in
+      is_known label_word label_tail (IsLabel v) k r x.1 x.0 (make s.0) p.0 s.1 own.0 own.1 (subst (λ (ps : List Piece). AreWritten ps p.0) own.2 s.3) p.2
 
-behind_takes : (k : LabelWord) (r : Rest) (x : Label NamedLine × Rest) → label_behind k r ≡ Ok x → Behind k r x
-behind_takes words.Line r x e = takes_made words.Line make_line _ _ r x (reads_line.takes r x e) (λ y fits. ((fits.0.1, fits.1), refl, refl))
-behind_takes words.Effect r x e = takes_made words.Effect make_effect _ _ r x (reads_effect.takes r x e) (λ y fits. ((fits.0.1, fits.1), refl, refl))
-behind_takes words.Making r x e =
-    takes_made words.Making make_segment FitsSegment all_pieces r x (reads_segment.takes r x e) (λ y fits. ((fits.0, fits.1.0.1, fits.1.1.0.1, fits.1.1.1.1.0.1, fits.1.1.1.1.1), refl, refl))
-behind_takes words.Taking r x e = takes_made words.Taking make_taking FitsTaking _ r x (reads_taking.takes r x e) (λ y fits. ((fits.0, fits.1.0.1), refl, refl))
-behind_takes words.Dropping r x e = takes_made words.Dropping make_dropping IsEntry pieces_in r x (reads_dropping.takes r x e) (λ y fits. (fits, refl, refl))
-behind_takes words.Refusing r x e = takes_made words.Refusing make_refusing IsEntry pieces_in r x (reads_refusing.takes r x e) (λ y fits. (fits, refl, refl))
-behind_takes words.Recovery r x e = takes_made words.Recovery make_recovery FitsRecovery _ r x (reads_recovery.takes r x e) (λ y fits. ((fits.0, fits.1.0.1, fits.1.1.1), refl, refl))
+  behind_takes : (k : LabelWord) (r : Rest) (x : Label NamedLine × Rest) → label_behind v k r ≡ Ok x → Behind k r x
+  behind_takes words.Line r x e = takes_made words.Line make_line _ _ r x (reads_line.takes r x e) (λ y fits. ((fits.0.1, fits.1), refl, refl))
+  behind_takes words.Effect r x e = takes_made words.Effect make_effect _ _ r x (reads_effect.takes r x e) (λ y fits. ((fits.0.1, fits.1), refl, refl))
+  behind_takes words.Making r x e =
+      takes_made words.Making make_segment (FitsSegment v) all_pieces r x ((reads_segment v).takes r x e) (λ y fits. ((fits.0, fits.1.0.1, fits.1.1.0.1, fits.1.1.1.1.0.1, fits.1.1.1.1.1), refl, refl))
+  behind_takes words.Taking r x e = takes_made words.Taking make_taking FitsTaking _ r x (reads_taking.takes r x e) (λ y fits. ((fits.0, fits.1.0.1), refl, refl))
+  behind_takes words.Dropping r x e = takes_made words.Dropping make_dropping IsEntry pieces_in r x (reads_dropping.takes r x e) (λ y fits. (fits, refl, refl))
+  behind_takes words.Refusing r x e = takes_made words.Refusing make_refusing IsEntry pieces_in r x (reads_refusing.takes r x e) (λ y fits. (fits, refl, refl))
+  behind_takes words.Recovery r x e = takes_made words.Recovery make_recovery FitsRecovery _ r x (reads_recovery.takes r x e) (λ y fits. ((fits.0, fits.1.0.1, fits.1.1.1), refl, refl))
 
-abbrev Gets : Label NamedLine → Rest → List (List ℕ) → Type 0
-Gets label r more = (rest : Rest) × (label_behind (label_word label) r ≡ Ok (label, rest)) × (texts rest ≡ more)
+  abbrev Gets : Label NamedLine → Rest → List (List ℕ) → Type 0
+  Gets label r more = (rest : Rest) × (label_behind v (label_word label) r ≡ Ok (label, rest)) × (texts rest ≡ more)
 
-behind_again : (label : Label NamedLine) (r : Rest) (us more : List (List ℕ)) → Nothing more → IsLabel label → AreWritten (label_tail label) us → texts r ≡ us ++ more → Gets label r more
-behind_again (L line) r us more last fits w e = reads_line.again r (L line) us more last ((line.number, line.extras), refl, ((omega arith, fits.0), fits.1), w) e
-behind_again (D thread answer) r us more last fits w e = reads_effect.again r (D thread answer) us more last ((thread, answer), refl, ((omega arith, fits.0), fits.1), w) e
-behind_again (M host plan) r us more last fits w e =
-    reads_segment.again r (M host plan) us more last
-    (((host, plan.lport, plan.rport), (plan.pos, (plan.len, (plan.flags, (plan.window, plan.iss))))), refl, (fits.0, ((omega arith, fits.1), ((omega arith, fits.2), (tt, ((omega arith, fits.3), fits.4))))), w) e
-behind_again (T host line choice) r us more last fits w e =
-    reads_taking.again r (T host line choice) us more tt (((host, line), (choice.cwnd, (choice.keep, choice.sample))), refl, (fits.0, ((omega arith, fits.1), (tt, tt))), w) e
-behind_again (K host line) r us more last fits w e = reads_dropping.again r (K host line) us more tt ((host, line), refl, fits, w) e
-behind_again (R host line) r us more last fits w e = reads_refusing.again r (R host line) us more tt ((host, line), refl, fits, w) e
-behind_again (F host recovery) r us more last fits w e =
-    reads_recovery.again r (F host recovery) us more tt (((host, recovery.lport, recovery.rport), (recovery.cwnd, recovery.ssthresh)), refl, (fits.0, ((omega arith, fits.1), (omega arith, fits.2))), w) e
+  behind_again : (label : Label NamedLine) (r : Rest) (us more : List (List ℕ)) → Nothing more → IsLabel v label → AreWritten (label_tail label) us → texts r ≡ us ++ more → Gets label r more
+  behind_again (L line) r us more last fits w e = reads_line.again r (L line) us more last ((line.number, line.extras), refl, ((omega arith, fits.0), fits.1), w) e
+  behind_again (D thread answer) r us more last fits w e = reads_effect.again r (D thread answer) us more last ((thread, answer), refl, ((omega arith, fits.0), fits.1), w) e
+  behind_again (M host plan) r us more last fits w e =
+      (reads_segment v).again r (M host plan) us more last
+      (((host, plan.lport, plan.rport), (plan.pos, (plan.len, (plan.flags, (plan.window, (plan.iss, plan.shift)))))), refl, (fits.0, ((omega arith, fits.1), ((omega arith, fits.2), (tt, ((omega arith, fits.3), fits.4))))), w) e
+  behind_again (T host line choice) r us more last fits w e =
+      reads_taking.again r (T host line choice) us more tt (((host, line), (choice.cwnd, (choice.keep, choice.sample))), refl, (fits.0, ((omega arith, fits.1), (tt, tt))), w) e
+  behind_again (K host line) r us more last fits w e = reads_dropping.again r (K host line) us more tt ((host, line), refl, fits, w) e
+  behind_again (R host line) r us more last fits w e = reads_refusing.again r (R host line) us more tt ((host, line), refl, fits, w) e
+  behind_again (F host recovery) r us more last fits w e =
+      reads_recovery.again r (F host recovery) us more tt (((host, recovery.lport, recovery.rport), (recovery.cwnd, recovery.ssthresh)), refl, (fits.0, ((omega arith, fits.1), (omega arith, fits.2))), w) e
 
--- what is read is spelled so, and what is spelled so is read
-pub reads_label : IsLastReader label_field IsSpelledLabel
-unfolding label_field
-reads_label = reads_choice Nothing label_name all_label_words labels_named label_behind label_word label_tail IsLabel behind_takes behind_again
+  -- what is read is spelled so, and what is spelled so is read
+  pub reads_label : IsLastReader (label_field v) (IsSpelledLabel v)
+  unfolding label_field
+  reads_label = reads_choice Nothing label_name all_label_words labels_named (label_behind v) label_word label_tail (IsLabel v) behind_takes behind_again
 
 -- ---- the fields of a label are clean
 
@@ -212,6 +216,14 @@ iss_clean : (iss : Option Word) → IsIss iss → AllByRecursion IsCleanPiece (i
 iss_clean None fits = tt
 iss_clean (Some iss) fits = (IsClean-decimal iss.0 (omega arith), tt)
 
+shift_clean : (v : Version) (iss : Option Word) (shift : Option ℕ) → IfSome shift (IsShift v iss) → AllByRecursion IsCleanPiece (shift_pieces shift)
+shift_clean v iss None fits = tt
+shift_clean v iss (Some shift) fits = (IsClean-decimal shift (let h = fits.2 in omega (arith, h)), tt)
+
+start_clean : (v : Version) (iss : Option Word) (shift : Option ℕ) → IsStart v iss shift → AllByRecursion IsCleanPiece (iss_pieces iss ++ shift_pieces shift)
+start_clean v None shift fits = shift_clean v None shift fits.1
+start_clean v (Some iss) shift fits = ((iss_clean (Some iss) fits.0).0, shift_clean v (Some iss) shift fits.1)
+
 bit_clean : (b : Bool) → IsClean (decimal (bit_number b))
 bit_clean true = IsClean-decimal 1 (omega arith)
 bit_clean false = IsClean-decimal 0 (omega arith)
@@ -220,10 +232,10 @@ bit_clean false = IsClean-decimal 0 (omega arith)
 number_clean : (n : ℕ) → n ≤ 1000000000000000000 → IsClean (decimal n)
 number_clean n le = IsClean-decimal n (omega arith)
 
-pub label_clean : (label : Label NamedLine) → IsLabel label → AllByRecursion IsCleanPiece (label_pieces label)
-label_clean (L line) fits = (clean_by (codes "L") refl, (number_clean line.number (let h = fits.0 in omega arith), extras_clean line.extras fits.1))
-label_clean (D thread answer) fits = (clean_by (codes "D") refl, (number_clean thread (let h = fits.0 in omega arith), answer_clean answer fits.1))
-label_clean (M host plan) fits =
+pub label_clean : (v : Version) (label : Label NamedLine) → IsLabel v label → AllByRecursion IsCleanPiece (label_pieces label)
+label_clean v (L line) fits = (clean_by (codes "L") refl, (number_clean line.number (let h = fits.0 in omega arith), extras_clean line.extras fits.1))
+label_clean v (D thread answer) fits = (clean_by (codes "D") refl, (number_clean thread (let h = fits.0 in omega arith), answer_clean answer fits.1))
+label_clean v (M host plan) fits =
     let ports = fits.0 in
     let from = ports.1 in
     let to = ports.3 in
@@ -234,15 +246,15 @@ label_clean (M host plan) fits =
         host_clean host,
         (
           number_clean plan.lport (omega arith),
-          (number_clean plan.rport (omega arith), (number_clean plan.pos fits.1, (number_clean plan.len (omega arith), (flags_clean plan.flags, (number_clean plan.window (omega arith), iss_clean plan.iss fits.4))))),
+          (number_clean plan.rport (omega arith), (number_clean plan.pos fits.1, (number_clean plan.len (omega arith), (flags_clean plan.flags, (number_clean plan.window (omega arith), start_clean v plan.iss plan.shift fits.4))))),
         ),
       ),
     )
-label_clean (T host line choice) fits =
+label_clean v (T host line choice) fits =
     (clean_by (codes "T") refl, (host_clean host, (number_clean line (let h = fits.0 in omega arith), (number_clean choice.cwnd (let h = fits.1 in omega arith), (bit_clean choice.keep, (bit_clean choice.sample, tt))))))
-label_clean (K host line) fits = (clean_by (codes "K") refl, (host_clean host, (number_clean line (omega arith), tt)))
-label_clean (R host line) fits = (clean_by (codes "R") refl, (host_clean host, (number_clean line (omega arith), tt)))
-label_clean (F host recovery) fits =
+label_clean v (K host line) fits = (clean_by (codes "K") refl, (host_clean host, (number_clean line (omega arith), tt)))
+label_clean v (R host line) fits = (clean_by (codes "R") refl, (host_clean host, (number_clean line (omega arith), tt)))
+label_clean v (F host recovery) fits =
     let ports = fits.0 in
     let from = ports.1 in
     let to = ports.3 in

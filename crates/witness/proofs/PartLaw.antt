@@ -1,22 +1,25 @@
 -- The spelling of the parts of labels, both ways.
 use Rattle.std.proofs.Common.{◌≡◌, ◌≤◌, ◌<◌, ◌^◌, zero, suc, ℕ, List, [], ◌∷◌, ◌++◌, Bool, true, false, eqb, Option, Some, None, Result, Ok, refl, sym, ap, subst, ◌∙◌, arith, inl, inr, ◌⊎◌}
 use Rattle.std.specs.Fmt.{decimal}
-use Rattle.std.specs.Option.{option_map}
+use Rattle.std.specs.Prelude.{IfSome}
 use Rattle.seqno.specs.declared.word.Word.{Word}
 use Rattle.case_forms.specs.declared.calls.Host.{Host}
 use Rattle.case_forms.specs.declared.named_line.Extras.{Extras}
 use Rattle.case_forms.specs.declared.named_line.Extras.TheVariants.{Bare, One, Two}
+use Rattle.case_forms.specs.declared.version.Version.{Version}
+use Rattle.case_forms.specs.declared.version.Version.TheVariants as versions
+use Rattle.case_forms.specs.Versions.{scales}
 use Rattle.line_fields.specs.declared.fault.TextFault.{TextFault}
 use Rattle.line_fields.specs.Word.{Rest}
 use Rattle.line_fields.specs.Reading.{◌>>=◌, number_field, or_end}
 use Rattle.line_fields.specs.Reader.{Any, Nothing, IsReader, IsLastReader}
 use Rattle.line_fields.specs.Hosts.{host_number, host_field}
 use Rattle.line_fields.specs.Spelling.{Piece, number, AreWritten}
-use Rattle.line_fields.proofs.Readers.{IsNumberField, reads_as, reads_last, reads_or_end, reads_number}
+use Rattle.line_fields.proofs.Readers.{IsNumberField, reads_as, reads_done, reads_last, reads_or_end, reads_number}
 use Rattle.line_fields.proofs.HostLaw.{reads_host}
 use Rattle.line_fields.proofs.Written.{plains_are, none_written}
-use Rattle.witness.specs.Parts.{endpoint_field, entry_field, bit_field, first_field, extras_field, first_number_field}
-use Rattle.witness.specs.Labels.{bit_number, extras_pieces, AreExtras, iss_pieces, IsIss, ArePorts, endpoint_pieces, entry_pieces}
+use Rattle.witness.specs.Parts.{endpoint_field, entry_field, bit_field, first_field, extras_field, Start, shift_field, given_start, start_field}
+use Rattle.witness.specs.Labels.{bit_number, extras_pieces, AreExtras, iss_pieces, shift_pieces, IsStart, ArePorts, endpoint_pieces, entry_pieces}
 use Rattle.witness.proofs.Made.{IsBy, IsMade, reads_made, reads_part}
 
 -- ---- a number, a host, and yes or no
@@ -116,61 +119,116 @@ abbrev maybe_pieces : Option ℕ → List Piece
 maybe_pieces None = []
 maybe_pieces (Some n) = one_piece n
 
-abbrev IsMaybe : Option ℕ → Type 0
-IsMaybe None = Unit {0}
-IsMaybe (Some n) = n ≤ 4294967295
+abbrev IsMaybe : ℕ → Option ℕ → Type 0
+IsMaybe most None = Unit {0}
+IsMaybe most (Some n) = n ≤ most
 
 abbrev maybe : {B : Type 0} → B → (ℕ → B) → Option ℕ → B
 maybe none some None = none
 maybe none some (Some n) = some n
 
-abbrev given : {B : Type 0} → (ℕ → B) → Rest → Result (B × Rest) TextFault
-given some r = number_field 0 4294967295 r >>= λ n. Ok (some n.0, n.1)
+-- a number up to the greatest
+module _ (most : ℕ) (small : most < 2 ^ 64) where
+  abbrev given : {B : Type 0} → (ℕ → B) → Rest → Result (B × Rest) TextFault
+  given some r = number_field 0 most r >>= λ n. Ok (some n.0, n.1)
 
-reads_given : {B : Type 0} (some : ℕ → B) → IsLastReader (given some) (IsMade some (IsWithin 0 4294967295) one_piece)
-reads_given some =
-    reads_made Nothing (number_field 0 4294967295) some (IsWithin 0 4294967295) one_piece (reads_last (number_field 0 4294967295) (IsBy (IsWithin 0 4294967295) one_piece) (reads_within 0 4294967295 (omega arith)))
+  reads_given : {B : Type 0} (some : ℕ → B) → IsLastReader (given some) (IsMade some (IsWithin 0 most) one_piece)
+  reads_given some =
+      reads_made Nothing (number_field 0 most) some (IsWithin 0 most) one_piece (reads_last (number_field 0 most) (IsBy (IsWithin 0 most) one_piece) (reads_within 0 most small))
 
-back_by : {B : Type 0} (none : B) (some : ℕ → B) (o : Option ℕ) (b : B) (ws : List (List ℕ)) → b ≡ maybe none some o → IsMaybe o → AreWritten (maybe_pieces o) ws → ((b ≡ none) × (ws ≡ [])) ⊎ IsMade some (IsWithin 0 4294967295) one_piece b ws
-back_by none some None b ws same fits h = inl (same, none_written ws h)
-back_by none some (Some n) b ws same fits h = inr (n, same, (omega arith, fits), h)
+  back_by : {B : Type 0} (none : B) (some : ℕ → B) (o : Option ℕ) (b : B) (ws : List (List ℕ)) → b ≡ maybe none some o → IsMaybe most o → AreWritten (maybe_pieces o) ws → ((b ≡ none) × (ws ≡ [])) ⊎ IsMade some (IsWithin 0 most) one_piece b ws
+  back_by none some None b ws same fits h = inl (same, none_written ws h)
+  back_by none some (Some n) b ws same fits h = inr (n, same, (omega arith, fits), h)
 
-reads_maybe : {B : Type 0} (none : B) (some : ℕ → B) → IsLastReader (λ r. or_end none (given some) r.words r) (IsMade (maybe none some) IsMaybe maybe_pieces)
-reads_maybe none some =
-    reads_as Nothing (λ r. or_end none (given some) r.words r) _ (IsMade (maybe none some) IsMaybe maybe_pieces)
-    (reads_or_end none (given some) (IsMade some (IsWithin 0 4294967295) one_piece) (reads_given some) (λ b ws s empty. subst (λ (us : List (List ℕ)). AreWritten (one_piece s.0) us) empty s.3))
-    (λ b ws s. elim s [
-      | inl bare ↦ (None, bare.0, tt, subst (λ (us : List (List ℕ)). AreWritten [] us) (sym bare.1) tt)
-      | inr own ↦ (Some own.0, own.1, own.2.1, own.3)
-    ])
-    (λ b ws s. back_by none some s.0 b ws s.1 s.2 s.3)
+  reads_maybe : {B : Type 0} (none : B) (some : ℕ → B) → IsLastReader (λ r. or_end none (given some) r.words r) (IsMade (maybe none some) (IsMaybe most) maybe_pieces)
+  reads_maybe none some =
+      reads_as Nothing (λ r. or_end none (given some) r.words r) _ (IsMade (maybe none some) (IsMaybe most) maybe_pieces)
+      (reads_or_end none (given some) (IsMade some (IsWithin 0 most) one_piece) (reads_given some) (λ b ws s empty. subst (λ (us : List (List ℕ)). AreWritten (one_piece s.0) us) empty s.3))
+      (λ b ws s. elim s [
+        | inl bare ↦ (None, bare.0, tt, subst (λ (us : List (List ℕ)). AreWritten [] us) (sym bare.1) tt)
+        | inr own ↦ (Some own.0, own.1, own.2.1, own.3)
+      ])
+      (λ b ws s. back_by none some s.0 b ws s.1 s.2 s.3)
 
--- ---- an initial send sequence number
+-- ---- an initial send sequence number, and the shift behind it
 
 abbrev word : ℕ → Word
 word n = record { 0 = n }
 
-abbrev number_of : Option Word → Option ℕ
-number_of iss = option_map (λ w. w.0) iss
+-- a shift that may be told in this version
+abbrev FitsShift : Version → Option ℕ → Type 0
+FitsShift v o = IfSome o (λ s. (scales v ≡ true) × (s ≤ 14))
 
-same_word : (iss : Option Word) → iss ≡ maybe None (λ n. Some (word n)) (number_of iss)
-same_word None = refl
-same_word (Some w) = refl
+abbrev with_shift : Word → Option ℕ → Start
+with_shift iss o = (Some iss, o)
 
-word_there : (o : Option ℕ) (ws : List (List ℕ)) → IsMaybe o → AreWritten (maybe_pieces o) ws → IsBy IsIss iss_pieces (maybe None (λ n. Some (word n)) o) ws
-word_there None ws fits h = (tt, h)
-word_there (Some n) ws fits h = (fits, h)
+maybe_shift : (iss : Word) (o : Option ℕ) → maybe (Some iss, None) (λ s. (Some iss, Some s)) o ≡ with_shift iss o
+maybe_shift iss None = refl
+maybe_shift iss (Some s) = refl
 
-word_back : (iss : Option Word) (ws : List (List ℕ)) → IsBy IsIss iss_pieces iss ws → IsMaybe (number_of iss) × AreWritten (maybe_pieces (number_of iss)) ws
-word_back None ws s = s
-word_back (Some w) ws s = s
+shift_there : (o : Option ℕ) → IsMaybe 14 o → FitsShift versions.Two o
+shift_there None fits = tt
+shift_there (Some s) fits = (refl, fits)
 
-pub reads_iss : IsLastReader first_number_field (IsBy IsIss iss_pieces)
-unfolding first_number_field
-reads_iss =
-    reads_as Nothing first_number_field _ (IsBy IsIss iss_pieces) (reads_maybe None (λ n. Some (word n)))
-    (λ iss ws s. subst (λ (x : Option Word). IsBy IsIss iss_pieces x ws) (sym s.1) (word_there s.0 ws s.2 s.3))
-    (λ iss ws s. (number_of iss, same_word iss, (word_back iss ws s).0, (word_back iss ws s).1))
+shift_back : (o : Option ℕ) → FitsShift versions.Two o → IsMaybe 14 o
+shift_back None fits = tt
+shift_back (Some s) fits = fits.1
+
+no_shift : (iss : Word) (o : Option ℕ) (b : Start) (ws : List (List ℕ)) → b ≡ with_shift iss o → FitsShift versions.One o → AreWritten (maybe_pieces o) ws → (b ≡ (Some iss, None)) × (ws ≡ [])
+no_shift iss None b ws same fits h = (same, none_written ws h)
+no_shift iss (Some s) b ws same fits h = let never = fits.0 in absurd cc
+
+reads_shift : (v : Version) (iss : Word) → IsLastReader (shift_field v iss) (IsMade (with_shift iss) (FitsShift v) maybe_pieces)
+reads_shift versions.One iss =
+    reads_as Nothing (shift_field versions.One iss) _ (IsMade (with_shift iss) (FitsShift versions.One) maybe_pieces) (reads_done Nothing (Some iss, None))
+    (λ b ws s. (None, s.0, tt, subst (λ (us : List (List ℕ)). AreWritten [] us) (sym s.1) tt))
+    (λ b ws s. no_shift iss s.0 b ws s.1 s.2 s.3)
+reads_shift versions.Two iss =
+    reads_as Nothing (shift_field versions.Two iss) _ (IsMade (with_shift iss) (FitsShift versions.Two) maybe_pieces) (reads_maybe 14 (omega arith) (Some iss, None) (λ s. (Some iss, Some s)))
+    (λ b ws s. (s.0, s.1 ∙ maybe_shift iss s.0, shift_there s.0 s.2, s.3))
+    (λ b ws s. (s.0, s.1 ∙ sym (maybe_shift iss s.0), shift_back s.0 s.2, s.3))
+
+abbrev make_start : ℕ × Option ℕ → Start
+make_start y = with_shift (word y.0) y.1
+
+abbrev FitsGiven : Version → ℕ × Option ℕ → Type 0
+FitsGiven v y = IsWithin 0 4294967295 y.0 × FitsShift v y.1
+
+abbrev given_pieces : ℕ × Option ℕ → List Piece
+given_pieces y = one_piece y.0 ++ maybe_pieces y.1
+
+reads_given_start : (v : Version) → IsLastReader (given_start v) (IsMade make_start (FitsGiven v) given_pieces)
+reads_given_start v =
+    reads_part Nothing (number_field 0 4294967295) (IsWithin 0 4294967295) one_piece _ make_start (FitsShift v) maybe_pieces (reads_within 0 4294967295 (omega arith)) (λ n. reads_shift v (word n))
+
+some_start : (v : Version) (start : Start) (ws : List (List ℕ)) → IsMade make_start (FitsGiven v) given_pieces start ws → ws ≡ [] → ⊥
+some_start v start ws s empty = subst (λ (us : List (List ℕ)). AreWritten (given_pieces s.0) us) empty s.3
+
+abbrev pub FitsStart : Version → Start → Type 0
+FitsStart v start = IsStart v start.0 start.1
+
+abbrev pub start_pieces : Start → List Piece
+start_pieces start = iss_pieces start.0 ++ shift_pieces start.1
+
+start_there : (v : Version) (n : ℕ) (o : Option ℕ) (ws : List (List ℕ)) → FitsGiven v (n, o) → AreWritten (given_pieces (n, o)) ws → IsBy (FitsStart v) start_pieces (make_start (n, o)) ws
+start_there v n None ws fits h = ((fits.0.1, tt), h)
+start_there v n (Some s) ws fits h = ((fits.0.1, (fits.1.0, refl, fits.1.1)), h)
+
+start_back : (v : Version) (start : Start) (ws : List (List ℕ)) → IsBy (FitsStart v) start_pieces start ws → ((start ≡ (None, None)) × (ws ≡ [])) ⊎ IsMade make_start (FitsGiven v) given_pieces start ws
+start_back v (None, None) ws s = inl (refl, none_written ws s.1)
+start_back v (None, Some shift) ws s = let never = s.0.1.1 in absurd cc
+start_back v (Some iss, None) ws s = inr ((iss.0, None), refl, ((omega arith, s.0.0), tt), s.1)
+start_back v (Some iss, Some shift) ws s = inr ((iss.0, Some shift), refl, ((omega arith, s.0.0), (s.0.1.0, s.0.1.2)), s.1)
+
+pub reads_start : (v : Version) → IsLastReader (start_field v) (IsBy (FitsStart v) start_pieces)
+unfolding start_field
+reads_start v =
+    reads_as Nothing (start_field v) _ (IsBy (FitsStart v) start_pieces) (reads_or_end (None, None) (given_start v) (IsMade make_start (FitsGiven v) given_pieces) (reads_given_start v) (some_start v))
+    (λ start ws s. elim s [
+      | inl bare ↦ subst (λ (x : Start). IsBy (FitsStart v) start_pieces x ws) (sym bare.0) ((tt, tt), subst (λ (us : List (List ℕ)). AreWritten [] us) (sym bare.1) tt)
+      | inr own ↦ subst (λ (x : Start). IsBy (FitsStart v) start_pieces x ws) (sym own.1) (start_there v own.0.0 own.0.1 ws own.2 own.3)
+    ])
+    (start_back v)
 
 -- ---- the extra numbers
 
@@ -181,13 +239,13 @@ abbrev make_first : ℕ × Option ℕ → Extras
 make_first y = with_second y.0 y.1
 
 abbrev FitsFirst : ℕ × Option ℕ → Type 0
-FitsFirst y = IsWithin 0 4294967295 y.0 × IsMaybe y.1
+FitsFirst y = IsWithin 0 4294967295 y.0 × IsMaybe 4294967295 y.1
 
 abbrev first_pieces : ℕ × Option ℕ → List Piece
 first_pieces y = one_piece y.0 ++ maybe_pieces y.1
 
 reads_first : IsLastReader first_field (IsMade make_first FitsFirst first_pieces)
-reads_first = reads_part Nothing (number_field 0 4294967295) (IsWithin 0 4294967295) one_piece _ make_first IsMaybe maybe_pieces (reads_within 0 4294967295 (omega arith)) (λ x. reads_maybe (One x) (λ y. Two x y))
+reads_first = reads_part Nothing (number_field 0 4294967295) (IsWithin 0 4294967295) one_piece _ make_first (IsMaybe 4294967295) maybe_pieces (reads_within 0 4294967295 (omega arith)) (λ x. reads_maybe 4294967295 (omega arith) (One x) (λ y. Two x y))
 
 some_first : (extras : Extras) (ws : List (List ℕ)) → IsMade make_first FitsFirst first_pieces extras ws → ws ≡ [] → ⊥
 some_first extras ws s empty = subst (λ (us : List (List ℕ)). AreWritten (first_pieces s.0) us) empty s.3

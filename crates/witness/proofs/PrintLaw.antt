@@ -9,6 +9,7 @@ use Rattle.case_forms.specs.declared.named_line.NamedLine.{NamedLine}
 use Rattle.case_forms.specs.declared.steps.Label.{Label}
 use Rattle.case_forms.specs.declared.steps.Step.{Step}
 use Rattle.case_forms.specs.declared.steps.Witness.{Witness}
+use Rattle.case_forms.specs.declared.version.Version.{Version}
 use Rattle.line_fields.specs.Folding.{AreSpelled}
 use Rattle.line_fields.specs.Spelling.{number, piece_texts, joined, printed_line, printed_behind}
 use Rattle.line_fields.proofs.Clean.{joined_spaced}
@@ -48,8 +49,8 @@ writes_more old new front steps i none lt before wrote =
 -- ---- the whole text
 
 -- a step that some line spells is spelled by what is printed of it
-step_again : (number : ℕ) (s : Step) (raw : List ℕ) → IsStepText number s raw → IsStepText number s (step_line s)
-step_again number s raw t =
+step_again : (v : Version) (number : ℕ) (s : Step) (raw : List ℕ) → IsStepText v number s raw → IsStepText v number s (step_line s)
+step_again v number s raw t =
     let line = t.line in
     let short = line.short in
     let len = written_len (step_pieces s) t.texts t.written in
@@ -62,10 +63,13 @@ step_again number s raw t =
       span = t.span ∙ ap (λ (stop : ℕ). record { line = number; start = 0; stop = stop }) len;
     }
 
-printed_again : (number : ℕ) (steps : List Step) (raws : List (List ℕ)) → AreSpelled IsStepText number_after number steps raws → AreSpelled IsStepText number_after number steps (map step_line steps)
-printed_again number [] raws h = tt
-printed_again number (s ∷ steps) [] h = absurd h
-printed_again number (s ∷ steps) (raw ∷ raws) h = (step_again number s raw h.0, printed_again (number_after number s) steps raws h.1)
+printed_again : (v : Version) (number : ℕ) (steps : List Step) (raws : List (List ℕ)) → AreSpelled (IsStepText v) number_after number steps raws → AreSpelled (IsStepText v) number_after number steps (map step_line steps)
+printed_again v number [] raws h = tt
+printed_again v number (s ∷ steps) [] h = absurd h
+printed_again v number (s ∷ steps) (raw ∷ raws) h = (step_again v number s raw h.0, printed_again v (number_after number s) steps raws h.1)
+
+abbrev Said : Type 0
+Said = Version × List (ℕ × Label NamedLine)
 
 -- what is printed says what the steps say
 abbrev said_line : ℕ × Label NamedLine → List ℕ
@@ -78,11 +82,13 @@ lines_said (s ∷ steps) = ap (λ (lines : List (List ℕ)). step_line s ∷ lin
 pub print_again : (v w : Witness) (text : List ℕ) → IsWitnessText v text → without_spans v ≡ without_spans w → IsWitnessText v (witness_text w)
 print_again v w text t same =
     let begins = t.begins in
-    let lines : map step_line w.steps ≡ map step_line v.steps = lines_said w.steps ∙ ap (λ (said : List (ℕ × Label NamedLine)). map said_line said) (sym same) ∙ sym (lines_said v.steps) in
+    let version : v.version ≡ w.version = ap (λ (said : Said). said.0) same in
+    let steps : map without_span v.steps ≡ map without_span w.steps = ap (λ (said : Said). said.1) same in
+    let lines : map step_line w.steps ≡ map step_line v.steps = lines_said w.steps ∙ ap (λ (said : List (ℕ × Label NamedLine)). map said_line said) (sym steps) ∙ sym (lines_said v.steps) in
     record {
-      first = first_text ++ 10 ∷ [];
+      first = first_text v.version ++ 10 ∷ [];
       raws = map step_line v.steps;
       begins = record { ends = (10 ∷ [], inl refl, refl); short = begins.short; count = begins.count };
-      steps = printed_again 2 v.steps t.raws t.steps;
-      parts = ap (λ (ls : List (List ℕ)). (first_text ++ 10 ∷ []) ++ concat ls) lines;
+      steps = printed_again v.version 2 v.steps t.raws t.steps;
+      parts = ap (λ (u : Version). (first_text u ++ 10 ∷ []) ++ steps_text w.steps) (sym version) ∙ ap (λ (ls : List (List ℕ)). (first_text v.version ++ 10 ∷ []) ++ concat ls) lines;
     }

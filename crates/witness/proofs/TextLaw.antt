@@ -1,24 +1,29 @@
 -- A text is read exactly where it stands for a witness.
-use Rattle.std.proofs.Common.{◌≡◌, ℕ, List, [], ◌∷◌, Result, Ok, Err, refl, sym, ap, subst, ◌∙◌}
-use Rattle.std.specs.Prelude.{codes, IfOk}
+use Rattle.std.proofs.Common.{◌≡◌, ℕ, List, [], ◌∷◌, Bool, true, Result, Ok, Err, refl, sym, ap, subst, ◌∙◌}
+use Rattle.std.specs.Prelude.{codes, IfOk, IsTrue, ◌↔◌}
+use Rattle.std.specs.Str.{bytes_eq}
+use Rattle.std.proofs.lemmas.Slice.Eq.{bytes_eq-Decides}
 use Rattle.std.specs.List.{concat, AllByRecursion}
-use Rattle.bstr.specs.Text.{lines_of}
+use Rattle.bstr.specs.Text.{lines_of, without_terminator}
 use Rattle.bstr.proofs.lemmas.RestLemmas.{concat-lines_of}
 use Rattle.case_forms.specs.declared.steps.Step.{Step}
 use Rattle.case_forms.specs.declared.steps.Witness.{Witness}
+use Rattle.case_forms.specs.declared.version.Version.{Version}
+use Rattle.case_forms.specs.declared.version.Version.TheVariants as versions
 use Rattle.line_fields.specs.declared.fault.TextFault.{TextFault}
 use Rattle.line_fields.specs.Reading.{◌>>=◌, Gives}
-use Rattle.line_fields.specs.Lines.{NoReturn, IsRaw, exact_line, next_raw}
-use Rattle.line_fields.specs.Spelling.{IsClean}
+use Rattle.line_fields.specs.Lines.{NoReturn, Ends, IsRaw, IsLine, is_ended, exact_line, next_raw}
+use Rattle.line_fields.specs.Spelling.{IsClean, joined}
 use Rattle.line_fields.specs.Folding.{read_lines}
 use Rattle.line_fields.proofs.Readers.{bind_ok, ok_is}
 use Rattle.line_fields.proofs.LineRests.{is_raw, exact_takes, exact_again}
 use Rattle.line_fields.proofs.Clean.{clean_by, joined_no_return}
+use Rattle.line_fields.proofs.Endings.{ending_again, ending_taken}
 use Rattle.line_fields.proofs.Texts.{lines_of-concat}
 use Rattle.line_fields.proofs.Loop.{spelled_takes, spelled_again, spelled_raws}
 use Rattle.witness.specs.FirstLine.{first_text}
 use Rattle.witness.specs.Steps.{IsStepText, step_of}
-use Rattle.witness.specs.WitnessText.{number_after, IsWitnessText, witness_in, witness_of}
+use Rattle.witness.specs.WitnessText.{number_after, IsWitnessText, witness_in, witness_for, version_named, witness_of}
 use Rattle.witness.proofs.StepLaw.{reads_step, is_step_raw}
 
 -- ---- what is read is spelled so
@@ -27,42 +32,94 @@ next_takes : (number : ℕ) (raws : List (List ℕ)) (x : List ℕ × List (List
 next_takes number [] x e = absurd cc
 next_takes number (raw ∷ raws) x e = subst (λ (y : List ℕ × List (List ℕ)). raw ∷ raws ≡ y.0 ∷ y.1) (ok_is (raw, raws) x e) refl
 
-abbrev witness_by : List Step → Result Witness TextFault
-witness_by steps = Ok (record { steps = steps })
+abbrev witness_by : Version → List Step → Result Witness TextFault
+witness_by v steps = Ok (record { version = v; steps = steps })
 
-abbrev behind_first : List ℕ × List (List ℕ) → Result Witness TextFault
-behind_first first = exact_line 1 first_text first.0 >>= λ begun. read_lines step_of number_after 2 first.1 >>= witness_by
+abbrev behind_first : Version → List ℕ × List (List ℕ) → Result Witness TextFault
+behind_first v first = exact_line 1 (first_text v) first.0 >>= λ begun. read_lines (step_of v) number_after 2 first.1 >>= witness_by v
 
-pub text_takes : (w : Witness) (text : List ℕ) → witness_of text ≡ Ok w → IsWitnessText w text
-unfolding witness_of
-text_takes w text e =
-    let a = bind_ok (next_raw 1 (lines_of text)) behind_first w e in
-    let b = bind_ok (exact_line 1 first_text a.0.0) (λ begun. read_lines step_of number_after 2 a.0.1 >>= witness_by) w a.2 in
-    let c = bind_ok (read_lines step_of number_after 2 a.0.1) witness_by w b.2 in
-    subst (λ (v : Witness). IsWitnessText v text) (ok_is (record { steps = c.0 }) w c.2) (record {
-      first = a.0.0;
-      raws = a.0.1;
-      begins = exact_takes 1 first_text a.0.0 b.0 b.1;
-      steps = spelled_takes step_of number_after IsStepText reads_step 2 a.0.1 c.0 c.1;
-      parts = sym (concat-lines_of text) ∙ ap concat (next_takes 1 (lines_of text) a.0 a.1);
-    })
+pub text_takes : (v : Version) (w : Witness) (text : List ℕ) → witness_for v text ≡ Ok w → (w.version ≡ v) × IsWitnessText w text
+unfolding witness_for
+text_takes v w text e =
+    let a = bind_ok (next_raw 1 (lines_of text)) (behind_first v) w e in
+    let b = bind_ok (exact_line 1 (first_text v) a.0.0) (λ begun. read_lines (step_of v) number_after 2 a.0.1 >>= witness_by v) w a.2 in
+    let c = bind_ok (read_lines (step_of v) number_after 2 a.0.1) (witness_by v) w b.2 in
+    subst (λ (u : Witness). (u.version ≡ v) × IsWitnessText u text) (ok_is (record { version = v; steps = c.0 }) w c.2) (
+      refl,
+      record {
+        first = a.0.0;
+        raws = a.0.1;
+        begins = exact_takes 1 (first_text v) a.0.0 b.0 b.1;
+        steps = spelled_takes (step_of v) number_after (IsStepText v) (reads_step v) 2 a.0.1 c.0 c.1;
+        parts = sym (concat-lines_of text) ∙ ap concat (next_takes 1 (lines_of text) a.0 a.1);
+      },
+    )
 
-pub is_found : (text : List ℕ) (r : Result Witness TextFault) → Gives (λ w. w) r (witness_of text) → IfOk r (λ w. IsWitnessText w text)
-is_found text (Ok w) given = text_takes w text given
-is_found text (Err e) given = tt
+pub is_found : (v : Version) (text : List ℕ) (r : Result Witness TextFault) → Gives (λ w. w) r (witness_for v text) → IfOk r (λ w. (w.version ≡ v) × IsWitnessText w text)
+is_found v text (Ok w) given = text_takes v w text given
+is_found v text (Err e) given = tt
+
+-- the same of a witness of some version
+pub is_some : (v : Version) (text : List ℕ) (r : Result Witness TextFault) → Gives (λ w. w) r (witness_for v text) → IfOk r (λ w. IsWitnessText w text)
+is_some v text (Ok w) given = (text_takes v w text given).1
+is_some v text (Err e) given = tt
 
 -- ---- what is spelled so is read
 
-first_clean : AllByRecursion IsClean (codes "witness" ∷ codes "1" ∷ [])
-first_clean = (clean_by (codes "witness") refl, (clean_by (codes "1") refl, tt))
+abbrev first_words : Version → List (List ℕ)
+first_words versions.One = codes "witness" ∷ codes "1" ∷ []
+first_words versions.Two = codes "witness" ∷ codes "2" ∷ []
 
-pub text_again : (w : Witness) (text : List ℕ) → IsWitnessText w text → witness_of text ≡ Ok w
-unfolding witness_of
+words_joined : (v : Version) → joined (first_words v) ≡ first_text v
+words_joined versions.One = refl
+words_joined versions.Two = refl
+
+words_clean : (v : Version) → AllByRecursion IsClean (first_words v)
+words_clean versions.One = (clean_by (codes "witness") refl, (clean_by (codes "1") refl, tt))
+words_clean versions.Two = (clean_by (codes "witness") refl, (clean_by (codes "2") refl, tt))
+
+first_ends : (v : Version) → NoReturn (first_text v)
+first_ends v = subst NoReturn (words_joined v) (joined_no_return (first_words v) (words_clean v))
+
+text_lines : (w : Witness) (text : List ℕ) (t : IsWitnessText w text) → lines_of text ≡ t.first ∷ t.raws
+text_lines w text t =
+    let one : IsRaw t.first = is_raw 1 (first_words w.version) t.first (words_clean w.version) (subst (λ (line : List ℕ). IsLine 1 line t.first) (sym (words_joined w.version)) t.begins) in
+    let others = spelled_raws number_after (IsStepText w.version) (is_step_raw w.version) 2 w.steps t.raws t.steps in
+    ap lines_of t.parts ∙ lines_of-concat (t.first ∷ t.raws) (one, others)
+
+pub text_again : (w : Witness) (text : List ℕ) → IsWitnessText w text → witness_for w.version text ≡ Ok w
+unfolding witness_for
 text_again w text t =
-    let never : NoReturn first_text = joined_no_return (codes "witness" ∷ codes "1" ∷ []) first_clean in
-    let one : IsRaw t.first = is_raw 1 (codes "witness" ∷ codes "1" ∷ []) t.first first_clean t.begins in
-    let others = spelled_raws number_after IsStepText is_step_raw 2 w.steps t.raws t.steps in
-    let lines : lines_of text ≡ t.first ∷ t.raws = ap lines_of t.parts ∙ lines_of-concat (t.first ∷ t.raws) (one, others) in
-    let begun = exact_again 1 first_text t.first never t.begins in
-    let steps = spelled_again step_of number_after IsStepText reads_step 2 w.steps t.raws t.steps in
-    ap witness_in lines ∙ rw (begun, steps) refl
+    let begun = exact_again 1 (first_text w.version) t.first (first_ends w.version) t.begins in
+    let steps = spelled_again (step_of w.version) number_after (IsStepText w.version) (reads_step w.version) 2 w.steps t.raws t.steps in
+    ap (witness_in w.version) (text_lines w text t) ∙ rw (begun, steps) refl
+
+-- the version that a first line names
+named_by : (v : Version) (raw : List ℕ) (raws : List (List ℕ)) → IsLine 1 (first_text v) raw → version_named (raw ∷ raws) ≡ v
+named_by versions.One raw raws line =
+    let own = ending_again raw (first_text versions.One) (first_ends versions.One) line.ends in
+    let text = own.0 in
+    let ended = own.1 in
+    rw (text, ended) refl
+named_by versions.Two raw raws line =
+    let own = ending_again raw (first_text versions.Two) (first_ends versions.Two) line.ends in
+    let text = own.0 in
+    let ended = own.1 in
+    rw (text, ended) refl
+
+-- it is read whichever version it is of
+pub some_again : (w : Witness) (text : List ℕ) → IsWitnessText w text → witness_of text ≡ Ok w
+some_again w text t =
+    let version = ap version_named (text_lines w text t) ∙ named_by w.version t.first t.raws t.begins in
+    ap (λ (v : Version). witness_for v text) version ∙ text_again w text t
+
+-- ---- the first line alone
+
+pub begins_exactly : (v : Version) (raw text : List ℕ) (begins : Bool) → is_ended raw ≡ true → text ≡ without_terminator raw → begins ≡ bytes_eq text (first_text v) → IsTrue begins ↔ Ends raw (first_text v)
+begins_exactly v raw text begins ended without same = (there, back)
+  where
+    there : IsTrue begins → Ends raw (first_text v)
+    there is = subst (λ (line : List ℕ). Ends raw line) (sym without ∙ (bytes_eq-Decides text (first_text v)).0 (sym same ∙ is)) (ending_taken raw ended)
+
+    back : Ends raw (first_text v) → IsTrue begins
+    back ends = same ∙ (bytes_eq-Decides text (first_text v)).1 (without ∙ (ending_again raw (first_text v) (first_ends v) ends).0)

@@ -2,6 +2,7 @@
 use Rattle.std.specs.Prelude.{Result, Ok}
 use Rattle.case_forms.specs.declared.named_line.NamedLine.{NamedLine}
 use Rattle.case_forms.specs.declared.steps.Label.{Label}
+use Rattle.case_forms.specs.declared.version.Version.{Version}
 use Rattle.case_forms.specs.declared.steps.Label.TheVariants.{L, D, M, T, K, R, F}
 use Rattle.line_fields.specs.declared.fault.TextFault.{TextFault}
 use Rattle.line_fields.specs.Word.{Rest}
@@ -11,7 +12,7 @@ use Rattle.line_fields.specs.AnswerFields.{answer_field}
 use Rattle.witness.specs.declared.labels.LabelWord.{LabelWord}
 use Rattle.witness.specs.declared.labels.LabelWord.TheVariants as words
 use Rattle.witness.specs.Flags.{flags_field}
-use Rattle.witness.specs.Parts.{endpoint_field, entry_field, bit_field, extras_field, first_number_field}
+use Rattle.witness.specs.Parts.{endpoint_field, entry_field, bit_field, extras_field, start_field}
 use Rattle.witness.specs.Labels.{label_name, all_label_words}
 
 -- the number of a line, and the extra numbers
@@ -29,15 +30,15 @@ effect_label r = do
   Ok (D thread.0 answer.0, answer.1)
 
 -- an endpoint, and what the segment is that it makes
-unfoldable pub segment_label : Rest → Result (Label NamedLine × Rest) TextFault
-segment_label r = do
+unfoldable pub segment_label : Version → Rest → Result (Label NamedLine × Rest) TextFault
+segment_label v r = do
   at ← endpoint_field r
   position ← number_field 0 1000000000000000000 at.1
   len ← number_field 0 65515 position.1
   flags ← flags_field len.1
   window ← number_field 0 65535 flags.1
-  iss ← first_number_field window.1
-  Ok (M at.0.0 (record { lport = at.0.1; rport = at.0.2; pos = position.0; len = len.0; flags = flags.0; window = window.0; iss = iss.0 }), iss.1)
+  start ← start_field v window.1
+  Ok (M at.0.0 (record { lport = at.0.1; rport = at.0.2; pos = position.0; len = len.0; flags = flags.0; window = window.0; iss = start.0.0; shift = start.0.1 }), start.1)
 
 -- an inbox entry, the congestion window, whether data are kept, and whether the time is sampled
 unfoldable pub taking_label : Rest → Result (Label NamedLine × Rest) TextFault
@@ -69,15 +70,15 @@ recovery_label r = do
   Ok (F at.0.0 (record { lport = at.0.1; rport = at.0.2; cwnd = cwnd.0; ssthresh = ssthresh.0 }), ssthresh.1)
 
 -- what follows the first word
-abbrev pub label_behind : LabelWord → Rest → Result (Label NamedLine × Rest) TextFault
-label_behind words.Line r = line_label r
-label_behind words.Effect r = effect_label r
-label_behind words.Making r = segment_label r
-label_behind words.Taking r = taking_label r
-label_behind words.Dropping r = dropping_label r
-label_behind words.Refusing r = refusing_label r
-label_behind words.Recovery r = recovery_label r
+abbrev pub label_behind : Version → LabelWord → Rest → Result (Label NamedLine × Rest) TextFault
+label_behind v words.Line r = line_label r
+label_behind v words.Effect r = effect_label r
+label_behind v words.Making r = segment_label v r
+label_behind v words.Taking r = taking_label r
+label_behind v words.Dropping r = dropping_label r
+label_behind v words.Refusing r = refusing_label r
+label_behind v words.Recovery r = recovery_label r
 
 -- a label
-unfoldable pub label_field : Rest → Result (Label NamedLine × Rest) TextFault
-label_field r = kind_field label_name all_label_words r >>= λ word. label_behind word.0 word.1
+unfoldable pub label_field : Version → Rest → Result (Label NamedLine × Rest) TextFault
+label_field v r = kind_field label_name all_label_words r >>= λ word. label_behind v word.0 word.1

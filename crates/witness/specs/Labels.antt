@@ -1,5 +1,5 @@
 -- Labels, as a witness spells them.
-use Rattle.std.specs.Prelude.{◌≤◌, ℕ, Bool, true, false, List, [], ◌∷◌, ◌++◌, Option, Some, None, codes}
+use Rattle.std.specs.Prelude.{◌≤◌, ℕ, Bool, true, false, List, [], ◌∷◌, ◌++◌, Option, Some, None, IfSome, codes}
 use Rattle.seqno.specs.declared.word.Word.{Word}
 use Rattle.case_forms.specs.declared.calls.Host.{Host}
 use Rattle.case_forms.specs.declared.named_line.Extras.{Extras}
@@ -8,6 +8,8 @@ use Rattle.case_forms.specs.declared.named_line.NamedLine.{NamedLine}
 use Rattle.case_forms.specs.declared.steps.Label.{Label}
 use Rattle.case_forms.specs.declared.steps.Label.TheVariants.{L, D, M, T, K, R, F}
 use Rattle.case_forms.specs.declared.steps.SegmentPlan.{SegmentPlan}
+use Rattle.case_forms.specs.declared.version.Version.{Version}
+use Rattle.case_forms.specs.Witnesses.{IsShift}
 use Rattle.line_fields.specs.Hosts.{host_number}
 use Rattle.line_fields.specs.Spelling.{Piece, plain, number, AreWritten}
 use Rattle.line_fields.specs.Answers.{answer_pieces, IsAnswer}
@@ -56,6 +58,15 @@ abbrev pub IsIss : Option Word → Type 0
 IsIss None = Unit {0}
 IsIss (Some iss) = iss.0 ≤ 4294967295
 
+-- the field of a shift, which may be missing
+abbrev pub shift_pieces : Option ℕ → List Piece
+shift_pieces None = []
+shift_pieces (Some shift) = number shift ∷ []
+
+-- the limits of an initial send sequence number and of the shift behind it
+abbrev pub IsStart : Version → Option Word → Option ℕ → Type 0
+IsStart v iss shift = IsIss iss × IfSome shift (IsShift v iss)
+
 -- the ports of an endpoint
 abbrev pub ArePorts : ℕ → ℕ → Type 0
 ArePorts local remote = (1 ≤ local) × (local ≤ 65535) × (1 ≤ remote) × (remote ≤ 65535)
@@ -70,7 +81,7 @@ entry_pieces host line = number (host_number host) ∷ number line ∷ []
 
 -- the fields of what a segment is that is made
 abbrev pub segment_pieces : SegmentPlan → List Piece
-segment_pieces plan = number plan.pos ∷ number plan.len ∷ plain (flags_text plan.flags) ∷ number plan.window ∷ iss_pieces plan.iss
+segment_pieces plan = number plan.pos ∷ number plan.len ∷ plain (flags_text plan.flags) ∷ number plan.window ∷ (iss_pieces plan.iss ++ shift_pieces plan.shift)
 
 -- the fields of a label behind its first word
 abbrev pub label_tail : Label NamedLine → List Piece
@@ -97,15 +108,15 @@ abbrev pub label_pieces : Label NamedLine → List Piece
 label_pieces label = plain (label_name (label_word label)) ∷ label_tail label
 
 -- the limits of a label
-abbrev pub IsLabel : Label NamedLine → Type 0
-IsLabel (L line) = (line.number ≤ 4294967295) × AreExtras line.extras
-IsLabel (D thread answer) = (thread ≤ 4294967295) × IsAnswer answer
-IsLabel (M host plan) = ArePorts plan.lport plan.rport × (plan.pos ≤ 1000000000000000000) × (plan.len ≤ 65515) × (plan.window ≤ 65535) × IsIss plan.iss
-IsLabel (T host line choice) = (line ≤ 4294967295) × (choice.cwnd ≤ 4294967295)
-IsLabel (K host line) = line ≤ 4294967295
-IsLabel (R host line) = line ≤ 4294967295
-IsLabel (F host recovery) = ArePorts recovery.lport recovery.rport × (recovery.cwnd ≤ 4294967295) × (recovery.ssthresh ≤ 4294967295)
+abbrev pub IsLabel : Version → Label NamedLine → Type 0
+IsLabel v (L line) = (line.number ≤ 4294967295) × AreExtras line.extras
+IsLabel v (D thread answer) = (thread ≤ 4294967295) × IsAnswer answer
+IsLabel v (M host plan) = ArePorts plan.lport plan.rport × (plan.pos ≤ 1000000000000000000) × (plan.len ≤ 65515) × (plan.window ≤ 65535) × IsStart v plan.iss plan.shift
+IsLabel v (T host line choice) = (line ≤ 4294967295) × (choice.cwnd ≤ 4294967295)
+IsLabel v (K host line) = line ≤ 4294967295
+IsLabel v (R host line) = line ≤ 4294967295
+IsLabel v (F host recovery) = ArePorts recovery.lport recovery.rport × (recovery.cwnd ≤ 4294967295) × (recovery.ssthresh ≤ 4294967295)
 
 -- these fields spell the label
-abbrev pub IsSpelledLabel : Label NamedLine → List (List ℕ) → Type 0
-IsSpelledLabel label ws = IsLabel label × AreWritten (label_pieces label) ws
+abbrev pub IsSpelledLabel : Version → Label NamedLine → List (List ℕ) → Type 0
+IsSpelledLabel v label ws = IsLabel v label × AreWritten (label_pieces label) ws

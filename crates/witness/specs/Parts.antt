@@ -4,6 +4,8 @@ use Rattle.seqno.specs.declared.word.Word.{Word}
 use Rattle.case_forms.specs.declared.calls.Host.{Host}
 use Rattle.case_forms.specs.declared.named_line.Extras.{Extras}
 use Rattle.case_forms.specs.declared.named_line.Extras.TheVariants.{Bare, One, Two}
+use Rattle.case_forms.specs.declared.version.Version.{Version}
+use Rattle.case_forms.specs.declared.version.Version.TheVariants as versions
 use Rattle.line_fields.specs.declared.fault.TextFault.{TextFault}
 use Rattle.line_fields.specs.Word.{Rest}
 use Rattle.line_fields.specs.Reading.{◌>>=◌, number_field, or_end}
@@ -46,12 +48,27 @@ first_field r = do
 unfoldable pub extras_field : Rest → Result (Extras × Rest) TextFault
 extras_field r = or_end Bare first_field r.words r
 
--- an initial send sequence number that is given
-abbrev pub given_field : Rest → Result (Option Word × Rest) TextFault
-given_field r = do
-  iss ← number_field 0 4294967295 r
-  Ok (Some (record { 0 = iss.0 }), iss.1)
+-- an initial send sequence number, and how far the endpoint shifts the windows that it offers
+abbrev pub Start : Type 0
+Start = Option Word × Option ℕ
 
--- the initial send sequence number: none where nothing is left
-unfoldable pub first_number_field : Rest → Result (Option Word × Rest) TextFault
-first_number_field r = or_end None given_field r.words r
+-- a shift that is given, 0 to 14
+abbrev pub given_shift : Word → Rest → Result (Start × Rest) TextFault
+given_shift iss r = do
+  shift ← number_field 0 14 r
+  Ok ((Some iss, Some shift.0), shift.1)
+
+-- the shift behind an initial send sequence number: none where nothing is left, and none in version 1
+abbrev pub shift_field : Version → Word → Rest → Result (Start × Rest) TextFault
+shift_field versions.One iss r = Ok ((Some iss, None), r)
+shift_field versions.Two iss r = or_end (Some iss, None) (given_shift iss) r.words r
+
+-- an initial send sequence number that is given, and the shift
+abbrev pub given_start : Version → Rest → Result (Start × Rest) TextFault
+given_start v r = do
+  iss ← number_field 0 4294967295 r
+  shift_field v (record { 0 = iss.0 }) iss.1
+
+-- the initial send sequence number, and the shift behind it: none where nothing is left
+unfoldable pub start_field : Version → Rest → Result (Start × Rest) TextFault
+start_field v r = or_end (None, None) (given_start v) r.words r

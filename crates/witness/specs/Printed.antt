@@ -5,6 +5,7 @@ use Rattle.case_forms.specs.declared.named_line.NamedLine.{NamedLine}
 use Rattle.case_forms.specs.declared.steps.Label.{Label}
 use Rattle.case_forms.specs.declared.steps.Step.{Step}
 use Rattle.case_forms.specs.declared.steps.Witness.{Witness}
+use Rattle.case_forms.specs.declared.version.Version.{Version}
 use Rattle.line_fields.specs.Spelling.{printed_line}
 use Rattle.witness.specs.FirstLine.{first_text}
 use Rattle.witness.specs.Steps.{step_pieces}
@@ -15,12 +16,12 @@ steps_text steps = concat (map (λ s. printed_line (step_pieces s)) steps)
 
 -- the whole text
 abbrev pub witness_text : Witness → List ℕ
-witness_text w = (first_text ++ 10 ∷ []) ++ steps_text w.steps
+witness_text w = (first_text w.version ++ 10 ∷ []) ++ steps_text w.steps
 
 -- what a step says
 abbrev pub without_span : Step → ℕ × Label NamedLine
 without_span s = (s.moment, s.label)
 
--- what the steps of a witness say, wherever they stand
-abbrev pub without_spans : Witness → List (ℕ × Label NamedLine)
-without_spans w = map without_span w.steps
+-- the version of a witness, and what its steps say, wherever they stand
+abbrev pub without_spans : Witness → Version × List (ℕ × Label NamedLine)
+without_spans w = (w.version, map without_span w.steps)

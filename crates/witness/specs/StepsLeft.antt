@@ -3,7 +3,8 @@ use Rattle.std.specs.Prelude.{◌≤◌, ℕ, List, Option, None, Some, Result, 
 use Rattle.std.specs.Option.{option_map}
 use Rattle.case_forms.specs.declared.steps.Step.{Step}
 use Rattle.case_forms.specs.declared.steps.Witness.{Witness}
-use Rattle.case_forms.specs.Witnesses.{IsWithinLimits}
+use Rattle.case_forms.specs.declared.version.Version.{Version}
+use Rattle.case_forms.specs.Witnesses.{IsWithinLimits, TellsShift}
 use Rattle.counted.specs.declared.ends.Counted.{Counted}
 use Rattle.counted.specs.Counting.{left_of, failures_of}
 use Rattle.line_fields.specs.declared.fault.TextFault.{TextFault}
@@ -41,24 +42,29 @@ number_of r = number_or_first r.number
 abbrev pub fault_of : {B : Type 0} → StepReader B → Option ReadFault
 fault_of r = r.fault
 
+-- the version that it reads
+abbrev pub version_of : {B : Type 0} → StepReader B → Version
+version_of r = r.version
+
 -- the lines behind the first, which has to stand as it is
-abbrev pub first_line : List (List ℕ) → Result (List (List ℕ)) TextFault
-first_line raws = next_raw 1 raws >>= λ raw. exact_line 1 first_text raw.0 >>= λ begun. Ok raw.1
+abbrev pub first_line : Version → List (List ℕ) → Result (List (List ℕ)) TextFault
+first_line v raws = next_raw 1 raws >>= λ raw. exact_line 1 (first_text v) raw.0 >>= λ begun. Ok raw.1
 
 -- the steps of a witness
 abbrev pub steps_of : Result Witness TextFault → Result (List Step) TextFault
 steps_of read = read >>= λ w. Ok w.steps
 
 -- the steps of these lines: of a whole witness, or from the line of this number on
-abbrev pub steps_from : Option ℕ → List (List ℕ) → Result (List Step) TextFault
-steps_from None raws = steps_of (witness_in raws)
-steps_from (Some number) raws = read_lines step_of number_after number raws
+abbrev pub steps_from : Version → Option ℕ → List (List ℕ) → Result (List Step) TextFault
+steps_from v None raws = steps_of (witness_in v raws)
+steps_from v (Some number) raws = read_lines (step_of v) number_after number raws
 
 -- the steps that are left, or the first fault among them, where the bytes are known
 abbrev pub steps_left : {B : Type 0} → (B → Option (List ℕ)) → StepReader B → Option (Result (List Step) TextFault)
-steps_left known r = option_map (steps_from r.number) (rows_of (left_of known r.source))
+steps_left known r = option_map (steps_from r.version r.number) (rows_of (left_of known r.source))
 
--- a step that stands in the line of that number
-pub record StandsAt (number : ℕ) (step : Step) : Type 0 where
+-- a step that stands in the line of that number, in this version
+pub record StandsAt (v : Version) (number : ℕ) (step : Step) : Type 0 where
   pub within : IsWithinLimits step.label
+  pub shifts : TellsShift v step.label
   pub few : number ≤ 10000000

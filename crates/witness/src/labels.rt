@@ -7,8 +7,8 @@ ghost use Rattle.witness.specs.Labels.{label_name, all_label_words};
 ghost use Rattle.witness.specs.LabelFields.{line_label, effect_label, segment_label, taking_label, recovery_label, label_field};
 
 use crate::flags::flags;
-use crate::parts::{bit, endpoint, entry, extras, first_number};
-use case_forms::{Label, NamedLine, Recovery, SegmentPlan, TakeChoice};
+use crate::parts::{bit, endpoint, entry, extras, start};
+use case_forms::{Label, NamedLine, Recovery, SegmentPlan, TakeChoice, Version};
 use line_fields::{FaultKind, Fields, TextFault, Token, answer};
 use std::alloc::Global;
 
@@ -89,15 +89,15 @@ fn effect_label(alloc: Global, fields: &mut Fields) -> Result<Label<NamedLine>, 
 
 // An endpoint, and what the segment is that it makes.
 #[tactic(auto, unfolding(crate::specs::LabelFields::segment_label))]
-fn segment_label(fields: &mut Fields) -> Result<Label<NamedLine>, TextFault>
-    ensures { Gives (λ label. (label, fields.new)) result (segment_label fields.old) }
+fn segment_label(version: Version, fields: &mut Fields) -> Result<Label<NamedLine>, TextFault>
+    ensures { Gives (λ label. (label, fields.new)) result (segment_label version fields.old) }
 {
     let (host, lport, rport) = endpoint(fields)?;
     let pos = fields.number(0, MAX_POSITION)?;
     let len = fields.number(0, MAX_LEN)? as u16;
     let flags = flags(fields)?;
     let window = fields.number(0, MAX_WINDOW)? as u16;
-    let iss = first_number(fields)?;
+    let (iss, shift) = start(version, fields)?;
     let plan = SegmentPlan {
         lport,
         rport,
@@ -106,6 +106,7 @@ fn segment_label(fields: &mut Fields) -> Result<Label<NamedLine>, TextFault>
         flags,
         window,
         iss,
+        shift,
     };
     Ok(Label::M { host, plan })
 }
@@ -142,13 +143,17 @@ fn recovery_label(fields: &mut Fields) -> Result<Label<NamedLine>, TextFault>
 
 // A label, which is the last of its line. An unknown word is Field.
 #[tactic(auto, unfolding(crate::specs::LabelFields::label_field))]
-pub(crate) fn label(alloc: Global, fields: &mut Fields) -> Result<Label<NamedLine>, TextFault>
-    ensures { Gives (λ label. (label, fields.new)) result (label_field fields.old) }
+pub(crate) fn label(
+    alloc: Global,
+    version: Version,
+    fields: &mut Fields,
+) -> Result<Label<NamedLine>, TextFault>
+    ensures { Gives (λ label. (label, fields.new)) result (label_field version fields.old) }
 {
     match label_word(fields)? {
         LabelWord::Line => line_label(fields),
         LabelWord::Effect => effect_label(alloc, fields),
-        LabelWord::Making => segment_label(fields),
+        LabelWord::Making => segment_label(version, fields),
         LabelWord::Taking => taking_label(fields),
         LabelWord::Dropping => {
             let (host, line) = entry(fields)?;

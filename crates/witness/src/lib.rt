@@ -1,7 +1,7 @@
 //! The text of a witness, read and printed.
 //!
-//! A text is bytes. Its first line is `witness 1`, and each further line is a step: a moment in microseconds and a
-//! label, one of `L`, `D`, `M`, `T`, `K`, `R` and `F` with its fields. What a text stands for is told by
+//! A text is bytes. Its first line is `witness 1` or `witness 2`, after its version, and each further line is a step: a moment
+//! in microseconds and a label, one of `L`, `D`, `M`, `T`, `K`, `R` and `F` with its fields. What a text stands for is told by
 //! specs/WitnessText.antt (`IsWitnessText`), which is the file to read first; how a label is spelled by specs/Labels.antt;
 //! which fault comes first, and where, by `witness_of` in the first. Whether moments rise and lines are named once is not
 //! asked here: that is `interval_order`'s. Lines, fields and answers are `line_fields`'.
@@ -22,16 +22,14 @@ mod parts;
 mod printing;
 mod reading;
 mod stream;
-#[cfg(test)]
-mod tests;
 
 pub use case_forms::{
     Extras, Flags, Label, NamedLine, OutOfMemory, Recovery, SegmentPlan, Span, Step, Steps,
-    TakeChoice, Witness,
+    TakeChoice, Version, Witness,
 };
 pub use counted::Counted;
 pub use first_line::begins_witness;
 pub use line_fields::{FaultKind, ReadFault, TextFault};
 pub use printing::{print_law, print_witness};
-pub use reading::{read_step, read_witness};
+pub use reading::{read_step, read_witness, read_witness_for};
 pub use stream::StepReader;

@@ -2,11 +2,14 @@
 
 ghost use Rattle.std.specs.Prelude.{◌≡◌};
 ghost use Rattle.line_fields.specs.Reading.{Gives};
-ghost use Rattle.witness.specs.Parts.{endpoint_field, entry_field, bit_field, extras_field, first_number_field};
+ghost use Rattle.witness.specs.Parts.{endpoint_field, entry_field, bit_field, extras_field, start_field};
 
-use case_forms::{Extras, Host};
+use case_forms::{Extras, Host, Version};
 use line_fields::{Fields, TextFault};
 use seqno::Word;
+
+// The greatest shift of a window (RFC 7323, 2.3).
+const MAX_SHIFT: u64 = 14;
 
 // A host, and the ports of one of its endpoints: the local one and the remote one.
 #[tactic(auto, unfolding(crate::specs::Parts::endpoint_field))]
@@ -53,15 +56,22 @@ pub(crate) fn extras(fields: &mut Fields) -> Result<Extras, TextFault>
     Ok(Extras::Two(first, second))
 }
 
-// The initial send sequence number behind a segment's window, where there is a further field. That field is always a
-// number.
-#[tactic(auto, unfolding(crate::specs::Parts::first_number_field))]
-pub(crate) fn first_number(fields: &mut Fields) -> Result<Option<Word>, TextFault>
-    ensures { Gives (λ iss. (iss, fields.new)) result (first_number_field fields.old) }
+// The initial send sequence number behind a segment's window, where there is a further field, and in version 2 the shift,
+// where there is one more. These fields are always numbers.
+#[tactic(auto, unfolding(crate::specs::Parts::start_field))]
+pub(crate) fn start(
+    version: Version,
+    fields: &mut Fields,
+) -> Result<(Option<Word>, Option<u8>), TextFault>
+    ensures { Gives (λ start. (start, fields.new)) result (start_field version fields.old) }
 {
     if fields.is_empty() {
-        return Ok(None);
+        return Ok((None, None));
     }
-    let iss = fields.number32()?;
-    Ok(Some(Word(iss)))
+    let iss = Word(fields.number32()?);
+    if matches!(version, Version::One) || fields.is_empty() {
+        return Ok((Some(iss), None));
+    }
+    let shift = fields.number(0, MAX_SHIFT)? as u8;
+    Ok((Some(iss), Some(shift)))
 }

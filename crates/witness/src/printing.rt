@@ -3,15 +3,16 @@
 ghost use Rattle.std.specs.Prelude.{◌≡◌, ℕ, List, [], ◌∷◌, ◌++◌, IfOk, OnOk};
 ghost use Rattle.case_forms.specs.declared.steps.Witness.{Witness};
 ghost use Rattle.line_fields.specs.Spelling.{number, printed_behind, printed_line};
-ghost use Rattle.witness.specs.Labels.{bit_number, extras_pieces, segment_pieces, endpoint_pieces, entry_pieces, label_pieces};
+ghost use Rattle.witness.specs.Labels.{bit_number, extras_pieces, iss_pieces, shift_pieces, segment_pieces, endpoint_pieces, entry_pieces, label_pieces};
 ghost use Rattle.witness.specs.Steps.{step_pieces};
 ghost use Rattle.witness.specs.WitnessText.{IsWitnessText};
 ghost use Rattle.witness.specs.Printed.{witness_text, without_spans};
 
-use crate::first_line::FIRST_LINE;
+use crate::first_line::first_text;
 use crate::flags::push_flags;
 use case_forms::{Extras, Host, Label, NamedLine, OutOfMemory, SegmentPlan, Step, Witness};
 use line_fields::{push_answer, push_end, push_host, push_number, push_space, push_word};
+use seqno::Word;
 use std::alloc::Global;
 
 // Writes a number behind a space.
@@ -70,10 +71,21 @@ fn push_segment(out: &mut Vec<u8>, plan: SegmentPlan) -> Result<(), OutOfMemory>
     push_field(out, u64::from(plan.len))?;
     push_flags(out, plan.flags)?;
     push_field(out, u64::from(plan.window))?;
-    match plan.iss {
-        None => Ok(()),
-        Some(iss) => push_field(out, u64::from(iss.0)),
+    push_start(out, plan.iss, plan.shift)?;
+    Ok(())
+}
+
+// Writes an initial send sequence number and a shift, where there are, each behind a space.
+fn push_start(out: &mut Vec<u8>, iss: Option<Word>, shift: Option<u8>) -> Result<(), OutOfMemory>
+    ensures { OnOk result (out.new.items ≡ out.old.items ++ printed_behind (iss_pieces iss ++ shift_pieces shift)) }
+{
+    if let Some(iss) = iss {
+        push_field(out, u64::from(iss.0))?;
     }
+    if let Some(shift) = shift {
+        push_field(out, u64::from(shift))?;
+    }
+    Ok(())
 }
 
 // Writes a label, each field behind a space.
@@ -134,7 +146,7 @@ pub fn print_witness(alloc: Global, witness: &Witness) -> Result<Vec<u8>, OutOfM
     ensures { IfOk result (λ bytes. bytes.items ≡ witness_text witness.now) }
 {
     let mut out = Vec::new(alloc);
-    push_word(&mut out, FIRST_LINE)?;
+    push_word(&mut out, first_text(witness.version))?;
     push_end(&mut out)?;
     for step in witness.steps.as_slice() {
         push_step(&mut out, step)?;
@@ -142,7 +154,8 @@ pub fn print_witness(alloc: Global, witness: &Witness) -> Result<Vec<u8>, OutOfM
     Ok(out)
 }
 
-/// A witness that says what some text says, wherever its spans are, is printed as a text that stands for the same.
+/// A witness of the same version that says what some text says, wherever its spans are, is printed as a text that stands for
+/// the same.
 pub fn print_law()
     ensures { (v w : Witness) (text : List ℕ) → IsWitnessText v text → without_spans v ≡ without_spans w → IsWitnessText v (witness_text w) }
 {}

@@ -1,15 +1,18 @@
 //! One step, and a whole witness, from bytes.
 
-ghost use Rattle.std.specs.Prelude.{Ok, IfOk};
+ghost use Rattle.std.specs.Prelude.{◌≡◌, Ok, IfOk};
+ghost use Rattle.bstr.specs.Text.{lines_of};
 ghost use Rattle.case_forms.specs.declared.steps.Witness.{Witness};
 ghost use Rattle.case_forms.specs.Witnesses.{IsWitness};
 ghost use Rattle.line_fields.specs.Reading.{Gives};
 ghost use Rattle.witness.specs.Steps.{step_of};
-ghost use Rattle.witness.specs.WitnessText.{IsWitnessText, witness_of};
+ghost use Rattle.witness.specs.WitnessText.{IsWitnessText, witness_for, version_named, witness_of};
 
+use crate::first_line::begins_witness;
 use crate::labels::label;
 use crate::stream::StepReader;
-use case_forms::{Span, Step, Steps, Witness};
+use bstr::ByteSlice;
+use case_forms::{Span, Step, Steps, Version, Witness};
 use counted::Counted;
 use line_fields::{TextFault, fields_of};
 use std::alloc::Global;
@@ -17,15 +20,21 @@ use std::alloc::Global;
 // The greatest moment, in microseconds.
 const MAX_MOMENT: u64 = 1_000_000_000_000_000_000;
 
-/// The step of the line of that number, whose bytes are given with the line's end. Its span is the whole line.
+/// The step of the line of that number in this version, whose bytes are given with the line's end. Its span is the whole
+/// line.
 #[tactic(auto, unfolding(crate::specs::Steps::step_of))]
-pub fn read_step(alloc: Global, number: u64, raw: &[u8]) -> Result<Step, TextFault>
-    ensures { Gives (λ step. step) result (step_of number raw.now) }
+pub fn read_step(
+    alloc: Global,
+    version: Version,
+    number: u64,
+    raw: &[u8],
+) -> Result<Step, TextFault>
+    ensures { Gives (λ step. step) result (step_of version number raw.now) }
 {
     let mut fields = fields_of(number, raw)?;
     let stop = fields.stop();
     let moment = fields.number(0, MAX_MOMENT)?;
-    let label = label(alloc, &mut fields)?;
+    let label = label(alloc, version, &mut fields)?;
     fields.end()?;
     let span = Span {
         line: number,
@@ -39,28 +48,54 @@ pub fn read_step(alloc: Global, number: u64, raw: &[u8]) -> Result<Step, TextFau
     })
 }
 
-// The witness of a text.
-fn read(alloc: Global, text: &[u8]) -> Result<Witness, TextFault>
-    ensures { Gives (λ w. w) result (witness_of text.now) }
+// The witness of a text in this version.
+fn read(alloc: Global, version: Version, text: &[u8]) -> Result<Witness, TextFault>
+    ensures { Gives (λ w. w) result (witness_for version text.now) }
 {
-    let mut reader = StepReader::new(alloc, Counted::new(text));
+    let mut reader = StepReader::new(alloc, version, Counted::new(text));
     let mut steps = Steps::new(alloc);
     while let Some(step) = reader.next()? {
         steps.push(step)?;
     }
-    Ok(Witness { steps })
+    Ok(Witness { version, steps })
 }
 
-/// The witness that a text stands for, or the text's first fault. No fault says that moments fall.
+// The version that the first line of a text names, or the first where it names none.
+fn version_named(text: &[u8]) -> Version
+    ensures { result ≡ version_named (lines_of text.now) }
+{
+    match text.lines_with_terminator().next() {
+        Some(raw) if begins_witness(Version::Two, raw) => Version::Two,
+        _ => Version::One,
+    }
+}
+
+/// The witness that a text stands for, whichever version it is of, or the text's first fault. A first line that names no
+/// version is Header. No fault says that moments fall.
 pub fn read_witness(alloc: Global, text: &[u8]) -> Result<Witness, TextFault>
     // What is read is spelled so.
     ensures found { IfOk result (λ w. IsWitnessText w text.now) }
     // What is spelled so is read, unless memory runs out.
     ensures only { (w : Witness) → IsWitnessText w text.now → Gives (λ w. w) result (Ok w) }
-    // It keeps the limits on the count of its steps and on the positions that they name.
+    // It keeps the limits on the count of its steps, on the positions that they name and on the shifts that they tell.
     ensures limits { IfOk result IsWitness }
     // Which fault it is.
     ensures exact { Gives (λ w. w) result (witness_of text.now) }
 {
-    read(alloc, text)
+    read(alloc, version_named(text), text)
+}
+
+/// The witness that a text stands for to a trace of this version, or the text's first fault. A witness of another version
+/// has the fault of its first line, Header.
+pub fn read_witness_for(alloc: Global, version: Version, text: &[u8]) -> Result<Witness, TextFault>
+    // What is read is spelled so, and of this version.
+    ensures found { IfOk result (λ w. (w.version ≡ version) × IsWitnessText w text.now) }
+    // What is spelled so is read, unless memory runs out.
+    ensures only { (w : Witness) → w.version ≡ version → IsWitnessText w text.now → Gives (λ w. w) result (Ok w) }
+    // It keeps the limits on the count of its steps, on the positions that they name and on the shifts that they tell.
+    ensures limits { IfOk result IsWitness }
+    // Which fault it is.
+    ensures exact { Gives (λ w. w) result (witness_for version text.now) }
+{
+    read(alloc, version, text)
 }

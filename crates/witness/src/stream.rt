@@ -7,11 +7,11 @@ ghost use Rattle.line_fields.specs.declared.fault.ReadFault.{ReadFault};
 ghost use Rattle.line_fields.specs.Rows.{rows_of, rest_alone, Reads};
 ghost use Rattle.line_fields.specs.Left.{Yields, FailsLeft, Remains};
 ghost use Rattle.witness.specs.WitnessText.{number_after};
-ghost use Rattle.witness.specs.StepsLeft.{first_line, source_of, number_read, number_of, fault_of, steps_left, reader_failures, StandsAt};
+ghost use Rattle.witness.specs.StepsLeft.{first_line, source_of, version_of, number_read, number_of, fault_of, steps_left, reader_failures, StandsAt};
 
-use crate::first_line::FIRST_LINE;
+use crate::first_line::first_text;
 use crate::reading::read_step;
-use case_forms::Step;
+use case_forms::{Step, Version};
 use counted::Counted;
 use line_fields::{ReadFault, exact_line, needed_line, next_line};
 use std::alloc::Global;
@@ -20,11 +20,12 @@ use std::io::BufRead;
 // The number of the line of the first step.
 const FIRST_STEP: u64 = 2;
 
-/// A witness whose steps are read as they are asked for. Of the text one line is kept in memory. After a fault each
-/// later call answers that fault.
+/// A witness of some version, whose steps are read as they are asked for. Of the text one line is kept in memory. After a
+/// fault each later call answers that fault.
 #[derive(Drop)]
 pub struct StepReader<B> {
     alloc: Global,
+    version: Version,
     source: Counted<B>,
     // The bytes of the line that was read last.
     line: Vec<u8>,
@@ -34,25 +35,32 @@ pub struct StepReader<B> {
 }
 
 // The first line, which has to stand as it is.
-fn first_line<B: BufRead>(source: &mut Counted<B>, line: &mut Vec<u8>) -> Result<(), ReadFault>
-    ensures line { Reads rest_alone first_line (rows_of (left_of B.remaining source.old)) (rows_of (left_of B.remaining source.new)) result }
+fn first_line<B: BufRead>(
+    source: &mut Counted<B>,
+    line: &mut Vec<u8>,
+    version: Version,
+) -> Result<(), ReadFault>
+    ensures line { Reads rest_alone (first_line version) (rows_of (left_of B.remaining source.old)) (rows_of (left_of B.remaining source.new)) result }
     ensures read { result ≡ Err ReadFault.Read → failures_of source.new ≡ one_more (failures_of source.old) }
     ensures same { result ≢ Err ReadFault.Read → failures_of source.new ≡ failures_of source.old }
 {
     needed_line(source, 1, line)?;
-    exact_line(1, FIRST_LINE, line.as_slice())?;
+    exact_line(1, first_text(version), line.as_slice())?;
     Ok(())
 }
 
 impl<B> StepReader<B> {
-    /// A reader of a whole text, of which nothing is read yet.
-    pub fn new(alloc: Global, source: Counted<B>) -> StepReader<B>
+    /// A reader of a whole text for a trace of this version, of which nothing is read yet. A witness of another version has
+    /// the fault of its first line, Header.
+    pub fn new(alloc: Global, version: Version, source: Counted<B>) -> StepReader<B>
         ensures source { source_of result ≡ source }
+        ensures version { version_of result ≡ version }
         ensures fresh { number_read result ≡ None }
         ensures open { fault_of result ≡ None }
     {
         StepReader {
             alloc,
+            version,
             source,
             line: Vec::new(alloc),
             number: None,
@@ -75,6 +83,7 @@ impl<B> StepReader<B> {
         requires { fault_of self.old ≡ None }
         ensures read { result ≡ read }
         ensures source { source_of self.new ≡ source_of self.old }
+        ensures version { version_of self.new ≡ version_of self.old }
         ensures number { number_read self.new ≡ number_read self.old }
         ensures open { IfOk result (λ x. fault_of self.new ≡ None) }
         ensures kept { (f : ReadFault) → result ≡ Err f → fault_of self.new ≡ Some f }
@@ -90,12 +99,13 @@ impl<B: BufRead> StepReader<B> {
     /// The next step, or none at the end of the text.
     pub fn next(&mut self) -> Result<Option<Step>, ReadFault>
         ensures next { fault_of self.old ≡ None → IfOk result (Yields (steps_left B.remaining self.old) (steps_left B.remaining self.new)) }
-        ensures place { IfOk result (λ item. IfSome item (λ step. StandsAt (number_of self.old) step
+        ensures place { IfOk result (λ item. IfSome item (λ step. StandsAt (version_of self.old) (number_of self.old) step
             × (number_of self.new ≡ number_after (number_of self.old) step))) }
         ensures fault { (e : TextFault) → fault_of self.old ≡ None → result ≡ Err (ReadFault.Text e) → FailsLeft e (steps_left B.remaining self.old) }
         ensures again { (f : ReadFault) → fault_of self.old ≡ Some f → result ≡ Err f }
         ensures kept { (f : ReadFault) → result ≡ Err f → fault_of self.new ≡ Some f }
         ensures open { IfOk result (λ item. fault_of self.new ≡ None) }
+        ensures version { version_of self.new ≡ version_of self.old }
         ensures read { fault_of self.old ≡ None → result ≡ Err ReadFault.Read → reader_failures self.new ≡ one_more (reader_failures self.old) }
         ensures same { result ≢ Err ReadFault.Read → reader_failures self.new ≡ reader_failures self.old }
     {
@@ -109,10 +119,11 @@ impl<B: BufRead> StepReader<B> {
     // The next step, where no fault was met.
     fn read(&mut self) -> Result<Option<Step>, ReadFault>
         ensures next { IfOk result (Yields (steps_left B.remaining self.old) (steps_left B.remaining self.new)) }
-        ensures place { IfOk result (λ item. IfSome item (λ step. StandsAt (number_of self.old) step
+        ensures place { IfOk result (λ item. IfSome item (λ step. StandsAt (version_of self.old) (number_of self.old) step
             × (number_of self.new ≡ number_after (number_of self.old) step))) }
         ensures fault { (e : TextFault) → result ≡ Err (ReadFault.Text e) → FailsLeft e (steps_left B.remaining self.old) }
         ensures open { fault_of self.new ≡ fault_of self.old }
+        ensures version { version_of self.new ≡ version_of self.old }
         ensures read { result ≡ Err ReadFault.Read → reader_failures self.new ≡ one_more (reader_failures self.old) }
         ensures same { result ≢ Err ReadFault.Read → reader_failures self.new ≡ reader_failures self.old }
     {
@@ -126,13 +137,14 @@ impl<B: BufRead> StepReader<B> {
         ensures number { IfOk result (λ number. (number_read self.new ≡ Some number) × (number ≡ number_of self.old)) }
         ensures fault { (e : TextFault) → result ≡ Err (ReadFault.Text e) → FailsLeft e (steps_left B.remaining self.old) }
         ensures open { fault_of self.new ≡ fault_of self.old }
+        ensures version { version_of self.new ≡ version_of self.old }
         ensures read { result ≡ Err ReadFault.Read → reader_failures self.new ≡ one_more (reader_failures self.old) }
         ensures same { result ≢ Err ReadFault.Read → reader_failures self.new ≡ reader_failures self.old }
     {
         if let Some(number) = self.number {
             return Ok(number);
         }
-        first_line(&mut self.source, &mut self.line)?;
+        first_line(&mut self.source, &mut self.line, self.version)?;
         self.number = Some(FIRST_STEP);
         Ok(FIRST_STEP)
     }
@@ -141,16 +153,17 @@ impl<B: BufRead> StepReader<B> {
     fn read_line(&mut self, number: u64) -> Result<Option<Step>, ReadFault>
         requires { number_read self.old ≡ Some number }
         ensures next { IfOk result (Yields (steps_left B.remaining self.old) (steps_left B.remaining self.new)) }
-        ensures place { IfOk result (λ item. IfSome item (λ step. StandsAt number step × (number_read self.new ≡ Some (number_after number step)))) }
+        ensures place { IfOk result (λ item. IfSome item (λ step. StandsAt (version_of self.old) number step × (number_read self.new ≡ Some (number_after number step)))) }
         ensures fault { (e : TextFault) → result ≡ Err (ReadFault.Text e) → FailsLeft e (steps_left B.remaining self.old) }
         ensures open { fault_of self.new ≡ fault_of self.old }
+        ensures version { version_of self.new ≡ version_of self.old }
         ensures read { result ≡ Err ReadFault.Read → reader_failures self.new ≡ one_more (reader_failures self.old) }
         ensures same { result ≢ Err ReadFault.Read → reader_failures self.new ≡ reader_failures self.old }
     {
         if !next_line(&mut self.source, number, &mut self.line)? {
             return Ok(None);
         }
-        let step = read_step(self.alloc, number, self.line.as_slice())?;
+        let step = read_step(self.alloc, self.version, number, self.line.as_slice())?;
         self.number = Some(number + 1);
         Ok(Some(step))
     }

@@ -35,9 +35,10 @@ pub fn child(alloc: Global, listener: u32, how: TakeChoice, m: &Emission, moment
 {
     let mut child = Endpoint::new(alloc, m.rport, m.lport, Some(listener), State::SynReceived);
     child.irs = Some(m.seq);
+    child.peer_shift = m.scale;
     child.stream.peer = Some(m.maker);
     child.stream.receive.meet();
-    child.window.wnd = m.window;
+    child.window.wnd = u32::from(m.window);
     child.window.wl1 = m.pos;
     child.congestion.cwnd = how.cwnd;
     child.congestion.smss = told_smss(m);

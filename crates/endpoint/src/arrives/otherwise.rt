@@ -27,8 +27,8 @@ use crate::arrives::otherwise::peer::is_from_peer;
 use crate::arrives::otherwise::sequence::{is_acceptable, is_bad_number};
 use crate::arrives::otherwise::text::receive;
 use crate::arrives::otherwise::timers::{state_timers, timers_before};
-use crate::arrives::otherwise::window::{probe_due_taken, window_taken};
-use case_forms::{Header, TakeChoice};
+use crate::arrives::otherwise::window::{is_unread, probe_due_taken, window_taken};
+use case_forms::{Header, Initial, TakeChoice};
 use machine::{Emission, Endpoint, Name};
 use segment::OutOfMemory;
 use verdict::Rule;
@@ -36,13 +36,14 @@ use verdict::Rule;
 /// Whether an endpoint in any other state but CLOSED may take the segment (RFC 9293, 3.10.7.4). `full`: it is a child
 /// that would join a full queue. An error is the first rule that is broken.
 pub fn admits_connected(
+    initial: Initial,
     full: bool,
     me: Name,
     endpoint: &Endpoint,
     how: TakeChoice,
     m: &Emission,
 ) -> Result<(), Rule>
-    ensures { result_err result ≡ first_broken (rules_with_queue full me endpoint.now how m.now) }
+    ensures { result_err result ≡ first_broken (rules_with_queue initial full me endpoint.now how m.now) }
 {
     if !is_from_peer(me, endpoint, m) {
         return Err(Rule::NotPeer);
@@ -59,16 +60,19 @@ pub fn admits_connected(
     if full {
         return Err(Rule::QueueFull);
     }
-    if greatest_window(endpoint, m) < how.cwnd as u64 {
+    if greatest_window(initial, endpoint, m) < how.cwnd as u64 {
         return Err(Rule::Growth);
     }
     if how.sample && !may_sample(endpoint, m) {
         return Err(Rule::Sample);
     }
+    if is_unread(endpoint, m) {
+        return Err(Rule::ScaleUnread);
+    }
     Ok(())
 }
 
-/// What the endpoint has then, at a moment in microseconds. Where memory is wanting, it stays as it was.
+/// What the endpoint has then, at a moment in microseconds. Where memory runs out, it stays as it was.
 pub(crate) fn taken(
     header: &Header,
     endpoint: &mut Endpoint,

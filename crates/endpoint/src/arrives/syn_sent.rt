@@ -14,20 +14,26 @@ ghost use Rattle.std.specs.Result.{result_err};
 ghost use Rattle.verdict.specs.Rules.{first_broken};
 
 use crate::arrives::otherwise::ack::{acknowledges_syn, is_no_sample};
+use crate::arrives::otherwise::congestion::first_window;
 use crate::arrives::otherwise::timers::{rto_taken, timeout_taken};
-use crate::arrives::otherwise::window::persist_taken;
+use crate::arrives::otherwise::window::{is_unread, persist_taken};
 use crate::same::same_word;
-use case_forms::{Header, State, TakeChoice};
+use case_forms::{Header, Initial, State, TakeChoice};
 use machine::{Emission, Endpoint, Window};
 use seqno::number;
 use timer_rules::Timers;
 use verdict::Rule;
-use window_rules::{Congestion, initial_window};
+use window_rules::Congestion;
 
 /// Whether an endpoint in SYN-SENT may take the segment (RFC 9293, 3.10.7.3). An error is the first rule that is
 /// broken.
-pub fn admits_syn_sent(endpoint: &Endpoint, how: TakeChoice, m: &Emission) -> Result<(), Rule>
-    ensures { result_err result ≡ first_broken (syn_sent_rules endpoint.now how m.now) }
+pub fn admits_syn_sent(
+    initial: Initial,
+    endpoint: &Endpoint,
+    how: TakeChoice,
+    m: &Emission,
+) -> Result<(), Rule>
+    ensures { result_err result ≡ first_broken (syn_sent_rules initial endpoint.now how m.now) }
 {
     if !(m.flags.syn || m.flags.rst) {
         return Err(Rule::State);
@@ -35,11 +41,14 @@ pub fn admits_syn_sent(endpoint: &Endpoint, how: TakeChoice, m: &Emission) -> Re
     if (m.flags.ack || m.flags.rst) && !answers_syn(endpoint, m) {
         return Err(Rule::AckRange);
     }
-    if greatest_at_syn(endpoint, m) < how.cwnd as u64 {
+    if greatest_at_syn(initial, endpoint, m) < how.cwnd as u64 {
         return Err(Rule::Growth);
     }
     if how.sample && is_no_sample(endpoint, m) {
         return Err(Rule::Sample);
+    }
+    if is_unread(endpoint, m) {
+        return Err(Rule::ScaleUnread);
     }
     Ok(())
 }
@@ -71,11 +80,11 @@ pub(crate) fn told_smss(m: &Emission) -> u32
 }
 
 /// The greatest in SYN-SENT, with the segment size that the SYN brings.
-pub(crate) fn greatest_at_syn(endpoint: &Endpoint, m: &Emission) -> u64
-    ensures { result ≡ greatest_at_syn endpoint.now m.now }
+pub(crate) fn greatest_at_syn(initial: Initial, endpoint: &Endpoint, m: &Emission) -> u64
+    ensures { result ≡ greatest_at_syn initial endpoint.now m.now }
 {
     if m.flags.syn && !m.flags.rst && m.flags.ack {
-        initial_window(told_smss(m), endpoint.syn_lost)
+        first_window(initial, told_smss(m), endpoint.syn_lost)
     } else {
         endpoint.congestion.cwnd as u64
     }
@@ -107,6 +116,7 @@ pub(crate) fn met_peer(
     endpoint.timers = timers_met(header, endpoint, how, m, moment, una);
     endpoint.state = state_met(m);
     endpoint.irs = Some(m.seq);
+    endpoint.peer_shift = m.scale;
     endpoint.stream.peer = Some(m.maker);
     endpoint.stream.receive.meet();
     endpoint.stream.una = una;
@@ -139,14 +149,18 @@ pub(crate) fn window_met(endpoint: &Endpoint, m: &Emission) -> Window
     ensures { result ≡ record endpoint.now.window { wnd = m.now.window; wl1 = m.now.pos; wl2 = if m.now.flags.ack then 1 else 0 } }
 {
     let mut window = endpoint.window;
-    window.wnd = m.window;
+    window.wnd = u32::from(m.window);
     window.wl1 = m.pos;
     window.wl2 = if m.flags.ack { 1 } else { 0 };
     window
 }
 
 pub(crate) fn congestion_met(endpoint: &Endpoint, how: TakeChoice, m: &Emission) -> Congestion
-    ensures { result ≡ record endpoint.now.congestion { cwnd = how.cwnd; smss = told_smss m.now; dup = if m.now.flags.ack then 0 else endpoint.now.congestion.dup } }
+    ensures { result ≡ record endpoint.now.congestion {
+      cwnd = how.cwnd;
+      smss = told_smss m.now;
+      dup = if m.now.flags.ack then 0 else endpoint.now.congestion.dup;
+    } }
 {
     let mut congestion = endpoint.congestion;
     congestion.cwnd = how.cwnd;

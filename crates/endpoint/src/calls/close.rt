@@ -15,7 +15,17 @@ pub(crate) fn shut_allows(endpoint: &Endpoint, answer: &Answer) -> bool
     match answer {
         Answer::Done => endpoint.fault.is_none() && !endpoint.state.is_syn_sent(),
         Answer::NotConn => endpoint.fault.is_some() || endpoint.state.is_syn_sent(),
-        _ => tells_fault(endpoint, answer),
+        Answer::Given(_)
+        | Answer::Bytes(_)
+        | Answer::Again
+        | Answer::Eof
+        | Answer::Closed
+        | Answer::Refused
+        | Answer::Reset
+        | Answer::Timeout
+        | Answer::InUse
+        | Answer::BadSocket
+        | Answer::State(_) => tells_fault(endpoint, answer),
     }
 }
 

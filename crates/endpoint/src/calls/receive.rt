@@ -32,11 +32,19 @@ pub(crate) fn recv_allows(endpoint: &Endpoint, most: u16, answer: &Answer) -> bo
                 && !is_read_out(endpoint)
         }
         Answer::NotConn => endpoint.fault.is_none() && !endpoint.is_up(),
-        _ => tells_fault(endpoint, answer),
+        Answer::Done
+        | Answer::Given(_)
+        | Answer::Closed
+        | Answer::Refused
+        | Answer::Reset
+        | Answer::Timeout
+        | Answer::InUse
+        | Answer::BadSocket
+        | Answer::State(_) => tells_fault(endpoint, answer),
     }
 }
 
-/// The bytes of a `recv`, which are the next that wait, are delivered and let go.
+/// The bytes of a `recv`, which are the next that wait, are delivered and discarded.
 pub fn deliver(endpoint: &mut Endpoint, bytes: &[u8])
     requires room { HasRoom endpoint.old }
     requires waiting { length bytes.now ≤ length (waiting endpoint.old.stream.receive) }

@@ -16,7 +16,17 @@ pub(crate) fn sends_some(bytes: &[u8], answer: &Answer) -> bool
     match answer {
         Answer::Given(count) => 1 <= *count && *count as usize <= bytes.len(),
         Answer::Again => true,
-        _ => false,
+        Answer::Done
+        | Answer::Bytes(_)
+        | Answer::Eof
+        | Answer::Closed
+        | Answer::NotConn
+        | Answer::Refused
+        | Answer::Reset
+        | Answer::Timeout
+        | Answer::InUse
+        | Answer::BadSocket
+        | Answer::State(_) => false,
     }
 }
 
@@ -50,7 +60,7 @@ pub(crate) fn send_allows(endpoint: &Endpoint, bytes: &[u8], answer: &Answer) ->
     open_send_allows(endpoint.state, bytes, answer)
 }
 
-/// The first so many bytes of a `send` are accepted; all of them where there are no more. Where memory is wanting, the
+/// The first so many bytes of a `send` are accepted; all of them where there are no more. Where memory runs out, the
 /// endpoint stays as it was.
 pub fn send(endpoint: &mut Endpoint, bytes: &[u8], count: u32) -> Result<(), OutOfMemory>
     requires { HasRoom endpoint.old }

@@ -2,14 +2,14 @@
 
 ghost use Rattle.endpoint.specs.Small.{IsSmall};
 ghost use Rattle.machine.specs.Endpoints.{next};
-ghost use Rattle.machine.specs.Makes.Edges.{is_bad_ack, is_beyond_offer, is_congesting};
+ghost use Rattle.machine.specs.Makes.Edges.{is_bad_ack, own_window, is_beyond_offer, is_congesting};
 ghost use Rattle.machine.specs.Makes.Kind.{word_zero, numbered};
 ghost use Rattle.std.specs.Prelude.{◌≡◌, ◌<◌, ◌^◌, if◌then◌else◌, ◌+◌, max};
 
 use crate::makes::kind::numbered;
 use crate::makes::payload::has_new_bytes;
 use case_forms::SegmentPlan;
-use machine::Endpoint;
+use machine::{Endpoint, window_in};
 use seqno::{Word, number};
 use window_rules::{congestion_edge, offered_edge};
 
@@ -28,11 +28,7 @@ pub(crate) fn is_beyond_offer(endpoint: &Endpoint, making: &SegmentPlan) -> bool
     requires { IsSmall endpoint.now making.now }
     ensures { result ≡ is_beyond_offer endpoint.now making.now }
 {
-    let edge = offered_edge(
-        endpoint.stream.una,
-        endpoint.window.wnd as u32,
-        endpoint.probe_due,
-    );
+    let edge = offered_edge(endpoint.stream.una, endpoint.window.wnd, endpoint.probe_due);
     has_new_bytes(endpoint, making) && edge < making.pos + making.len as u64
 }
 
@@ -57,13 +53,27 @@ pub(crate) fn acknowledgment(endpoint: &Endpoint, making: &SegmentPlan) -> (u64,
     (next, numbered(endpoint.irs, next))
 }
 
+// The window that it offers, in bytes.
+pub(crate) fn own_window(endpoint: &Endpoint, making: &SegmentPlan) -> u32
+    ensures value { result ≡ own_window endpoint.now making.now }
+    ensures small { result < 2 ^ 30 }
+{
+    window_in(
+        endpoint.is_scaling(),
+        making.flags.syn,
+        endpoint.shift,
+        making.window,
+    )
+}
+
 // How far its own windows reached then.
 pub(crate) fn own_edge(endpoint: &Endpoint, making: &SegmentPlan) -> u64
-    ensures { result ≡ (if making.now.flags.ack then max endpoint.now.window.edge (next endpoint.now + making.now.window) else endpoint.now.window.edge) }
+    ensures { result ≡ (if making.now.flags.ack then max endpoint.now.window.edge (next endpoint.now + own_window endpoint.now making.now)
+        else endpoint.now.window.edge) }
 {
     let edge = endpoint.window.edge;
     if making.flags.ack {
-        edge.max(endpoint.next() + making.window as u64)
+        edge.max(endpoint.next() + own_window(endpoint, making) as u64)
     } else {
         edge
     }

@@ -2,7 +2,8 @@
 
 ghost use Rattle.case_forms.specs.States.{is_syn_sent, is_syn_received};
 ghost use Rattle.machine.specs.Calls.Close.{shut_down};
-ghost use Rattle.machine.specs.Makes.Kind.{may_carry, may_finish, may_not_send, may_make_syn, may_make_reset, may_make_other, may_make, makes_nothing, is_bad_iss, numbered};
+ghost use Rattle.machine.specs.Makes.Kind.{may_carry, may_finish, may_not_send, may_make_syn, may_make_reset, may_make_other, may_make};
+ghost use Rattle.machine.specs.Makes.Kind.{makes_nothing, is_bad_iss, given_shift, numbered};
 ghost use Rattle.std.specs.Prelude.{◌≡◌, if◌then◌else◌, false};
 
 use case_forms::{SegmentPlan, State};
@@ -89,6 +90,17 @@ pub(crate) fn is_bad_iss(endpoint: &Endpoint, making: &SegmentPlan) -> bool
         making.iss.is_some()
     } else {
         !(making.iss.is_some() && making.flags.syn)
+    }
+}
+
+// The shift of the windows that it offers, which is given with the initial send sequence number.
+pub(crate) fn given_shift(endpoint: &Endpoint, making: &SegmentPlan) -> Option<u8>
+    ensures { result ≡ given_shift endpoint.now making.now }
+{
+    if making.iss.is_some() {
+        making.shift
+    } else {
+        endpoint.shift
     }
 }
 

@@ -20,6 +20,7 @@ child l how m moment =
     let fresh : Endpoint = new_endpoint m.rport m.lport (Some l) states.SynReceived in
     record fresh {
       irs = Some m.seq;
+      peer_shift = m.scale;
       stream = record fresh.stream { peer = Some m.maker; receive = met };
       window = record fresh.window { wnd = m.window; wl1 = m.pos };
       congestion = record fresh.congestion { cwnd = how.cwnd; smss = told_smss m };

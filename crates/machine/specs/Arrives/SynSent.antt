@@ -5,15 +5,16 @@ use Rattle.seqno.specs.Numbers.{number_of}
 use Rattle.case_forms.specs.declared.calls.State.TheVariants as states
 use Rattle.case_forms.specs.declared.steps.TakeChoice.{TakeChoice}
 use Rattle.case_forms.specs.declared.trace.Header.{Header}
+use Rattle.case_forms.specs.declared.version.Initial.{Initial}
 use Rattle.verdict.specs.declared.rule.Rule.{Rule}
 use Rattle.verdict.specs.declared.rule.Rule.TheVariants as rules
 use Rattle.streams.specs.Makings.{made_again}
 use Rattle.streams.specs.Received.{met}
-use Rattle.window_rules.specs.Windows.{initial_window}
 use Rattle.timer_rules.specs.declared.timers.Timers.{Timers}
 use Rattle.machine.specs.Endpoints.{Endpoint, Emission, max_made}
 use Rattle.machine.specs.Same.{same_word}
-use Rattle.machine.specs.Arrives.Otherwise.Window.{persist_taken}
+use Rattle.machine.specs.Arrives.Otherwise.Congestion.{first_window}
+use Rattle.machine.specs.Arrives.Otherwise.Window.{is_unread, persist_taken}
 use Rattle.machine.specs.Arrives.Otherwise.Timers.{timeout_taken, rto_taken}
 
 -- in SYN-SENT: it acknowledges the SYN, which is all that was made (RFC 9293, 3.10.7.3)
@@ -25,14 +26,15 @@ abbrev pub told_smss : Emission → ℕ
 told_smss m = option_map_or (λ mss. if mss == 0 then 536 else mss) m.mss 536
 
 -- the greatest congestion window in SYN-SENT, with the segment size that the SYN brings
-abbrev pub greatest_at_syn : Endpoint → Emission → ℕ
-greatest_at_syn e m = if m.flags.syn && not m.flags.rst && m.flags.ack then initial_window (told_smss m) e.syn_lost else e.congestion.cwnd
+abbrev pub greatest_at_syn : Initial → Endpoint → Emission → ℕ
+greatest_at_syn initial e m = if m.flags.syn && not m.flags.rst && m.flags.ack then first_window initial (told_smss m) e.syn_lost else e.congestion.cwnd
 
 -- in SYN-SENT: a SYN or a reset, where it acknowledges, of the own SYN (RFC 9293, 3.10.7.3)
-abbrev pub syn_sent_rules : Endpoint → TakeChoice → Emission → List (Rule × Bool)
-syn_sent_rules e how m =
+abbrev pub syn_sent_rules : Initial → Endpoint → TakeChoice → Emission → List (Rule × Bool)
+syn_sent_rules initial e how m =
     (rules.State, not (m.flags.syn || m.flags.rst)) ∷ (rules.AckRange, (m.flags.ack || m.flags.rst) && not (answers_syn e m))
-    ∷ (rules.Growth, nat_lt (greatest_at_syn e m) how.cwnd) ∷ (rules.Sample, how.sample && (m.flags.rst || not m.flags.ack || made_again e.makings e.stream.una 1)) ∷ []
+    ∷ (rules.Growth, nat_lt (greatest_at_syn initial e m) how.cwnd) ∷ (rules.Sample, how.sample && (m.flags.rst || not m.flags.ack || made_again e.makings e.stream.una 1))
+    ∷ (rules.ScaleUnread, is_unread e m) ∷ []
 
 -- the oldest position that is not acknowledged, once the peer's SYN was taken in SYN-SENT; an acknowledgment is of the own SYN
 abbrev pub una_met : Endpoint → Emission → ℕ
@@ -48,6 +50,7 @@ abbrev pub met_peer : Header → Endpoint → TakeChoice → Emission → ℕ �
 met_peer h e how m moment = record e {
   state = if m.flags.ack then states.Established else states.SynReceived;
   irs = Some m.seq;
+  peer_shift = m.scale;
   stream = record e.stream { peer = Some m.maker; receive = met; una = una_met e m };
   window = record e.window { wnd = m.window; wl1 = m.pos; wl2 = if m.flags.ack then 1 else 0 };
   congestion = record e.congestion { cwnd = how.cwnd; smss = told_smss m; dup = if m.flags.ack then 0 else e.congestion.dup };

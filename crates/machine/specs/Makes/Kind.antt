@@ -55,6 +55,10 @@ makes_nothing e m = is_closed e.state && not (m.flags.rst && e.reset_due)
 abbrev pub is_bad_iss : Endpoint → SegmentPlan → Bool
 is_bad_iss e m = if is_some e.iss then is_some m.iss else not (is_some m.iss && m.flags.syn)
 
+-- the shift of the windows that it offers, which is given with the initial send sequence number (RFC 7323, 2.2)
+abbrev pub given_shift : Endpoint → SegmentPlan → Option ℕ
+given_shift e m = if is_some m.iss then m.shift else e.shift
+
 abbrev pub word_zero : Word
 word_zero = record { 0 = 0 }
 

@@ -3,4 +3,4 @@ use Rattle.checker.proofs.case.cut.Given as goal
 
 -- the lines so far are the trace's, and the place is behind them
 abbrev pub invariant-loop-raw : goal.invariant-loop-raw
-invariant-loop-raw l = IsCutSoFar l.text l.at l.raw-iterator
+invariant-loop-raw l = IsCutSoFar l.version l.text l.at l.raw-iterator

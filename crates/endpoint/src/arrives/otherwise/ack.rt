@@ -1,7 +1,8 @@
 //! Fifth, the ACK field.
 
 ghost use Rattle.case_forms.specs.declared.calls.State.TheVariants as states;
-ghost use Rattle.machine.specs.Arrives.Otherwise.Ack.{acknowledged, una_after, fin_acknowledged, is_bad_ack_range, is_new_ack, acknowledges_syn, acked, is_duplicate, may_sample};
+ghost use Rattle.machine.specs.Arrives.Otherwise.Ack.{acknowledged, una_after, fin_acknowledged, is_bad_ack_range, is_new_ack, acknowledges_syn};
+ghost use Rattle.machine.specs.Arrives.Otherwise.Ack.{acked, is_duplicate, may_sample};
 ghost use Rattle.machine.specs.Arrives.Otherwise.Window.{opens};
 ghost use Rattle.machine.specs.Endpoints.{max_made};
 ghost use Rattle.std.specs.Prelude.{◌≡◌, ◌||◌, not, ◌<◌, ◌+◌, ◌^◌, if◌then◌else◌, ◌&&◌, is_some};
@@ -51,7 +52,7 @@ pub(crate) fn is_duplicate(endpoint: &Endpoint, m: &Emission) -> bool
         && m.length() == 0
         && !m.flags.rst
         && m.ack == endpoint.stream.una
-        && m.window == endpoint.window.wnd
+        && endpoint.peer_window(m) == endpoint.window.wnd
 }
 
 /// Whether a round trip may be measured by it: it acknowledges what was not acknowledged before, and all of that was
@@ -115,7 +116,8 @@ pub(crate) fn acknowledged(endpoint: &Endpoint, m: &Emission) -> State
 
 pub(crate) fn dup_taken(endpoint: &Endpoint, m: &Emission) -> u32
     requires { endpoint.now.congestion.dup + 1 < 2 ^ 32 }
-    ensures { result ≡ (if is_new_ack endpoint.now m.now then 0 else if is_duplicate endpoint.now m.now then endpoint.now.congestion.dup + 1 else endpoint.now.congestion.dup) }
+    ensures { result ≡ (if is_new_ack endpoint.now m.now then 0
+        else if is_duplicate endpoint.now m.now then endpoint.now.congestion.dup + 1 else endpoint.now.congestion.dup) }
 {
     let dup = endpoint.congestion.dup;
     if is_new_ack(endpoint, m) {

@@ -20,7 +20,8 @@ pub(crate) fn timers_before(
     m: &Emission,
     moment: u64,
 ) -> Timers
-    ensures { let measured = timeout_taken header.now endpoint.now (how.sample && is_new_ack endpoint.now m.now) m.now.ack (acknowledges_syn endpoint.now m.now) moment in
+    ensures { let measured = timeout_taken header.now endpoint.now (how.sample && is_new_ack endpoint.now m.now) m.now.ack
+        (acknowledges_syn endpoint.now m.now) moment in
         let running = rto_taken measured (una_after endpoint.now m.now == max_made endpoint.now) (is_new_ack endpoint.now m.now) moment in
         result ≡ (if takes_window endpoint.now m.now then persist_taken running m.now.window moment else running) }
 {

@@ -1,12 +1,20 @@
 //! The send window then.
 
-ghost use Rattle.machine.specs.Arrives.Otherwise.Window.{takes_window, window_taken, opens, persist_taken};
+ghost use Rattle.machine.specs.Arrives.Otherwise.Window.{takes_window, window_taken, is_unread, opens, persist_taken};
 ghost use Rattle.std.specs.Prelude.{◌≡◌, ◌&&◌, not};
 
 use crate::arrives::otherwise::ack::{acknowledges_syn, opens};
+use crate::same::same_bool;
 use case_forms::Timer;
 use machine::{Emission, Endpoint, Window};
 use timer_rules::Timers;
+
+/// Whether its window can't be read as it was meant: scaling was in force at its maker and is not here, or the other way.
+pub(crate) fn is_unread(endpoint: &Endpoint, m: &Emission) -> bool
+    ensures { result ≡ is_unread endpoint.now m.now }
+{
+    !m.flags.syn && !m.answers && !same_bool(m.scaled, endpoint.is_scaling())
+}
 
 /// Whether the window is taken from the segment: it is not older than the one that it was taken from last, or
 /// acknowledges the SYN.
@@ -25,7 +33,7 @@ pub(crate) fn window_taken(endpoint: &Endpoint, m: &Emission) -> Window
 {
     let mut window = endpoint.window;
     if takes_window(endpoint, m) {
-        window.wnd = m.window;
+        window.wnd = endpoint.peer_window(m);
         window.wl1 = m.pos;
         window.wl2 = m.ack;
     }

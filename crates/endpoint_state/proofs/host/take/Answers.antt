@@ -1,16 +1,10 @@
-use Rattle.std.proofs.Common.{ap, ◌∙◌, sym, ◌≡◌, Option, Bor}
+use Rattle.std.proofs.Common.{ap, ◌∙◌, sym, Option, Bor}
 use Rattle.std.specs.Option.{option_copied}
 use Rattle.machine.specs.declared.endpoint.Emission.{Emission}
 use Rattle.hosts.specs.Tables.{waiting}
-use Rattle.hosts.specs.Hosts.{HostState}
-use Rattle.machine.specs.Machine.{tcp_shape}
 use Rattle.endpoint_state.proofs.Still.{waiting_small}
-use Rattle.endpoint_state.proofs.Deeds.{Host_, took, took_nothing}
+use Rattle.endpoint_state.proofs.Deeds.{Host_}
 use Rattle.endpoint_state.proofs.host.take.Goals as goal
-
-pub returns-in_default-clause-ok : goal.returns-in_default-clause-ok
-returns-in_default-clause-ok c = took_nothing c.args.header.now c.args.moment c.args.line c.args.how c.args.host.now c.requires.ready
-    (ap (λ (h : Host_). waiting c.args.line h.inbox) (sym c.host.view_is) ∙ (sym c.waiting.ensures ∙ ap (λ (o : Option (Bor Emission)). option_copied o) c.in_default.is))
 
 pub take-requires-clause-small : goal.take-requires-clause-small
 take-requires-clause-small c = waiting_small c.args.host.now c.args.line c.in-Some.m.now c.requires.ready.tables

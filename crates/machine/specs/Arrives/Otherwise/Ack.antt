@@ -5,7 +5,7 @@ use Rattle.case_forms.specs.declared.calls.State.{State}
 use Rattle.case_forms.specs.declared.calls.State.TheVariants as states
 use Rattle.streams.specs.Makings.{made_again}
 use Rattle.streams.specs.Sent.{end_of}
-use Rattle.machine.specs.Endpoints.{Endpoint, Emission, max_made, segment_length}
+use Rattle.machine.specs.Endpoints.{Endpoint, Emission, max_made, peer_window, segment_length}
 
 -- it acknowledges nothing, or what was not made; in SYN-RECEIVED the SYN has to be acknowledged (RFC 9293, 3.10.7.4)
 abbrev pub is_bad_ack_range : Endpoint → Emission → Bool
@@ -25,7 +25,7 @@ acked e m = m.ack - e.stream.una
 
 -- a duplicate acknowledgment (RFC 5681, 2)
 abbrev pub is_duplicate : Endpoint → Emission → Bool
-is_duplicate e m = nat_lt e.stream.una (max_made e) && segment_length m == 0 && not m.flags.rst && m.ack == e.stream.una && m.window == e.window.wnd
+is_duplicate e m = nat_lt e.stream.una (max_made e) && segment_length m == 0 && not m.flags.rst && m.ack == e.stream.una && peer_window e m == e.window.wnd
 
 -- a round trip is measured by a new acknowledgment of positions that were made once (RFC 6298, 3)
 abbrev pub may_sample : Endpoint → Emission → Bool

@@ -1,18 +1,23 @@
--- The send window: when it is taken, and what it and the persist timer are then (RFC 9293, 3.10.7.4, fifth).
+-- The send window: when it is taken, and what it and the persist timer are then (RFC 9293, 3.10.7.4, fifth; RFC 7323, 2.3).
 -- In code `opens` stands in `ack`; here in this file, which cites `Ack` and is not cited there.
-use Rattle.std.specs.Prelude.{ℕ, ◌==◌, nat_le, nat_lt, Bool, ◌&&◌, ◌||◌, if◌then◌else◌, is_some}
+use Rattle.std.specs.Prelude.{ℕ, ◌==◌, nat_le, nat_lt, Bool, not, ◌&&◌, ◌||◌, if◌then◌else◌, is_some}
 use Rattle.case_forms.specs.declared.timer.Timer.TheVariants.{Persist}
 use Rattle.timer_rules.specs.Timers.{armed, stopped}
 use Rattle.timer_rules.specs.declared.timers.Timers.{Timers}
-use Rattle.machine.specs.Endpoints.{Window, Endpoint, Emission}
+use Rattle.machine.specs.Endpoints.{Window, Endpoint, Emission, is_scaling, peer_window}
+use Rattle.machine.specs.Same.{same_bool}
 use Rattle.machine.specs.Arrives.Otherwise.Ack.{acknowledges_syn}
+
+-- its window can't be read as it was meant: scaling was in force at its maker and is not here, or the other way (this profile's own)
+abbrev pub is_unread : Endpoint → Emission → Bool
+is_unread e m = not m.flags.syn && not m.answers && not (same_bool m.scaled (is_scaling e))
 
 -- the window is taken from a segment that is not older than the one that it was taken from last; one that acknowledges the SYN sets it (RFC 9293, 3.10.7.4)
 abbrev pub takes_window : Endpoint → Emission → Bool
 takes_window e m = nat_le e.stream.una m.ack && (acknowledges_syn e m || nat_lt e.window.wl1 m.pos || e.window.wl1 == m.pos && nat_le e.window.wl2 m.ack)
 
 abbrev pub window_taken : Endpoint → Emission → Window
-window_taken e m = if takes_window e m then record e.window { wnd = m.window; wl1 = m.pos; wl2 = m.ack } else e.window
+window_taken e m = if takes_window e m then record e.window { wnd = peer_window e m; wl1 = m.pos; wl2 = m.ack } else e.window
 
 -- a window above 0 was taken
 abbrev pub opens : Endpoint → Emission → Bool

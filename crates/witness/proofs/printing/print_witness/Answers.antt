@@ -9,4 +9,4 @@ use Rattle.witness.proofs.printing.print_witness.Goals as goal
 pub loop-step-preserved : goal.loop-step-preserved
 loop-step-preserved c =
     let wrote = subst (λ (s : Step). c.push_step.new.out.items ≡ c.loop-step.out.items ++ printed_line (step_pieces s)) c.step-item.is c.in_ok-push_step.ensures in
-    writes_more c.loop-step.out.items c.push_step.new.out.items (first_text ++ 10 ∷ []) c.as_slice-step-items.result.now c.loop-step.step-index _ c.loop-step-test.true c.loop-step.invariant wrote
+    writes_more c.loop-step.out.items c.push_step.new.out.items (first_text c.args.witness.now.version ++ 10 ∷ []) c.as_slice-step-items.result.now c.loop-step.step-index _ c.loop-step-test.true c.loop-step.invariant wrote

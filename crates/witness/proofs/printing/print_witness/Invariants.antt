@@ -5,4 +5,4 @@ use Rattle.witness.proofs.printing.print_witness.Given as goal
 
 -- the first line and the steps so far were printed
 abbrev pub invariant-loop-step : goal.invariant-loop-step
-invariant-loop-step l = l.out.items ≡ (first_text ++ 10 ∷ []) ++ steps_text (take l.step-index l.step-items)
+invariant-loop-step l = l.out.items ≡ (first_text l.fn.witness.version ++ 10 ∷ []) ++ steps_text (take l.step-index l.step-items)

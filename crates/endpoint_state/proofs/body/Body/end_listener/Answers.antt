@@ -1,11 +1,17 @@
-use Rattle.std.proofs.Common.{◌∙◌, false, map, sym, ap}
+use Rattle.std.proofs.Common.{◌∙◌, false, List, map, sym, ap, subst}
+use Rattle.std.specs.List.{All}
 use Rattle.streams.specs.Lists.{modify}
+use Rattle.machine.specs.declared.endpoint.Endpoint.{Endpoint}
 use Rattle.machine.specs.declared.endpoint.Listener.{Listener}
+use Rattle.machine.specs.Bounds.{HasRoom}
 use Rattle.machine.specs.Bodies.{Body, dead}
 use Rattle.machine.specs.Calls.Close.{orphaned}
 use Rattle.endpoint_state.proofs.BodyLemmas.{body_is}
 use Rattle.endpoint_state.proofs.OrphanLemmas.{orphans_forgotten}
 use Rattle.endpoint_state.proofs.body.Body.end_listener.Goals as goal
+
+pub orphan-requires : goal.orphan-requires
+orphan-requires c = subst (λ (es : List Endpoint). All HasRoom es) (sym (ap (λ (b : Body). b.endpoints) c.self.view_is)) c.requires
 
 pub returns : goal.returns
 returns c = body_is c.orphan.new.self _ c.close.new.self _ c.retire.new.sockets.entries _

@@ -7,7 +7,7 @@ use Rattle.streams.specs.Views.{expand}
 use Rattle.streams.proofs.RunLemmas.{known_long, make_long, make_shown}
 use Rattle.streams.proofs.makings.Makings.make.Goals as goal
 
--- what is shown once runs that were let go are brought back is what was shown before
+-- what is shown once runs that were discarded are brought back is what was shown before
 same : (c : goal.After-self-2-1) → replicate c.reopen-self-inside.result (once 0) ++ expand c.reopen-self-inside.new.runs.items ≡ c.args.self.now
 same c = c.reopen-self-inside.ensures.same ∙ (ap (λ (runs : List Run). replicate c.self.inside.gone (once 0) ++ expand runs) c.reserve.ensures.items ∙ c.self.view_is)
 

@@ -1,0 +1,44 @@
+//! The versions of a trace and its witness.
+
+ghost use Rattle.std.specs.Prelude.{◌≡◌};
+ghost use Rattle.case_forms.specs.Versions.{first_line_of, scales};
+
+/// Which version a text is of. A trace and its witness are of the same.
+#[derive(Clone, Copy, Debug, PartialEq, Eq)]
+pub enum Version {
+    /// Windows count bytes as they are written.
+    One,
+    /// Windows may be scaled (RFC 7323, 2), and the trace says which RFC gives the first congestion window.
+    Two,
+}
+
+impl Version {
+    /// The number of the first event line of a trace, which stands behind the lines of the header.
+    pub fn first_event_line(self) -> u64
+        ensures { result ≡ first_line_of self }
+    {
+        match self {
+            Version::One => 7,
+            Version::Two => 8,
+        }
+    }
+
+    /// Whether windows may be scaled.
+    pub fn scales(self) -> bool
+        ensures { result ≡ scales self }
+    {
+        match self {
+            Version::One => false,
+            Version::Two => true,
+        }
+    }
+}
+
+/// Which RFC gives the first congestion window.
+#[derive(Clone, Copy, Debug, PartialEq, Eq)]
+pub enum Initial {
+    /// Two to four segments, one where a SYN was lost (RFC 5681, 3.1).
+    Rfc5681,
+    /// Ten segments (RFC 6928, 2).
+    Rfc6928,
+}

@@ -1,0 +1,18 @@
+use Rattle.std.proofs.Common.{◌≡◌, List, is_some, nat_eq}
+use Rattle.indexmap.specs.IndexMap.{get}
+use Rattle.case_forms.specs.declared.trace.Line.{Line}
+use Rattle.counted.specs.Counting.{failures_of}
+use Rattle.checker.specs.Ahead.{lines_after, left_ahead, line_ahead, source_ahead, IsAhead}
+use Rattle.checker.specs.Streaming.{Between}
+use Rattle.checker.proofs.offering.refuse_late.Given as goal
+
+-- the lines so far were passed, and their threads noted
+abbrev pub invariant-loop-threads : goal.invariant-loop-threads
+invariant-loop-threads g l = record {
+  ahead : IsAhead l.lines;
+  so_far : (between : List Line) × Between l.window (left_ahead g.A.Read.remaining l.fn.lines) (left_ahead g.A.Read.remaining l.lines) (line_ahead l.lines) (λ t. is_some (get nat_eq l.threads t)) l.number l.moment between;
+  counts : failures_of (source_ahead l.lines) ≡ failures_of (source_ahead l.fn.lines);
+}
+
+abbrev pub decreases-loop-threads : goal.decreases-loop-threads
+decreases-loop-threads g l = lines_after (line_ahead l.lines)

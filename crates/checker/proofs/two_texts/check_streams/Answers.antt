@@ -1,0 +1,24 @@
+use Rattle.counted.specs.Counting.{left_of}
+use Rattle.checker.specs.Consequences.{ReadsBeginWhatWasSent, EndsAreWhole, AllAcknowledgedWasTaken, AllKeepWindows}
+use Rattle.checker.proofs.ConsequenceLemmas.{yes_then}
+use Rattle.checker.proofs.JudgeLemmas.{answer_says, answer_explained}
+use Rattle.checker.proofs.TextLemmas.{verdict_of}
+use Rattle.checker.proofs.two_texts.check_streams.Goals as goal
+
+pub returns-clause-says : goal.returns-clause-says
+returns-clause-says g c = λ t w are. answer_says t w c.judge_texts.result.0 (verdict_of c.judge_texts.result.0 (left_of g.A.Read.remaining c.args.a) (left_of g.B.Read.remaining c.args.b) t w c.judge_texts.ensures.exact are)
+
+pub returns-clause-explained : goal.returns-clause-explained
+returns-clause-explained g c = λ t w are. answer_explained t w c.judge_texts.result.0 (verdict_of c.judge_texts.result.0 (left_of g.A.Read.remaining c.args.a) (left_of g.B.Read.remaining c.args.b) t w c.judge_texts.ensures.exact are)
+
+pub returns-clause-received : goal.returns-clause-received
+returns-clause-received g c = λ t w are. yes_then t w (ReadsBeginWhatWasSent t w) c.judge_texts.result.0 (c.explained_follows.ensures.received t w) (returns-clause-explained g c t w are)
+
+pub returns-clause-whole : goal.returns-clause-whole
+returns-clause-whole g c = λ t w are. yes_then t w (EndsAreWhole t w) c.judge_texts.result.0 (c.explained_follows.ensures.whole t w) (returns-clause-explained g c t w are)
+
+pub returns-clause-acknowledged : goal.returns-clause-acknowledged
+returns-clause-acknowledged g c = λ t w are. yes_then t w (AllAcknowledgedWasTaken t w) c.judge_texts.result.0 (c.explained_follows.ensures.acknowledged t w) (returns-clause-explained g c t w are)
+
+pub returns-clause-windows : goal.returns-clause-windows
+returns-clause-windows g c = λ t w are. yes_then t w (AllKeepWindows t w) c.judge_texts.result.0 (c.explained_follows.ensures.windows t w) (returns-clause-explained g c t w are)

@@ -1,0 +1,150 @@
+//! A trace that is read one line ahead, so that it is known when the next line is reached.
+
+ghost use Rattle.std.specs.Prelude.{◌≡◌, ◌≢◌, ◌<◌, List, Err, IfOk, IfErr, IfSome, None, nat_le, true, false};
+ghost use Rattle.std.specs.Option.{option_map, option_map_or};
+ghost use Rattle.case_forms.specs.declared.trace.Line.{Line};
+ghost use Rattle.case_forms.specs.Traces.{first_event_line};
+ghost use Rattle.counted.specs.Counting.{failures_of, one_more};
+ghost use Rattle.line_fields.specs.Left.{Yields};
+ghost use Rattle.trace_reader.specs.EventLines.{behind};
+ghost use Rattle.trace_reader.specs.TraceText.{first_place};
+ghost use Rattle.trace_reader.specs.TraceLeft.{source_of, place_of, fault_of, reader_failures, IsBegun, lines_left, Begins, StandsAt};
+ghost use Rattle.checker.specs.Ahead.{source_ahead, line_ahead, left_ahead, trace_ahead, IsUnread, IsAhead, Skips, IsAll, TraceFails, Follows, lines_after};
+
+use crate::case::{CaseFault, trace_fault};
+use case_forms::{Header, Line};
+use counted::Counted;
+use line_fields::ReadFault;
+use std::alloc::Global;
+use std::io::BufRead;
+use trace_reader::TraceReader;
+
+/// A trace, and its next line.
+#[derive(Drop)]
+pub(crate) struct Ahead<A> {
+    reader: TraceReader<A>,
+    // None before the header is read, and at the end.
+    line: Option<Line>,
+}
+
+impl<A> Ahead<A> {
+    /// A trace of which nothing is read yet.
+    pub(crate) fn new(alloc: Global, source: Counted<A>) -> Ahead<A>
+        ensures source { source_ahead result ≡ source }
+        ensures unread { IsUnread result }
+    {
+        Ahead {
+            reader: TraceReader::new(alloc, source),
+            line: None,
+        }
+    }
+
+    /// The source, of which what was asked for is read, one line more, and nothing behind it.
+    pub(crate) fn into_source(self) -> Counted<A>
+        ensures { result ≡ source_ahead self }
+    {
+        self.reader.into_source()
+    }
+
+    /// Whether the next line's moment is reached.
+    pub(crate) fn is_reached(&self, moment: u64) -> bool
+        ensures { result ≡ option_map_or (λ line. nat_le line.moment moment) (line_ahead self.now) false }
+    {
+        match &self.line {
+            Some(line) => line.moment <= moment,
+            None => false,
+        }
+    }
+
+    /// The number of the next line. None at the end.
+    pub(crate) fn next_number(&self) -> Option<u64>
+        ensures { result ≡ option_map (λ line. line.number) (line_ahead self.now) }
+    {
+        self.line.as_ref().map(|line| line.number)
+    }
+}
+
+impl<A: BufRead> Ahead<A> {
+    /// The header, which is read before any line, and the first line behind it.
+    pub(crate) fn begin(&mut self) -> Result<Header, CaseFault>
+        requires { IsUnread self.old }
+        ensures ahead { IfOk result (λ header. IsAhead self.new) }
+        ensures begins { IfOk result (Begins (trace_ahead A.remaining self.old) (left_ahead A.remaining self.new)) }
+        ensures first { IfOk result (λ header. IfSome (line_ahead self.new) (λ line. line.number ≡ first_event_line header)) }
+        ensures fault { IfErr result (λ e. TraceFails e (trace_ahead A.remaining self.old)) }
+        ensures read { result ≡ Err CaseFault.Read → failures_of (source_ahead self.new) ≡ one_more (failures_of (source_ahead self.old)) }
+        ensures same { result ≢ Err CaseFault.Read → failures_of (source_ahead self.new) ≡ failures_of (source_ahead self.old) }
+    {
+        match self.reader.header() {
+            Ok(header) => {
+                self.line = next_line(&mut self.reader)?;
+                Ok(header)
+            }
+            Err(ReadFault::Text(fault)) => Err(trace_fault(fault)),
+            Err(ReadFault::Read) => Err(CaseFault::Read),
+        }
+    }
+
+    /// The line that was read ahead; the one behind it is read.
+    pub(crate) fn next(&mut self) -> Result<Option<Line>, CaseFault>
+        requires { IsAhead self.old }
+        ensures ahead { IfOk result (λ item. IsAhead self.new) }
+        ensures item { IfOk result (λ item. item ≡ line_ahead self.old) }
+        ensures next { IfOk result (Yields (left_ahead A.remaining self.old) (left_ahead A.remaining self.new)) }
+        ensures follows { IfOk result (λ item. IfSome item (λ line. IfSome (line_ahead self.new) (Follows line))) }
+        ensures fault { IfErr result (λ e. TraceFails e (left_ahead A.remaining self.old)) }
+        ensures read { result ≡ Err CaseFault.Read → failures_of (source_ahead self.new) ≡ one_more (failures_of (source_ahead self.old)) }
+        ensures same { result ≢ Err CaseFault.Read → failures_of (source_ahead self.new) ≡ failures_of (source_ahead self.old) }
+    {
+        let Some(line) = self.line.take() else {
+            return Ok(None);
+        };
+        self.line = next_line(&mut self.reader)?;
+        Ok(Some(line))
+    }
+
+    // Passes the line that was read ahead. False where there is none.
+    fn skip(&mut self) -> Result<bool, CaseFault>
+        requires { IsAhead self.old }
+        ensures ahead { IfOk result (λ more. IsAhead self.new) }
+        ensures next { IfOk result (λ more. Skips more (left_ahead A.remaining self.old) (left_ahead A.remaining self.new)) }
+        ensures fewer { result ≡ Ok true → lines_after (line_ahead self.new) < lines_after (line_ahead self.old) }
+        ensures fault { IfErr result (λ e. TraceFails e (left_ahead A.remaining self.old)) }
+        ensures read { result ≡ Err CaseFault.Read → failures_of (source_ahead self.new) ≡ one_more (failures_of (source_ahead self.old)) }
+        ensures same { result ≢ Err CaseFault.Read → failures_of (source_ahead self.new) ≡ failures_of (source_ahead self.old) }
+    {
+        let item = self.next()?;
+        Ok(item.is_some())
+    }
+
+    /// Reads on to the end of the trace.
+    pub(crate) fn drain(&mut self) -> Result<(), CaseFault>
+        requires { IsAhead self.old }
+        ensures all { IfOk result (λ u. (items : List Line) × IsAll (left_ahead A.remaining self.old) items) }
+        ensures fault { IfErr result (λ e. TraceFails e (left_ahead A.remaining self.old)) }
+        ensures read { result ≡ Err CaseFault.Read → failures_of (source_ahead self.new) ≡ one_more (failures_of (source_ahead self.old)) }
+        ensures same { result ≢ Err CaseFault.Read → failures_of (source_ahead self.new) ≡ failures_of (source_ahead self.old) }
+    {
+        while self.skip()? {}
+        Ok(())
+    }
+}
+
+// The next event line of a trace whose header was read.
+fn next_line<A: BufRead>(reader: &mut TraceReader<A>) -> Result<Option<Line>, CaseFault>
+    requires working { fault_of reader.old ≡ None }
+    requires begun { IsBegun reader.old }
+    ensures next { IfOk result (Yields (lines_left A.remaining reader.old) (lines_left A.remaining reader.new)) }
+    ensures place { IfOk result (λ item. IfSome item (λ line. StandsAt (place_of reader.old) line × (place_of reader.new ≡ behind (place_of reader.old) line))) }
+    ensures working { IfOk result (λ item. fault_of reader.new ≡ None) }
+    ensures begun { IsBegun reader.new }
+    ensures fault { IfErr result (λ e. TraceFails e (lines_left A.remaining reader.old)) }
+    ensures read { result ≡ Err CaseFault.Read → reader_failures reader.new ≡ one_more (reader_failures reader.old) }
+    ensures same { result ≢ Err CaseFault.Read → reader_failures reader.new ≡ reader_failures reader.old }
+{
+    match reader.next() {
+        Ok(item) => Ok(item),
+        Err(ReadFault::Text(fault)) => Err(trace_fault(fault)),
+        Err(ReadFault::Read) => Err(CaseFault::Read),
+    }
+}

@@ -1,0 +1,81 @@
+//! Lines that are offered to the window when their moment is reached.
+
+ghost use Rattle.std.specs.Prelude.{◌≡◌, ◌≢◌, ◌<◌, ◌≤◌, ◌++◌, ◌||◌, ◌==◌, ℕ, List, Err, IfOk, IfErr, IfSome, is_some, nat_eq};
+ghost use Rattle.case_forms.specs.declared.trace.Line.{Line};
+ghost use Rattle.indexmap.specs.IndexMap.{get};
+ghost use Rattle.counted.specs.Counting.{failures_of, one_more};
+ghost use Rattle.interval_order.specs.Later.{with_lines};
+ghost use Rattle.checker.specs.Ahead.{source_ahead, line_ahead, left_ahead, IsAhead, IsInStep, Passes, TraceFails};
+ghost use Rattle.checker.specs.Streaming.{IsLate};
+
+use crate::ahead::Ahead;
+use crate::case::CaseFault;
+use case_forms::Line;
+use indexmap::IndexMap;
+use interval_order::Window;
+use std::alloc::{AllocError, Global};
+use std::io::BufRead;
+use verdict::Rule;
+
+/// Offers the lines whose moment is reached, and no other.
+pub(crate) fn offer_reached<A: BufRead>(
+    window: &mut Window,
+    lines: &mut Ahead<A>,
+    moment: u64,
+) -> Result<(), CaseFault>
+    requires ahead { IsAhead lines.old }
+    requires step { IsInStep window.old (line_ahead lines.old) }
+    ensures ahead { IfOk result (λ u. IsAhead lines.new) }
+    ensures step { IfOk result (λ u. IsInStep window.new (line_ahead lines.new)) }
+    ensures offered { IfOk result (λ u. (items : List Line) × Passes (left_ahead A.remaining lines.old) (left_ahead A.remaining lines.new) items × (window.new ≡ with_lines window.old items)) }
+    ensures later { IfOk result (λ u. IfSome (line_ahead lines.new) (λ line. moment < line.moment)) }
+    ensures fault { IfErr result (λ e. TraceFails e (left_ahead A.remaining lines.old)) }
+    ensures read { result ≡ Err CaseFault.Read → failures_of (source_ahead lines.new) ≡ one_more (failures_of (source_ahead lines.old)) }
+    ensures same { result ≢ Err CaseFault.Read → failures_of (source_ahead lines.new) ≡ failures_of (source_ahead lines.old) }
+{
+    while lines.is_reached(moment) {
+        if let Some(line) = lines.next()? {
+            window.offer(line)?;
+        }
+    }
+    Ok(())
+}
+
+/// The least rule that a step breaks which takes a line that is not offered yet. The trace is read on to that line, one
+/// line at a time, and of the lines before it their threads alone are kept.
+pub(crate) fn refuse_late<A: BufRead>(
+    alloc: Global,
+    window: &Window,
+    lines: &mut Ahead<A>,
+    number: u64,
+    extras: u8,
+    moment: u64,
+) -> Result<Rule, CaseFault>
+    requires ahead { IsAhead lines.old }
+    requires step { IsInStep window.now (line_ahead lines.old) }
+    requires late { IfSome (line_ahead lines.old) (λ line. moment < line.moment) }
+    requires number { window.now.next ≤ number }
+    ensures ahead { IfOk result (λ rule. IsAhead lines.new) }
+    ensures rule { IfOk result (λ rule. IsLate window.now (left_ahead A.remaining lines.old) (left_ahead A.remaining lines.new) number extras moment rule) }
+    ensures fault { IfErr result (λ e. TraceFails e (left_ahead A.remaining lines.old)) }
+    ensures read { result ≡ Err CaseFault.Read → failures_of (source_ahead lines.new) ≡ one_more (failures_of (source_ahead lines.old)) }
+    ensures same { result ≢ Err CaseFault.Read → failures_of (source_ahead lines.new) ≡ failures_of (source_ahead lines.old) }
+{
+    let mut threads = IndexMap::new(alloc);
+    while let Some(line) = lines.next()? {
+        if line.number == number {
+            let is_behind = threads.contains_key(&line.thread);
+            return Ok(window.late_rule(&line, is_behind, extras, moment));
+        }
+        note(&mut threads, line)?;
+    }
+    Ok(Rule::LineRange)
+}
+
+// Keeps a line's thread.
+fn note(threads: &mut IndexMap<u32, u64>, line: Line) -> Result<(), AllocError>
+    ensures { IfOk result (λ u. (t : ℕ) → is_some (get nat_eq threads.new t) ≡ (line.thread == t || is_some (get nat_eq threads.old t))) }
+{
+    threads.insert(line.thread, line.number)?;
+    Ok(())
+}

@@ -1,0 +1,182 @@
+//! A case in two texts that are read while it is judged.
+//!
+//! Of the trace those lines are kept whose moment is reached and that are not placed, and one more; of the witness one
+//! step. What the world keeps does not grow with the length of the trace but with what its endpoints have outstanding.
+
+ghost use Rattle.std.specs.Prelude.{◌≡◌, ◌≢◌, ◌⊎◌, ◌↔◌, List, [], Err, IfOk, IfSome, None, Option, Result};
+ghost use Rattle.case_forms.specs.declared.trace.Header.{Header};
+ghost use Rattle.case_forms.specs.declared.trace.Line.{Line};
+ghost use Rattle.case_forms.specs.declared.trace.Trace.{Trace};
+ghost use Rattle.case_forms.specs.declared.steps.Step.{Step};
+ghost use Rattle.case_forms.specs.declared.steps.Witness.{Witness};
+ghost use Rattle.case_forms.specs.Traces.{first_event_line};
+ghost use Rattle.counted.specs.Counting.{left_of, failures_of, one_more};
+ghost use Rattle.line_fields.specs.declared.fault.TextFault.{TextFault};
+ghost use Rattle.line_fields.specs.Left.{Yields};
+ghost use Rattle.witness.specs.StepsLeft.{steps_left, fault_of, number_of, reader_failures};
+ghost use Rattle.endpoint_state.specs.Worlds.{Progress};
+ghost use Rattle.checker.specs.Explains.{Explains, IsYes};
+ghost use Rattle.checker.specs.Judges.{Says};
+ghost use Rattle.checker.specs.Consequences.{ReadsBeginWhatWasSent, EndsAreWhole, AllAcknowledgedWasTaken, AllKeepWindows};
+ghost use Rattle.checker.specs.Ahead.{source_ahead, line_ahead, left_ahead, IsAhead, IsInStep};
+ghost use Rattle.checker.specs.Streaming.{OneFailed, SoFar, Tallied, Tells, first_of_both};
+ghost use Rattle.checker.specs.Texts.{GivesTexts, AreOf};
+
+use crate::ahead::Ahead;
+use crate::case::CaseFault;
+use crate::laws::explained_follows;
+use crate::steps::drain_steps;
+use crate::turns::{Replayed, Tally, replay_steps};
+use case_forms::Header;
+use counted::Counted;
+use endpoint_state::World;
+use interval_order::Window;
+use std::alloc::Global;
+use std::io::BufRead;
+use verdict::{Rule, Verdict};
+use witness::StepReader;
+
+/// The trace's fault, else the witness's, else the verdict on the case, however the bytes of both come in pieces. Read only
+/// where a reader's `failures()` grew in the call, which then ends at once. Both readers are given back.
+pub fn check_streams<A: BufRead, B: BufRead>(
+    alloc: Global,
+    a: Counted<A>,
+    b: Counted<B>,
+) -> (Result<Verdict, CaseFault>, Counted<A>, Counted<B>)
+    ensures exact { GivesTexts result.0 (left_of A.remaining a) (left_of B.remaining b) }
+
+    // What the verdict says of the trace and the witness that the texts stand for, in places.
+    ensures says { (t : Trace) (w : Witness) → AreOf (left_of A.remaining a) (left_of B.remaining b) t w → IfOk result.0 (Says t w) }
+    ensures explained { (t : Trace) (w : Witness) → AreOf (left_of A.remaining a) (left_of B.remaining b) t w → IfOk result.0 (λ v. IsYes v ↔ Explains t w) }
+
+    // What follows from a yes: what reads were told is how the bytes begin that the peer's sends accepted; reads that were
+    // told the end were told all of them; what is acknowledged was taken before; windows are kept.
+    ensures received { (t : Trace) (w : Witness) → AreOf (left_of A.remaining a) (left_of B.remaining b) t w → IfOk result.0 (λ v. IsYes v → ReadsBeginWhatWasSent t w) }
+    ensures whole { (t : Trace) (w : Witness) → AreOf (left_of A.remaining a) (left_of B.remaining b) t w → IfOk result.0 (λ v. IsYes v → EndsAreWhole t w) }
+    ensures acknowledged { (t : Trace) (w : Witness) → AreOf (left_of A.remaining a) (left_of B.remaining b) t w → IfOk result.0 (λ v. IsYes v → AllAcknowledgedWasTaken t w) }
+    ensures windows { (t : Trace) (w : Witness) → AreOf (left_of A.remaining a) (left_of B.remaining b) t w → IfOk result.0 (λ v. IsYes v → AllKeepWindows t w) }
+
+    // A failed read is counted, and nothing else is.
+    ensures read { result.0 ≡ Err CaseFault.Read → OneFailed (failures_of a) (failures_of b) (failures_of result.1) (failures_of result.2) }
+    ensures same_trace { result.0 ≢ Err CaseFault.Read → failures_of result.1 ≡ failures_of a }
+    ensures same_witness { result.0 ≢ Err CaseFault.Read → failures_of result.2 ≡ failures_of b }
+{
+    explained_follows();
+    judge_texts(alloc, a, b)
+}
+
+// The trace's fault, else the witness's, else the verdict.
+fn judge_texts<A: BufRead, B: BufRead>(
+    alloc: Global,
+    a: Counted<A>,
+    b: Counted<B>,
+) -> (Result<Verdict, CaseFault>, Counted<A>, Counted<B>)
+    ensures exact { GivesTexts result.0 (left_of A.remaining a) (left_of B.remaining b) }
+    ensures read { result.0 ≡ Err CaseFault.Read → OneFailed (failures_of a) (failures_of b) (failures_of result.1) (failures_of result.2) }
+    ensures same_trace { result.0 ≢ Err CaseFault.Read → failures_of result.1 ≡ failures_of a }
+    ensures same_witness { result.0 ≢ Err CaseFault.Read → failures_of result.2 ≡ failures_of b }
+{
+    let mut lines = Ahead::new(alloc, a);
+    match lines.begin() {
+        Ok(header) => {
+            let mut steps = StepReader::new(alloc, header.version, b);
+            let answer = judge(alloc, &header, &mut lines, &mut steps);
+            (answer, lines.into_source(), steps.into_source())
+        }
+        Err(fault) => (Err(fault), lines.into_source(), b),
+    }
+}
+
+// The verdict on a trace whose header was read, and on its witness, of which nothing was read; or the first fault of both.
+fn judge<A: BufRead, B: BufRead>(
+    alloc: Global,
+    header: &Header,
+    lines: &mut Ahead<A>,
+    steps: &mut StepReader<B>,
+) -> Result<Verdict, CaseFault>
+    requires ahead { IsAhead lines.old }
+    requires first_line { IfSome (line_ahead lines.old) (λ line. line.number ≡ first_event_line header.now) }
+    requires working { fault_of steps.old ≡ None }
+    requires first_step { number_of steps.old ≡ 2 }
+    ensures tells { Tells header.now (left_ahead A.remaining lines.old) (steps_left B.remaining steps.old) result }
+    ensures read { result ≡ Err CaseFault.Read → OneFailed (failures_of (source_ahead lines.old)) (reader_failures steps.old) (failures_of (source_ahead lines.new)) (reader_failures steps.new) }
+    ensures same_lines { result ≢ Err CaseFault.Read → failures_of (source_ahead lines.new) ≡ failures_of (source_ahead lines.old) }
+    ensures same_steps { result ≢ Err CaseFault.Read → reader_failures steps.new ≡ reader_failures steps.old }
+{
+    let mut window = Window::new(alloc, header);
+    let mut world = World::start(alloc, header);
+    judge_in(alloc, &mut window, &mut world, lines, steps)
+}
+
+// The same, where no line was offered to the window and the world is that before the first step.
+fn judge_in<A: BufRead, B: BufRead>(
+    alloc: Global,
+    window: &mut Window,
+    world: &mut World,
+    lines: &mut Ahead<A>,
+    steps: &mut StepReader<B>,
+) -> Result<Verdict, CaseFault>
+    requires ahead { IsAhead lines.old }
+    requires in_step { IsInStep window.old (line_ahead lines.old) }
+    requires working { fault_of steps.old ≡ None }
+    requires begun { world.old.steps ≡ 0 }
+    requires first { number_of steps.old ≡ 2 }
+    ensures tells { (header : Header) (t : Option (Result (List Line) TextFault)) (s : Option (Result (List Step) TextFault))
+        → SoFar header t (left_ahead A.remaining lines.old) s (steps_left B.remaining steps.old) window.old world.old [] []
+        → Tells header t s result }
+    ensures read { result ≡ Err CaseFault.Read → OneFailed (failures_of (source_ahead lines.old)) (reader_failures steps.old) (failures_of (source_ahead lines.new)) (reader_failures steps.new) }
+    ensures same_lines { result ≢ Err CaseFault.Read → failures_of (source_ahead lines.new) ≡ failures_of (source_ahead lines.old) }
+    ensures same_steps { result ≢ Err CaseFault.Read → reader_failures steps.new ≡ reader_failures steps.old }
+{
+    match replay_steps(alloc, window, world, lines, steps)? {
+        Replayed::All(tally) => end_of_witness(window, lines, tally),
+        Replayed::Refused(place, named, rule) => {
+            lines.drain()?;
+            drain_steps(steps)?;
+            Ok(Verdict::No {
+                witness_line: place + 2,
+                trace_line: named,
+                rule,
+            })
+        }
+    }
+}
+
+// The verdict where each step is done, behind a fault of a line that is left.
+fn end_of_witness<A: BufRead>(
+    window: &Window,
+    lines: &mut Ahead<A>,
+    tally: Tally,
+) -> Result<Verdict, CaseFault>
+    requires ahead { IsAhead lines.old }
+    requires in_step { IsInStep window.now (line_ahead lines.old) }
+    ensures tells { (header : Header) (t : Option (Result (List Line) TextFault)) (s : Option (Result (List Step) TextFault)) (p : Progress) (offered : List Line) (earlier : List Step) (ahead : Option (Result (List Step) TextFault)) (next : Option (Result (List Step) TextFault))
+        → SoFar header t (left_ahead A.remaining lines.old) s ahead window.now p offered earlier → Yields ahead next None → Tallied earlier tally.lines tally.hidden
+        → Tells header t s result }
+    ensures read { result ≡ Err CaseFault.Read → failures_of (source_ahead lines.new) ≡ one_more (failures_of (source_ahead lines.old)) }
+    ensures same { result ≢ Err CaseFault.Read → failures_of (source_ahead lines.new) ≡ failures_of (source_ahead lines.old) }
+{
+    let left = first_left(window, lines);
+    lines.drain()?;
+    Ok(match left {
+        Some(number) => Verdict::No {
+            witness_line: 0,
+            trace_line: number,
+            rule: Rule::Unplaced,
+        },
+        None => Verdict::Yes {
+            lines: tally.lines,
+            hidden: tally.hidden,
+        },
+    })
+}
+
+// The number of the first line that is not placed, offered or not.
+fn first_left<A>(window: &Window, lines: &Ahead<A>) -> Option<u64>
+    ensures { result ≡ first_of_both window.now.held (line_ahead lines.now) }
+{
+    match window.first_left() {
+        Some(number) => Some(number),
+        None => lines.next_number(),
+    }
+}

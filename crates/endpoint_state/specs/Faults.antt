@@ -1,0 +1,11 @@
+-- Why a step was not done.
+use Rattle.std.specs.Prelude.{Option, None, Some, Result, Ok, Err}
+use Rattle.verdict.specs.declared.rule.Rule.{Rule}
+use Rattle.endpoint_state.specs.declared.fault.StepFault.{StepFault}
+use Rattle.endpoint_state.specs.declared.fault.StepFault.TheVariants.{Broken, OutOfMemory}
+
+-- the rule that a step broke; none where it was done, and none where memory ran out
+abbrev pub fault_rule : {A : Type 0} → Result A StepFault → Option Rule
+fault_rule (Ok x) = None
+fault_rule (Err (Broken rule)) = Some rule
+fault_rule (Err OutOfMemory) = None

@@ -1,0 +1,45 @@
+-- Lines that come behind those that were offered.
+use Rattle.case_forms.specs.declared.trace.Header.{Header}
+use Rattle.std.specs.Prelude.{◌≡◌, ◌≤◌, ◌<◌, ℕ, ◌+◌, Bool, false, not, ◌&&◌, nat_le, ◌||◌, ◌==◌, if◌then◌else◌, List, ◌++◌, length}
+use Rattle.std.specs.List.{AllByRecursion, enumerate_from, list_any}
+use Rattle.case_forms.specs.declared.trace.Line.{Line}
+use Rattle.verdict.specs.declared.rule.Rule.{Rule}
+use Rattle.verdict.specs.declared.rule.Rule.TheVariants.{LineRange, ThreadOrder, MomentFalls, MomentOff}
+use Rattle.interval_order.specs.Orders.{Move, Order, is_placed}
+use Rattle.interval_order.specs.OrderRules.{extras_of, moment_falls}
+
+-- no step takes a line from this number on
+abbrev pub TakesBelow : ℕ → List Move → Type 0
+TakesBelow next moves = (n : ℕ) → next ≤ n → is_placed moves n ≡ false
+
+-- the moment of none of these lines is reached
+abbrev pub AreLater : ℕ → List Line → Type 0
+AreLater moment lines = AllByRecursion (λ line. moment < line.moment) lines
+
+-- with these lines at the end
+abbrev pub with_lines : Order → List Line → Order
+with_lines o more = record o { next = o.next + length more; held = o.held ++ enumerate_from o.next more }
+
+-- a line of this thread is not placed
+abbrev pub waits : Order → ℕ → Bool
+waits o thread = list_any (λ e. e.1.thread == thread) o.held
+
+-- one of these lines is of this thread
+abbrev pub is_among : ℕ → List Line → Bool
+is_among thread lines = list_any (λ line. line.thread == thread) lines
+
+-- the least rule that a step breaks which takes a line whose moment is not reached, told whether a line of its thread stands before it that is not offered either
+abbrev pub late_by : Order → Bool → Line → ℕ → ℕ → Rule
+late_by o behind line extras moment =
+    if not (extras == extras_of line.event) then LineRange
+    else if waits o line.thread || behind then ThreadOrder
+    else if moment_falls o moment then MomentFalls
+    else MomentOff
+
+-- the same, where these lines stand between those that were offered and that line
+abbrev pub late_rule : Order → List Line → Line → ℕ → ℕ → Rule
+late_rule o between line extras moment = late_by o (is_among line.thread between) line extras moment
+
+-- the line may be taken at that moment, or in time before it
+abbrev pub is_current : Header → ℕ → Line → Bool
+is_current header moment line = nat_le line.moment moment && nat_le moment (line.moment + header.skew)

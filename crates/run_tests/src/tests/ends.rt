@@ -1,0 +1,109 @@
+//! A reader and a writer that count their calls, give or take a few bytes a call, and fail at one of them.
+
+use std::alloc::Global;
+use std::io;
+use std::io::{BufRead, ErrorKind, Read, Write};
+
+// The failure of a call. A call that is interrupted is not made again.
+fn unplugged() -> io::Error {
+    io::Error::new(ErrorKind::Interrupted, "unplugged")
+}
+
+/// A reader that gives at most so many bytes a call.
+#[derive(Drop)]
+pub(crate) struct Source<'a> {
+    pub(crate) left: &'a [u8],
+    pub(crate) size: usize,
+    /// How many calls were made.
+    pub(crate) calls: u32,
+    /// The call that fails; at 0 none does.
+    pub(crate) fails_at: u32,
+}
+
+impl Source<'_> {
+    /// A reader of these bytes, of which nothing is read yet.
+    pub(crate) fn new(left: &[u8], size: usize, fails_at: u32) -> Source<'_> {
+        Source {
+            left,
+            size,
+            calls: 0,
+            fails_at,
+        }
+    }
+
+    // One call more: how many bytes it gives.
+    fn one_more(&mut self) -> io::Result<usize> {
+        self.calls = self.calls.saturating_add(1);
+        if self.calls == self.fails_at {
+            return Err(unplugged());
+        }
+        Ok(self.left.len().min(self.size))
+    }
+}
+
+impl Read for Source<'_> {
+    fn read(&mut self, buf: &mut [u8]) -> io::Result<usize> {
+        let count = self.one_more()?.min(buf.len()).min(self.left.len());
+        let (given, rest) = self.left.split_at(count);
+        buf[..count].copy_from_slice(given);
+        self.left = rest;
+        Ok(count)
+    }
+}
+
+impl BufRead for Source<'_> {
+    fn fill_buf(&mut self) -> io::Result<&[u8]> {
+        let count = self.one_more()?.min(self.left.len());
+        Ok(&self.left[..count])
+    }
+
+    fn consume(&mut self, amount: usize) {
+        let count = self.left.len().min(amount);
+        self.left = &self.left[count..];
+    }
+}
+
+/// A writer that takes at most two bytes a call.
+#[derive(Drop)]
+pub(crate) struct Sink {
+    pub(crate) taken: Vec<u8>,
+    pub(crate) flushes: u32,
+    /// How many calls were made, flushes among them.
+    pub(crate) calls: u32,
+    /// The call that fails; at 0 none does.
+    pub(crate) fails_at: u32,
+}
+
+impl Sink {
+    /// A writer that has taken nothing yet.
+    pub(crate) fn new(alloc: Global, fails_at: u32) -> Sink {
+        Sink {
+            taken: Vec::new(alloc),
+            flushes: 0,
+            calls: 0,
+            fails_at,
+        }
+    }
+
+    fn one_more(&mut self) -> io::Result<()> {
+        self.calls = self.calls.saturating_add(1);
+        if self.calls == self.fails_at {
+            return Err(unplugged());
+        }
+        Ok(())
+    }
+}
+
+impl Write for Sink {
+    fn write(&mut self, buf: &[u8]) -> io::Result<usize> {
+        self.one_more()?;
+        let count = buf.len().min(2);
+        self.taken.extend_from_slice(&buf[..count])?;
+        Ok(count)
+    }
+
+    fn flush(&mut self) -> io::Result<()> {
+        self.flushes = self.flushes.saturating_add(1);
+        self.one_more()
+    }
+}
