@@ -67,7 +67,6 @@ impl Hosts {
         }
     }
 
-
     /// A segment stands on a host's wire under this line.
     pub(crate) fn bring(
         &mut self,
