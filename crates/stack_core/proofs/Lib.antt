@@ -7,6 +7,7 @@ pub mod MakingLemmas
 pub mod Same
 pub mod Shown
 pub mod OutgoingLemmas
+pub mod ResetLemmas
 pub mod MadeLemmas
 pub mod TimerLemmas
 pub mod ArriveLemmas

@@ -6,6 +6,7 @@ pub mod Cores
 pub mod Answers
 pub mod Makings
 pub mod Outgoing
+pub mod Resets
 pub mod CallEvents
 pub mod PumpEvents
 pub mod TimerEvents

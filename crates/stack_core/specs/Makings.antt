@@ -7,11 +7,13 @@ use Rattle.hosts.specs.Tables.{pick}
 use Rattle.hosts.specs.Hosts.{At, Makes, World}
 use Rattle.hosts.specs.HostRules.{Permitted}
 use Rattle.machine.specs.Bodies.{endpoint_of}
+use Rattle.machine.specs.Bounds.{greatest_position}
 use Rattle.machine.specs.declared.endpoint.Endpoint.{Endpoint}
 use Rattle.machine.specs.Endpoints.{max_made, next}
 use Rattle.machine.specs.Machine.{tcp, tcp_shape}
 use Rattle.machine.specs.Makes.Payload.{making_length}
-use Rattle.stack_core.specs.declared.makings.Opening.{Opening}
+use Rattle.stack_core.specs.declared.plans.Opening.{Opening}
+use Rattle.stack_core.specs.Outgoing.{greatest_payload}
 
 -- the SYN, with an acknowledgment once the peer's SYN is taken
 abbrev pub syn_of : Endpoint → Opening → ℕ → SegmentPlan
@@ -33,6 +35,10 @@ bytes_of e len window = record { lport = e.lport; rport = e.rport; pos = max_mad
 -- the FIN alone
 abbrev pub fin_of : Endpoint → ℕ → SegmentPlan
 fin_of e window = record { lport = e.lport; rport = e.rport; pos = max_made e; len = 0; flags = record { ack = nat_le 1 (next e); rst = false; syn = false; fin = true }; window = window; iss = None; shift = None }
+
+-- it may be made, at a position that a step may name, with a payload that may go out
+abbrev pub IsMakeable : Header → Host → World tcp_shape → SegmentPlan → Type 0
+IsMakeable h me w m = (m.pos ≤ greatest_position) × (m.len ≤ greatest_payload) × Permitted (tcp h) 0 w (At me (Makes m))
 
 abbrev pub Refuses : Header → Host → World tcp_shape → SegmentPlan → Type 0
 Refuses h me w plan = Permitted (tcp h) 0 w (At me (Makes plan)) → ⊥

@@ -15,10 +15,22 @@ use crate::answered::Answered;
 use crate::answers::choose;
 use crate::host_core::HostCore;
 use crate::tick::Tick;
-use case_forms::{Answer, Host, OutOfMemory, TakenLine};
+use case_forms::{Answer, Call, Host, OutOfMemory, TakenLine};
 use endpoint_state::Body;
+use machine::Thing;
 use machine_laws::forgetting_is_free;
 use spec_step::Label;
+
+// What a call is about.
+#[derive(Clone, Copy, Debug, PartialEq, Eq)]
+enum Subject {
+    /// No endpoint whose duties the call changes.
+    Nothing,
+    /// The endpoint that it opens, by its ports.
+    Opened(u16, u16),
+    /// The endpoint at this place.
+    At(u32),
+}
 
 impl HostCore {
     /// The open call of a thread of this host has its effect, and ends with that answer: its line. None, and nothing is changed:
@@ -41,7 +53,8 @@ impl HostCore {
                 return Err(error);
             }
         };
-        self.open(tick);
+        let subject = self.subject(thread);
+        self.open_with_room(tick)?;
         let effect = Label::D {
             thread,
             answer: answer.copy()?,
@@ -54,7 +67,48 @@ impl HostCore {
             answer: ending,
         };
         self.add(Label::L(end))?;
+        self.note_answer(subject, &answer);
         Ok(Some(Answered { thread, answer }))
+    }
+
+    // What the open call of a thread is about.
+    fn subject(&self, thread: u32) -> Subject {
+        let Some(call) = self.recording.pending_call(thread) else {
+            return Subject::Nothing;
+        };
+        match call {
+            Call::Connect(_, lport, rport) => Subject::Opened(*lport, *rport),
+            Call::Send(number, _)
+            | Call::Recv(number, _)
+            | Call::Shut(number)
+            | Call::Close(number)
+            | Call::Abort(number) => match self.recording.body().thing(*number) {
+                Some(Thing::Ends(place)) => Subject::At(place),
+                Some(Thing::Listens(_)) | None => Subject::Nothing,
+            },
+            Call::Listen(_, _, _) | Call::Await(_) | Call::Accept(_) | Call::Status(_) => {
+                Subject::Nothing
+            }
+        }
+    }
+
+    // It is remembered what an answer asks of the endpoint that it is about.
+    fn note_answer(&mut self, subject: Subject, answer: &Answer)
+        ensures { self.new ≡ self.old }
+    {
+        let body = self.recording.body();
+        let found = match subject {
+            Subject::Nothing => None,
+            Subject::Opened(lport, rport) => body.place_of(lport, rport),
+            Subject::At(place) => Some(place),
+        };
+        let Some(place) = found else {
+            return;
+        };
+        if let Some(endpoint) = body.endpoint_at(place) {
+            let duty = self.duties.of(place).after_call(endpoint, answer, self.config.ring);
+            self.duties.note(place, duty);
+        }
     }
 
     // The answer that the open call of a thread has now. None: there is no such call, or it waits.

@@ -11,12 +11,15 @@ ghost use Rattle.recordings.specs.Recordings.{IsKept};
 ghost use Rattle.stack_core.specs.Cores.{Fits, IsAfter, IsNextLine, IsOrderly, IsOwn, line_to_come, lines_taken, opened, with_item, with_step, world};
 ghost use Rattle.stack_core.specs.Entries.{steps_in};
 
+use crate::duties::Duties;
 use crate::flying::Flying;
 use crate::recording::Recording;
+use crate::resets::await_reset;
 use crate::tick::Tick;
 use case_forms::{Header, Host, OutOfMemory};
 use spec_step::Label;
 use std::alloc::Global;
+use std::collections::VecDeque;
 use std::marker::Model;
 
 /// How a core chooses.
@@ -44,16 +47,20 @@ pub struct HostCore {
     events: u64,
     // The initial send sequence number of the next endpoint.
     pub(crate) iss: u32,
+    // The resets that answer segments and wait to go out, by their numbers; there may be others among them.
+    pub(crate) resets: VecDeque<u32>,
+    pub(crate) duties: Duties,
 }
 
 impl Model for HostCore {
     ghost use Rattle.stack_core.specs.Cores.{Core, IsCore};
+    ghost use Rattle.stack_core.specs.Resets.{AreAwaited, made_of};
 
     ghost Value = { Core };
 
     ghost view = { λ a. record { recorded = a.recording; ring = a.config.ring; last = a.last; events = a.events } };
 
-    ghost invariant = { λ a. IsCore a.recording a.line a.last a.events };
+    ghost invariant = { λ a. IsCore a.recording a.line a.last a.events × AreAwaited (made_of a.recording) a.resets.items };
 }
 
 impl HostCore {
@@ -71,6 +78,8 @@ impl HostCore {
             },
             events: 0,
             iss: config.first_iss,
+            resets: VecDeque::new(alloc),
+            duties: Duties::new(alloc),
         }
     }
 
@@ -136,6 +145,27 @@ impl HostCore {
         self.events += 1;
     }
 
+    // The same of an event that may leave a new endpoint, for whose duties there is room then. The error is that memory ran out;
+    // the event began all the same.
+    pub(crate) fn open_with_room(&mut self, tick: Tick) -> Result<(), OutOfMemory>
+        requires tick { IsAfter self.old.last tick }
+        requires events { self.old.events < 10000000 }
+        ensures opened { self.new ≡ opened self.old tick }
+        ensures room { steps_in self.new.recorded.entries + 4 ≤ 4 * self.new.events }
+        ensures events { self.new.events ≤ 10000000 }
+    {
+        self.open(tick);
+        self.duties.make_room()?;
+        Ok(())
+    }
+
+    // How many segments were made: the last one has this number.
+    pub(crate) fn count(&self) -> u32
+        ensures { result ≡ (world self.now).count }
+    {
+        self.recording.count()
+    }
+
     // A step joins, at the moment of the last tick. The error is that memory ran out, and then nothing is changed.
     pub(crate) fn add(&mut self, label: Label) -> Result<(), OutOfMemory>
         requires room { steps_in self.old.recorded.entries < 4 * self.old.events }
@@ -151,6 +181,7 @@ impl HostCore {
     {
         let lines = lines_taken(&label);
         let tick = self.last;
+        await_reset(&mut self.resets, &label, self.recording.count())?;
         self.recording.step(tick, label)?;
         self.line += lines;
         Ok(())

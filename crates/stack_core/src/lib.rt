@@ -20,14 +20,18 @@ mod answers;
 mod arrive;
 mod attempt;
 mod begin;
+mod duties;
 mod entry;
 mod flying;
+mod greatest;
 mod host_core;
 mod item;
 mod makings;
 mod outgoing;
+mod plans;
 mod pump;
 mod recording;
+mod resets;
 mod tick;
 mod timers;
 

@@ -123,10 +123,12 @@ impl Recording {
         self.world.pending_call(thread)
     }
 
-    /// How many segments were made.
+    /// How many segments were made: at most one by each step.
     pub fn count(&self) -> u32
-        ensures { result ≡ (world_left self.now).count }
+        ensures count { result ≡ (world_left self.now).count }
+        ensures few { result ≤ steps_in self.now.entries }
     {
+        self.world.is_kept();
         self.world.count()
     }
 

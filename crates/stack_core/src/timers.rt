@@ -10,13 +10,13 @@ ghost use Rattle.stack_core.specs.Entries.{steps_in};
 ghost use Rattle.stack_core.specs.Recordings.{world_left};
 ghost use Rattle.stack_core.specs.TimerEvents.{IsRefused, IsTimed, NoneDue, NoneDueAt, expiry_step};
 
+use crate::greatest::at_timeout;
 use crate::host_core::HostCore;
 use crate::recording::Recording;
 use crate::tick::Tick;
 use case_forms::{Expired, Growth, OutOfMemory, Ports, TakenLine};
 use endpoint_state::Endpoint;
 use spec_step::Label;
-use window_rules::on_timeout;
 
 // A core gives up after so many expiries without an answer.
 const TRIES: u32 = 12;
@@ -49,7 +49,22 @@ impl HostCore {
             expired: due.expired,
         };
         self.add(Label::L(line))?;
+        self.note_expiry(due);
         Ok(true)
+    }
+
+    // It is remembered what an expiry asks of its endpoint.
+    fn note_expiry(&mut self, due: Due)
+        ensures { self.new ≡ self.old }
+    {
+        let body = self.recording.body();
+        let Some(place) = body.place_of(due.ports.lport, due.ports.rport) else {
+            return;
+        };
+        if let Some(endpoint) = body.endpoint_at(place) {
+            let duty = self.duties.of(place).after_expiry(endpoint, due.expired);
+            self.duties.note(place, duty);
+        }
     }
 
     // A timer that may expire at a moment.
@@ -100,7 +115,7 @@ fn due_at(recording: &Recording, moment: u64, endpoint: &Endpoint) -> Option<Due
         ssthresh: 0,
     });
     if let Some(due) = ask(recording, moment, ports, least) {
-        return match ask(recording, moment, ports, Expired::Rto(greatest(endpoint))) {
+        return match ask(recording, moment, ports, Expired::Rto(at_timeout(endpoint))) {
             Some(greatest) => Some(greatest),
             None => Some(due),
         };
@@ -126,19 +141,5 @@ fn ask(recording: &Recording, moment: u64, ports: Ports, expired: Expired) -> Op
     match recording.admits(moment, &Label::L(line)) {
         Ok(()) => Some(Due { ports, expired }),
         Err(_) => None,
-    }
-}
-
-// The greatest congestion window and slow start threshold that an expiry allows (RFC 5681, 3.1).
-fn greatest(endpoint: &Endpoint) -> Growth {
-    let (cwnd, ssthresh) = on_timeout(
-        &endpoint.congestion,
-        endpoint.flight(),
-        endpoint.stream.una == 0,
-        0 < endpoint.backs,
-    );
-    Growth {
-        cwnd: cwnd.min(u64::from(u32::MAX)) as u32,
-        ssthresh: ssthresh.min(u64::from(u32::MAX)) as u32,
     }
 }
