@@ -10,7 +10,7 @@ use Rattle.hosts.specs.Tables.{lane, other, pick}
 use Rattle.hosts.specs.Hosts.{Deed, Does, Drops, Expires, Gets, Makes, Sends, Takes, Answers, At, Begin, Called, Effect, Finish, Idle, Answered, Step, Turn, World, turn_of}
 use Rattle.recordings.specs.Books.{Aims, Do, FitsItem, Item, Key, step_line}
 use Rattle.recordings.specs.Keys.{EachEntry, If}
-use Rattle.recordings.specs.Recordings.{next_line}
+use Rattle.recordings.specs.Recordings.{IsKept, next_line}
 use Rattle.machine.specs.Bodies.{Body, given}
 use Rattle.machine.specs.Machine.{aim, gives, tcp, tcp_shape}
 use Rattle.stack_core.specs.declared.tick.Tick.{Tick}
@@ -36,6 +36,10 @@ own_body c = (pick (world c).hosts c.recorded.me).body
 -- the number of the line to come
 abbrev pub line_to_come : Core → ℕ
 line_to_come c = next_line c.recorded.header (first_event_line c.recorded.header) c.recorded.entries
+
+-- what it recorded is a run of its host alone, under keys that don't fall: so it may be merged with what the other host recorded
+abbrev pub IsRecorded : Core → Type 0
+IsRecorded c = IsKept c.recorded.header c.recorded.me (first_event_line c.recorded.header) c.recorded.entries
 
 -- an event began, with this tick
 abbrev pub opened : Core → Tick → Core

@@ -10,7 +10,7 @@ ghost use Rattle.machine.specs.Machine.{tcp};
 ghost use Rattle.machine.specs.Steps.{step_of};
 ghost use Rattle.recordings.specs.Books.{Bring};
 ghost use Rattle.stack_core.specs.ArrivalEvents.{IsArrival, IsArrivedShort, IsCameIn, IsNotLetIn, IsRecovered, IsSettled, IsSettledShort, MayDrop, MayRecover, MayTake, ports_of};
-ghost use Rattle.stack_core.specs.Cores.{IsAfter, line_to_come, with_item, world};
+ghost use Rattle.stack_core.specs.Cores.{IsAfter, IsRecorded, line_to_come, with_item, world};
 ghost use Rattle.stack_core.specs.Entries.{steps_in};
 
 use crate::duties::{Before, Seen};
@@ -31,6 +31,21 @@ impl HostCore {
         requires tick { IsAfter self.old.last tick }
         requires events { self.old.events < 10000000 }
         ensures ok { IfOk result (λ let_in. IsArrival self.old tick flying let_in self.new) }
+        ensures young { IfOk result (λ let_in. let_in ≡ true → nat_lt (flying.emission.moment + self.old.recorded.header.msl) tick.moment ≡ false) }
+        ensures err { OnErr result (IsArrivedShort self.old tick flying self.new) }
+        ensures kept { IsRecorded self.new }
+    {
+        let arrived = self.record_arrival(flying, tick);
+        self.is_recording();
+        arrived
+    }
+
+    // The same, but that what is recorded then is a run.
+    fn record_arrival(&mut self, flying: Flying, tick: Tick) -> Result<bool, OutOfMemory>
+        requires tick { IsAfter self.old.last tick }
+        requires events { self.old.events < 10000000 }
+        ensures ok { IfOk result (λ let_in. IsArrival self.old tick flying let_in self.new) }
+        ensures young { IfOk result (λ let_in. let_in ≡ true → nat_lt (flying.emission.moment + self.old.recorded.header.msl) tick.moment ≡ false) }
         ensures err { OnErr result (IsArrivedShort self.old tick flying self.new) }
     {
         if self.is_own(&flying) || self.is_old(&flying, tick.moment) {

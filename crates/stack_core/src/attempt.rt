@@ -7,7 +7,7 @@ ghost use Rattle.hosts.specs.HostRules.{Permitted};
 ghost use Rattle.hosts.specs.Tables.{lane};
 ghost use Rattle.hosts.specs.Hosts.{turn_of};
 ghost use Rattle.machine.specs.Machine.{tcp};
-ghost use Rattle.stack_core.specs.Cores.{GivesNext, IsAfter, next_socket, own_body, world};
+ghost use Rattle.stack_core.specs.Cores.{GivesNext, IsAfter, IsRecorded, next_socket, own_body, world};
 ghost use Rattle.stack_core.specs.Entries.{steps_in};
 ghost use Rattle.stack_core.specs.CallEvents.{IsAttempted, IsAttemptShort, NoAnswer};
 
@@ -37,6 +37,21 @@ impl HostCore {
     /// the thread has no open call without effect, or the call waits (for `send`: before the handshake is done, or while the
     /// ring is full). The error is that memory ran out; then the tick has passed, and the effect may stand without the end.
     pub fn attempt(&mut self, thread: u32, tick: Tick) -> Result<Option<Answered>, OutOfMemory>
+        requires tick { IsAfter self.old.last tick }
+        requires events { self.old.events < 10000000 }
+        requires lane { lane thread ≡ self.old.recorded.me }
+        ensures some { IfOk result (λ o. IfSome o (λ a. IsAttempted self.old tick thread a self.new)) }
+        ensures none { IfOk result (λ o. IfNone o ((self.new ≡ self.old) × NoAnswer self.old thread)) }
+        ensures err { OnErr result (IsAttemptShort self.old tick thread self.new) }
+        ensures kept { IsRecorded self.new }
+    {
+        let attempted = self.record_attempt(thread, tick);
+        self.is_recording();
+        attempted
+    }
+
+    // The same, but that what is recorded then is a run.
+    fn record_attempt(&mut self, thread: u32, tick: Tick) -> Result<Option<Answered>, OutOfMemory>
         requires tick { IsAfter self.old.last tick }
         requires events { self.old.events < 10000000 }
         requires lane { lane thread ≡ self.old.recorded.me }

@@ -1,14 +1,15 @@
 //! Segments on their way.
 
-ghost use Rattle.std.specs.Prelude.{◌≡◌};
+ghost use Rattle.std.specs.Prelude.{◌≡◌, IfOk};
 ghost use Rattle.stack_core.specs.Keys.{key_shown};
 
 use crate::tick::{Key, Tick};
-use case_forms::{Host, Wire};
+use case_forms::{Host, OutOfMemory, Wire};
 use machine::Emission;
 use std::marker::Model;
 
-/// A segment on its way, with the key and the line with which it went out. `HostCore::pump` alone makes one.
+/// A segment on its way, with the key and the line with which it went out. `HostCore::pump` alone makes one, and `copy` another
+/// like it.
 #[derive(Drop)]
 pub struct Flying {
     pub(crate) host: Host,
@@ -56,6 +57,19 @@ impl Flying {
         ensures { result.now ≡ self.now.emission }
     {
         &self.emission
+    }
+
+    /// An equal one, for a network that delivers a segment twice. The error is that memory ran out.
+    pub fn copy(&self) -> Result<Flying, OutOfMemory>
+        ensures { IfOk result (λ f. f ≡ self.now) }
+    {
+        Ok(Flying {
+            host: self.host,
+            tick: self.tick,
+            line: self.line,
+            emission: self.emission.copy()?,
+            wire: self.wire.copy()?,
+        })
     }
 
     // How it looks on the wire.

@@ -1,14 +1,12 @@
 //! The core of one host: what it recorded, and what each event asks of it.
 
 ghost use Rattle.std.specs.Prelude.{◌≡◌, ◌≤◌, ◌<◌, ◌+◌, ◌*◌, suc, [], OnOk, OnErr};
-ghost use Rattle.case_forms.specs.Traces.{first_event_line};
 ghost use Rattle.case_forms.specs.Witnesses.{IsWithinLimits};
 ghost use Rattle.hosts.specs.HostSteps.{after};
 ghost use Rattle.machine.specs.Machine.{tcp};
 ghost use Rattle.machine.specs.Steps.{step_of};
 ghost use Rattle.recordings.specs.Books.{Bring};
-ghost use Rattle.recordings.specs.Recordings.{IsKept};
-ghost use Rattle.stack_core.specs.Cores.{Fits, IsAfter, IsNextLine, IsOrderly, IsOwn, line_to_come, lines_taken, opened, with_item, with_step, world};
+ghost use Rattle.stack_core.specs.Cores.{Fits, IsAfter, IsNextLine, IsOrderly, IsOwn, IsRecorded, line_to_come, lines_taken, opened, with_item, with_step, world};
 ghost use Rattle.stack_core.specs.Entries.{steps_in};
 
 use crate::duties::Duties;
@@ -92,7 +90,7 @@ impl HostCore {
 
     /// What it recorded is a run of its host: a call that does nothing, whose contract says it.
     pub fn is_recording(&self)
-        ensures { IsKept self.now.recorded.header self.now.recorded.me (first_event_line self.now.recorded.header) self.now.recorded.entries }
+        ensures { IsRecorded self.now }
     {
         self.recording.is_recording();
     }

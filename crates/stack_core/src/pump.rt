@@ -6,7 +6,7 @@ ghost use Rattle.hosts.specs.Hosts.{At, Makes};
 ghost use Rattle.hosts.specs.HostRules.{Permitted};
 ghost use Rattle.machine.specs.Bounds.{greatest_position, most_steps};
 ghost use Rattle.machine.specs.Machine.{tcp};
-ghost use Rattle.stack_core.specs.Cores.{IsAfter, with_step, world};
+ghost use Rattle.stack_core.specs.Cores.{IsAfter, IsRecorded, with_step, world};
 ghost use Rattle.stack_core.specs.Entries.{steps_in};
 ghost use Rattle.stack_core.specs.Makings.{IsMakeable, NothingToMake};
 ghost use Rattle.stack_core.specs.PumpEvents.{IsPumped, IsPumpedShort, NothingToPump};
@@ -32,6 +32,20 @@ impl HostCore {
     /// and no segment without RST may be made that takes new positions. The error is that memory ran out; then the tick has
     /// passed, and the segment may be made and not gone out.
     pub fn pump(&mut self, tick: Tick) -> Result<Option<Flying>, OutOfMemory>
+        requires tick { IsAfter self.old.last tick }
+        requires events { self.old.events < 10000000 }
+        ensures some { IfOk result (λ o. IfSome o (λ f. IsPumped self.old tick f self.new)) }
+        ensures none { IfOk result (λ o. IfNone o ((self.new ≡ self.old) × NothingToPump self.old)) }
+        ensures err { OnErr result (IsPumpedShort self.old tick self.new) }
+        ensures kept { IsRecorded self.new }
+    {
+        let pumped = self.record_pump(tick);
+        self.is_recording();
+        pumped
+    }
+
+    // The same, but that what is recorded then is a run.
+    fn record_pump(&mut self, tick: Tick) -> Result<Option<Flying>, OutOfMemory>
         requires tick { IsAfter self.old.last tick }
         requires events { self.old.events < 10000000 }
         ensures some { IfOk result (λ o. IfSome o (λ f. IsPumped self.old tick f self.new)) }

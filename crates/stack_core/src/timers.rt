@@ -5,7 +5,7 @@ ghost use Rattle.std.specs.Option.{IfSome};
 ghost use Rattle.hosts.specs.HostRules.{Permitted};
 ghost use Rattle.machine.specs.Bounds.{most_steps};
 ghost use Rattle.machine.specs.Machine.{tcp};
-ghost use Rattle.stack_core.specs.Cores.{IsAfter, opened, world};
+ghost use Rattle.stack_core.specs.Cores.{IsAfter, IsRecorded, opened, world};
 ghost use Rattle.stack_core.specs.Entries.{steps_in};
 ghost use Rattle.stack_core.specs.Recordings.{world_left};
 ghost use Rattle.stack_core.specs.TimerEvents.{IsRefused, IsTimed, NoneDue, NoneDueAt, expiry_step};
@@ -32,6 +32,19 @@ impl HostCore {
     /// A timer that is due expires: its line. False, and nothing is changed: no line of a retransmission timer, a persist timer
     /// or a wait in TIME-WAIT is permitted. The error is that memory ran out; then the tick has passed, and nothing is added.
     pub fn timers(&mut self, tick: Tick) -> Result<bool, OutOfMemory>
+        requires tick { IsAfter self.old.last tick }
+        requires events { self.old.events < 10000000 }
+        ensures ok { IfOk result (λ found. IsTimed self.old tick found self.new) }
+        ensures err { OnErr result (self.new ≡ opened self.old tick) }
+        ensures kept { IsRecorded self.new }
+    {
+        let timed = self.record_expiry(tick);
+        self.is_recording();
+        timed
+    }
+
+    // The same, but that what is recorded then is a run.
+    fn record_expiry(&mut self, tick: Tick) -> Result<bool, OutOfMemory>
         requires tick { IsAfter self.old.last tick }
         requires events { self.old.events < 10000000 }
         ensures ok { IfOk result (λ found. IsTimed self.old tick found self.new) }

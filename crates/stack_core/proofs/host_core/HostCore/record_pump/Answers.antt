@@ -4,7 +4,7 @@ use Rattle.stack_core.specs.Cores.{Core, opened, with_step, world}
 use Rattle.stack_core.specs.Outgoing.{GoesOut}
 use Rattle.stack_core.specs.PumpEvents.{made}
 use Rattle.stack_core.specs.PumpEvents.IsPumped.{Answered, Made}
-use Rattle.stack_core.proofs.host_core.HostCore.pump.Goals as goal
+use Rattle.stack_core.proofs.host_core.HostCore.record_pump.Goals as goal
 
 pub returns-in-Some-clause-some : goal.returns-in-Some-clause-some
 returns-in-Some-clause-some c = Answered c.in-Some.number c.in-Some.ensures.some

@@ -2,7 +2,7 @@ use Rattle.std.proofs.Common.{ap, subst, sym, ◌∙◌}
 use Rattle.stack_core.specs.ArrivalEvents.{IsArrived, ports_of}
 use Rattle.stack_core.specs.Cores.{Core}
 use Rattle.stack_core.proofs.ArriveLemmas.{any_error, arrived, settled_short}
-use Rattle.stack_core.proofs.host_core.HostCore.arrive.Goals as goal
+use Rattle.stack_core.proofs.host_core.HostCore.record_arrival.Goals as goal
 
 pub returns-in_err-settle-clause-err : goal.returns-in_err-settle-clause-err
 returns-in_err-settle-clause-err c = any_error c.from_residual-in_err-settle.result (settled_short c.args.self.now c.open_with_room.new.self c.come_in.new.self c.settle.new.self c.args.tick c.args.flying c.line-line.result c.open_with_room.ensures.opened c.in_ok-come_in.ensures.ok c.line-line.ensures c.in_err-settle.ensures.err)

@@ -6,7 +6,7 @@ use Rattle.hosts.specs.HostRules.{Permitted}
 use Rattle.machine.specs.Machine.{tcp}
 use Rattle.stack_core.specs.Cores.{Core, GivesNext, own_body, world}
 use Rattle.stack_core.proofs.AnswerLemmas.{effect_fits, ended_call, finish_fits}
-use Rattle.stack_core.proofs.host_core.HostCore.attempt.Goals as goal
+use Rattle.stack_core.proofs.host_core.HostCore.record_attempt.Goals as goal
 
 pub add-requires-clause-fits : goal.add-requires-clause-fits
 add-requires-clause-fits c =
