@@ -210,7 +210,7 @@ waits_not made n m found is e waits = differ (sym is ∙ ap (λ (x : Made Emissi
 
 -- 6. a core
 
-own_host : (h : Header) (me : Host) (w : World tcp_shape) (step : Step tcp_shape) → OwnStep (tcp h) me w step → (host : Host) (d : Deed tcp_shape) → step ≡ At host d → host ≡ me
+pub own_host : (h : Header) (me : Host) (w : World tcp_shape) (step : Step tcp_shape) → OwnStep (tcp h) me w step → (host : Host) (d : Deed tcp_shape) → step ≡ At host d → host ≡ me
 own_host h me w step own host d is = subst (λ (x : Step tcp_shape). OwnStep (tcp h) me w x) is own
 
 pub core_awaits : (r s : Recorded) (last : Tick) (step : Step tcp_shape) (xs ys : List ℕ) (count : ℕ) → FitsItem (tcp r.header) r.me last.moment (world_left r) (Do step) → s ≡ with_entry r (entry_at r.me last (Do step))

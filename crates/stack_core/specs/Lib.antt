@@ -1,4 +1,5 @@
 pub mod Flights
+pub mod Flown
 pub mod Keys
 pub mod Entries
 pub mod Recordings

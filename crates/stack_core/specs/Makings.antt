@@ -43,12 +43,16 @@ IsMakeable h me w m = (m.pos ≤ greatest_position) × (m.len ≤ greatest_paylo
 abbrev pub Refuses : Header → Host → World tcp_shape → SegmentPlan → Type 0
 Refuses h me w plan = Permitted (tcp h) 0 w (At me (Makes plan)) → ⊥
 
--- none of the three may be made for this endpoint, with some windows; the SYN takes a new position where nothing was made before
+-- its SYN may not be made; it takes a new position where nothing was made before
+abbrev pub IsSynRefused : Header → Host → World tcp_shape → Endpoint → Opening → ℕ → Type 0
+IsSynRefused h me w e opening window = max_made e ≤ 0 → Refuses h me w (syn_of e opening window)
+
+-- none of the three may be made for this endpoint, with some windows
 pub record IsTried (h : Header) (me : Host) (w : World tcp_shape) (e : Endpoint) : Type 0 where
   pub opening : Opening
   pub at_syn : ℕ
   pub window : ℕ
-  pub syn : max_made e ≤ 0 → Refuses h me w (syn_of e opening at_syn)
+  pub syn : IsSynRefused h me w e opening at_syn
   pub byte : Refuses h me w (bytes_of e 1 window)
   pub fin : Refuses h me w (fin_of e window)
 

@@ -9,8 +9,9 @@ ghost use Rattle.machine.specs.Bounds.{most_steps};
 ghost use Rattle.machine.specs.Machine.{tcp};
 ghost use Rattle.machine.specs.Steps.{step_of};
 ghost use Rattle.recordings.specs.Books.{Bring};
-ghost use Rattle.stack_core.specs.ArrivalEvents.{IsArrival, IsArrivedShort, IsCameIn, IsNotLetIn, IsRecovered, IsSettled, IsSettledShort, MayDrop, MayRecover, MayTake, ports_of};
-ghost use Rattle.stack_core.specs.Cores.{IsAfter, IsRecorded, line_to_come, with_item, world};
+ghost use Rattle.stack_core.specs.ArrivalEvents.{IsArrival, IsArrivedShort, IsCameIn, IsRecovered, IsRecoveryAt};
+ghost use Rattle.stack_core.specs.ArrivalEvents.{IsRefusedRecovery, IsSettled, IsSettledShort, IsYoung, MayDrop, MayRecover, MayTake, ports_of};
+ghost use Rattle.stack_core.specs.Cores.{IsAfter, IsRecorded, MayDo, line_to_come, with_item, world};
 ghost use Rattle.stack_core.specs.Entries.{steps_in};
 
 use crate::duties::{Before, Seen};
@@ -31,7 +32,7 @@ impl HostCore {
         requires tick { IsAfter self.old.last tick }
         requires events { self.old.events < 10000000 }
         ensures ok { IfOk result (λ let_in. IsArrival self.old tick flying let_in self.new) }
-        ensures young { IfOk result (λ let_in. let_in ≡ true → nat_lt (flying.emission.moment + self.old.recorded.header.msl) tick.moment ≡ false) }
+        ensures young { IfOk result (λ let_in. let_in ≡ true → IsYoung self.old tick flying) }
         ensures err { OnErr result (IsArrivedShort self.old tick flying self.new) }
         ensures kept { IsRecorded self.new }
     {
@@ -45,7 +46,7 @@ impl HostCore {
         requires tick { IsAfter self.old.last tick }
         requires events { self.old.events < 10000000 }
         ensures ok { IfOk result (λ let_in. IsArrival self.old tick flying let_in self.new) }
-        ensures young { IfOk result (λ let_in. let_in ≡ true → nat_lt (flying.emission.moment + self.old.recorded.header.msl) tick.moment ≡ false) }
+        ensures young { IfOk result (λ let_in. let_in ≡ true → IsYoung self.old tick flying) }
         ensures err { OnErr result (IsArrivedShort self.old tick flying self.new) }
     {
         if self.is_own(&flying) || self.is_old(&flying, tick.moment) {
@@ -95,7 +96,10 @@ impl HostCore {
             return;
         };
         if let Some(endpoint) = body.endpoint_at(place) {
-            let duty = self.duties.of(place).after_arrival(place, &before, endpoint);
+            let duty = self
+                .duties
+                .of(place)
+                .after_arrival(place, &before, endpoint);
             self.duties.note(place, duty);
         }
     }
@@ -174,7 +178,7 @@ impl HostCore {
     // How it may be taken with its bytes: with this window if it may, and a sample. None: it may not.
     fn choice(&self, line: u64, window: u32) -> Option<TakeChoice>
         requires steps { steps_in self.now.recorded.entries < most_steps }
-        ensures some { IfSome result (λ choice. (choice.keep ≡ true) × MayTake self.now line × Permitted (tcp self.now.recorded.header) self.now.last.moment (world self.now) (At self.now.recorded.me (Takes line choice))) }
+        ensures some { IfSome result (λ choice. (choice.keep ≡ true) × MayTake self.now line × MayDo self.now (At self.now.recorded.me (Takes line choice))) }
         ensures none { IfNone result (MayTake self.now line → ⊥) }
     {
         let least = self.take_with(line, 0, false)?;
@@ -190,9 +194,9 @@ impl HostCore {
     // How it is taken so, if it may be.
     fn take_with(&self, line: u64, cwnd: u32, sample: bool) -> Option<TakeChoice>
         requires steps { steps_in self.now.recorded.entries < most_steps }
-        ensures some { IfSome result (λ choice. (choice.keep ≡ true) × Permitted (tcp self.now.recorded.header) self.now.last.moment (world self.now) (At self.now.recorded.me (Takes line choice))) }
+        ensures some { IfSome result (λ choice. (choice.keep ≡ true) × MayDo self.now (At self.now.recorded.me (Takes line choice))) }
         ensures same { IfSome result (λ choice. choice ≡ record { cwnd = cwnd; keep = true; sample = sample }) }
-        ensures none { IfNone result (Permitted (tcp self.now.recorded.header) self.now.last.moment (world self.now) (At self.now.recorded.me (Takes line (record { cwnd = cwnd; keep = true; sample = sample }))) → ⊥) }
+        ensures none { IfNone result (MayDo self.now (At self.now.recorded.me (Takes line (record { cwnd = cwnd; keep = true; sample = sample }))) → ⊥) }
     {
         let choice = TakeChoice {
             cwnd,
@@ -225,7 +229,7 @@ impl HostCore {
     // How it may begin: with the greatest values, or with none. None: it may not.
     fn recovery(&self, ports: Ports) -> Option<Recovery>
         requires steps { steps_in self.now.recorded.entries < most_steps }
-        ensures some { IfSome result (λ x. (x.lport ≡ ports.lport) × (x.rport ≡ ports.rport) × Permitted (tcp self.now.recorded.header) self.now.last.moment (world self.now) (At self.now.recorded.me (Does x))) }
+        ensures some { IfSome result (λ x. IsRecoveryAt self.now ports x) }
         ensures none { IfNone result (MayRecover self.now ports → ⊥) }
     {
         let least = self.recover_with(ports, 0, 0)?;
@@ -238,8 +242,8 @@ impl HostCore {
 
     fn recover_with(&self, ports: Ports, cwnd: u32, ssthresh: u32) -> Option<Recovery>
         requires steps { steps_in self.now.recorded.entries < most_steps }
-        ensures some { IfSome result (λ x. (x.lport ≡ ports.lport) × (x.rport ≡ ports.rport) × Permitted (tcp self.now.recorded.header) self.now.last.moment (world self.now) (At self.now.recorded.me (Does x))) }
-        ensures none { IfNone result (Permitted (tcp self.now.recorded.header) self.now.last.moment (world self.now) (At self.now.recorded.me (Does (record { lport = ports.lport; rport = ports.rport; cwnd = cwnd; ssthresh = ssthresh }))) → ⊥) }
+        ensures some { IfSome result (λ x. IsRecoveryAt self.now ports x) }
+        ensures none { IfNone result (IsRefusedRecovery self.now ports cwnd ssthresh) }
     {
         let recovery = Recovery {
             lport: ports.lport,
@@ -259,8 +263,8 @@ impl HostCore {
     fn admits(&self, label: &Label) -> bool
         requires steps { steps_in self.now.recorded.entries < most_steps }
         requires limits { IsWithinLimits label.now }
-        ensures yes { result ≡ true → Permitted (tcp self.now.recorded.header) self.now.last.moment (world self.now) (step_of label.now) }
-        ensures no { result ≡ false → Permitted (tcp self.now.recorded.header) self.now.last.moment (world self.now) (step_of label.now) → ⊥ }
+        ensures yes { result ≡ true → MayDo self.now (step_of label.now) }
+        ensures no { result ≡ false → MayDo self.now (step_of label.now) → ⊥ }
     {
         match self.recording.admits(self.last_tick().moment, label) {
             Ok(()) => true,

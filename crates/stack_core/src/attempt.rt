@@ -9,7 +9,7 @@ ghost use Rattle.hosts.specs.Hosts.{turn_of};
 ghost use Rattle.machine.specs.Machine.{tcp};
 ghost use Rattle.stack_core.specs.Cores.{GivesNext, IsAfter, IsRecorded, next_socket, own_body, world};
 ghost use Rattle.stack_core.specs.Entries.{steps_in};
-ghost use Rattle.stack_core.specs.CallEvents.{IsAttempted, IsAttemptShort, NoAnswer};
+ghost use Rattle.stack_core.specs.CallEvents.{IsAttempted, IsAttemptShort, MayAnswer, NoAnswer};
 
 use crate::answered::Answered;
 use crate::answers::choose;
@@ -121,7 +121,10 @@ impl HostCore {
             return;
         };
         if let Some(endpoint) = body.endpoint_at(place) {
-            let duty = self.duties.of(place).after_call(endpoint, answer, self.config.ring);
+            let duty = self
+                .duties
+                .of(place)
+                .after_call(endpoint, answer, self.config.ring);
             self.duties.note(place, duty);
         }
     }
@@ -129,7 +132,7 @@ impl HostCore {
     // The answer that the open call of a thread has now. None: there is no such call, or it waits.
     fn answer(&self, thread: u32) -> Result<Option<Answer>, OutOfMemory>
         requires few { steps_in self.now.recorded.entries < 1000000000 }
-        ensures permitted { IfOk result (λ o. IfSome o (λ a. (moment : ℕ) → Permitted (tcp self.now.recorded.header) moment (world self.now) (Effect thread a))) }
+        ensures permitted { IfOk result (λ o. IfSome o (λ a. MayAnswer self.now thread a)) }
         ensures gives { IfOk result (λ o. IfSome o (λ a. GivesNext self.now.recorded.me (own_body self.now) (turn_of thread (world self.now).threads) a)) }
         ensures none { IfOk result (λ o. IfNone o (NoAnswer self.now thread)) }
     {

@@ -195,7 +195,9 @@ impl Duty {
         if let Answer::Bytes(bytes) = answer {
             self.read = self.read.saturating_add(bytes.len() as u64);
             let edge = now.next().saturating_add(self.room(now, ring));
-            let least = u64::from(ring / 2).min(u64::from(now.congestion.smss)).max(1);
+            let least = u64::from(ring / 2)
+                .min(u64::from(now.congestion.smss))
+                .max(1);
             if now.window.edge.saturating_add(least) <= edge {
                 self.acknowledges = true;
             }

@@ -6,7 +6,8 @@ ghost use Rattle.hosts.specs.HostSteps.{after};
 ghost use Rattle.machine.specs.Machine.{tcp};
 ghost use Rattle.machine.specs.Steps.{step_of};
 ghost use Rattle.recordings.specs.Books.{Bring};
-ghost use Rattle.stack_core.specs.Cores.{Fits, IsAfter, IsNextLine, IsOrderly, IsOwn, IsRecorded, line_to_come, lines_taken, opened, with_item, with_step, world};
+ghost use Rattle.stack_core.specs.Cores.{Fits, IsAfter, IsNextLine, IsOrderly, IsOwn, IsRecorded, line_to_come, lines_taken};
+ghost use Rattle.stack_core.specs.Cores.{new_core, opened, with_item, with_step, world};
 ghost use Rattle.stack_core.specs.Entries.{steps_in};
 
 use crate::duties::Duties;
@@ -64,7 +65,7 @@ impl Model for HostCore {
 impl HostCore {
     /// The core of a host that recorded nothing yet.
     pub fn new(alloc: Global, host: Host, header: Header, config: CoreConfig) -> HostCore
-        ensures { result ≡ record { recorded = record { header = header; me = host; entries = [] }; ring = config.ring; last = record { moment = 0; counter = 0 }; events = 0 } }
+        ensures { result ≡ new_core header host config.ring }
     {
         HostCore {
             recording: Recording::start(alloc, host, &header),

@@ -8,7 +8,7 @@ ghost use Rattle.streams.specs.Sent.{end_of};
 ghost use Rattle.machine.specs.Bounds.{greatest_position, most_steps};
 ghost use Rattle.machine.specs.Endpoints.{max_made};
 ghost use Rattle.stack_core.specs.Outgoing.{greatest_payload};
-ghost use Rattle.stack_core.specs.Makings.{IsMakeable, IsTried, NothingToMake, Refuses, bytes_of, fin_of, syn_of};
+ghost use Rattle.stack_core.specs.Makings.{IsMakeable, IsSynRefused, IsTried, NothingToMake, Refuses, bytes_of, fin_of, syn_of};
 
 use crate::duties::Duties;
 use crate::plans::{
@@ -36,8 +36,7 @@ pub(crate) fn find_plan(
     }
 }
 
-// What a core would make at an endpoint where something may be made, and may make. None: at none
-// of those that are listed.
+// What a core would make at an endpoint that is listed, and may make. None: at none of these.
 fn find_listed(
     world: &World,
     me: Host,
@@ -50,16 +49,34 @@ fn find_listed(
 {
     for _ in 0..duties.count() {
         let place = duties.first()?;
-        if let Some(endpoint) = world.body(me).endpoint_at(place) {
-            let duty = duties.of(place);
-            let offer = offer_of(endpoint, duty, opening, ring);
-            if let Some(plan) = try_wishes(world, me, &wishes(endpoint, duty, offer)) {
-                return Some(plan);
-            }
+        if let Some(plan) = wish_at(world, me, duties, place, opening, ring) {
+            return Some(plan);
         }
         duties.leave();
     }
     None
+}
+
+// What a core would make at the endpoint at a place, and may make. None: nothing, or a newer endpoint has its ports.
+fn wish_at(
+    world: &World,
+    me: Host,
+    duties: &Duties,
+    place: u32,
+    opening: Opening,
+    ring: u16,
+) -> Option<SegmentPlan>
+    requires steps { world.now.steps < most_steps }
+    ensures { IfSome result (λ m. IsMakeable world.now.header me world.now.world m) }
+{
+    let body = world.body(me);
+    let endpoint = body.endpoint_at(place)?;
+    if body.place_of(endpoint.lport, endpoint.rport) != Some(place) {
+        return None;
+    }
+    let duty = duties.of(place);
+    let offer = offer_of(endpoint, duty, opening, ring);
+    try_wishes(world, me, &wishes(endpoint, duty, offer))
 }
 
 // The first of these that may be made.
@@ -97,11 +114,10 @@ fn find_making(
     let body = world.body(me);
     let mut place = 0u32;
     while let Some(endpoint) = body.endpoint_at(place) {
-        let duty = duties.of(place);
-        let offer = offer_of(endpoint, duty, opening, ring);
-        if let Some(plan) = try_wishes(world, me, &wishes(endpoint, duty, offer)) {
+        if let Some(plan) = wish_at(world, me, duties, place, opening, ring) {
             return Some(plan);
         }
+        let offer = offer_of(endpoint, duties.of(place), opening, ring);
         if let Some(plan) = try_endpoint(world, me, endpoint, offer) {
             return Some(plan);
         }
@@ -112,12 +128,7 @@ fn find_making(
 
 // One of the three that may be made for an endpoint.
 #[tactic(auto, using(crate::proofs::MakingLemmas::tried_far))]
-fn try_endpoint(
-    world: &World,
-    me: Host,
-    endpoint: &Endpoint,
-    offer: Offer,
-) -> Option<SegmentPlan>
+fn try_endpoint(world: &World, me: Host, endpoint: &Endpoint, offer: Offer) -> Option<SegmentPlan>
     requires steps { world.now.steps < most_steps }
     requires short { All (λ e. end_of e.stream.accepted ≤ greatest_position) (pick world.now.world.hosts me).body.endpoints }
     ensures some { IfSome result (λ m. IsMakeable world.now.header me world.now.world m) }
@@ -137,15 +148,10 @@ fn try_endpoint(
 }
 
 // The SYN, if nothing was made before and it may be made.
-fn try_syn(
-    world: &World,
-    me: Host,
-    endpoint: &Endpoint,
-    offer: Offer,
-) -> Option<SegmentPlan>
+fn try_syn(world: &World, me: Host, endpoint: &Endpoint, offer: Offer) -> Option<SegmentPlan>
     requires steps { world.now.steps < most_steps }
     ensures some { IfSome result (λ m. IsMakeable world.now.header me world.now.world m) }
-    ensures none { IfNone result (max_made endpoint.now ≤ 0 → Refuses world.now.header me world.now.world (syn_of endpoint.now offer.opening offer.at_syn)) }
+    ensures none { IfNone result (IsSynRefused world.now.header me world.now.world endpoint.now offer.opening offer.at_syn) }
 {
     if 0 < endpoint.max_made() {
         return None;

@@ -11,6 +11,7 @@ use window_rules::{congestion_edge, offered_edge};
 
 // The greatest payload that a core lets out, and the greatest position that a step names.
 pub(crate) const GREATEST_PAYLOAD: u16 = 65_487;
+
 pub(crate) const GREATEST_POSITION: u64 = 1_000_000_000_000_000_000;
 
 /// What an endpoint is given with its first SYN.
@@ -55,15 +56,31 @@ pub(crate) fn wishes(endpoint: &Endpoint, duty: Duty, offer: Offer) -> [Option<S
     let fresh = endpoint.max_made() == 0;
     let bytes = new_bytes(endpoint, offer);
     [
-        if endpoint.reset_due { Some(reset_of(endpoint, offer)) } else { None },
+        if endpoint.reset_due {
+            Some(reset_of(endpoint, offer))
+        } else {
+            None
+        },
         match duty.again {
             Some(again) => made_again(endpoint, again, offer),
             None => None,
         },
-        if fresh { Some(syn_of(endpoint, offer.opening, offer.at_syn)) } else { None },
-        if fresh { None } else { with_fin(endpoint, bytes) },
+        if fresh {
+            Some(syn_of(endpoint, offer.opening, offer.at_syn))
+        } else {
+            None
+        },
+        if fresh {
+            None
+        } else {
+            with_fin(endpoint, bytes)
+        },
         if bytes.len == 0 { None } else { Some(bytes) },
-        if duty.acknowledges { Some(plain(endpoint, endpoint.max_made(), 0, offer.window)) } else { None },
+        if duty.acknowledges {
+            Some(plain(endpoint, endpoint.max_made(), 0, offer.window))
+        } else {
+            None
+        },
     ]
 }
 

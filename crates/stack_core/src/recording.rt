@@ -97,7 +97,7 @@ impl Recording {
         self.entries.as_slice()
     }
 
-    /// The world, of which all is forgotten that may be let go.
+    /// The world, of which all is discarded that may be.
     pub(crate) fn world(&self) -> &World
         ensures header { result.now.header ≡ self.now.header }
         ensures world { result.now.world ≡ forget (world_left self.now) }

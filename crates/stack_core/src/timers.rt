@@ -8,7 +8,7 @@ ghost use Rattle.machine.specs.Machine.{tcp};
 ghost use Rattle.stack_core.specs.Cores.{IsAfter, IsRecorded, opened, world};
 ghost use Rattle.stack_core.specs.Entries.{steps_in};
 ghost use Rattle.stack_core.specs.Recordings.{world_left};
-ghost use Rattle.stack_core.specs.TimerEvents.{IsRefused, IsTimed, NoneDue, NoneDueAt, expiry_step};
+ghost use Rattle.stack_core.specs.TimerEvents.{IsDueAt, IsRefused, IsTimed, NoneDue, NoneDueAt, expiry_step};
 
 use crate::greatest::at_timeout;
 use crate::host_core::HostCore;
@@ -83,7 +83,7 @@ impl HostCore {
     // A timer that may expire at a moment.
     fn due(&self, moment: u64) -> Option<Due>
         requires steps { steps_in self.now.recorded.entries < most_steps }
-        ensures some { IfSome result (λ due. (n : ℕ) → Permitted (tcp self.now.recorded.header) moment (world self.now) (expiry_step self.now.recorded.me n due.ports due.expired)) }
+        ensures some { IfSome result (λ due. IsDueAt self.now.recorded moment due.ports due.expired) }
         ensures none { IfNone result (NoneDue self.now moment) }
     {
         find_due(&self.recording, moment)
@@ -93,7 +93,7 @@ impl HostCore {
 // A timer that may expire at a moment. None: no retransmission timer, persist timer or wait in TIME-WAIT may.
 fn find_due(recording: &Recording, moment: u64) -> Option<Due>
     requires steps { steps_in recording.now.entries < most_steps }
-    ensures some { IfSome result (λ due. (n : ℕ) → Permitted (tcp recording.now.header) moment (world_left recording.now) (expiry_step recording.now.me n due.ports due.expired)) }
+    ensures some { IfSome result (λ due. IsDueAt recording.now moment due.ports due.expired) }
     ensures none { IfNone result (NoneDueAt recording.now moment) }
 {
     recording.few_endpoints();
@@ -111,14 +111,15 @@ fn find_due(recording: &Recording, moment: u64) -> Option<Due>
 // The same of an endpoint.
 fn due_at(recording: &Recording, moment: u64, endpoint: &Endpoint) -> Option<Due>
     requires steps { steps_in recording.now.entries < most_steps }
-    ensures some { IfSome result (λ due. (n : ℕ) → Permitted (tcp recording.now.header) moment (world_left recording.now) (expiry_step recording.now.me n due.ports due.expired)) }
+    ensures some { IfSome result (λ due. IsDueAt recording.now moment due.ports due.expired) }
     ensures none { IfNone result (IsRefused recording.now moment (record { lport = endpoint.now.lport; rport = endpoint.now.rport })) }
 {
     let ports = Ports {
         lport: endpoint.lport,
         rport: endpoint.rport,
     };
-    if TRIES <= endpoint.tries && !endpoint.state.is_fin_wait_2() {
+    let state = endpoint.state;
+    if TRIES <= endpoint.tries && !state.is_fin_wait_2() && !state.is_closed() {
         if let Some(due) = ask(recording, moment, ports, Expired::Giveup) {
             return Some(due);
         }
@@ -142,7 +143,7 @@ fn due_at(recording: &Recording, moment: u64, endpoint: &Endpoint) -> Option<Due
 // The timer, if it may expire.
 fn ask(recording: &Recording, moment: u64, ports: Ports, expired: Expired) -> Option<Due>
     requires steps { steps_in recording.now.entries < most_steps }
-    ensures some { IfSome result (λ due. (n : ℕ) → Permitted (tcp recording.now.header) moment (world_left recording.now) (expiry_step recording.now.me n due.ports due.expired)) }
+    ensures some { IfSome result (λ due. IsDueAt recording.now moment due.ports due.expired) }
     ensures none { IfNone result (Permitted (tcp recording.now.header) moment (world_left recording.now) (expiry_step recording.now.me 0 ports expired) → ⊥) }
 {
     let line = TakenLine::Expired {
