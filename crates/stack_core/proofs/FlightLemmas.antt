@@ -1,6 +1,7 @@
 -- What flew from a host stands on its wire from then on.
 use Rattle.std.proofs.Common.{◌≡◌, ◌≤◌, ◌<◌, ℕ, suc, Bool, true, false, List, [], ◌∷◌, ◌++◌, Option, None, Some, refl, ap, sym, ◌∙◌, subst, nat_eq, nat_lt, arith}
-use Rattle.std.specs.Prelude.{cond, if◌then◌else◌}
+use Rattle.std.specs.Prelude.{cond, if◌then◌else◌, IfOk, Ok, Err, Result}
+use Rattle.std.specs.Option.{IfSome}
 use Rattle.std.specs.Map.{lookup}
 use Rattle.std.proofs.lemmas.Bool.Decides.{nat_tests}
 use Rattle.std.proofs.lemmas.Option.{none-some, same_Some}
@@ -27,7 +28,9 @@ use Rattle.recordings.specs.Recordings.{IsKept, TcpEntry, next_line, world_of}
 use Rattle.recordings.proofs.Growing.{end_more}
 use Rattle.recordings.proofs.Lines.{next_more}
 use Rattle.stack_core.specs.declared.tick.Tick.{Tick}
-use Rattle.stack_core.specs.Cores.{Core, IsRecorded, line_to_come, with_step, world}
+use Rattle.stack_core.specs.Cores.{Core, IsRecorded, line_to_come, opened, with_step, world}
+use Rattle.stack_core.specs.PumpEvents.{IsPumped, made}
+use Rattle.stack_core.specs.PumpEvents.IsPumped.{Answered as ResetGoes, Made as MadeGoes}
 use Rattle.stack_core.specs.Entries.{entry_at}
 use Rattle.stack_core.specs.Flown.{HasFlown, IsAbove}
 use Rattle.stack_core.specs.Keys.{key_of}
@@ -225,3 +228,9 @@ comes_before a b c x y z p q = rw (not_below a x p, is_below b y q) (by (nat_lt 
 
 pub named : (r : Recorded) (me : Host) (f : Flying tcp_shape) (tick : Tick) → HasFlown r f → IsAbove f tick → NamesOne (tcp r.header) r.me (world_left r) r.entries (key_of me tick) (Bring f)
 named r me f tick flown above = (comes_before f.key.moment f.key.counter (rank f.key.host) tick.moment tick.counter (rank me) above.moment above.counter, flown.stands, flown.keyed)
+
+pub pumped_flown : {E : Type 0} (c d : Core) (tick : Tick) (res : Result (Option (Flying tcp_shape)) E) → IfOk res (λ o. IfSome o (λ f. IsPumped c tick f d)) → IsRecorded d → IfOk res (λ o. IfSome o (λ f. HasFlown d.recorded f))
+pumped_flown c d tick (Err e) is kept = tt
+pumped_flown c d tick (Ok None) is kept = tt
+pumped_flown c d tick (Ok (Some f)) (ResetGoes number waited out) kept = gone_flown (opened c tick) d number f out kept
+pumped_flown c d tick (Ok (Some f)) (MadeGoes plan out) kept = gone_flown (made c tick plan) d (world (made c tick plan)).count f out kept

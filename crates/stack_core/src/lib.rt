@@ -15,6 +15,7 @@
 //! - `duties`, `plans`, `greatest`: what a core remembers of its endpoints, what it would make at one, and the windows that it takes
 //! - `arrive`: a segment comes in, and is taken, answered or dropped
 //! - `timers`: a timer expires
+//! - `laws`: what flew from a host stays on its wire, and what is brought names it
 #![tactic(auto)]
 
 mod answered;
@@ -28,6 +29,7 @@ mod flying;
 mod greatest;
 mod host_core;
 mod item;
+mod laws;
 mod makings;
 mod outgoing;
 mod plans;
@@ -42,5 +44,6 @@ pub use entry::Entry;
 pub use flying::Flying;
 pub use host_core::{CoreConfig, HostCore};
 pub use item::Item;
+pub use laws::what_flew_is_named;
 pub use recording::Recording;
 pub use tick::{Key, Tick};

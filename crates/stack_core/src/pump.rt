@@ -11,6 +11,7 @@ ghost use Rattle.stack_core.specs.Entries.{steps_in};
 ghost use Rattle.stack_core.specs.Makings.{IsMakeable, NothingToMake};
 ghost use Rattle.stack_core.specs.PumpEvents.{IsPumped, IsPumpedShort, NothingToPump};
 ghost use Rattle.stack_core.specs.Resets.{IsResetToGo, NoResetWaits};
+ghost use Rattle.stack_core.specs.Flown.{HasFlown};
 ghost use Rattle.stack_core.specs.Outgoing.{GoesOut, MayGo, WaitsToGo, greatest_payload};
 
 use crate::flying::Flying;
@@ -37,6 +38,7 @@ impl HostCore {
         ensures some { IfOk result (λ o. IfSome o (λ f. IsPumped self.old tick f self.new)) }
         ensures none { IfOk result (λ o. IfNone o ((self.new ≡ self.old) × NothingToPump self.old)) }
         ensures err { OnErr result (IsPumpedShort self.old tick self.new) }
+        ensures flown { IfOk result (λ o. IfSome o (λ f. HasFlown self.new.recorded f)) }
         ensures kept { IsRecorded self.new }
     {
         let pumped = self.record_pump(tick);
