@@ -23,7 +23,7 @@ use Rattle.machine.specs.Machine.{aim, tcp, tcp_shape}
 use Rattle.machine.specs.Machine as acts
 use Rattle.machine.specs.Wire.{sent}
 use Rattle.recordings.specs.Books.{Bring, Do, FitsItem, Flying, HostRun, Item, Key, deed_line, end, item_line, next, next_item, step_line}
-use Rattle.recordings.specs.Keys.{EachEntry, If, NamesOne, Numbered, before, lesser, rank}
+use Rattle.recordings.specs.Keys.{EachEntry, If, NamesOne, Numbered, lesser, rank}
 use Rattle.recordings.specs.Recordings.{IsKept, TcpEntry, next_line, world_of}
 use Rattle.recordings.proofs.Growing.{end_more}
 use Rattle.recordings.proofs.Lines.{next_more}
@@ -35,7 +35,7 @@ use Rattle.stack_core.specs.Entries.{entry_at}
 use Rattle.stack_core.specs.Flown.{HasFlown, IsAbove}
 use Rattle.stack_core.specs.Keys.{key_of}
 use Rattle.stack_core.specs.Outgoing.{GoesOut}
-use Rattle.stack_core.specs.Recordings.{Recorded, with_entry, world_left}
+use Rattle.stack_core.specs.Recordings.{Recorded, world_left}
 use Rattle.stack_core.proofs.ResetLemmas.{own_host}
 
 -- 1. lines
@@ -75,10 +75,10 @@ none_yet h n (x ∷ xs) line key p above = go (item_line (tcp h) x.item) refl p 
     go None is p above rest = (λ same. absurd (none-some line (sym is ∙ same)), rest n p above)
     go (Some a) is p above rest = (
       λ same.
-        let low = line_grows h (suc n) xs in
-        let at : a ≡ line = same_Some a line (sym is ∙ same) in
-        let here : a ≡ n = p.0 in
-        absurd (omega arith),
+          let low = line_grows h (suc n) xs in
+          let at : a ≡ line = same_Some a line (sym is ∙ same) in
+          let here : a ≡ n = p.0 in
+          absurd (omega arith),
       rest (suc n) p.1 above,
     )
 
@@ -92,9 +92,9 @@ none_more h n (x ∷ xs) line key p below = go (item_line (tcp h) x.item) refl p
     go None is p rest = (λ same. absurd (none-some line (sym is ∙ same)), rest n p below)
     go (Some a) is p rest = (
       λ same.
-        let at : a ≡ line = same_Some a line (sym is ∙ same) in
-        let here : a ≡ n = p.0 in
-        absurd (omega arith),
+          let at : a ≡ line = same_Some a line (sym is ∙ same) in
+          let here : a ≡ n = p.0 in
+          absurd (omega arith),
       rest (suc n) p.1 (omega arith),
     )
 

@@ -39,7 +39,6 @@ use Rattle.machine_laws.proofs.ForgetReads.{max_made-forget}
 use Rattle.stack_core.proofs.AnswerLemmas.{kept_body}
 use Rattle.machine_laws.specs.ForgettingLaws.{ForgettingIsFree}
 use Rattle.endpoint_state.specs.Worlds.{Progress}
-use Rattle.stack_core.specs.Outgoing.{greatest_payload}
 use Rattle.stack_core.specs.Recordings.{Recorded, world_left}
 use Rattle.std.proofs.lemmas.List.Elements.{All-head, All-tail, All-weaker}
 use Rattle.machine.specs.Bounds.{greatest_position, most_steps, IsKept, IsKeptBody}

@@ -1,4 +1,4 @@
-use Rattle.std.proofs.Common.{ℕ, length}
+use Rattle.std.proofs.Common.{length}
 use Rattle.stack_core.specs.Resets.{AreAwaited, made_of}
 use Rattle.stack_core.proofs.resets.next_reset.Given as goal
 

@@ -1,4 +1,4 @@
-use Rattle.std.proofs.Common.{◌<◌, ◌*◌, ◌∙◌, sym, suc, subst}
+use Rattle.std.proofs.Common.{◌<◌, ◌*◌, sym, suc, subst}
 use Rattle.machine.specs.Steps.{step_of}
 use Rattle.stack_core.specs.Cores.{Core, Fits, IsCore, IsNextLine, IsOrderly, world}
 use Rattle.stack_core.specs.Entries.{steps_in}

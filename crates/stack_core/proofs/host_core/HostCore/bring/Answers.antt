@@ -1,4 +1,4 @@
-use Rattle.std.proofs.Common.{subst, sym, ap}
+use Rattle.std.proofs.Common.{subst, sym}
 use Rattle.stack_core.specs.Cores.{IsCore}
 use Rattle.stack_core.specs.Recordings.{Recorded}
 use Rattle.stack_core.specs.Resets.{AreAwaited, made_of}
