@@ -1,0 +1,14 @@
+pub mod Flights
+pub mod Flown
+pub mod Keys
+pub mod Entries
+pub mod Recordings
+pub mod Cores
+pub mod Answers
+pub mod Makings
+pub mod Outgoing
+pub mod Resets
+pub mod CallEvents
+pub mod PumpEvents
+pub mod TimerEvents
+pub mod ArrivalEvents

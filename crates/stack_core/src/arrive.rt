@@ -1,0 +1,295 @@
+//! A segment arrives.
+
+ghost use Rattle.std.specs.Prelude.{◌≡◌, ◌≤◌, ◌<◌, ◌+◌, ◌*◌, ◌⊎◌, suc, true, false, nat_lt, IfOk, IfNone, OnOk, OnErr};
+ghost use Rattle.std.specs.Option.{IfSome};
+ghost use Rattle.case_forms.specs.Witnesses.{IsWithinLimits};
+ghost use Rattle.hosts.specs.Hosts.{At, Does, Takes};
+ghost use Rattle.hosts.specs.HostRules.{Permitted};
+ghost use Rattle.machine.specs.Bounds.{most_steps};
+ghost use Rattle.machine.specs.Machine.{tcp};
+ghost use Rattle.machine.specs.Steps.{step_of};
+ghost use Rattle.recordings.specs.Books.{Bring};
+ghost use Rattle.stack_core.specs.ArrivalEvents.{IsArrival, IsArrivedShort, IsCameIn, IsRecovered, IsRecoveryAt};
+ghost use Rattle.stack_core.specs.ArrivalEvents.{IsRefusedRecovery, IsSettled, IsSettledShort, IsYoung, MayDrop, MayRecover, MayTake, ports_of};
+ghost use Rattle.stack_core.specs.Cores.{IsAfter, IsRecorded, MayDo, line_to_come, with_item, world};
+ghost use Rattle.stack_core.specs.Entries.{steps_in};
+
+use crate::duties::{Before, Seen};
+use crate::flying::Flying;
+use crate::greatest::{at_recovery, cwnd_at_arrival};
+use crate::host_core::HostCore;
+use crate::tick::Tick;
+use case_forms::{Growth, OutOfMemory, Ports, Recovery, TakeChoice, TakenLine};
+use machine::Emission;
+use spec_step::Label;
+
+impl HostCore {
+    /// A segment of the other host arrives: it is brought, and comes in, which is its line. It is taken with its bytes where it
+    /// may be, and fast recovery begins where it may; else it is answered by a reset where it may be; else it is dropped. False,
+    /// and nothing is changed: it is this host's own, or older than the maximum segment lifetime. The error is that memory ran
+    /// out; then the tick has passed, and a beginning of this is added.
+    pub fn arrive(&mut self, flying: Flying, tick: Tick) -> Result<bool, OutOfMemory>
+        requires tick { IsAfter self.old.last tick }
+        requires events { self.old.events < 10000000 }
+        ensures ok { IfOk result (λ let_in. IsArrival self.old tick flying let_in self.new) }
+        ensures young { IfOk result (λ let_in. let_in ≡ true → IsYoung self.old tick flying) }
+        ensures err { OnErr result (IsArrivedShort self.old tick flying self.new) }
+        ensures kept { IsRecorded self.new }
+    {
+        let arrived = self.record_arrival(flying, tick);
+        self.is_recording();
+        arrived
+    }
+
+    // The same, but that what is recorded then is a run.
+    fn record_arrival(&mut self, flying: Flying, tick: Tick) -> Result<bool, OutOfMemory>
+        requires tick { IsAfter self.old.last tick }
+        requires events { self.old.events < 10000000 }
+        ensures ok { IfOk result (λ let_in. IsArrival self.old tick flying let_in self.new) }
+        ensures young { IfOk result (λ let_in. let_in ≡ true → IsYoung self.old tick flying) }
+        ensures err { OnErr result (IsArrivedShort self.old tick flying self.new) }
+    {
+        if self.is_own(&flying) || self.is_old(&flying, tick.moment) {
+            return Ok(false);
+        }
+        self.bounds();
+        self.open_with_room(tick)?;
+        let line = self.line();
+        let ports = ports_of(flying.emission());
+        let before = self.before(flying.emission(), ports);
+        self.come_in(flying)?;
+        self.settle(line, ports, before.window)?;
+        self.note_arrival(ports, before);
+        Ok(true)
+    }
+
+    // What is told of an endpoint before a segment comes in for its ports.
+    fn before(&self, m: &Emission, ports: Ports) -> Before {
+        let asks = !m.flags.rst && 0 < m.length();
+        let body = self.recording.body();
+        let place = body.place_of(ports.lport, ports.rport);
+        let endpoint = match place {
+            Some(place) => body.endpoint_at(place),
+            None => None,
+        };
+        Before {
+            place,
+            window: match endpoint {
+                Some(endpoint) => cwnd_at_arrival(self.recording.header().initial, endpoint, m),
+                None => 0,
+            },
+            seen: match endpoint {
+                Some(endpoint) => Some(Seen::of(endpoint)),
+                None => None,
+            },
+            asks,
+            syn: m.flags.syn,
+        }
+    }
+
+    // It is remembered what an arrival asks of the endpoint of these ports.
+    fn note_arrival(&mut self, ports: Ports, before: Before)
+        ensures { self.new ≡ self.old }
+    {
+        let body = self.recording.body();
+        let Some(place) = body.place_of(ports.lport, ports.rport) else {
+            return;
+        };
+        if let Some(endpoint) = body.endpoint_at(place) {
+            let duty = self
+                .duties
+                .of(place)
+                .after_arrival(place, &before, endpoint);
+            self.duties.note(place, duty);
+        }
+    }
+
+    fn is_own(&self, flying: &Flying) -> bool
+        ensures { result ≡ true → flying.now.key.host ≡ self.now.recorded.me }
+    {
+        flying.key().host == self.me()
+    }
+
+    fn is_old(&self, flying: &Flying, moment: u64) -> bool
+        ensures { result ≡ nat_lt (flying.now.emission.moment + self.now.recorded.header.msl) moment }
+    {
+        flying.emission().moment as u128 + (self.recording.header().msl as u128) < moment as u128
+    }
+
+    // It is brought, and comes in.
+    fn come_in(&mut self, flying: Flying) -> Result<(), OutOfMemory>
+        requires room { steps_in self.old.recorded.entries < 4 * self.old.events }
+        requires events { self.old.events ≤ 10000000 }
+        requires young { nat_lt (flying.emission.moment + self.old.recorded.header.msl) self.old.last.moment ≡ false }
+        ensures ok { OnOk result (IsCameIn self.old flying self.new) }
+        ensures count { OnOk result (steps_in self.new.recorded.entries ≡ suc (steps_in self.old.recorded.entries)) }
+        ensures waits { OnOk result (MayDrop self.new (line_to_come self.old)) }
+        ensures err { OnErr result ((self.new ≡ self.old) ⊎ (self.new ≡ with_item self.old (Bring flying))) }
+    {
+        let wire = flying.wire().copy()?;
+        let copied = flying.line();
+        self.bring(flying)?;
+        let line = TakenLine::Came {
+            line: self.line(),
+            host: self.me(),
+            copied,
+            wire,
+        };
+        self.add(Label::L(line))?;
+        Ok(())
+    }
+
+    // What waits under a line is taken, answered or dropped. The window is tried first.
+    fn settle(&mut self, line: u64, ports: Ports, window: u32) -> Result<(), OutOfMemory>
+        requires room { steps_in self.old.recorded.entries + 2 ≤ 4 * self.old.events }
+        requires events { self.old.events ≤ 10000000 }
+        requires waits { MayDrop self.old line }
+        ensures ok { OnOk result (IsSettled self.old line ports self.new) }
+        ensures err { OnErr result (IsSettledShort self.old line self.new) }
+    {
+        let Some(choice) = self.choice(line, window) else {
+            return self.turn_away(line, ports);
+        };
+        let host = self.me();
+        self.add(Label::T { host, line, choice })?;
+        self.recover(ports)?;
+        Ok(())
+    }
+
+    // What is not taken is answered by a reset where it may be, and else dropped.
+    fn turn_away(&mut self, line: u64, ports: Ports) -> Result<(), OutOfMemory>
+        requires room { steps_in self.old.recorded.entries < 4 * self.old.events }
+        requires events { self.old.events ≤ 10000000 }
+        requires waits { MayDrop self.old line }
+        requires not_taken { MayTake self.old line → ⊥ }
+        ensures ok { OnOk result (IsSettled self.old line ports self.new) }
+        ensures err { OnErr result (self.new ≡ self.old) }
+    {
+        let host = self.me();
+        let reset = Label::R { host, line };
+        if self.admits(&reset) {
+            self.add(reset)?;
+            return Ok(());
+        }
+        self.add(Label::K { host, line })?;
+        Ok(())
+    }
+
+    // How it may be taken with its bytes: with this window if it may, and a sample. None: it may not.
+    fn choice(&self, line: u64, window: u32) -> Option<TakeChoice>
+        requires steps { steps_in self.now.recorded.entries < most_steps }
+        ensures some { IfSome result (λ choice. (choice.keep ≡ true) × MayTake self.now line × MayDo self.now (At self.now.recorded.me (Takes line choice))) }
+        ensures none { IfNone result (MayTake self.now line → ⊥) }
+    {
+        let least = self.take_with(line, 0, false)?;
+        if let Some(choice) = self.take_with(line, window, true) {
+            return Some(choice);
+        }
+        match self.take_with(line, window, false) {
+            Some(choice) => Some(choice),
+            None => Some(least),
+        }
+    }
+
+    // How it is taken so, if it may be.
+    fn take_with(&self, line: u64, cwnd: u32, sample: bool) -> Option<TakeChoice>
+        requires steps { steps_in self.now.recorded.entries < most_steps }
+        ensures some { IfSome result (λ choice. (choice.keep ≡ true) × MayDo self.now (At self.now.recorded.me (Takes line choice))) }
+        ensures same { IfSome result (λ choice. choice ≡ record { cwnd = cwnd; keep = true; sample = sample }) }
+        ensures none { IfNone result (MayDo self.now (At self.now.recorded.me (Takes line (record { cwnd = cwnd; keep = true; sample = sample }))) → ⊥) }
+    {
+        let choice = TakeChoice {
+            cwnd,
+            keep: true,
+            sample,
+        };
+        let host = self.me();
+        if self.admits(&Label::T { host, line, choice }) {
+            Some(choice)
+        } else {
+            None
+        }
+    }
+
+    // Fast recovery begins at the endpoint of these ports, where it may.
+    fn recover(&mut self, ports: Ports) -> Result<(), OutOfMemory>
+        requires room { steps_in self.old.recorded.entries < 4 * self.old.events }
+        requires events { self.old.events ≤ 10000000 }
+        ensures ok { OnOk result (IsRecovered self.old ports self.new) }
+        ensures err { OnErr result (self.new ≡ self.old) }
+    {
+        let Some(recovery) = self.recovery(ports) else {
+            return Ok(());
+        };
+        let host = self.me();
+        self.add(Label::F { host, recovery })?;
+        Ok(())
+    }
+
+    // How it may begin: with the greatest values, or with none. None: it may not.
+    fn recovery(&self, ports: Ports) -> Option<Recovery>
+        requires steps { steps_in self.now.recorded.entries < most_steps }
+        ensures some { IfSome result (λ x. IsRecoveryAt self.now ports x) }
+        ensures none { IfNone result (MayRecover self.now ports → ⊥) }
+    {
+        let least = self.recover_with(ports, 0, 0)?;
+        let greatest = self.greatest_recovery(ports);
+        match self.recover_with(ports, greatest.cwnd, greatest.ssthresh) {
+            Some(recovery) => Some(recovery),
+            None => Some(least),
+        }
+    }
+
+    fn recover_with(&self, ports: Ports, cwnd: u32, ssthresh: u32) -> Option<Recovery>
+        requires steps { steps_in self.now.recorded.entries < most_steps }
+        ensures some { IfSome result (λ x. IsRecoveryAt self.now ports x) }
+        ensures none { IfNone result (IsRefusedRecovery self.now ports cwnd ssthresh) }
+    {
+        let recovery = Recovery {
+            lport: ports.lport,
+            rport: ports.rport,
+            cwnd,
+            ssthresh,
+        };
+        let host = self.me();
+        if self.admits(&Label::F { host, recovery }) {
+            Some(recovery)
+        } else {
+            None
+        }
+    }
+
+    // Whether the machine admits a step at the last tick.
+    fn admits(&self, label: &Label) -> bool
+        requires steps { steps_in self.now.recorded.entries < most_steps }
+        requires limits { IsWithinLimits label.now }
+        ensures yes { result ≡ true → MayDo self.now (step_of label.now) }
+        ensures no { result ≡ false → MayDo self.now (step_of label.now) → ⊥ }
+    {
+        match self.recording.admits(self.last_tick().moment, label) {
+            Ok(()) => true,
+            Err(_) => false,
+        }
+    }
+
+    // The greatest congestion window and slow start threshold of fast recovery.
+    fn greatest_recovery(&self, ports: Ports) -> Growth {
+        match self.recording.body().endpoint_of(ports.lport, ports.rport) {
+            Some(endpoint) => at_recovery(endpoint),
+            None => Growth {
+                cwnd: 0,
+                ssthresh: 0,
+            },
+        }
+    }
+}
+
+// The ports of the endpoint that a segment is for.
+fn ports_of(m: &Emission) -> Ports
+    ensures { result ≡ ports_of m.now }
+{
+    Ports {
+        lport: m.rport,
+        rport: m.lport,
+    }
+}
