@@ -29,6 +29,10 @@ expiry_step me line ports expired = At me (Expires line (record { lport = ports.
 abbrev pub IsDueAt : Recorded → ℕ → Ports → Expired → Type 0
 IsDueAt r moment ports e = (n : ℕ) → Permitted (tcp r.header) moment (world_left r) (expiry_step r.me n ports e)
 
+-- it may not, with line 0
+abbrev pub IsNotDueAt : Recorded → ℕ → Ports → Expired → Type 0
+IsNotDueAt r moment ports e = Permitted (tcp r.header) moment (world_left r) (expiry_step r.me 0 ports e) → ⊥
+
 abbrev pub expired : Core → Tick → Ports → Expired → Core
 expired c tick ports e = with_step (opened c tick) (expiry_step c.recorded.me (line_to_come c) ports e)
 

@@ -1,14 +1,11 @@
 //! A timer expires.
 
-ghost use Rattle.std.specs.Prelude.{◌≡◌, ◌<◌, ℕ, true, IfNone, IfOk, OnErr};
+ghost use Rattle.std.specs.Prelude.{◌≡◌, ◌<◌, true, IfNone, IfOk, OnErr};
 ghost use Rattle.std.specs.Option.{IfSome};
-ghost use Rattle.hosts.specs.HostRules.{Permitted};
 ghost use Rattle.machine.specs.Bounds.{most_steps};
-ghost use Rattle.machine.specs.Machine.{tcp};
-ghost use Rattle.stack_core.specs.Cores.{IsAfter, IsRecorded, opened, world};
+ghost use Rattle.stack_core.specs.Cores.{IsAfter, IsRecorded, opened};
 ghost use Rattle.stack_core.specs.Entries.{steps_in};
-ghost use Rattle.stack_core.specs.Recordings.{world_left};
-ghost use Rattle.stack_core.specs.TimerEvents.{HasTried, IfGivesUp, IsDueAt, IsRefused, IsTimed, NoneDue, NoneDueAt, expiry_step};
+ghost use Rattle.stack_core.specs.TimerEvents.{HasTried, IfGivesUp, IsDueAt, IsNotDueAt, IsRefused, IsTimed, NoneDue, NoneDueAt};
 
 use crate::greatest::at_timeout;
 use crate::host_core::HostCore;
@@ -157,7 +154,7 @@ fn ask(recording: &Recording, moment: u64, ports: Ports, expired: Expired) -> Op
     requires steps { steps_in recording.now.entries < most_steps }
     ensures some { IfSome result (λ due. IsDueAt recording.now moment due.ports due.expired) }
     ensures same { IfSome result (λ due. due ≡ record { ports = ports; expired = expired }) }
-    ensures none { IfNone result (Permitted (tcp recording.now.header) moment (world_left recording.now) (expiry_step recording.now.me 0 ports expired) → ⊥) }
+    ensures none { IfNone result (IsNotDueAt recording.now moment ports expired) }
 {
     let line = TakenLine::Expired {
         line: 0,
