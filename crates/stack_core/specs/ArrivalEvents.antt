@@ -31,6 +31,10 @@ MayDrop c n = MayDo c (At c.recorded.me (Drops n))
 abbrev pub MayTake : Core → ℕ → Type 0
 MayTake c n = MayDo c (At c.recorded.me (Takes n (record { cwnd = 0; keep = true; sample = false })))
 
+-- it may be taken so, with its bytes
+abbrev pub IsChoice : Core → ℕ → TakeChoice → Type 0
+IsChoice c n choice = (choice.keep ≡ true) × MayTake c n × MayDo c (At c.recorded.me (Takes n choice))
+
 -- it may be answered by a reset
 abbrev pub MayReset : Core → ℕ → Type 0
 MayReset c n = MayDo c (At c.recorded.me (Answers n))
