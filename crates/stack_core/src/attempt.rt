@@ -7,7 +7,7 @@ ghost use Rattle.hosts.specs.Hosts.{turn_of};
 ghost use Rattle.stack_core.specs.Cores.{GivesNext, IsAfter, IsRecorded, next_socket, own_body, world};
 ghost use Rattle.stack_core.specs.Entries.{steps_in};
 ghost use Rattle.stack_core.specs.Answers.{is_again};
-ghost use Rattle.stack_core.specs.CallEvents.{IsAttempted, IsAttemptShort, MayAnswer, NoAnswer};
+ghost use Rattle.stack_core.specs.CallEvents.{IsAttempted, IsAttemptShort, KeptNoAnswer, MayAnswer, NoAnswer};
 
 use crate::answered::Answered;
 use crate::answers::choose;
@@ -135,7 +135,7 @@ impl HostCore {
         ensures permitted { IfOk result (λ o. IfSome o (λ a. MayAnswer self.now thread a)) }
         ensures once { IfOk result (λ o. IfSome o (λ a. is_again a ≡ false)) }
         ensures gives { IfOk result (λ o. IfSome o (λ a. GivesNext self.now.recorded.me (own_body self.now) (turn_of thread (world self.now).threads) a)) }
-        ensures none { IfOk result (λ o. IfNone o (NoAnswer self.now thread)) }
+        ensures none { IfOk result (λ o. IfNone o (KeptNoAnswer self.now thread)) }
     {
         forgetting_is_free();
         self.bounds();
