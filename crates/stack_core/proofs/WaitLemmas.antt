@@ -1,6 +1,6 @@
 -- A call that waits in what is kept waits in the whole world.
-use Rattle.std.proofs.Common.{◌≡◌, ◌≤◌, ℕ, Option, None, Some, refl, ap, sym, ◌∙◌, subst, inl, inr}
-use Rattle.std.specs.Prelude.{◌⊎◌, ◌-◌, max, slice_get, true}
+use Rattle.std.proofs.Common.{◌≡◌, ◌≤◌, ℕ, Option, None, Some, ap, sym, ◌∙◌, subst, inl, inr}
+use Rattle.std.specs.Prelude.{◌-◌, max}
 use Rattle.std.specs.Option.{option_map, option_map_or}
 use Rattle.std.proofs.lemmas.Option.{none-some, slice_get-map}
 use Rattle.case_forms.specs.declared.calls.Call.{Call}
@@ -13,7 +13,7 @@ use Rattle.machine.specs.declared.endpoint.Thing.TheVariants.{Listens, Ends}
 use Rattle.machine.specs.Forgetting.{forget_body, forget_endpoint}
 use Rattle.machine_laws.proofs.ForgetCalls.{call_allows-forget}
 use Rattle.machine_laws.proofs.ForgetReads.{end_of-forget}
-use Rattle.stack_core.specs.Answers.{SendWaits, Waits, endpoint_named, is_before_handshake, thing_endpoint}
+use Rattle.stack_core.specs.Answers.{SendWaits, Waits, endpoint_named, thing_endpoint}
 use Rattle.stack_core.specs.CallEvents.{KeptNoAnswer, NoAnswer}
 use Rattle.stack_core.specs.Cores.{Core, own_body}
 
