@@ -9,7 +9,7 @@ use Rattle.case_forms.specs.declared.calls.Call.TheVariants as calls
 use Rattle.case_forms.specs.declared.trace.Header.{Header}
 use Rattle.hosts.specs.HostRules.{Permitted}
 use Rattle.hosts.specs.Tables.{lane, other, pick}
-use Rattle.hosts.specs.Hosts.{Deed, Does, Drops, Expires, Gets, Makes, Sends, Takes, Answers, At, Begin, Called, Effect, Finish, Idle, Answered, Step, Turn, World, turn_of}
+use Rattle.hosts.specs.Hosts.{Deed, Does, Drops, Expires, Gets, Hears, Makes, Sends, Takes, Answers, At, Begin, Called, Effect, Finish, Idle, Answered, Step, Turn, World, turn_of}
 use Rattle.recordings.specs.Books.{Aims, Do, FitsItem, Item, Key, step_line}
 use Rattle.recordings.specs.Keys.{EachEntry, If}
 use Rattle.recordings.specs.Recordings.{IsKept, next_line}
@@ -82,6 +82,7 @@ deed_lines (Expires line x growth) = 1
 deed_lines (Makes plan) = 0
 deed_lines (Sends line number wire) = 1
 deed_lines (Gets line copied wire) = 1
+deed_lines (Hears line wire) = 1
 deed_lines (Takes line choice) = 0
 deed_lines (Drops line) = 0
 deed_lines (Answers line) = 0

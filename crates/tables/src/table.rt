@@ -1,6 +1,6 @@
 //! A table by 32-bit numbers, whose entries stay in the order in which they were added.
 
-ghost use Rattle.std.specs.Prelude.{◌≡◌, ◌≢◌, ℕ, [], is_some, nat_eq, OnOk, OnErr, None, Some, IsSome};
+ghost use Rattle.std.specs.Prelude.{◌≡◌, ◌≢◌, ℕ, [], is_some, length, nat_eq, OnOk, OnErr, None, Some, IsSome};
 ghost use Rattle.std.specs.Map.{lookup};
 ghost use Rattle.std.specs.Option.{option_copied};
 ghost use Rattle.std.specs.Ordering.{nat_cmp};
@@ -54,6 +54,13 @@ impl<V: Drop> Table<V> {
             Some(place) => Some(&self.entries[place].1),
             None => None,
         }
+    }
+
+    /// How many entries there are.
+    pub fn len(&self) -> usize
+        ensures { result ≡ length self.now.entries }
+    {
+        self.entries.len()
     }
 
     /// Whether the table has an entry of a number.
