@@ -41,8 +41,9 @@ pub fn yes_counts_all_lines()
 {}
 
 /// What the receives on a socket number were told is a prefix of what the sends on one number of the other host accepted, at each
-/// moment of the witness; once the end was told it is all of it. So it is said by the lines of the trace and the steps of the
-/// witness alone. A number whose receives are told nothing has no such other number.
+/// moment of the witness; once the end was told it is all of it. The ports of the one are those of the other turned round. So it
+/// is said by the lines of the trace and the steps of the witness alone. A number whose receives are told nothing need have no
+/// such other number.
 pub fn receives_begin_sends()
     ensures { (t : Trace) (w : Witness) → Explains t w → AreBothRecorded t → ReceivesBeginSends t w }
 {
@@ -52,7 +53,7 @@ pub fn receives_begin_sends()
 
 /// What follows for streams, windows and states where the witness explains the trace.
 pub fn explained_follows()
-    // Where both hosts are recorded: what reads were told is how the bytes begin that the peer's sends accepted.
+    // Where both hosts are recorded: what reads were told is a prefix of what the peer's sends accepted.
     ensures received { (t : Trace) (w : Witness) → Explains t w → AreBothRecorded t → ReadsBeginWhatWasSent t w }
 
     // Reads that were told the end were told all of them.
@@ -83,7 +84,7 @@ pub fn explained_follows()
 
 /// What follows for streams holds at each moment of the witness, for what was told and accepted by then.
 pub fn streams_at_each_moment()
-    // Where both hosts are recorded: what reads were told by then is how the bytes begin that the peer's sends accepted by then.
+    // Where both hosts are recorded: what reads were told by then is a prefix of what the peer's sends accepted by then.
     ensures received { (t : Trace) (w : Witness) → Explains t w → AreBothRecorded t → (place : ℕ) → ReceivedIsAPrefix t.header (take place (steps_of t w)) }
 
     // Reads that were told the end by then were told all of them by then.
