@@ -18,6 +18,6 @@ pub mod TextLemmas
 pub mod HeadlineLemmas
 pub mod HeadlineFacts
 pub mod SocketLemmas
-pub mod HomeLemmas
-pub mod GivenLemmas
+pub mod PortRuns
+pub mod PortLemmas
 pub mod StreamLemmas

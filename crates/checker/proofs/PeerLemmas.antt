@@ -60,15 +60,15 @@ use Rattle.machine_laws.proofs.Runs.{Steady, steady_start, steady_run, steady_st
 use Rattle.checker.specs.Peers.{peer_of, TakesSynOf, PeersAreMet, PeersWereMet}
 
 -- an endpoint's peer stays, or it is met
-abbrev Meets : World tcp_shape → Step tcp_shape → Name → Option Name → Option Name → Type 0
+abbrev pub Meets : World tcp_shape → Step tcp_shape → Name → Option Name → Option Name → Type 0
 Meets w step me before now = (now ≡ before) ⊎ ((before ≡ None) × (q : Name) × (now ≡ Some q) × TakesSynOf w step me q)
 
 -- an endpoint begins without a peer, or by a SYN
-abbrev Begins : World tcp_shape → Step tcp_shape → Name → Endpoint → Type 0
+abbrev pub Begins : World tcp_shape → Step tcp_shape → Name → Endpoint → Type 0
 Begins w step me f = (f.stream.peer ≡ None) ⊎ ((q : Name) × (f.stream.peer ≡ Some q) × (find w.hosts me ≡ None → TakesSynOf w step me q))
 
 -- the endpoints of a host after a step
-record Moves (w : World tcp_shape) (step : Step tcp_shape) (host : Host) (es fs : List Endpoint) : Type 0 where
+pub record Moves (w : World tcp_shape) (step : Step tcp_shape) (host : Host) (es fs : List Endpoint) : Type 0 where
   pub onward : (i : ℕ) (e : Endpoint) → slice_get es i ≡ Some e → (f : Endpoint) × (slice_get fs i ≡ Some f) × Meets w step (name host i) e.stream.peer f.stream.peer
   pub back : (i : ℕ) (f : Endpoint) → slice_get fs i ≡ Some f → ((e : Endpoint) × (slice_get es i ≡ Some e)) ⊎ Begins w step (name host i) f
 
@@ -236,7 +236,7 @@ moves_call w step host b call answer = moves_not w step host b.endpoints
 -- 3. both hosts
 
 -- the endpoints of both
-record BothMove (w : World tcp_shape) (step : Step tcp_shape) (b : Hosts) : Type 0 where
+pub record BothMove (w : World tcp_shape) (step : Step tcp_shape) (b : Hosts) : Type 0 where
   pub all : (x : Host) → Moves w step x (pick w.hosts x).body.endpoints (pick b x).body.endpoints
 
 both_not : (w : World tcp_shape) (step : Step tcp_shape) → BothMove w step w.hosts
@@ -245,7 +245,7 @@ both_not w step = record { all = λ x. moves_not w step x (pick w.hosts x).body.
 both_host : (w : World tcp_shape) (step : Step tcp_shape) (host : Host) (k : HostState tcp_shape) → Moves w step host (pick w.hosts host).body.endpoints k.body.endpoints → BothMove w step (with_host w.hosts host k)
 both_host w step host k f = record { all = with_cases w.hosts host k (λ x y. Moves w step x (pick w.hosts x).body.endpoints y.body.endpoints) f (moves_not w step (other host) (pick w.hosts (other host)).body.endpoints) }
 
-both_step : (h : Header) (s : ℕ) (w : World tcp_shape) (step : Step tcp_shape) → Steady w.hosts → Permitted (tcp h) s w step → BothMove w step (after (tcp h) s w step).hosts
+pub both_step : (h : Header) (s : ℕ) (w : World tcp_shape) (step : Step tcp_shape) → Steady w.hosts → Permitted (tcp h) s w step → BothMove w step (after (tcp h) s w step).hosts
 both_step h s w (Begin line t call) steady may = both_not w (Begin line t call)
 both_step h s w (Finish line t answer) steady may = both_not w (Finish line t answer)
 both_step h s w (Effect t answer) steady may = go (turn_of t w.threads)
@@ -264,7 +264,7 @@ abbrev peer_in : Option Endpoint → Option Name
 peer_in o = option_map_or (λ e. e.stream.peer) o None
 
 -- the peer of one endpoint
-meets : (w : World tcp_shape) (step : Step tcp_shape) (b : Hosts) → BothMove w step b → (me : Name) → Meets w step me (peer_of w.hosts me) (peer_of b me)
+pub meets : (w : World tcp_shape) (step : Step tcp_shape) (b : Hosts) → BothMove w step b → (me : Name) → Meets w step me (peer_of w.hosts me) (peer_of b me)
 meets w step b both me = go (find w.hosts me) (find b me) refl refl
   where
     new : (f : Endpoint) → find w.hosts me ≡ None → ((e : Endpoint) × (find w.hosts me ≡ Some e)) ⊎ Begins w step me f → Meets w step me None f.stream.peer

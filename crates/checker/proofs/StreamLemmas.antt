@@ -1,7 +1,7 @@
 -- The headline: what reads were told begins what the peer's sends accepted, by lines and steps alone.
 use Rattle.std.proofs.Common.{◌≡◌, ℕ, zero, suc, take, ◌⊎◌, Bool, true, false, List, [], ◌∷◌, ◌++◌, Option, Some, None, refl, ap, sym, subst, ◌∙◌, inl, inr}
 use Rattle.std.specs.List.{flat_map, list_any, cons_option}
-use Rattle.std.specs.Option.{option_map, option_map_or}
+use Rattle.std.specs.Option.{option_map}
 use Rattle.std.proofs.lemmas.Option.{same_Some}
 use Rattle.case_forms.specs.declared.trace.Header.{Header}
 use Rattle.case_forms.specs.declared.trace.Trace.{Trace}
@@ -24,11 +24,10 @@ use Rattle.machine_laws.proofs.Calls.{socket_here}
 use Rattle.machine_laws.proofs.Runs.{Steady, steady_start, steady_step, steady_run, stays_run, socket_owner}
 use Rattle.machine.specs.Steps.{label_step}
 use Rattle.hosts.specs.Hosts.{Step}
-use Rattle.machine_laws.proofs.Sound.{owner_given}
-use Rattle.checker.proofs.HomeLemmas.{peer_elsewhere}
-use Rattle.checker.proofs.GivenLemmas.{AllGiven, given_run, given_start}
+use Rattle.checker.proofs.PortLemmas.{HasAt}
+use Rattle.checker.proofs.PortRuns.{Ported, ported_run, ported_start, number_ports}
 use Rattle.checker.specs.Seen.{stamped}
-use Rattle.checker.specs.Headline.{CallDone, bytes_accepted, is_ended, told, accepted, ended, ReceivesFrom, ReceivesNothing, GivenAt, AreApart, calls_done, ReceivesBeginSends}
+use Rattle.checker.specs.Headline.{CallDone, bytes_accepted, is_ended, told, accepted, ended, ReceivesFrom, ReceivesNothing, HasPorts, AreOpposite, calls_done, ReceivesBeginSends}
 use Rattle.checker.proofs.HeadlineLemmas.{run_done, done_run, opens_start, told_is, told_end_is}
 use Rattle.checker.proofs.SocketLemmas.{Stay, AllMet, Owned, one_owner, accepted_run, sender_run, reader_run, ended_run, ender_run, met_run}
 
@@ -161,29 +160,37 @@ linked t steps socket received whole may = by_end (was_told_end t.header socket 
         let n = ender_run t.header (start (tcp t.header)) (stamped t.header t.lines steps) p.0 (steady_start t.header) may p.2.by_step in
         inr (n.0, x.0, p.0, record { own = socket_owner (hosts_after t steps) socket x.0 x.1; there = x.2.0; at = x.2.1; met = p.1; his = n.1 })
 
--- the two numbers were given at different hosts
-apart : (t : Trace) (steps : List WitnessStep) → is_half t.header.version ≡ false → Lawful (tcp t.header) (start (tcp t.header)) (stamped t.header t.lines steps) → (socket peer : ℕ) (me q : Name) → Linked (hosts_after t steps) socket peer me q → AreApart (calls_done t steps) socket peer
-apart t steps both may socket peer me q l = record {
+-- the two numbers have each other's ports, at different hosts
+opposite : (t : Trace) (steps : List WitnessStep) → is_half t.header.version ≡ false → Lawful (tcp t.header) (start (tcp t.header)) (stamped t.header t.lines steps) → (socket peer : ℕ) (me q : Name) → Linked (hosts_after t steps) socket peer me q
+    → AreOpposite (calls_done t steps) socket peer
+opposite t steps both may socket peer me q l = record {
   host = me.host;
-  here = all me.host socket (owner_given (pick (hosts_after t steps) me.host).body socket me.number l.own);
-  there = subst (λ (x : Host). GivenAt (calls_done t steps) x peer) far (all q.host peer (owner_given (pick (hosts_after t steps) q.host).body peer q.number l.his));
+  lport = l.there.lport;
+  rport = l.there.rport;
+  here = number_ports (calls_done t steps) z all me.host socket me.number l.there l.own l.at;
+  there = subst (λ (x : Host). HasPorts (calls_done t steps) x l.there.rport l.there.lport peer) met.0
+      (subst (λ (n : ℕ). HasPorts (calls_done t steps) q.host n l.there.lport peer) met.1.2 (subst (λ (n : ℕ). HasPorts (calls_done t steps) q.host met.1.0.lport n peer) met.1.3
+      (number_ports (calls_done t steps) z all q.host peer q.number met.1.0 l.his met.1.1)));
 }
   where
-    all : AllGiven (calls_done t steps) (hosts_after t steps)
-    all = subst (λ (d : List CallDone). AllGiven d (hosts_after t steps)) (sym (done_run t (start (tcp t.header)) [] steps (opens_start t) may))
-        (given_run t.header (run_done t.header (start (tcp t.header)) (stamped t.header t.lines steps)) (start (tcp t.header)) (stamped t.header t.lines steps) (given_start t.header _) (λ c a s. s))
+    z : Hosts
+    z = hosts_after t steps
 
-    far : q.host ≡ other me.host
-    far = peer_elsewhere t.header both (stamped t.header t.lines steps) may me q (ap (λ (o : Option Endpoint). option_map_or (λ e. e.stream.peer) o None) l.at ∙ l.met)
+    all : Ported (calls_done t steps) (hosts_after t steps)
+    all = subst (λ (d : List CallDone). Ported d (hosts_after t steps)) (sym (done_run t (start (tcp t.header)) [] steps (opens_start t) may))
+        (ported_run t.header both (run_done t.header (start (tcp t.header)) (stamped t.header t.lines steps)) (start (tcp t.header)) (stamped t.header t.lines steps) (steady_start t.header) may (λ c a s. s) (ported_start t.header _))
+
+    met : (q.host ≡ other me.host) × HasAt (hosts_after t steps) q l.there.rport l.there.lport
+    met = all.peers me.host me.number l.there q l.at l.met
 
 pub begins_sends : (t : Trace) (w : Witness) → is_half t.header.version ≡ false → AllReceived t.header → AllWhole t.header → Lawful (tcp t.header) (start (tcp t.header)) (stamped t.header t.lines w.steps) → ReceivesBeginSends t w
 begins_sends t w both received whole may socket = go (linked t w.steps socket received whole may)
   where
-    go : ReceivesNothing t w.steps socket ⊎ ((peer : ℕ) × (me : Name) × (q : Name) × Linked (hosts_after t w.steps) socket peer me q) → ReceivesNothing t w.steps socket ⊎ ((peer : ℕ) × AreApart (calls_done t w.steps) socket peer × ((place : ℕ) → ReceivesFrom t (take place w.steps) socket peer))
+    go : ReceivesNothing t w.steps socket ⊎ ((peer : ℕ) × (me : Name) × (q : Name) × Linked (hosts_after t w.steps) socket peer me q) → ReceivesNothing t w.steps socket ⊎ ((peer : ℕ) × AreOpposite (calls_done t w.steps) socket peer × ((place : ℕ) → ReceivesFrom t (take place w.steps) socket peer))
     go (inl none) = inl none
     go (inr x) = inr (
       x.0,
-      apart t w.steps both may socket x.0 x.1 x.2 x.3,
+      opposite t w.steps both may socket x.0 x.1 x.2 x.3,
       λ place.
           let o = onward t (start (tcp t.header)) w.steps (steady_start t.header) may place in
           receives t (take place w.steps) (hosts_after t w.steps) socket x.0 x.1 x.2 received whole (steady_run t.header (start (tcp t.header)) (stamped t.header t.lines w.steps) (steady_start t.header) may) x.3 o.may o.later o.stay,

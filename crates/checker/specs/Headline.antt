@@ -103,20 +103,21 @@ pub record ReceivesNothing (t : Trace) (steps : List Step) (socket : ℕ) : Type
 abbrev pub Stands : List CallDone → Call → Answer → Type 0
 Stands all call answer = (place : ℕ) × (slice_get all place ≡ Some (record { call = call; answer = answer }))
 
--- the host that gave a socket number: by a `listen` or an `open` there, or by an `accept` on a number that it gave
-pub data GivenAt (all : List CallDone) : Host → ℕ → Type 0 where
-  Listened : (host : Host) (port backlog n : ℕ) → Stands all (calls.Listen host port backlog) (answers.Given n) → GivenAt all host n
-  Connected : (host : Host) (lport rport n : ℕ) → Stands all (calls.Connect host lport rport) (answers.Given n) → GivenAt all host n
-  Accepted : (host : Host) (listener n : ℕ) → GivenAt all host listener → Stands all (calls.Accept listener) (answers.Given n) → GivenAt all host n
+-- the socket number was given at that host to an endpoint of these ports, its own first: by an `open` of both; or by an `accept` on a number that a `listen` on its own port was given there
+pub data HasPorts (all : List CallDone) : Host → ℕ → ℕ → ℕ → Type 0 where
+  Opened : (host : Host) (lport rport n : ℕ) → Stands all (calls.Connect host lport rport) (answers.Given n) → HasPorts all host lport rport n
+  Accepted : (host : Host) (lport rport backlog listener n : ℕ) → Stands all (calls.Listen host lport backlog) (answers.Given listener) → Stands all (calls.Accept listener) (answers.Given n) → HasPorts all host lport rport n
 
--- two socket numbers of different hosts
-pub record AreApart (all : List CallDone) (socket peer : ℕ) : Type 0 where
+-- two socket numbers of different hosts, where each has the ports of the other turned round
+pub record AreOpposite (all : List CallDone) (socket peer : ℕ) : Type 0 where
   pub host : Host
-  pub here : GivenAt all host socket
-  pub there : GivenAt all (other host) peer
+  pub lport : ℕ
+  pub rport : ℕ
+  pub here : HasPorts all host lport rport socket
+  pub there : HasPorts all (other host) rport lport peer
 
--- the headline: a socket number either receives nothing in the whole witness, or there is one of the other host from which it receives
+-- the headline: a socket number either receives nothing in the whole witness, or there is one opposite to it from which it receives
 -- at each moment, after the first `place` steps
 abbrev pub ReceivesBeginSends : Trace → Witness → Type 0
 ReceivesBeginSends t w = (socket : ℕ) → ReceivesNothing t w.steps socket
-    ⊎ ((peer : ℕ) × AreApart (calls_done t w.steps) socket peer × ((place : ℕ) → ReceivesFrom t (take place w.steps) socket peer))
+    ⊎ ((peer : ℕ) × AreOpposite (calls_done t w.steps) socket peer × ((place : ℕ) → ReceivesFrom t (take place w.steps) socket peer))

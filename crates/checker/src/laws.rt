@@ -41,8 +41,9 @@ pub fn yes_counts_all_lines()
 {}
 
 /// What the receives on a socket number were told is a prefix of what the sends on one number of the other host accepted, at each
-/// moment of the witness; once the end was told it is all of it. So it is said by the lines of the trace and the steps of the
-/// witness alone. A number whose receives are told nothing has no such other number.
+/// moment of the witness; once the end was told it is all of it. The ports of the one are those of the other turned round. So it
+/// is said by the lines of the trace and the steps of the witness alone. A number whose receives are told nothing need have no
+/// such other number.
 pub fn receives_begin_sends()
     ensures { (t : Trace) (w : Witness) → Explains t w → AreBothRecorded t → ReceivesBeginSends t w }
 {

@@ -54,8 +54,8 @@ pub fn check(alloc: Global, trace: &Trace, witness: &Witness) -> Result<Verdict,
     ensures says { IfOk result (Says trace.now witness.now) }
     ensures explained { IfOk result (λ v. IsYes v ↔ Explains trace.now witness.now) }
 
-    // The same of the machine's endpoints: what reads were told is a prefix of what the peer's sends
-    // accepted; reads that were told the end were told all of them; what is acknowledged was taken before.
+    // The same of the machine's endpoints: what reads were told is a prefix of what the peer's sends accepted; reads that were told
+    // the end were told all of it; what is acknowledged was taken before.
     ensures received { IfOk result (λ v. IsYes v → AreBothRecorded trace.now → ReadsBeginWhatWasSent trace.now witness.now) }
     ensures whole { IfOk result (λ v. IsYes v → AreBothRecorded trace.now → EndsAreWhole trace.now witness.now) }
     ensures acknowledged { IfOk result (λ v. IsYes v → AreBothRecorded trace.now → AllAcknowledgedWasTaken trace.now witness.now) }

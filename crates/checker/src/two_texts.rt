@@ -56,8 +56,8 @@ pub fn check_streams<A: BufRead, B: BufRead>(
     ensures says { (t : Trace) (w : Witness) → AreOf (left_of A.remaining a) (left_of B.remaining b) t w → IfOk result.0 (Says t w) }
     ensures explained { (t : Trace) (w : Witness) → AreOf (left_of A.remaining a) (left_of B.remaining b) t w → IfOk result.0 (λ v. IsYes v ↔ Explains t w) }
 
-    // The same of the machine's endpoints: what reads were told is a prefix of what the peer's sends
-    // accepted; reads that were told the end were told all of them; what is acknowledged was taken before.
+    // The same of the machine's endpoints: what reads were told is a prefix of what the peer's sends accepted; reads that were told
+    // the end were told all of it; what is acknowledged was taken before.
     ensures received { (t : Trace) (w : Witness) → AreOf (left_of A.remaining a) (left_of B.remaining b) t w → IfOk result.0 (λ v. IsYes v → AreBothRecorded t → ReadsBeginWhatWasSent t w) }
     ensures whole { (t : Trace) (w : Witness) → AreOf (left_of A.remaining a) (left_of B.remaining b) t w → IfOk result.0 (λ v. IsYes v → AreBothRecorded t → EndsAreWhole t w) }
     ensures acknowledged { (t : Trace) (w : Witness) → AreOf (left_of A.remaining a) (left_of B.remaining b) t w → IfOk result.0 (λ v. IsYes v → AreBothRecorded t → AllAcknowledgedWasTaken t w) }

@@ -11,11 +11,14 @@
 //! - `stream`: the reader of a text whose lines are read as they are asked for
 //! - `reading`: the reader of a whole text, by the same reader
 //! - `printing`: the printer of a trace
+//! - `laws`: the fault of event lines that is answered is the first one, by a table of what each field has to be
+//!   (`specs/EventForms`); of the header that is not said
 #![tactic(auto)]
 
 mod calls;
 mod events;
 mod header;
+mod laws;
 mod printing;
 mod reading;
 mod stream;
@@ -27,6 +30,7 @@ pub use case_forms::{
 pub use counted::Counted;
 pub use events::event_line;
 pub use header::version_named;
+pub use laws::{event_line_faults, first_event_fault};
 pub use line_fields::{FaultKind, ReadFault, SegFault, Span, TextFault, Token};
 pub use printing::{print_law, print_trace};
 pub use reading::read_trace;
