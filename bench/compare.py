@@ -57,15 +57,13 @@ def written(script, arguments, path):
 
 def parted(path):
     """The trace and the witness of a case as two files, or None where it has no witness."""
-    with open(path, "rb") as case:
-        text = case.read()
-    begins = text.find(b"\nwitness ")
-    if begins < 0:
-        return None
-    for name, part in ((path + ".trace", text[: begins + 1]), (path + ".witness", text[begins + 1 :])):
-        with open(name, "wb") as out:
-            out.write(part)
-    return path + ".trace", path + ".witness"
+    names = path + ".trace", path + ".witness"
+    has_witness = False
+    with open(path, "rb") as case, open(names[0], "wb") as trace, open(names[1], "wb") as witness:
+        for line in case:
+            has_witness = has_witness or line.startswith(b"witness ")
+            (witness if has_witness else trace).write(line)
+    return names if has_witness else None
 
 
 def measured(programs, words, path, runs):
