@@ -74,11 +74,7 @@ pub(crate) fn admits_begin(threads: &Table<Turn>, thread: u32) -> Result<(), Rul
 
 /// Whether a thread's call may end with this answer: one is open, and had its effect with it. An error is the first rule
 /// that is broken.
-pub(crate) fn admits_end(
-    threads: &Table<Turn>,
-    thread: u32,
-    answer: &Answer,
-) -> Result<(), Rule>
+pub(crate) fn admits_end(threads: &Table<Turn>, thread: u32, answer: &Answer) -> Result<(), Rule>
     ensures { result_err result ≡ first_broken (end_rules (λ given answer. not (same_answer given answer)) (turn_of thread threads.now.entries) answer.now) }
 {
     match place_in(threads, thread) {
@@ -118,11 +114,7 @@ pub(crate) fn pending_call(threads: &Table<Turn>, thread: u32) -> Option<&Call>
 }
 
 /// A thread begins a call. An error is the rule that is broken, or that memory ran out; nothing is changed then.
-pub(crate) fn begin(
-    threads: &mut Table<Turn>,
-    thread: u32,
-    call: &Call,
-) -> Result<(), StepFault>
+pub(crate) fn begin(threads: &mut Table<Turn>, thread: u32, call: &Call) -> Result<(), StepFault>
     ensures fault { fault_rule result ≡ first_broken (begin_rules (turn_of thread threads.old.entries)) }
     ensures ok { OnOk result (threads.new.entries ≡ insert_entry nat_eq threads.old.entries thread (Called call.now)) }
     ensures err { OnErr result (threads.new.entries ≡ threads.old.entries) }

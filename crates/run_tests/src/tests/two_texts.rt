@@ -133,7 +133,8 @@ fn a_read_that_fails_is_no_verdict(rt: HostRuntime) -> Result<(), Fail> {
 // The first step takes a line of a moment that is not reached, and behind its line the trace ends in one that can't be read.
 #[test]
 fn a_fault_of_the_trace_behind_a_broken_step_is_told(rt: HostRuntime) -> Result<(), Fail> {
-    let trace = "trace 1\nskew 0\nmsl 1\ngrain 1\nminrto 1\nextra 0\n10 1 B close 5\n11 1 E badsocket\n";
+    let trace =
+        "trace 1\nskew 0\nmsl 1\ngrain 1\nminrto 1\nextra 0\n10 1 B close 5\n11 1 E badsocket\n";
     let cut = "trace 1\nskew 0\nmsl 1\ngrain 1\nminrto 1\nextra 0\n10 1 B close 5\n11 1 E\n";
     let broken = "witness 1\n9 L 7\n";
     let told = judged(rt.alloc(), (trace, broken), 7, (0, 0))?;
@@ -218,7 +219,9 @@ fn many_calls(alloc: Global, calls: u32) -> Result<(String, String), AllocError>
         let lines = format!(in alloc; "{moment} 1 B status 5\n{next} 1 E badsocket\n")?;
         trace.push_str(lines.as_str())?;
         let after = line + 1;
-        let steps = format!(in alloc; "{moment} L {line}\n{moment} D 1 badsocket\n{next} L {after}\n")?;
+        let steps = format!(in alloc;
+            "{moment} L {line}\n{moment} D 1 badsocket\n{next} L {after}\n"
+        )?;
         witness.push_str(steps.as_str())?;
     }
     Ok((trace, witness))

@@ -1,4 +1,4 @@
-use Rattle.std.proofs.Common.{◌≡◌, Option, ℕ, Some, sym, ap, arith, ◌∙◌}
+use Rattle.std.proofs.Common.{sym, ap, arith, ◌∙◌}
 use Rattle.tables.specs.Tables.{Table}
 use Rattle.std.specs.Map.{lookup}
 use Rattle.std.specs.Prelude.{nat_eq}
