@@ -49,6 +49,7 @@ fn greatest(world: &World, host: Host, m: &Emission) -> u32 {
 }
 
 // What taking a segment changes that later lines of its taker may still show as it was.
+#[derive(Clone, Copy)]
 struct Changes {
     /// The acknowledgment that the taker makes.
     next: bool,
@@ -56,7 +57,7 @@ struct Changes {
     una: bool,
 }
 
-fn changes(endpoint: &Endpoint, m: &Emission) -> Changes {
+fn changes_by(endpoint: &Endpoint, m: &Emission) -> Changes {
     let behind = u128::from(m.pos) + m.length();
     Changes {
         next: m.pos <= endpoint.next() && u128::from(endpoint.next()) < behind,
@@ -64,15 +65,19 @@ fn changes(endpoint: &Endpoint, m: &Emission) -> Changes {
     }
 }
 
+// Whether a segment acknowledges what its maker has taken, and nothing where that has met no peer.
+fn acknowledges_next(endpoint: &Endpoint, wire: &Wire) -> bool {
+    match endpoint.irs {
+        Some(irs) => wire.seg.has(Flag::Ack) && wire.seg.ack == number(irs, endpoint.next()),
+        None => !wire.seg.has(Flag::Ack) && !wire.seg.has(Flag::Rst),
+    }
+}
+
 // Whether a segment was made before its taker took another one: it acknowledges less, or holds what was acknowledged then.
 fn is_before(endpoint: &Endpoint, changes: &Changes, m: &Emission, wire: &Wire) -> bool {
     let seg = &wire.seg;
-    if changes.next && seg.has(Flag::Ack) {
-        if let Some(irs) = endpoint.irs {
-            if seg.ack == number(irs, endpoint.next()) {
-                return true;
-            }
-        }
+    if changes.next && acknowledges_next(endpoint, wire) {
+        return true;
     }
     let takes = !seg.payload.is_empty() || seg.has(Flag::Fin) || seg.has(Flag::Syn);
     match place_of(endpoint, seg.seq) {
@@ -253,7 +258,7 @@ impl<'t> Search<'t> {
     fn earlier(&self, host: Host, line: u64) -> Option<(Ends, usize, &'t Wire, bool)> {
         let m = self.world.waiting(host, line)?;
         let endpoint = finder(&self.world, host, m)?;
-        let changes = changes(endpoint, m);
+        let changes = changes_by(endpoint, m);
         if !changes.next && !changes.una {
             return None;
         }

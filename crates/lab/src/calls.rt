@@ -1,7 +1,7 @@
 //! Calls: each has its effect as soon as the machine permits the answer that its end tells.
 
 use crate::search::Search;
-use case_forms::{Answer, Call, Event, Extras, Host, Label, OutOfMemory, State, Timer};
+use case_forms::{Answer, Call, Event, Extras, Host, Label, OutOfMemory, Ports, State, Timer};
 use endpoint_state::{StepFault, World};
 use indexmap::IndexMap;
 use machine::Thing;
@@ -140,6 +140,32 @@ fn thing_at(world: &World, host: Host, socket: u32) -> Option<Meant> {
     }
 }
 
+// The host and the ports of the endpoint that a thread's open call means.
+fn ports_of(world: &World, thread: u32) -> Option<(Host, Ports)> {
+    let call = world.pending_call(thread)?;
+    if let Call::Connect(host, lport, rport) = call {
+        let ports = Ports {
+            lport: *lport,
+            rport: *rport,
+        };
+        return Some((*host, ports));
+    }
+    let socket = socket_of(call)?;
+    ports_at(world, Host::Zero, socket).or(ports_at(world, Host::One, socket))
+}
+
+fn ports_at(world: &World, host: Host, socket: u32) -> Option<(Host, Ports)> {
+    let Thing::Ends(place) = world.body(host).thing(socket)? else {
+        return None;
+    };
+    let endpoint = world.body(host).endpoint_at(place)?;
+    let ports = Ports {
+        lport: endpoint.lport,
+        rport: endpoint.rport,
+    };
+    Some((host, ports))
+}
+
 // What a call is taken to have answered that is open at the end of the trace. None: it is taken to have had no effect.
 fn supposed(call: &Call) -> Option<Answer> {
     match call {
@@ -156,7 +182,12 @@ fn supposed(call: &Call) -> Option<Answer> {
 
 impl Search<'_> {
     /// A line begins a call; the call has its effect where that may be.
-    pub(crate) fn begin(&mut self, place: usize, thread: u32, call: &Call) -> Result<(), StepFault> {
+    pub(crate) fn begin(
+        &mut self,
+        place: usize,
+        thread: u32,
+        call: &Call,
+    ) -> Result<(), StepFault> {
         self.note_line(Extras::Bare)?;
         crate::deeds::has_room(&self.world)?;
         self.begin_in_world(thread, call)?;
@@ -218,16 +249,9 @@ impl Search<'_> {
             Answer::State(State::Closed) | Answer::Given(_) => Timer::Msl2,
             _ => return Ok(()),
         };
-        let Some(call) = self.world.pending_call(thread) else {
-            return Ok(());
-        };
-        if let Call::Connect(host, lport, rport) = call {
-            return self.try_expiry(*host, *lport, *rport, timer);
-        }
-        match meant_by(&self.world, call) {
-            Some((0, true, place)) => self.try_expiry_at(Host::Zero, place, timer),
-            Some((1, true, place)) => self.try_expiry_at(Host::One, place, timer),
-            _ => Ok(()),
+        match ports_of(&self.world, thread) {
+            Some((host, ports)) => self.try_expiry(host, ports, timer),
+            None => Ok(()),
         }
     }
 

@@ -60,13 +60,9 @@ impl<'t> Copies<'t> {
 
     /// The first line with these bytes of a host that has no copy yet has one now. The answer is whether there was one.
     pub(crate) fn pass(&mut self, host: Host, bytes: &'t [u8]) -> bool {
-        let found = match host {
-            Host::Zero => self.zero.get_mut(&CowSlice::Borrowed(bytes)),
-            Host::One => self.one.get_mut(&CowSlice::Borrowed(bytes)),
-        };
-        match found {
-            Some(sendings) => sendings.open.pop_front().is_some(),
-            None => false,
+        match host {
+            Host::Zero => pass_in(&mut self.zero, bytes),
+            Host::One => pass_in(&mut self.one, bytes),
         }
     }
 }
@@ -86,4 +82,11 @@ fn add<'t>(
     open.push_back(line)?;
     sendings.insert(CowSlice::Borrowed(bytes), Sendings { open, last: line })?;
     Ok(())
+}
+
+fn pass_in<'t>(sendings: &mut IndexMap<CowSlice<'t, u8>, Sendings>, bytes: &'t [u8]) -> bool {
+    match sendings.get_mut(&CowSlice::Borrowed(bytes)) {
+        Some(known) => known.open.pop_front().is_some(),
+        None => false,
+    }
 }

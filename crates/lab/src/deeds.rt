@@ -1,5 +1,8 @@
 //! One step of the world, written down where it was done.
 
+ghost use Rattle.std.specs.Prelude.{◌<◌, OnOk};
+ghost use Rattle.machine.specs.Bounds.{most_steps};
+
 use crate::search::Search;
 use case_forms::{
     Answer, Expired, Extras, Host, Label, NamedLine, Ports, Recovery, SegmentPlan, Span, Step,
@@ -14,7 +17,9 @@ const MOST_STEPS: u64 = 40_000_000;
 const GREATEST_POSITION: u64 = 1_000_000_000_000_000_000;
 
 // Whether one more step may be done. A case that has too many is answered as if memory had run out.
-pub(crate) fn has_room(world: &World) -> Result<(), StepFault> {
+pub(crate) fn has_room(world: &World) -> Result<(), StepFault>
+    ensures { OnOk result (world.now.steps < most_steps) }
+{
     if world.steps() < MOST_STEPS {
         Ok(())
     } else {
@@ -117,9 +122,7 @@ impl Search<'_> {
             return Err(StepFault::OutOfMemory);
         }
         self.world.expire(host, ports, expired, self.moment)?;
-        self.note_line(extras_of(expired))?;
-        self.number = self.number.saturating_add(1);
-        Ok(())
+        self.note_line(extras_of(expired))
     }
 }
 

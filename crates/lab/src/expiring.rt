@@ -84,6 +84,7 @@ impl Search<'_> {
             Err(StepFault::Broken(_)) => return Ok(false),
             Err(StepFault::OutOfMemory) => return Err(StepFault::OutOfMemory),
         }
+        self.number = self.number.saturating_add(1);
         self.added.push(Added {
             before: self.place,
             moment: self.moment,
@@ -98,32 +99,13 @@ impl Search<'_> {
     pub(crate) fn try_expiry(
         &mut self,
         host: Host,
-        lport: u16,
-        rport: u16,
+        ports: Ports,
         timer: Timer,
     ) -> Result<(), StepFault> {
-        let ports = Ports { lport, rport };
         if self.add_expiry(host, ports, timer)? {
             self.wake_ends(host, ports)?;
         }
         Ok(())
-    }
-
-    /// The same at an endpoint's place.
-    pub(crate) fn try_expiry_at(
-        &mut self,
-        host: Host,
-        place: u32,
-        timer: Timer,
-    ) -> Result<(), StepFault> {
-        match self.world.body(host).endpoint_at(place) {
-            Some(endpoint) => {
-                let lport = endpoint.lport;
-                let rport = endpoint.rport;
-                self.try_expiry(host, lport, rport, timer)
-            }
-            None => Ok(()),
-        }
     }
 
     /// Fast recovery begins, with the greatest values, where it may. The answer is whether it did.

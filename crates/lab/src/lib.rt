@@ -3,7 +3,8 @@
 //! What is found here is judged by `tcpwit check`, and nothing that is proved rests on it. Of each function it is proved that
 //! it is safe and returns, and no more. No rule of TCP stands here: what may be done is asked of `endpoint_state`'s `World`.
 //!
-//! - `find`: the text of a trace becomes the text of a case
+//! - `running`: the words of the program, its reader and its writer
+//! - `finding`: the text of a trace becomes the text of a case
 //! - `search`: one pass over the lines, each with the steps that belong to it
 //! - `deeds`: one step of the world, written down where it was done
 //! - `ahead`: what later lines tell of earlier ones: ends of calls, segments that go out
@@ -20,8 +21,10 @@ mod calls;
 mod copies;
 mod deeds;
 mod expiring;
-mod find;
+mod finding;
+mod running;
 mod search;
 mod sending;
 
-pub use find::find;
+pub use finding::find;
+pub use running::run;

@@ -4,9 +4,7 @@ use crate::ahead::Ahead;
 use crate::calls::Calls;
 use crate::copies::Copies;
 use crate::deeds::has_room;
-use case_forms::{
-    Answer, Call, Event, Header, Host, Line, OutOfMemory, Ports, Steps, Timer, Wire,
-};
+use case_forms::{Answer, Call, Event, Header, Host, Line, OutOfMemory, Ports, Steps, Timer, Wire};
 use endpoint_state::{StepFault, World};
 use indexmap::IndexMap;
 use std::alloc::Global;
@@ -101,7 +99,11 @@ impl<'t> Search<'t> {
     }
 
     /// A thread's call ends.
-    pub(crate) fn finish_in_world(&mut self, thread: u32, answer: &Answer) -> Result<(), StepFault> {
+    pub(crate) fn finish_in_world(
+        &mut self,
+        thread: u32,
+        answer: &Answer,
+    ) -> Result<(), StepFault> {
         has_room(&self.world)?;
         self.world.finish(thread, answer)
     }

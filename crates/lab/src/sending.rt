@@ -46,7 +46,11 @@ pub(crate) fn plan_of(world: &World, host: Host, wire: &Wire) -> SegmentPlan {
         Some(endpoint) => (place_of(endpoint, seg.seq), endpoint.iss.is_some()),
         None => (None, false),
     };
-    let iss = if flags.syn && !known { Some(seg.seq) } else { None };
+    let iss = if flags.syn && !known {
+        Some(seg.seq)
+    } else {
+        None
+    };
     SegmentPlan {
         lport: seg.src,
         rport: seg.dst,

@@ -7,7 +7,7 @@ use endpoint_state::StepFault;
 use line_fields::{
     FaultKind, TextFault, push_end, push_host, push_number, push_space, push_word, timer_name,
 };
-use std::alloc::Global;
+use std::alloc::{AllocError, Global};
 use trace_reader::read_trace;
 use witness::print_witness;
 
@@ -30,7 +30,7 @@ fn search(alloc: Global, trace: &Trace) -> Result<(Vec<Added>, Witness), OutOfMe
     let mut search = Search::new(alloc, &trace.header, trace.lines.as_slice())?;
     match search.run() {
         Ok(()) | Err(StepFault::Broken(_)) => {}
-        Err(StepFault::OutOfMemory) => return Err(OutOfMemory),
+        Err(StepFault::OutOfMemory) => return Err(AllocError),
     }
     let witness = Witness {
         version: trace.header.version,
@@ -59,12 +59,17 @@ fn trace_text(
     let mut out = Vec::new(alloc);
     let mut left = added.iter();
     let mut next = left.next();
-    let mut number = 1;
+    let mut number: u64 = 1;
     for raw in text.lines_with_terminator() {
         for _ in 0..added.len() {
             match next {
                 Some(line) => {
-                    if number < trace.header.first_event_line().saturating_add(line.before as u64) {
+                    if number
+                        < trace
+                            .header
+                            .first_event_line()
+                            .saturating_add(line.before as u64)
+                    {
                         break;
                     }
                     push_expiry(&mut out, line, thread)?;
@@ -74,7 +79,7 @@ fn trace_text(
             }
         }
         out.extend_from_slice(raw)?;
-        number += 1;
+        number = number.saturating_add(1);
     }
     Ok(out)
 }

@@ -1,0 +1,85 @@
+//! What the program does with its words, its reader and its writer.
+
+ghost use Rattle.std.specs.Prelude.{◌<◌, ◌^◌};
+ghost use Rattle.counted.specs.Counting.{failures_of};
+
+use crate::finding::find;
+use counted::{Counted, ReadFault};
+use line_fields::{
+    FaultKind, OutOfMemory, TextFault, push_end, push_number, push_space, push_word,
+};
+use std::alloc::Global;
+use std::io::{BufRead, Write};
+
+// Done.
+const DONE: u8 = 0;
+// The text is refused.
+const REFUSED: u8 = 2;
+// The words ask for nothing that the program does.
+const USAGE: u8 = 3;
+// Memory ran out.
+const MEMORY: u8 = 4;
+// A read or a write failed.
+const DEVICE: u8 = 5;
+
+/// Does what the words behind the program's name ask for, and answers the status: 0 where it is done, 2 where the text is
+/// refused, 3 where the words are none of the program's, 4 where memory ran out, and 5 where a read or a write failed.
+pub fn run<R: BufRead, W: Write>(
+    alloc: Global,
+    words: &[&str],
+    r: &mut Counted<R>,
+    w: &mut Counted<W>,
+) -> u8
+    requires { (failures_of r.old < 2 ^ 50) × (failures_of w.old < 2 ^ 50) }
+{
+    let Some(word) = words.first() else {
+        return say(w, b"bad usage\n", USAGE);
+    };
+    let mut text = Vec::new(alloc);
+    match r.append_all(&mut text) {
+        Ok(()) => {}
+        Err(ReadFault::Read) => return say(w, b"bad device\n", DEVICE),
+        Err(ReadFault::OutOfMemory) => return say(w, b"bad memory\n", MEMORY),
+    }
+    match *word {
+        "find" => tell(alloc, find(alloc, text.as_slice()), w),
+        _ => say(w, b"bad usage\n", USAGE),
+    }
+}
+
+// Writes a case, or the fault of its trace.
+fn tell<W: Write>(alloc: Global, case: Result<Vec<u8>, TextFault>, w: &mut Counted<W>) -> u8 {
+    match case {
+        Ok(text) => say(w, text.as_slice(), DONE),
+        Err(fault) => match fault.kind {
+            FaultKind::OutOfMemory => say(w, b"bad memory\n", MEMORY),
+            _ => match fault_line(alloc, &fault) {
+                Ok(line) => say(w, line.as_slice(), REFUSED),
+                Err(_) => say(w, b"bad memory\n", MEMORY),
+            },
+        },
+    }
+}
+
+// The line that tells of a trace's fault.
+fn fault_line(alloc: Global, fault: &TextFault) -> Result<Vec<u8>, OutOfMemory> {
+    let mut line = Vec::new(alloc);
+    push_word(&mut line, "bad trace ")?;
+    push_number(&mut line, fault.span.line)?;
+    push_space(&mut line)?;
+    push_number(&mut line, fault.span.start as u64)?;
+    push_space(&mut line)?;
+    push_number(&mut line, fault.span.stop as u64)?;
+    push_space(&mut line)?;
+    push_word(&mut line, fault.kind.name())?;
+    push_end(&mut line)?;
+    Ok(line)
+}
+
+// Writes a text, and answers this status, or 5 where the writer failed.
+fn say<W: Write>(w: &mut Counted<W>, text: &[u8], status: u8) -> u8 {
+    if w.write_all(text).is_err() || w.flush().is_err() {
+        return DEVICE;
+    }
+    status
+}
