@@ -3,7 +3,6 @@
 //! What is found here is judged by `tcpwit check`, and nothing that is proved rests on it. Of each function it is proved that
 //! it is safe and returns, and no more. No rule of TCP stands here: what may be done is asked of `endpoint_state`'s `World`.
 //!
-//! - `running`: the words of the program, its reader and its writer
 //! - `finding`: the text of a trace becomes the text of a case
 //! - `search`: one pass over the lines, each with the steps that belong to it
 //! - `deeds`: one step of the world, written down where it was done
@@ -22,9 +21,7 @@ mod copies;
 mod deeds;
 mod expiring;
 mod finding;
-mod running;
 mod search;
 mod sending;
 
 pub use finding::find;
-pub use running::run;

@@ -3,11 +3,10 @@
 ghost use Rattle.std.specs.Prelude.{◌<◌, ◌^◌};
 ghost use Rattle.counted.specs.Counting.{failures_of};
 
-use crate::finding::find;
 use counted::{Counted, ReadFault};
-use line_fields::{
-    FaultKind, OutOfMemory, TextFault, push_end, push_number, push_space, push_word,
-};
+use explaining::{Range, draw, explain, fault_line, show};
+use lab::find;
+use line_fields::{FaultKind, TextFault};
 use std::alloc::Global;
 use std::io::{BufRead, Write};
 
@@ -24,7 +23,7 @@ const DEVICE: u8 = 5;
 
 /// Does what the words behind the program's name ask for, and answers the status: 0 where it is done, 2 where the text is
 /// refused, 3 where the words are none of the program's, 4 where memory ran out, and 5 where a read or a write failed.
-pub fn run<R: BufRead, W: Write>(
+pub(crate) fn run<R: BufRead, W: Write>(
     alloc: Global,
     words: &[&str],
     r: &mut Counted<R>,
@@ -43,6 +42,16 @@ pub fn run<R: BufRead, W: Write>(
     }
     match *word {
         "find" => tell(alloc, find(alloc, text.as_slice()), w),
+        "draw" => tell(
+            alloc,
+            draw(alloc, text.as_slice(), Range { from: 0, to: 400 }),
+            w,
+        ),
+        "show" => tell(alloc, show(alloc, text.as_slice()), w),
+        "explain" => match explain(alloc, text.as_slice()) {
+            Ok(said) => say(w, said.text.as_slice(), said.status),
+            Err(_) => say(w, b"bad memory\n", MEMORY),
+        },
         _ => say(w, b"bad usage\n", USAGE),
     }
 }
@@ -53,27 +62,12 @@ fn tell<W: Write>(alloc: Global, case: Result<Vec<u8>, TextFault>, w: &mut Count
         Ok(text) => say(w, text.as_slice(), DONE),
         Err(fault) => match fault.kind {
             FaultKind::OutOfMemory => say(w, b"bad memory\n", MEMORY),
-            _ => match fault_line(alloc, &fault) {
+            _ => match fault_line(alloc, "bad trace ", &fault) {
                 Ok(line) => say(w, line.as_slice(), REFUSED),
                 Err(_) => say(w, b"bad memory\n", MEMORY),
             },
         },
     }
-}
-
-// The line that tells of a trace's fault.
-fn fault_line(alloc: Global, fault: &TextFault) -> Result<Vec<u8>, OutOfMemory> {
-    let mut line = Vec::new(alloc);
-    push_word(&mut line, "bad trace ")?;
-    push_number(&mut line, fault.span.line)?;
-    push_space(&mut line)?;
-    push_number(&mut line, fault.span.start as u64)?;
-    push_space(&mut line)?;
-    push_number(&mut line, fault.span.stop as u64)?;
-    push_space(&mut line)?;
-    push_word(&mut line, fault.kind.name())?;
-    push_end(&mut line)?;
-    Ok(line)
 }
 
 // Writes a text, and answers this status, or 5 where the writer failed.
