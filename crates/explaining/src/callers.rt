@@ -1,5 +1,7 @@
 //! The hosts of calls, and the columns of their threads.
 
+ghost use Rattle.std.specs.Prelude.{◌<◌};
+
 use case_forms::{Answer, Call, Host, OutOfMemory};
 use indexmap::IndexMap;
 use std::alloc::Global;
@@ -81,7 +83,9 @@ impl Callers {
     }
 
     /// The column of a thread, of six.
-    pub(crate) fn column(&self, thread: u32) -> u64 {
+    pub(crate) fn column(&self, thread: u32) -> u64
+        ensures { result < 6 }
+    {
         self.columns.get(&thread).copied().unwrap_or(0) % 6
     }
 }

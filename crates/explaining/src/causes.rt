@@ -39,7 +39,7 @@ fn of_order(rule: Rule) -> &'static str {
             "usually: the trace was cut or a line was added, and the witness's numbers weren't moved",
         Rule::LineAgain => "usually: a step was written twice, or a number is one too low",
         Rule::ThreadOrder =>
-            "usually: two lines of one thread were recorded in the order of their ends, or the skew is taken for granted within a thread",
+            "usually: two lines of one thread were recorded in another order than they happened",
         Rule::MomentFalls =>
             "usually: the witness was written by two threads with no common clock; sort its steps",
         Rule::MomentOff => "usually: the header's skew is smaller than the clocks were off",
@@ -72,7 +72,7 @@ fn of_making(rule: Rule) -> &'static str {
         Rule::Iss =>
             "usually: the first SYN of an endpoint lacks its number, or a later one repeats it",
         Rule::BytesDiffer =>
-            "usually: the stack sends other bytes than it was given, an offload rewrote the segment, or the made segment of another line is named",
+            "usually: an offload rewrote the segment, or the made segment of another line is named",
         Rule::NotMade =>
             "usually: the numbers of made segments are off by one, or a line was recorded twice",
         Rule::PayloadRange =>
@@ -80,13 +80,12 @@ fn of_making(rule: Rule) -> &'static str {
         Rule::AckField =>
             "usually: the segment was made before the peer's SYN was taken, or after it",
         Rule::OldData =>
-            "usually: data goes out again with no expiry and no fast recovery: tail loss probes, SACK recovery or a segment made before an arrival that stands before it",
+            "usually: data goes out again with no expiry and no fast recovery, as by tail loss probes or SACK recovery",
         Rule::Offered =>
-            "usually: windows are scaled and the trace is of version 1, the window was shrunk, or an acknowledgment stands behind the segment",
+            "usually: windows are scaled and the trace is of version 1, or an acknowledgment is taken behind the segment",
         Rule::Congestion =>
-            "usually: the stack counts its window in segments or has another congestion control than RFC 5681, or a larger first window than the trace's `initial`",
-        _ =>
-            "usually: segmentation offload is on, so that the capture shows many segments as one, or an MSS option was not recorded",
+            "usually: another congestion control than RFC 5681, a window counted in segments, or a larger first window than the trace says",
+        _ => "usually: segmentation offload is on, so that the capture shows many segments as one",
     }
 }
 

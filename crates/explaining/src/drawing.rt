@@ -1,5 +1,7 @@
 //! A case as a picture: two hosts as lines, time downward, each segment an arrow.
 
+ghost use Rattle.std.specs.Prelude.{◌≤◌};
+
 use crate::callers::Callers;
 use crate::fates::{Fate, Fates};
 use crate::numbers::{Numbers, other};
@@ -24,17 +26,37 @@ const TOP: u64 = 60;
 
 const ROW: u64 = 20;
 
-/// Which lines of the trace are drawn, by their numbers, both ends with them.
+// How many lines are drawn where the last one is not named.
+const LINES: u64 = 400;
+
+/// Which lines of the trace are drawn, by their numbers, both ends with them. None: from the first on, or 400 of them.
 #[derive(Clone, Copy)]
 pub struct Range {
-    pub from: u64,
-    pub to: u64,
+    pub from: Option<u64>,
+    pub to: Option<u64>,
+}
+
+// The lines that are drawn.
+#[derive(Clone, Copy)]
+struct Drawn {
+    from: u64,
+    to: u64,
+}
+
+// The lines of a trace that are in a range.
+fn drawn_of(range: Range, first: u64, last: u64) -> Drawn {
+    let from = range.from.unwrap_or(first).max(first);
+    let to = range.to.unwrap_or(from.saturating_add(LINES - 1));
+    Drawn {
+        from,
+        to: to.min(last),
+    }
 }
 
 #[derive(Drop)]
 struct Drawing {
     out: Vec<u8>,
-    range: Range,
+    range: Drawn,
     numbers: Numbers,
     callers: Callers,
     fates: Fates,
@@ -48,24 +70,18 @@ pub fn draw(alloc: Global, text: &[u8], range: Range) -> Result<Vec<u8>, TextFau
     let last = first.saturating_add(count).saturating_sub(1);
     let mut drawing = Drawing {
         out: Vec::new(alloc),
-        range: Range {
-            from: range.from.max(first),
-            to: range.to.min(last),
-        },
+        range: drawn_of(range, first, last),
         numbers: Numbers::new(alloc),
         callers: Callers::new(alloc),
         fates: Fates::of(alloc, &whole)?,
     };
-    drawing.frame()?;
-    for line in whole.trace.lines.as_slice() {
-        drawing.line(line)?;
-    }
-    drawing.refusal(&whole)?;
-    end(&mut drawing.out)?;
+    drawing.all(&whole)?;
     Ok(drawing.out)
 }
 
-fn column(host: Host) -> u64 {
+fn column(host: Host) -> u64
+    ensures { (400 ≤ result) × (result ≤ 900) }
+{
     match host {
         Host::Zero => ZERO,
         Host::One => ONE,
@@ -73,6 +89,15 @@ fn column(host: Host) -> u64 {
 }
 
 impl Drawing {
+    fn all(&mut self, whole: &Whole) -> Result<(), OutOfMemory> {
+        self.frame()?;
+        for line in whole.trace.lines.as_slice() {
+            self.line(line)?;
+        }
+        self.refusal(whole)?;
+        end(&mut self.out)
+    }
+
     // The height of a line's row.
     fn row(&self, number: u64) -> u64 {
         let rows = number

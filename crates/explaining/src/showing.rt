@@ -27,19 +27,29 @@ pub fn show(alloc: Global, text: &[u8]) -> Result<Vec<u8>, TextFault> {
         numbers: Numbers::new(alloc),
         shown: IndexMap::new(alloc),
     };
-    let lines = whole.trace.lines.as_slice();
-    let first = whole.trace.header.first_event_line();
-    for (place, step) in whole.steps.as_slice().iter().enumerate() {
-        show.step(lines, first, step)?;
-        show.refusal(place, whole.refused)?;
-    }
-    for line in lines {
-        show.left(line)?;
-    }
+    show.all(&whole)?;
     Ok(show.out)
 }
 
 impl Showing {
+    // Writes all steps, and the lines that none takes.
+    fn all(&mut self, whole: &Whole) -> Result<(), OutOfMemory> {
+        let lines = whole.trace.lines.as_slice();
+        let first = whole.trace.header.first_event_line();
+        for (place, step) in whole.steps.as_slice().iter().enumerate() {
+            self.step(lines, first, step)?;
+            self.refusal(place, whole.refused)?;
+        }
+        self.rest(lines)
+    }
+
+    fn rest(&mut self, lines: &[Line]) -> Result<(), OutOfMemory> {
+        for line in lines {
+            self.left(line)?;
+        }
+        Ok(())
+    }
+
     // Writes a step.
     fn step(&mut self, lines: &[Line], first: u64, step: &Step) -> Result<(), OutOfMemory> {
         match &step.label {

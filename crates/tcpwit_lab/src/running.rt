@@ -31,28 +31,73 @@ pub(crate) fn run<R: BufRead, W: Write>(
 ) -> u8
     requires { (failures_of r.old < 2 ^ 50) × (failures_of w.old < 2 ^ 50) }
 {
-    let Some(word) = words.first() else {
+    let Some(asked) = asked_by(words) else {
         return say(w, b"bad usage\n", USAGE);
     };
     let mut text = Vec::new(alloc);
     match r.append_all(&mut text) {
-        Ok(()) => {}
-        Err(ReadFault::Read) => return say(w, b"bad device\n", DEVICE),
-        Err(ReadFault::OutOfMemory) => return say(w, b"bad memory\n", MEMORY),
+        Ok(()) => answer(alloc, asked, text.as_slice(), w),
+        Err(ReadFault::Read) => say(w, b"bad device\n", DEVICE),
+        Err(ReadFault::OutOfMemory) => say(w, b"bad memory\n", MEMORY),
     }
-    match *word {
-        "find" => tell(alloc, find(alloc, text.as_slice()), w),
-        "draw" => tell(
-            alloc,
-            draw(alloc, text.as_slice(), Range { from: 0, to: 400 }),
-            w,
-        ),
-        "show" => tell(alloc, show(alloc, text.as_slice()), w),
-        "explain" => match explain(alloc, text.as_slice()) {
+}
+
+// What the words ask for.
+#[derive(Clone, Copy)]
+enum Asked {
+    Find,
+    Explain,
+    Show,
+    Draw(Range),
+}
+
+// What the words ask for. None: nothing that the program does.
+fn asked_by(words: &[&str]) -> Option<Asked> {
+    match words {
+        [word] => match *word {
+            "find" => Some(Asked::Find),
+            "explain" => Some(Asked::Explain),
+            "show" => Some(Asked::Show),
+            "draw" => Some(Asked::Draw(Range {
+                from: None,
+                to: None,
+            })),
+            _ => None,
+        },
+        [word, options @ ..] if *word == "draw" => Some(Asked::Draw(range_of(options)?)),
+        _ => None,
+    }
+}
+
+// The lines that `--from N`, `--to M` or both ask for.
+fn range_of(options: &[&str]) -> Option<Range> {
+    match options {
+        [name, value] if *name == "--from" => Some(Range {
+            from: Some(value.parse::<u64>().ok()?),
+            to: None,
+        }),
+        [name, value] if *name == "--to" => Some(Range {
+            from: None,
+            to: Some(value.parse::<u64>().ok()?),
+        }),
+        [name, from, other, to] if *name == "--from" && *other == "--to" => Some(Range {
+            from: Some(from.parse::<u64>().ok()?),
+            to: Some(to.parse::<u64>().ok()?),
+        }),
+        _ => None,
+    }
+}
+
+// Does what is asked for with a text.
+fn answer<W: Write>(alloc: Global, asked: Asked, text: &[u8], w: &mut Counted<W>) -> u8 {
+    match asked {
+        Asked::Find => tell(alloc, find(alloc, text), w),
+        Asked::Show => tell(alloc, show(alloc, text), w),
+        Asked::Draw(range) => tell(alloc, draw(alloc, text, range), w),
+        Asked::Explain => match explain(alloc, text) {
             Ok(said) => say(w, said.text.as_slice(), said.status),
             Err(_) => say(w, b"bad memory\n", MEMORY),
         },
-        _ => say(w, b"bad usage\n", USAGE),
     }
 }
 
