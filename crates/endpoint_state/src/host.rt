@@ -8,6 +8,7 @@ ghost use Rattle.std.specs.Option.{IfSome, option_copied};
 ghost use Rattle.std.specs.Result.{result_err};
 ghost use Rattle.verdict.specs.Rules.{first_broken};
 ghost use Rattle.hosts.specs.HostSteps.{empty_host};
+ghost use Rattle.hosts.specs.Tables.{waiting};
 ghost use Rattle.hosts.specs.HostRules.{arrival_rules, sending_rules};
 ghost use Rattle.machine.specs.Wire.{in_rules, out_rules};
 ghost use Rattle.machine.specs.Bodies.{given};
@@ -249,6 +250,13 @@ impl HostState {
         ensures { option_copied result ≡ lookup (nat_eq number) self.now.made }
     {
         self.made.get(&number)
+    }
+
+    /// The segment that came in with this line, and waits.
+    pub(crate) fn waiting(&self, line: u64) -> Option<&Emission>
+        ensures { option_copied result ≡ waiting line self.now.inbox }
+    {
+        waiting(&self.inbox, line)
     }
 
     /// Its endpoints, listeners and sockets.

@@ -10,7 +10,7 @@ ghost use Rattle.verdict.specs.Rules.{first_broken};
 ghost use Rattle.hosts.specs.HostRules.{begin_rules, end_rules, pending_rules};
 ghost use Rattle.hosts.specs.Hosts.{Answered, Called, Idle, turn_of};
 ghost use Rattle.machine.specs.Same.{same_answer};
-ghost use Rattle.endpoint_state.specs.Turns.{pending_call};
+ghost use Rattle.endpoint_state.specs.Turns.{given_answer, pending_call};
 ghost use Rattle.endpoint_state.specs.Faults.{fault_rule};
 
 use crate::fault::StepFault;
@@ -110,6 +110,16 @@ pub(crate) fn pending_call(threads: &Table<Turn>, thread: u32) -> Option<&Call>
     match place_in(threads, thread) {
         Some(Place::Called(call)) => Some(call),
         Some(Place::Answered(_)) | Some(Place::Idle) | None => None,
+    }
+}
+
+/// The answer that a thread's open call had. None: no call is open, or it had no effect yet.
+pub(crate) fn given_answer(threads: &Table<Turn>, thread: u32) -> Option<&Answer>
+    ensures { option_copied result ≡ given_answer (turn_of thread threads.now.entries) }
+{
+    match place_in(threads, thread) {
+        Some(Place::Answered(answer)) => Some(answer),
+        Some(Place::Called(_)) | Some(Place::Idle) | None => None,
     }
 }
 
