@@ -77,6 +77,9 @@ impl Fates {
                 self.copied.insert(u64::from(copied), ())?;
                 self.fates.insert(named.number, Fate::Waits)?;
             }
+            (Event::Came(_, _), Extras::Bare) => {
+                self.fates.insert(named.number, Fate::Waits)?;
+            }
             (Event::CallBegin(_), _) => {
                 self.begun.insert(line.thread, named.number)?;
             }

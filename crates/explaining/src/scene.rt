@@ -6,7 +6,7 @@ ghost use Rattle.machine.specs.Bounds.{most_steps};
 use case_forms::{Header, Host, Label, Line, NamedLine, OutOfMemory, Step, TakenLine};
 use endpoint_state::{Endpoint, StepFault, World};
 use indexmap::IndexMap;
-use machine::Emission;
+use machine::{Arrived, Emission};
 use std::alloc::{AllocError, Global};
 
 // The greatest position of a segment that is made.
@@ -100,6 +100,19 @@ impl<'t> Scene<'t> {
         self.world.body(host).endpoint_of(lport, rport)
     }
 
+    /// A segment as an endpoint reads it. None: the endpoint is further than positions go.
+    pub(crate) fn as_read<'m>(
+        &self,
+        endpoint: &Endpoint,
+        m: &'m Emission,
+    ) -> Option<Arrived<'m>> {
+        if endpoint.stream.una < 1 << 63 {
+            Some(Arrived::read(self.header.version, endpoint, m))
+        } else {
+            None
+        }
+    }
+
     /// The endpoint that a segment finds.
     pub(crate) fn taker(&self, host: Host, m: &Emission) -> Option<&Endpoint> {
         self.endpoint(host, m.rport, m.lport)
@@ -123,6 +136,7 @@ fn do_line(world: &mut World, moment: u64, line: &TakenLine) -> Result<(), StepF
             copied,
             wire,
         } => world.arrive(*host, *line, *copied, wire, moment),
+        TakenLine::Heard { line, host, wire } => world.hear(*host, *line, wire, moment),
         TakenLine::Expired {
             host,
             ports,

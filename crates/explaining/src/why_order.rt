@@ -73,7 +73,7 @@ fn line_range(out: &mut Vec<u8>, scene: &Scene<'_>, named: NamedLine) -> Result<
                 Piece::Word("the step gives "),
                 Piece::Number(u64::from(named.extras.count())),
                 Piece::Word(
-                    " extra numbers; an O or I line has one, a T line of rto two, every other none",
+                    " extra numbers; an O line has one, an I line one (in a half case none), a T line of rto two, every other none",
                 ),
             ],
         ),

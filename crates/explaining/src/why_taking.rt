@@ -6,7 +6,7 @@ use crate::text::{Piece, say};
 use case_forms::{Host, OutOfMemory, TakeChoice};
 use endpoint::{greatest_at_syn, greatest_window};
 use endpoint_state::Endpoint;
-use machine::Emission;
+use machine::{Arrived, Emission};
 use verdict::Rule;
 
 /// What the rule compares at a segment that is to be taken.
@@ -25,15 +25,30 @@ pub(crate) fn why(
     let Some(endpoint) = scene.taker(host, m) else {
         return listener(out, scene, host, m);
     };
+    let Some(read) = scene.as_read(endpoint, m) else {
+        return Ok(());
+    };
     match rule {
-        Rule::NotPeer => not_peer(out, endpoint, m),
-        Rule::Number | Rule::Unacceptable => unacceptable(out, endpoint, m),
-        Rule::AckRange => ack_range(out, endpoint, m),
+        Rule::NotPeer => not_peer(out, endpoint, &read),
+        Rule::Number | Rule::Unacceptable => unacceptable(out, endpoint, &read),
+        Rule::AckRange => ack_range(out, endpoint, &read),
         Rule::QueueFull => queue_full(out, scene, host, endpoint),
-        Rule::Growth => growth(out, scene, endpoint, m, choice),
-        Rule::Sample => sample(out, endpoint, m),
-        Rule::ScaleUnread => scale_unread(out, endpoint, m),
+        Rule::Growth => growth(out, scene, endpoint, &read, choice),
+        Rule::Sample => sample(out, endpoint, &read),
+        Rule::ScaleUnread => scale_unread(out, endpoint, &read),
         _ => listener(out, scene, host, m),
+    }
+}
+
+// The position at which a segment begins, and that which it acknowledges, as its endpoint reads them.
+fn read_positions(scene: &Scene<'_>, host: Host, m: &Emission) -> (u64, u64) {
+    let read = match scene.taker(host, m) {
+        Some(endpoint) => scene.as_read(endpoint, m),
+        None => None,
+    };
+    match read {
+        Some(read) => (read.pos(), read.ack()),
+        None => (m.pos, m.ack),
     }
 }
 
@@ -62,7 +77,7 @@ pub(crate) fn why_waiting(
         out,
         &[
             Piece::Word("the segment: positions "),
-            Piece::Number(m.pos),
+            Piece::Number(read_positions(scene, host, m).0),
             Piece::Word(" on, "),
             Piece::Number(m.payload.len() as u64),
             Piece::Word(" bytes,"),
@@ -71,7 +86,7 @@ pub(crate) fn why_waiting(
             Piece::Word(if m.flags.fin { " FIN" } else { "" }),
             Piece::Word(if m.flags.rst { " RST" } else { "" }),
             Piece::Word(", acknowledges "),
-            Piece::Number(m.ack),
+            Piece::Number(read_positions(scene, host, m).1),
             Piece::Word(", window "),
             Piece::Number(u64::from(m.window)),
         ],
@@ -108,14 +123,14 @@ fn listener(
     )
 }
 
-fn not_peer(out: &mut Vec<u8>, endpoint: &Endpoint, m: &Emission) -> Result<(), OutOfMemory> {
+fn not_peer(out: &mut Vec<u8>, endpoint: &Endpoint, m: &Arrived<'_>) -> Result<(), OutOfMemory> {
     say(
         out,
         &[
             Piece::Word("its maker is endpoint "),
-            Piece::Number(u64::from(m.maker.number)),
+            Piece::Number(u64::from(m.maker().number)),
             Piece::Word(" of "),
-            Piece::At(m.maker.host),
+            Piece::At(m.maker().host),
         ],
     )?;
     match endpoint.stream.peer {
@@ -135,12 +150,12 @@ fn not_peer(out: &mut Vec<u8>, endpoint: &Endpoint, m: &Emission) -> Result<(), 
     }
 }
 
-fn unacceptable(out: &mut Vec<u8>, endpoint: &Endpoint, m: &Emission) -> Result<(), OutOfMemory> {
+fn unacceptable(out: &mut Vec<u8>, endpoint: &Endpoint, m: &Arrived<'_>) -> Result<(), OutOfMemory> {
     say(
         out,
         &[
             Piece::Word("it begins at "),
-            Piece::Number(m.pos),
+            Piece::Number(m.pos()),
             Piece::Word(", the receive window is from next "),
             Piece::Number(endpoint.next()),
             Piece::Word(" up to "),
@@ -149,16 +164,16 @@ fn unacceptable(out: &mut Vec<u8>, endpoint: &Endpoint, m: &Emission) -> Result<
     )
 }
 
-fn ack_range(out: &mut Vec<u8>, endpoint: &Endpoint, m: &Emission) -> Result<(), OutOfMemory> {
+fn ack_range(out: &mut Vec<u8>, endpoint: &Endpoint, m: &Arrived<'_>) -> Result<(), OutOfMemory> {
     say(
         out,
         &[
-            Piece::Word(if m.flags.ack {
+            Piece::Word(if m.flags().ack {
                 "it acknowledges "
             } else {
                 "it acknowledges nothing; its field has "
             }),
-            Piece::Number(m.ack),
+            Piece::Number(m.ack()),
             Piece::Word(", una is "),
             Piece::Number(endpoint.stream.una),
             Piece::Word(", and segments were made up to "),
@@ -196,7 +211,7 @@ fn growth(
     out: &mut Vec<u8>,
     scene: &Scene<'_>,
     endpoint: &Endpoint,
-    m: &Emission,
+    m: &Arrived<'_>,
     choice: TakeChoice,
 ) -> Result<(), OutOfMemory> {
     let initial = scene.header.initial;
@@ -216,16 +231,16 @@ fn growth(
     )
 }
 
-fn sample(out: &mut Vec<u8>, endpoint: &Endpoint, m: &Emission) -> Result<(), OutOfMemory> {
+fn sample(out: &mut Vec<u8>, endpoint: &Endpoint, m: &Arrived<'_>) -> Result<(), OutOfMemory> {
     let una = endpoint.stream.una;
     say(
         out,
         &[
             Piece::Word("it acknowledges "),
-            Piece::Number(m.ack),
+            Piece::Number(m.ack()),
             Piece::Word(", una is "),
             Piece::Number(una),
-            Piece::Word(if endpoint.makings.is_made_again(una, m.ack) {
+            Piece::Word(if endpoint.makings.is_made_again(una, m.ack()) {
                 "; a position between them was made twice"
             } else {
                 ""
@@ -234,11 +249,11 @@ fn sample(out: &mut Vec<u8>, endpoint: &Endpoint, m: &Emission) -> Result<(), Ou
     )
 }
 
-fn scale_unread(out: &mut Vec<u8>, endpoint: &Endpoint, m: &Emission) -> Result<(), OutOfMemory> {
+fn scale_unread(out: &mut Vec<u8>, endpoint: &Endpoint, m: &Arrived<'_>) -> Result<(), OutOfMemory> {
     say(
         out,
         &[
-            Piece::Word(if m.scaled {
+            Piece::Word(if m.is_scaled() {
                 "windows were scaled at its maker when it was made"
             } else {
                 "windows were not scaled at its maker when it was made"

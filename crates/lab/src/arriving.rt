@@ -8,7 +8,7 @@ use crate::sending::{place_of, plan_of};
 use case_forms::{Event, Extras, Host, Ports, TakeChoice, Timer, Wire};
 use endpoint::{greatest_at_syn, greatest_window, is_shown, reset_of};
 use endpoint_state::{Endpoint, StepFault, World};
-use machine::Emission;
+use machine::{Arrived, Emission};
 use segment::Flag;
 use seqno::number;
 use verdict::Rule;
@@ -33,18 +33,28 @@ fn finder<'w>(world: &'w World, host: Host, m: &Emission) -> Option<&'w Endpoint
     }
 }
 
+// A segment as the endpoint reads it. None: the endpoint is further than positions go.
+fn as_read<'m>(world: &World, endpoint: &Endpoint, m: &'m Emission) -> Option<Arrived<'m>> {
+    if endpoint.stream.una < 1 << 63 {
+        Some(Arrived::read(world.header().version, endpoint, m))
+    } else {
+        None
+    }
+}
+
 // The greatest congestion window with which a segment may be taken; 0 at a listener.
 fn greatest(world: &World, host: Host, m: &Emission) -> u32 {
     let initial = world.header().initial;
-    match finder(world, host, m) {
-        Some(endpoint) => {
-            if endpoint.state.is_syn_sent() {
-                field(greatest_at_syn(initial, endpoint, m))
-            } else {
-                field(greatest_window(initial, endpoint, m))
-            }
-        }
-        None => 0,
+    let Some(endpoint) = finder(world, host, m) else {
+        return 0;
+    };
+    let Some(m) = as_read(world, endpoint, m) else {
+        return 0;
+    };
+    if endpoint.state.is_syn_sent() {
+        field(greatest_at_syn(initial, endpoint, &m))
+    } else {
+        field(greatest_window(initial, endpoint, &m))
     }
 }
 
@@ -57,11 +67,11 @@ struct Changes {
     una: bool,
 }
 
-fn changes_by(endpoint: &Endpoint, m: &Emission) -> Changes {
-    let behind = u128::from(m.pos) + m.length();
+fn changes_by(endpoint: &Endpoint, m: &Arrived<'_>) -> Changes {
+    let behind = u128::from(m.pos()) + m.length();
     Changes {
-        next: m.pos <= endpoint.next() && u128::from(endpoint.next()) < behind,
-        una: m.flags.ack && endpoint.stream.una < m.ack,
+        next: m.pos() <= endpoint.next() && u128::from(endpoint.next()) < behind,
+        una: m.flags().ack && endpoint.stream.una < m.ack(),
     }
 }
 
@@ -74,14 +84,14 @@ fn acknowledges_next(endpoint: &Endpoint, wire: &Wire) -> bool {
 }
 
 // Whether a segment was made before its taker took another one: it acknowledges less, or holds what was acknowledged then.
-fn is_before(endpoint: &Endpoint, changes: &Changes, m: &Emission, wire: &Wire) -> bool {
+fn is_before(endpoint: &Endpoint, changes: &Changes, m: &Arrived<'_>, wire: &Wire) -> bool {
     let seg = &wire.seg;
     if changes.next && acknowledges_next(endpoint, wire) {
         return true;
     }
     let takes = !seg.payload.is_empty() || seg.has(Flag::Fin) || seg.has(Flag::Syn);
     match place_of(endpoint, seg.seq) {
-        Some(pos) => changes.una && takes && pos < m.ack,
+        Some(pos) => changes.una && takes && pos < m.ack(),
         None => false,
     }
 }
@@ -89,11 +99,16 @@ fn is_before(endpoint: &Endpoint, changes: &Changes, m: &Emission, wire: &Wire) 
 impl<'t> Search<'t> {
     /// A line shows a segment that comes in.
     pub(crate) fn come_in(&mut self, host: Host, wire: &'t Wire) -> Result<(), StepFault> {
+        let line = self.number;
+        if self.world.header().version.is_half() {
+            self.note_line(Extras::Bare)?;
+            self.hear_in_world(host, wire)?;
+            return self.settle(host, line);
+        }
         let copied = self.copied(host, wire)?;
         self.note_line(Extras::One(field(copied)))?;
         self.arrive_in_world(host, copied, wire)?;
         self.copies.pass(other(host), wire.bytes.as_slice());
-        let line = self.number;
         self.settle(host, line)
     }
 
@@ -258,7 +273,8 @@ impl<'t> Search<'t> {
     fn earlier(&self, host: Host, line: u64) -> Option<(Ends, usize, &'t Wire, bool)> {
         let m = self.world.waiting(host, line)?;
         let endpoint = finder(&self.world, host, m)?;
-        let changes = changes_by(endpoint, m);
+        let read = as_read(&self.world, endpoint, m)?;
+        let changes = changes_by(endpoint, &read);
         if !changes.next && !changes.una {
             return None;
         }
@@ -267,7 +283,7 @@ impl<'t> Search<'t> {
         let Event::Sent(_, wire) = &self.lines.get(place)?.event else {
             return None;
         };
-        if is_before(endpoint, &changes, m, wire) {
+        if is_before(endpoint, &changes, &read, wire) {
             Some((key, place, wire, changes.next))
         } else {
             None

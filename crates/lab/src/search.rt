@@ -119,6 +119,12 @@ impl<'t> Search<'t> {
         self.world.send(host, self.number, made, wire, self.moment)
     }
 
+    /// A segment of the host that is not recorded comes in with the line.
+    pub(crate) fn hear_in_world(&mut self, host: Host, wire: &Wire) -> Result<(), StepFault> {
+        has_room(&self.world)?;
+        self.world.hear(host, self.number, wire, self.moment)
+    }
+
     /// A copy of another line comes in with the line.
     pub(crate) fn arrive_in_world(
         &mut self,
