@@ -60,13 +60,6 @@ impl Body {
         self.sockets.len()
     }
 
-    /// How many socket numbers were given at this host.
-    pub fn socket_count(&self) -> usize
-        ensures { result ≡ length self.now.sockets }
-    {
-        self.sockets.len()
-    }
-
     /// What a socket number names. None: it is not live.
     pub fn thing(&self, number: u32) -> Option<Thing>
         ensures { result ≡ thing_of self.now number }
