@@ -33,7 +33,9 @@ begun event extras = None
 
 -- the call that a step begins in that thread: it takes a B line of the thread
 abbrev pub begins : Trace → ℕ → Label NamedLine → Option Call
-begins t thread (labels.L named) = option_map_or (λ line. if thread == line.thread then begun line.event named.extras else None) (line_at t.header t.lines named.number) None
+begins t thread (labels.L named) =
+    option_map_or (λ line. if thread == line.thread then begun line.event named.extras else None)
+    (line_at t.header t.lines named.number) None
 begins t thread label = None
 
 -- the last call that steps begin in that thread, where the latest step stands first
@@ -89,7 +91,8 @@ told_end t steps socket = list_any (λ d. is_told_end socket d.call d.answer) (c
 abbrev pub ended : Trace → List Step → ℕ → Bool
 ended t steps socket = list_any (λ d. is_ended socket d.call d.answer) (calls_done t steps)
 
--- what was told on a socket number in these steps is a prefix of what was accepted on the peer's; where the end was told it is all of it, and the peer's sending was ended
+-- what was told on a socket number in these steps is a prefix of what was accepted on the peer's; where the end was told it is
+-- all of it, and the peer's sending was ended
 pub record ReceivesFrom (t : Trace) (steps : List Step) (socket peer : ℕ) : Type 0 where
   pub prefix : IsPrefixOf (told t steps socket) (accepted t steps peer)
   pub whole : told_end t steps socket ≡ true → (told t steps socket ≡ accepted t steps peer) × (ended t steps peer ≡ true)
@@ -103,10 +106,13 @@ pub record ReceivesNothing (t : Trace) (steps : List Step) (socket : ℕ) : Type
 abbrev pub Stands : List CallDone → Call → Answer → Type 0
 Stands all call answer = (place : ℕ) × (slice_get all place ≡ Some (record { call = call; answer = answer }))
 
--- the socket number was given at that host to an endpoint of these ports, its own first: by an `open` of both; or by an `accept` on a number that a `listen` on its own port was given there
+-- the socket number was given at that host to an endpoint of these ports, its own first: by an `open` of both; or by an
+-- `accept` on a number that a `listen` on its own port was given there
 pub data HasPorts (all : List CallDone) : Host → ℕ → ℕ → ℕ → Type 0 where
   Opened : (host : Host) (lport rport n : ℕ) → Stands all (calls.Connect host lport rport) (answers.Given n) → HasPorts all host lport rport n
-  Accepted : (host : Host) (lport rport backlog listener n : ℕ) → Stands all (calls.Listen host lport backlog) (answers.Given listener) → Stands all (calls.Accept listener) (answers.Given n) → HasPorts all host lport rport n
+  Accepted : (host : Host) (lport rport backlog listener n : ℕ) →
+      Stands all (calls.Listen host lport backlog) (answers.Given listener) →
+      Stands all (calls.Accept listener) (answers.Given n) → HasPorts all host lport rport n
 
 -- two socket numbers of different hosts, where each has the ports of the other turned round
 pub record AreOpposite (all : List CallDone) (socket peer : ℕ) : Type 0 where

@@ -17,7 +17,9 @@ ghost use Rattle.checker.specs.Again.{HaveTwo, without_spans};
 ghost use Rattle.checker.specs.Headline.{ReceivesBeginSends};
 ghost use Rattle.machine_laws.specs.Consequences.{ReceivedIsAPrefix, EndIsWhole};
 ghost use Rattle.machine_laws.specs.Carried.{ReadsWereCarried};
-ghost use Rattle.checker.specs.Consequences.{steps_of, AreBothRecorded, ReadsBeginWhatWasSent, EndsAreWhole, AllAcknowledgedWasTaken, AllReadsWereCarried, AllKeepWindows, AllStatesFollow, NoPositionFalls};
+ghost use Rattle.checker.specs.Consequences.{steps_of, AreBothRecorded, ReadsBeginWhatWasSent, EndsAreWhole};
+ghost use Rattle.checker.specs.Consequences.{AllAcknowledgedWasTaken, AllReadsWereCarried, AllKeepWindows, AllStatesFollow};
+ghost use Rattle.checker.specs.Consequences.{NoPositionFalls};
 
 use machine_laws::{
     acknowledged_was_taken, end_is_whole, new_data_fits, positions_never_fall, reads_were_carried,
@@ -27,7 +29,9 @@ use machine_laws::{
 /// Where a witness explains a trace, a line that precedes another in the interval order (of one thread and with the
 /// smaller number, or earlier by more than the skew) is taken first.
 pub fn earlier_lines_are_taken_first()
-    ensures { (t : Trace) (w : Witness) → Explains t w → (m n i j : ℕ) (a b : Line) → line_at t.header t.lines m ≡ Some a → line_at t.header t.lines n ≡ Some b → Precedes t.header m a n b → TakesAt (moves w.steps) i m → TakesAt (moves w.steps) j n → i < j }
+    ensures { (t : Trace) (w : Witness) → Explains t w → (m n i j : ℕ) (a b : Line) → line_at t.header t.lines m ≡ Some a →
+        line_at t.header t.lines n ≡ Some b → Precedes t.header m a n b → TakesAt (moves w.steps) i m →
+        TakesAt (moves w.steps) j n → i < j }
 {}
 
 /// The verdict is yes exactly where the witness explains the trace.

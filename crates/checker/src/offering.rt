@@ -28,7 +28,8 @@ pub(crate) fn offer_reached<A: BufRead>(
     requires step { IsInStep window.old (line_ahead lines.old) }
     ensures ahead { IfOk result (λ u. IsAhead lines.new) }
     ensures step { IfOk result (λ u. IsInStep window.new (line_ahead lines.new)) }
-    ensures offered { IfOk result (λ u. (items : List Line) × Passes (left_ahead A.remaining lines.old) (left_ahead A.remaining lines.new) items × (window.new ≡ with_lines window.old items)) }
+    ensures offered { IfOk result (λ u. (items : List Line) × Passes (left_ahead A.remaining lines.old) (left_ahead A.remaining lines.new) items ×
+        (window.new ≡ with_lines window.old items)) }
     ensures later { IfOk result (λ u. IfSome (line_ahead lines.new) (λ line. moment < line.moment)) }
     ensures fault { IfErr result (λ e. TraceFails e (left_ahead A.remaining lines.old)) }
     ensures read { result ≡ Err CaseFault.Read → failures_of (source_ahead lines.new) ≡ one_more (failures_of (source_ahead lines.old)) }

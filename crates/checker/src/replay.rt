@@ -23,7 +23,8 @@ ghost use Rattle.checker.specs.Kept.{kept_broken, kept_progress};
 ghost use Rattle.checker.specs.Explains.{Explains, IsYes};
 ghost use Rattle.checker.specs.Judges.{Says};
 ghost use Rattle.checker.specs.Headline.{ReceivesBeginSends};
-ghost use Rattle.checker.specs.Consequences.{AreBothRecorded, ReadsBeginWhatWasSent, EndsAreWhole, AllAcknowledgedWasTaken, AllReadsWereCarried, AllKeepWindows, AllStatesFollow, NoPositionFalls};
+ghost use Rattle.checker.specs.Consequences.{AreBothRecorded, ReadsBeginWhatWasSent, EndsAreWhole, AllAcknowledgedWasTaken};
+ghost use Rattle.checker.specs.Consequences.{AllReadsWereCarried, AllKeepWindows, AllStatesFollow, NoPositionFalls};
 
 use crate::laws::{explained_follows, receives_begin_sends};
 use case_forms::{Header, Label, Line, NamedLine, OutOfMemory, Step, TakenLine, Trace, Witness};
@@ -103,7 +104,8 @@ fn replay_all(
     requires begun { world.old ≡ start world.old.header }
     requires few { length steps.now < 10000000 }
     requires within { All (λ s. IsWithinLimits s.label) steps.now }
-    ensures { IfOk result (λ v. (lines : List Line) → window.old ≡ order_of world.old.header lines [] → v ≡ verdict_from world.old.header lines [] (hosts.start (tcp world.old.header)) steps.now) }
+    ensures { IfOk result (λ v. (lines : List Line) → window.old ≡ order_of world.old.header lines [] →
+        v ≡ verdict_from world.old.header lines [] (hosts.start (tcp world.old.header)) steps.now) }
 {
     for (place, step) in steps.iter().enumerate() {
         if let Some(rule) = replay(window, world, step)? {

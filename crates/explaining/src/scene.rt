@@ -101,11 +101,7 @@ impl<'t> Scene<'t> {
     }
 
     /// A segment as an endpoint reads it. None: the endpoint is further than positions go.
-    pub(crate) fn as_read<'m>(
-        &self,
-        endpoint: &Endpoint,
-        m: &'m Emission,
-    ) -> Option<Arrived<'m>> {
+    pub(crate) fn as_read<'m>(&self, endpoint: &Endpoint, m: &'m Emission) -> Option<Arrived<'m>> {
         if endpoint.stream.una < 1 << 63 {
             Some(Arrived::read(self.header.version, endpoint, m))
         } else {

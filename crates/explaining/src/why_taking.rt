@@ -150,7 +150,11 @@ fn not_peer(out: &mut Vec<u8>, endpoint: &Endpoint, m: &Arrived<'_>) -> Result<(
     }
 }
 
-fn unacceptable(out: &mut Vec<u8>, endpoint: &Endpoint, m: &Arrived<'_>) -> Result<(), OutOfMemory> {
+fn unacceptable(
+    out: &mut Vec<u8>,
+    endpoint: &Endpoint,
+    m: &Arrived<'_>,
+) -> Result<(), OutOfMemory> {
     say(
         out,
         &[
@@ -249,7 +253,11 @@ fn sample(out: &mut Vec<u8>, endpoint: &Endpoint, m: &Arrived<'_>) -> Result<(),
     )
 }
 
-fn scale_unread(out: &mut Vec<u8>, endpoint: &Endpoint, m: &Arrived<'_>) -> Result<(), OutOfMemory> {
+fn scale_unread(
+    out: &mut Vec<u8>,
+    endpoint: &Endpoint,
+    m: &Arrived<'_>,
+) -> Result<(), OutOfMemory> {
     say(
         out,
         &[

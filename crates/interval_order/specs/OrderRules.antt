@@ -12,7 +12,8 @@ use Rattle.verdict.specs.declared.rule.Rule.{Rule}
 use Rattle.verdict.specs.declared.rule.Rule.TheVariants.{LineRange, LineAgain, ThreadOrder, MomentFalls, MomentOff, Overdue}
 use Rattle.interval_order.specs.Orders.{Take, Move, Order, held_line, is_offered}
 
--- how many extra numbers follow the number of a line of this kind: one for a segment that goes out, that of the segment made; one for a segment that comes in, that of its O line, which a half case doesn't have; two for a retransmission timeout
+-- how many extra numbers follow the number of a line of this kind: one for a segment that goes out, that of the segment made;
+-- one for a segment that comes in, that of its O line, which a half case doesn't have; two for a retransmission timeout
 abbrev pub extras_of : Version → Event → ℕ
 extras_of v (CallBegin call) = 0
 extras_of v (CallEnd answer) = 0
@@ -24,7 +25,9 @@ extras_of v (Expired host local remote _) = 0
 -- it names no event line, or one that is not placed with another count of extra numbers than its kind has
 abbrev pub line_range : Order → Option Take → Bool
 line_range o None = false
-line_range o (Some t) = not (is_offered o t.number) || option_map_or (λ line. not (t.extras == extras_of o.header.version line.event)) (held_line o t.number) false
+line_range o (Some t) =
+    not (is_offered o t.number)
+    || option_map_or (λ line. not (t.extras == extras_of o.header.version line.event)) (held_line o t.number) false
 
 -- that line was placed
 abbrev pub line_again : Order → Option Take → Bool

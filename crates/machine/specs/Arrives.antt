@@ -37,7 +37,9 @@ taker b m = option_map_or (endpoint_taker b m) (place_of b m.rport m.lport) (lis
 
 -- the rules of taking at the endpoint of this place
 abbrev pub endpoint_rules : Header → Host → Body → TakeChoice → Emission → ℕ → Endpoint → List (Rule × Bool)
-endpoint_rules h me b how m i e = if is_syn_sent e.state then syn_sent_rules h.initial e how m else connected_rules h b (record { host = me; number = i }) e how m
+endpoint_rules h me b how m i e =
+    if is_syn_sent e.state then syn_sent_rules h.initial e how m
+    else connected_rules h b (record { host = me; number = i }) e how m
 
 -- the rules of taking; an endpoint reads the segment first
 abbrev pub taker_rules : Header → Host → Body → TakeChoice → Emission → Taker → List (Rule × Bool)
@@ -51,7 +53,8 @@ endpoint_taken h e how m moment = if m.flags.rst then was_reset e how else if is
 -- a child whose SYN is acknowledged joins its listener's queue
 abbrev pub joined : Body → ℕ → Endpoint → Emission → List Listener
 joined b i e m =
-    if is_syn_received e.state && acknowledges_syn e m then option_map_or (λ l. modify b.listeners l (λ x. record x { queue = x.queue ++ i ∷ [] })) e.listener b.listeners
+    if is_syn_received e.state && acknowledges_syn e m
+    then option_map_or (λ l. modify b.listeners l (λ x. record x { queue = x.queue ++ i ∷ [] })) e.listener b.listeners
     else b.listeners
 
 -- what the host has, once the endpoint of this place took it

@@ -78,7 +78,8 @@ world_after h all w s = option_map_or (λ step. after (tcp h) s.moment w step) (
 -- the line of the witness at which the first rule of the machine is broken, with the rule; the first step stands in line 2
 abbrev pub broken_from : Header → List lines.Line → World tcp_shape → ℕ → List witness.Step → Option (ℕ × Rule)
 broken_from h all w place [] = None
-broken_from h all w place (s ∷ steps) = option_map_or (λ rule. Some (place, rule)) (rule_broken h all w s) (broken_from h all (world_after h all w s) (suc place) steps)
+broken_from h all w place (s ∷ steps) =
+    option_map_or (λ rule. Some (place, rule)) (rule_broken h all w s) (broken_from h all (world_after h all w s) (suc place) steps)
 
 abbrev pub first_broken_step : Header → List lines.Line → List witness.Step → Option (ℕ × Rule)
 first_broken_step h all steps = broken_from h all (start (tcp h)) 2 steps

@@ -38,7 +38,8 @@ pub record InBothWindows (e : Endpoint) (end : ℕ) : Type 0 where
 -- the endpoint of the ports is there, and where bytes of the segment stand at or above all that it made before, they end in both windows
 abbrev pub NewDataFits : World tcp_shape → Host → SegmentPlan → Type 0
 NewDataFits w host m = (e : Endpoint) × (endpoint_of (pick w.hosts host).body m.lport m.rport ≡ Some e)
-    × ((x : Emission) → act_makes host (pick w.hosts host).body (acts.Makes m) ≡ Some x → 0 < length x.payload → max_made e < x.pos + length x.payload → InBothWindows e (x.pos + length x.payload))
+    × ((x : Emission) → act_makes host (pick w.hosts host).body (acts.Makes m) ≡ Some x → 0 < length x.payload →
+    max_made e < x.pos + length x.payload → InBothWindows e (x.pos + length x.payload))
 
 -- the greatest congestion window that a segment allows, as the endpoint has read it
 abbrev pub greatest_reading : Initial → Endpoint → Emission → ℕ

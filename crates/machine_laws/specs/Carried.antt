@@ -34,7 +34,9 @@ pub record Carries (h : Header) (w : World tcp_shape) (step : Step tcp_shape) (m
 
 -- one of the steps does, in the world that those before it make of this one
 abbrev pub CarriedFrom : Header → World tcp_shape → List (Stamped tcp_shape) → Name → ℕ → Cell → Type 0
-CarriedFrom h w steps me position cell = (before : List (Stamped tcp_shape)) × (x : Stamped tcp_shape) × (rest : List (Stamped tcp_shape)) × (steps ≡ before ++ x ∷ rest) × Carries h (after_all (tcp h) w before) x.step me position cell
+CarriedFrom h w steps me position cell =
+    (before : List (Stamped tcp_shape)) × (x : Stamped tcp_shape) × (rest : List (Stamped tcp_shape)) ×
+    (steps ≡ before ++ x ∷ rest) × Carries h (after_all (tcp h) w before) x.step me position cell
 
 -- one of the steps of a whole run does
 abbrev pub Carried : Header → List (Stamped tcp_shape) → Name → ℕ → Cell → Type 0

@@ -34,7 +34,8 @@ close_leads states.Established states.FinWait1 = true
 close_leads states.CloseWait states.LastAck = true
 close_leads state _ = false
 
--- those at a SYN and at an acknowledgment. From SYN-RECEIVED to FIN-WAIT-1 the figure leads at CLOSE: here CLOSE ends the sending, and the state follows with the acknowledgment of the SYN (this profile's own)
+-- those at a SYN and at an acknowledgment. From SYN-RECEIVED to FIN-WAIT-1 the figure leads at CLOSE: here CLOSE ends the
+-- sending, and the state follows with the acknowledgment of the SYN (this profile's own)
 abbrev pub segment_leads : State → State → Bool
 segment_leads states.SynSent states.SynReceived = true
 segment_leads states.SynSent states.Established = true
@@ -88,7 +89,9 @@ TimerCloses w step me = (line : ℕ) × (x : Expiry) × (growth : Growth) × (st
 
 -- the endpoint makes a reset
 abbrev pub MakesReset : World tcp_shape → Step tcp_shape → Name → Type 0
-MakesReset w step me = (m : SegmentPlan) × (step ≡ At me.host (Makes m)) × (m.flags.rst ≡ true) × (place_of (pick w.hosts me.host).body m.lport m.rport ≡ Some me.number)
+MakesReset w step me =
+    (m : SegmentPlan) × (step ≡ At me.host (Makes m)) × (m.flags.rst ≡ true) ×
+    (place_of (pick w.hosts me.host).body m.lport m.rport ≡ Some me.number)
 
 -- from the state of an endpoint a step may lead to this one
 pub data MayLead (w : World tcp_shape) (step : Step tcp_shape) (me : Name) (e : Endpoint) (t : State) : Type 0 where
@@ -98,7 +101,8 @@ pub data MayLead (w : World tcp_shape) (step : Step tcp_shape) (me : Name) (e : 
   -- its listener is closed or aborted before the endpoint is accepted
   ByListener : (l : ℕ) → e.listener ≡ Some l → CallsOn left_number w step me.host (Listens l) → t ≡ states.Closed → MayLead w step me e t
   -- the endpoint takes a segment without RST: its SYN or its acknowledgment may lead on, and from there its FIN (note 2 at figure 5)
-  BySegment : (m : Emission) (between : State) → TakesThere w step me e m → m.flags.rst ≡ false → StaysOr segment_leads e.state between → StaysOr fin_leads between t → MayLead w step me e t
+  BySegment : (m : Emission) (between : State) → TakesThere w step me e m → m.flags.rst ≡ false →
+      StaysOr segment_leads e.state between → StaysOr fin_leads between t → MayLead w step me e t
   -- it takes one with RST (note 3 there)
   ByReset : (m : Emission) → TakesThere w step me e m → m.flags.rst ≡ true → t ≡ states.Closed → MayLead w step me e t
   ByOwnReset : MakesReset w step me → t ≡ states.Closed → MayLead w step me e t
@@ -110,9 +114,12 @@ WaitsOn e f = (f.state ≡ states.Closed) ⊎ ((f.state ≡ states.TimeWait) × 
 
 -- a step leaves each endpoint there, in its state or in one to which the step may lead; and a new one begins in SYN-SENT, or as a child in SYN-RECEIVED
 pub record StatesFollow (h : Header) (moment : ℕ) (w : World tcp_shape) (step : Step tcp_shape) : Type 0 where
-  pub leads : (me : Name) (e : Endpoint) → find w.hosts me ≡ Some e → (f : Endpoint) × (find (after (tcp h) moment w step).hosts me ≡ Some f) × MayLead w step me e f.state
-  pub waits : (me : Name) (e : Endpoint) → find w.hosts me ≡ Some e → e.state ≡ states.TimeWait → (f : Endpoint) × (find (after (tcp h) moment w step).hosts me ≡ Some f) × WaitsOn e f
-  pub begins : (me : Name) (f : Endpoint) → find w.hosts me ≡ None → find (after (tcp h) moment w step).hosts me ≡ Some f → (f.state ≡ states.SynSent) ⊎ (f.state ≡ states.SynReceived)
+  pub leads : (me : Name) (e : Endpoint) → find w.hosts me ≡ Some e → (f : Endpoint) ×
+      (find (after (tcp h) moment w step).hosts me ≡ Some f) × MayLead w step me e f.state
+  pub waits : (me : Name) (e : Endpoint) → find w.hosts me ≡ Some e → e.state ≡ states.TimeWait → (f : Endpoint) ×
+      (find (after (tcp h) moment w step).hosts me ≡ Some f) × WaitsOn e f
+  pub begins : (me : Name) (f : Endpoint) → find w.hosts me ≡ None → find (after (tcp h) moment w step).hosts me ≡ Some f →
+      (f.state ≡ states.SynSent) ⊎ (f.state ≡ states.SynReceived)
 
 -- none of these is below what it was (RFC 9293, 3.3.1): SND.UNA, SND.NXT at its greatest, RCV.NXT, and the greatest RCV.NXT + RCV.WND that was offered
 pub record NoneFalls (e f : Endpoint) : Type 0 where

@@ -36,7 +36,9 @@ pub fn end_is_whole()
 
 /// What is acknowledged, but for the SYN, was taken by the peer before the step that acknowledged it.
 pub fn acknowledged_was_taken()
-    ensures { (h : Header) → is_half h.version ≡ false → (steps : List (Stamped tcp_shape)) (x : Stamped tcp_shape) → Lawful (tcp h) (start (tcp h)) steps → Permitted (tcp h) x.moment (world_at_end h steps) x.step → AcknowledgedWasTaken h steps x }
+    ensures { (h : Header) → is_half h.version ≡ false → (steps : List (Stamped tcp_shape)) (x : Stamped tcp_shape) →
+        Lawful (tcp h) (start (tcp h)) steps → Permitted (tcp h) x.moment (world_at_end h steps) x.step →
+        AcknowledgedWasTaken h steps x }
 {}
 
 /// What the reads on a socket number were told came with segments that were taken at its endpoint: byte i at position 1 + i, and
@@ -49,7 +51,8 @@ pub fn reads_were_carried()
 /// Bytes that are made for the first time end in the window that the peer offers and in the congestion window. Other
 /// segments that are made, resets that answer, carry no bytes.
 pub fn new_data_fits()
-    ensures { (h : Header) (moment : ℕ) (w : World tcp_shape) (host : Host) (m : SegmentPlan) → Permitted (tcp h) moment w (At host (Makes m)) → NewDataFits w host m }
+    ensures { (h : Header) (moment : ℕ) (w : World tcp_shape) (host : Host) (m : SegmentPlan) →
+        Permitted (tcp h) moment w (At host (Makes m)) → NewDataFits w host m }
 {}
 
 /// Taking a segment, an expiry of the retransmission timer and the beginning of fast recovery leave the congestion window and
@@ -70,7 +73,8 @@ pub fn states_follow()
 /// No step of a run leaves an endpoint's oldest position that is not acknowledged, the position behind all that it made, the next
 /// one that it expects of its peer or the greatest that its windows reached below what it was (RFC 9293, 3.3.1).
 pub fn positions_never_fall()
-    ensures { (h : Header) (steps : List (Stamped tcp_shape)) (x : Stamped tcp_shape) → Lawful (tcp h) (start (tcp h)) steps → Permitted (tcp h) x.moment (world_at_end h steps) x.step → PositionsNeverFall h steps x }
+    ensures { (h : Header) (steps : List (Stamped tcp_shape)) (x : Stamped tcp_shape) → Lawful (tcp h) (start (tcp h)) steps →
+        Permitted (tcp h) x.moment (world_at_end h steps) x.step → PositionsNeverFall h steps x }
 {}
 
 /// The machine's rules of each step stand in the order of their numbers, behind the six of order, so the first that is broken

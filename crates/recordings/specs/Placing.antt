@@ -50,13 +50,16 @@ MomentsRise k m (x ∷ xs) = (m ≤ x.moment) × MomentsRise k x.moment xs
 
 -- the step at this place takes this line, at its moment or later by the skew at most
 abbrev pub TakesLine : (k : Kernel) → ℕ → ℕ → Line k.shape → List (Stamped k.shape) → ℕ → Type 0
-TakesLine k skew number line steps p = (x : Stamped k.shape) × (slice_get steps p ≡ Some x) × (step_line k x.step ≡ Some number) × (event_of k x.step ≡ Some line.event) × (line.moment ≤ x.moment) × (x.moment ≤ line.moment + skew)
+TakesLine k skew number line steps p =
+    (x : Stamped k.shape) × (slice_get steps p ≡ Some x) × (step_line k x.step ≡ Some number) ×
+    (event_of k x.step ≡ Some line.event) × (line.moment ≤ x.moment) × (x.moment ≤ line.moment + skew)
 
 -- the step at this place takes the line of that number
 abbrev pub NamesAt : (k : Kernel) → List (Stamped k.shape) → ℕ → ℕ → Type 0
 NamesAt k steps p number = (x : Stamped k.shape) × (slice_get steps p ≡ Some x) × (step_line k x.step ≡ Some number)
 
--- steps are a placement of lines that are numbered from the first on: moments don't fall, each line is taken in time, once, no other line is, the lines in their order, and in each thread calls take turns
+-- steps are a placement of lines that are numbered from the first on: moments don't fall, each line is taken in time, once, no
+-- other line is, the lines in their order, and in each thread calls take turns
 pub record Placement (k : Kernel) (skew first : ℕ) (lines : List (Line k.shape)) (steps : List (Stamped k.shape)) : Type 0 where
   pub moments : MomentsRise k 0 steps
   pub taken : (i : ℕ) (line : Line k.shape) → slice_get lines i ≡ Some line → (p : ℕ) × TakesLine k skew (first + i) line steps p

@@ -57,7 +57,13 @@ NoneDue c moment = NoneDueAt c.recorded moment
 
 -- none of the three is at the endpoint of these ports, with the least values
 abbrev pub RefusesAt : Recorded → ℕ → Ports → Timer → Type 0
-RefusesAt r moment ports timer = Permitted (tcp r.header) moment (world_left r) (At r.me (Expires 0 (record { lport = ports.lport; rport = ports.rport; timer = timer }) (record { cwnd = 0; ssthresh = 0 }))) → ⊥
+RefusesAt r moment ports timer =
+    Permitted (tcp r.header) moment (world_left r) (At r.me (Expires 0 (record {
+      lport = ports.lport;
+      rport = ports.rport;
+      timer =
+          timer;
+    }) (record { cwnd = 0; ssthresh = 0 }))) → ⊥
 
 pub record IsRefused (r : Recorded) (moment : ℕ) (ports : Ports) : Type 0 where
   pub rto : RefusesAt r moment ports Rto

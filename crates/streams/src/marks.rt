@@ -36,7 +36,8 @@ impl Marks {
 
     /// The positions from `from` to before `upto` were made again. Where memory runs out none of them is marked.
     pub(crate) fn add(&mut self, from: u64, upto: u64) -> Result<(), AllocError>
-        ensures marked { OnOk result ((position : ℕ) → is_marked self.new position ≡ (is_marked self.old position || (nat_le from position && nat_lt position upto))) }
+        ensures marked { OnOk result ((position : ℕ) → is_marked self.new position
+            ≡ (is_marked self.old position || (nat_le from position && nat_lt position upto))) }
         ensures err { OnErr result ((position : ℕ) → is_marked self.new position ≡ is_marked self.old position) }
         ensures below { (end : ℕ) → upto ≤ end → IsBelow end self.old → IsBelow end self.new }
     {
@@ -62,7 +63,8 @@ impl Marks {
     /// Whether one of the positions from `from` to before `upto` was made again.
     pub(crate) fn meets(&self, from: u64, upto: u64) -> bool
         requires { from < upto }
-        ensures found { result ≡ true → (end : ℕ) → IsBelow end self.now → (position : ℕ) × (from ≤ position) × (position < upto) × (position < end) × (is_marked self.now position ≡ true) }
+        ensures found { result ≡ true → (end : ℕ) → IsBelow end self.now → (position : ℕ) × (from ≤ position) × (position < upto) ×
+            (position < end) × (is_marked self.now position ≡ true) }
         ensures none { result ≡ false → (position : ℕ) → from ≤ position → position < upto → is_marked self.now position ≡ false }
     {
         from.max(self.floor) < upto.min(self.reached) || meet(&self.ranges, from, upto)
@@ -70,7 +72,8 @@ impl Marks {
 
     /// Those below a position are as if they had not been made again.
     pub(crate) fn forget_below(&mut self, una: u64)
-        ensures { (end : ℕ) → IsBelow end self.old → IsBelow end self.new × ((position : ℕ) → is_marked self.new position ≡ (nat_le una position && is_marked self.old position)) }
+        ensures { (end : ℕ) → IsBelow end self.old → IsBelow end self.new ×
+            ((position : ℕ) → is_marked self.new position ≡ (nat_le una position && is_marked self.old position)) }
     {
         if una <= self.floor {
             return;
@@ -82,7 +85,8 @@ impl Marks {
 
 // One range more, if it is not empty.
 fn add_range(ranges: &mut BTreeMap<u64, u64>, from: u64, upto: u64) -> Result<(), AllocError>
-    ensures added { OnOk result ((position : ℕ) → in_ranges ranges.new.entries position ≡ (in_ranges ranges.old.entries position || (nat_le from position && nat_lt position upto))) }
+    ensures added { OnOk result ((position : ℕ) → in_ranges ranges.new.entries position
+        ≡ (in_ranges ranges.old.entries position || (nat_le from position && nat_lt position upto))) }
     ensures err { OnErr result (ranges.new.entries ≡ ranges.old.entries) }
     ensures below { (floor end : ℕ) → floor ≤ from → upto ≤ end → AreRanges floor end ranges.old.entries → AreRanges floor end ranges.new.entries }
 {
@@ -108,7 +112,8 @@ fn meet(ranges: &BTreeMap<u64, u64>, from: u64, upto: u64) -> bool
 
 // The ranges that begin below a position are discarded. Answers how far they reach, and at least `reached`.
 fn drop_below(ranges: &mut BTreeMap<u64, u64>, una: u64, reached: u64) -> u64
-    ensures same { (position : ℕ) → una ≤ position → (in_ranges ranges.new.entries position || nat_lt position result) ≡ (in_ranges ranges.old.entries position || nat_lt position reached) }
+    ensures same { (position : ℕ) → una ≤ position → (in_ranges ranges.new.entries position || nat_lt position result)
+        ≡ (in_ranges ranges.old.entries position || nat_lt position reached) }
     ensures below { (floor end : ℕ) → AreRanges floor end ranges.old.entries → reached ≤ end → AreRanges una end ranges.new.entries × (result ≤ end) }
 {
     let mut far = reached;

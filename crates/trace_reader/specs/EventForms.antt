@@ -30,7 +30,9 @@ use Rattle.trace_reader.specs.EventLines.{Place, behind, IsEventLine}
 
 -- a moment that is not below the one before
 abbrev pub rising : ℕ → Want
-rising before w = unless_empty w (if is_number 0 1000000000000000000 w.text (digits_value 10 w.text) then (if nat_lt (digits_value 10 w.text) before then Some kinds.MomentFalls else None) else Some kinds.Number)
+rising before w =
+    unless_empty w (if is_number 0 1000000000000000000 w.text (digits_value 10 w.text)
+    then (if nat_lt (digits_value 10 w.text) before then Some kinds.MomentFalls else None) else Some kinds.Number)
 
 -- hex of a segment
 abbrev pub segment_kind : Result Segment SegFault → Option FaultKind
@@ -81,9 +83,12 @@ line_form v before = then_form (rising before) (word32 (choice letter_name all_l
 
 -- a fault of the line as a whole: it is too long; or else it isn't ended; or else it is one line too many
 pub data IsWholeFault (number : ℕ) (raw : List ℕ) (e : TextFault) : Type 0 where
-  TooLong : 140000 < length (without_terminator raw) → e ≡ record { kind = kinds.LineTooLong; span = whole_line number (without_terminator raw) } → IsWholeFault number raw e
-  Cut : length (without_terminator raw) ≤ 140000 → is_ended raw ≡ false → e ≡ record { kind = kinds.Cut; span = whole_line number (without_terminator raw) } → IsWholeFault number raw e
-  TooMany : length (without_terminator raw) ≤ 140000 → is_ended raw ≡ true → 10000000 < number → e ≡ record { kind = kinds.TooManyLines; span = whole_line number (without_terminator raw) } → IsWholeFault number raw e
+  TooLong : 140000 < length (without_terminator raw) → e
+      ≡ record { kind = kinds.LineTooLong; span = whole_line number (without_terminator raw) } → IsWholeFault number raw e
+  Cut : length (without_terminator raw) ≤ 140000 → is_ended raw ≡ false → e
+      ≡ record { kind = kinds.Cut; span = whole_line number (without_terminator raw) } → IsWholeFault number raw e
+  TooMany : length (without_terminator raw) ≤ 140000 → is_ended raw ≡ true → 10000000 < number → e
+      ≡ record { kind = kinds.TooManyLines; span = whole_line number (without_terminator raw) } → IsWholeFault number raw e
 
 -- the first fault of an event line: that of the line as a whole, or else that of the first of its fields that doesn't fit the form
 abbrev pub IsLineFault : Version → Place → List ℕ → TextFault → Type 0

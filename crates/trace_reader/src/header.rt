@@ -6,7 +6,8 @@ ghost use Rattle.counted.specs.Counting.{left_of, failures_of, one_more};
 ghost use Rattle.line_fields.specs.Reading.{Gives, number_field};
 ghost use Rattle.line_fields.specs.Rows.{rows_of, with_rest, Reads};
 ghost use Rattle.line_fields.specs.Spelling.{joined};
-ghost use Rattle.trace_reader.specs.Headers.{first_words, begins_trace, version_named, named_rest, value_line, next_value, first_version, first_line, initial_field, initial_line, late_lines, header_of};
+ghost use Rattle.trace_reader.specs.Headers.{first_words, begins_trace, version_named, named_rest, value_line, next_value};
+ghost use Rattle.trace_reader.specs.Headers.{first_version, first_line, initial_field, initial_line, late_lines, header_of};
 
 use bstr::ByteSlice;
 use case_forms::{Header, Initial, Version};

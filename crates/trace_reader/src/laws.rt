@@ -16,5 +16,6 @@ pub fn event_line_faults()
 /// Event lines from a place on are read with this fault exactly where it is the first fault of the first of them that has one, and
 /// those before it are spelled as event lines.
 pub fn first_event_fault()
-    ensures { (v : Version) (place : Place) (raws : List (List ℕ)) (e : TextFault) → (read_lines (line_of v) behind place raws ≡ Err e) ↔ IsEventsFault v place raws e }
+    ensures { (v : Version) (place : Place) (raws : List (List ℕ)) (e : TextFault) → (read_lines (line_of v) behind place raws ≡ Err e)
+        ↔ IsEventsFault v place raws e }
 {}

@@ -1,7 +1,8 @@
 //! The text of a trace: what stands in it is read, with the first fault and its place, and printed again.
 //!
 //! A text is six lines of a header, seven in version 2 and eight in version 3, and behind them event lines. specs/TraceText.antt
-//! says which text stands for which trace, and is the file to read first; the forms of the lines stand in specs/Headers.antt, specs/EventLines.antt, specs/Events.antt and specs/Calls.antt.
+//! says which text stands for which trace, and is the file to read first; the forms of the lines stand in specs/Headers.antt,
+//! specs/EventLines.antt, specs/Events.antt and specs/Calls.antt.
 //! Whether the trace can be explained is `checker`'s; here a line is only what it says.
 //!
 //! - `header`: the header's lines

@@ -7,7 +7,8 @@ ghost use Rattle.line_fields.specs.declared.fault.ReadFault.{ReadFault};
 ghost use Rattle.line_fields.specs.Left.{Yields, FailsLeft};
 ghost use Rattle.trace_reader.specs.EventLines.{behind};
 ghost use Rattle.trace_reader.specs.TraceText.{first_place};
-ghost use Rattle.trace_reader.specs.TraceLeft.{source_of, place_of, version_of, fault_of, IsFresh, IsBegun, trace_left, lines_left, Begins, reader_failures, StandsAt};
+ghost use Rattle.trace_reader.specs.TraceLeft.{source_of, place_of, version_of, fault_of, IsFresh, IsBegun, trace_left};
+ghost use Rattle.trace_reader.specs.TraceLeft.{lines_left, Begins, reader_failures, StandsAt};
 
 use crate::events::event_line;
 use crate::header::header;

@@ -38,7 +38,20 @@ segment_label v r = do
   flags ← flags_field len.1
   window ← number_field 0 65535 flags.1
   start ← start_field v window.1
-  Ok (M at.0.0 (record { lport = at.0.1; rport = at.0.2; pos = position.0; len = len.0; flags = flags.0; window = window.0; iss = start.0.0; shift = start.0.1 }), start.1)
+  Ok (
+    M at.0.0 (record {
+      lport = at.0.1;
+      rport = at.0.2;
+      pos = position.0;
+      len = len.0;
+      flags = flags.0;
+      window = window.0;
+      iss =
+          start.0.0;
+      shift = start.0.1;
+    }),
+    start.1,
+  )
 
 -- an inbox entry, the congestion window, whether data are kept, and whether the time is sampled
 unfoldable pub taking_label : Version → Rest → Result (Label NamedLine × Rest) TextFault

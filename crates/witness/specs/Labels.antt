@@ -115,7 +115,9 @@ label_pieces label = plain (label_name (label_word label)) ∷ label_tail label
 abbrev pub IsLabel : Version → Label NamedLine → Type 0
 IsLabel v (L line) = (line.number ≤ 4294967295) × AreExtras line.extras
 IsLabel v (D thread answer) = (thread ≤ 4294967295) × IsAnswer answer
-IsLabel v (M host plan) = IsEndpoint v host plan.lport plan.rport × (plan.pos ≤ 1000000000000000000) × (plan.len ≤ 65515) × (plan.window ≤ 65535) × IsStart v plan.iss plan.shift
+IsLabel v (M host plan) =
+    IsEndpoint v host plan.lport plan.rport × (plan.pos ≤ 1000000000000000000) × (plan.len ≤ 65515) × (plan.window ≤ 65535) ×
+    IsStart v plan.iss plan.shift
 IsLabel v (T host line choice) = IsEntry v host line × (choice.cwnd ≤ 4294967295)
 IsLabel v (K host line) = IsEntry v host line
 IsLabel v (R host line) = IsEntry v host line

@@ -38,7 +38,8 @@ abbrev pub rules_with_queue : Header → (full : Bool) → Name → Endpoint →
 rules_with_queue h full me e how m =
     (rules.NotPeer, not (is_half h.version) && not (is_from_peer me e m)) ∷ (rules.Number, is_bad_number e m) ∷ (rules.Unacceptable, not (is_acceptable e m))
     ∷ (rules.AckRange, is_bad_ack_range e m) ∷ (rules.QueueFull, full)
-    ∷ (rules.Growth, nat_lt (greatest_window h.initial e m) how.cwnd) ∷ (rules.Sample, how.sample && not (may_sample e m)) ∷ (rules.ScaleUnread, is_unread e m) ∷ []
+    ∷ (rules.Growth, nat_lt (greatest_window h.initial e m) how.cwnd) ∷ (rules.Sample, how.sample && not (may_sample e m))
+    ∷ (rules.ScaleUnread, is_unread e m) ∷ []
 
 abbrev pub connected_rules : Header → Body → Name → Endpoint → TakeChoice → Emission → List (Rule × Bool)
 connected_rules h b me e how m = rules_with_queue h (joins_full_queue h b e m) me e how m

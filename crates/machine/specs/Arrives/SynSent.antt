@@ -33,7 +33,8 @@ greatest_at_syn initial e m = if m.flags.syn && not m.flags.rst && m.flags.ack t
 abbrev pub syn_sent_rules : Initial → Endpoint → TakeChoice → Emission → List (Rule × Bool)
 syn_sent_rules initial e how m =
     (rules.State, not (m.flags.syn || m.flags.rst)) ∷ (rules.AckRange, (m.flags.ack || m.flags.rst) && not (answers_syn e m))
-    ∷ (rules.Growth, nat_lt (greatest_at_syn initial e m) how.cwnd) ∷ (rules.Sample, how.sample && (m.flags.rst || not m.flags.ack || made_again e.makings e.stream.una 1))
+    ∷ (rules.Growth, nat_lt (greatest_at_syn initial e m) how.cwnd)
+    ∷ (rules.Sample, how.sample && (m.flags.rst || not m.flags.ack || made_again e.makings e.stream.una 1))
     ∷ (rules.ScaleUnread, is_unread e m) ∷ []
 
 -- the oldest position that is not acknowledged, once the peer's SYN was taken in SYN-SENT; an acknowledgment is of the own SYN
@@ -43,7 +44,8 @@ una_met e m = if m.flags.ack then max e.stream.una 1 else e.stream.una
 -- the timers then; a round trip is that of the own SYN, while it is not acknowledged
 abbrev pub timers_met : Header → Endpoint → TakeChoice → Emission → ℕ → Timers
 timers_met h e how m moment =
-    persist_taken (rto_taken (timeout_taken h e (how.sample && m.flags.ack && e.stream.una == 0) 1 m.flags.ack moment) (una_met e m == max_made e) false moment) m.window moment
+    persist_taken (rto_taken (timeout_taken h e (how.sample && m.flags.ack
+    && e.stream.una == 0) 1 m.flags.ack moment) (una_met e m == max_made e) false moment) m.window moment
 
 -- in SYN-SENT the peer's SYN is taken: ESTABLISHED with an acknowledgment, else SYN-RECEIVED
 abbrev pub met_peer : Header → Endpoint → TakeChoice → Emission → ℕ → Endpoint
