@@ -15,7 +15,9 @@ ghost use Rattle.trace_reader.specs.Printable.{HasBytes, IsPrintableTrace, with_
 ghost use Rattle.trace_reader.specs.Printed.{header_text, trace_text};
 
 use crate::header::first_text;
-use case_forms::{Answer, Call, Event, Header, Host, Initial, Line, OutOfMemory, Trace, Version, Wire};
+use case_forms::{
+    Answer, Call, Event, Header, Host, Initial, Line, OutOfMemory, Trace, Version, Wire,
+};
 use line_fields::{
     push_answer, push_end, push_hex, push_host, push_number, push_space, push_word, timer_name,
 };
@@ -203,8 +205,7 @@ pub fn printable_law()
 // The elements of a slice of bytes are below 256, as its type says.
 fn slice_bytes(bytes: &[u8])
     ensures { (i : ℕ) → slice_index bytes.now i < 256 }
-{
-}
+{}
 
 // So are those of bytes in memory of their own.
 fn own_bytes(bytes: &segment::Bytes)

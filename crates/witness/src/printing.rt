@@ -174,14 +174,17 @@ pub fn printable_law()
 // The elements of a slice of bytes are below 256, as its type says.
 fn slice_bytes(bytes: &[u8])
     ensures { (i : ℕ) → slice_index bytes.now i < 256 }
-{
-}
+{}
 
 /// A label's bytes are bytes, as the types of values in memory say.
 pub fn label_bytes(label: &Label<NamedLine>)
     ensures { AllByRecursion IsBytePiece (label_pieces label.now) }
 {
-    if let Label::D { answer: Answer::Bytes(bytes), .. } = label {
+    if let Label::D {
+        answer: Answer::Bytes(bytes),
+        ..
+    } = label
+    {
         slice_bytes(bytes.as_slice());
     }
 }
