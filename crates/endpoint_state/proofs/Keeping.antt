@@ -17,7 +17,7 @@ use Rattle.case_forms.specs.declared.calls.Call.{Call}
 use Rattle.verdict.specs.Rules.{first_broken}
 use Rattle.verdict.specs.declared.rule.Rule.TheVariants as rules
 use Rattle.verdict.proofs.RuleLemmas.{none_both}
-use Rattle.hosts.specs.Tables.{Made, gone_out, on, pick, settled, unsent, waiting}
+use Rattle.hosts.specs.Tables.{Both, Made, gone_out, on, pick, settled, unsent, waiting}
 use Rattle.hosts.specs.Hosts.{HostState, World, Turn, Idle, Called, Answered, Deed, Does, Expires, Makes, Sends, Gets, Takes, Drops, Answers, Step, Begin, Finish, Effect, At, turn_of}
 use Rattle.hosts.specs.HostRules.{Permitted, aim_of, call_rules, deed_rules, effect_rules, fresh_rules, just}
 use Rattle.hosts.specs.HostSteps.{act_made, after, call_after, deed_after, effect_after, empty_host, makes, start}
@@ -38,6 +38,7 @@ use Rattle.endpoint_state.proofs.Rooms.{have_room}
 use Rattle.endpoint_state.proofs.Segments.{resets_small, sent_small}
 use Rattle.endpoint_state.specs.Kept.{AreSmall, IsKeptHost, IsKeptWorld, IsReady, IsSmallArrival}
 use Rattle.endpoint_state.specs.SmallSteps.{IsSmallDeed, IsSmallStep}
+use Rattle.endpoint_state.specs.Worlds.{hosts_brought}
 use Rattle.endpoint_state.proofs.Still.{waiting_small}
 
 -- 1. tables
@@ -208,3 +209,13 @@ ready steps h few k =
     let endpoints = k.body.endpoints in
     let listeners = k.body.listeners in
     record { room = have_room steps h.body.endpoints few k.body.kept; endpoints = omega arith; listeners = omega arith; tables = k.tables }
+
+-- 4. a segment that is brought is small, and stands on a wire
+
+wire_kept : (steps : ℕ) (h : HostState tcp_shape) (line : ℕ) (m : Emission) → IsSmallEmission m → IsKeptHost steps h → IsKeptHost steps (record h { wire = insert_entry nat_eq h.wire line m })
+wire_kept steps h line m small k = record { body = k.body; tables = record { made = k.tables.made; wire = all_insert IsSmallEmission h.wire line m small k.tables.wire; inbox = k.tables.inbox } }
+
+pub brought_kept : (steps : ℕ) (hosts new : Both (HostState tcp_shape)) (threads : List (ℕ × Turn tcp_shape)) (count : ℕ) (host : Host) (line : ℕ) (m : Emission) → IsSmallEmission m → new ≡ hosts_brought hosts host line m
+    → IsKeptWorld steps (record { hosts = hosts; threads = threads; count = count }) → IsKeptWorld steps (record { hosts = new; threads = threads; count = count })
+brought_kept steps hosts new threads count Zero line m small is k = rw is (record { zero = wire_kept steps hosts.zero line m small k.zero; one = k.one; count = k.count })
+brought_kept steps hosts new threads count One line m small is k = rw is (record { zero = k.zero; one = wire_kept steps hosts.one line m small k.one; count = k.count })

@@ -1,4 +1,6 @@
--- Where threads are, as code keeps them.
+-- Where threads are, as code keeps them, and the call that a thread waits for.
+use Rattle.std.specs.Prelude.{Option, None, Some}
+use Rattle.case_forms.specs.declared.calls.Call.{Call}
 use Rattle.hosts.specs.Hosts.{Turn, Idle, Called, Answered}
 use Rattle.machine.specs.Machine.{tcp_shape}
 use Rattle.endpoint_state.specs.declared.threads.Place.{Place}
@@ -8,3 +10,9 @@ abbrev pub turn_shown : Place → Turn tcp_shape
 turn_shown places.Idle = Idle
 turn_shown (places.Called call) = Called call
 turn_shown (places.Answered answer) = Answered answer
+
+-- the call that is open and had no effect yet
+abbrev pub pending_call : Turn tcp_shape → Option Call
+pending_call Idle = None
+pending_call (Called call) = Some call
+pending_call (Answered answer) = None

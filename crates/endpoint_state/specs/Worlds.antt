@@ -1,8 +1,12 @@
 -- What a case has come to: the machine's world, of which all is discarded that may be, and how many steps led there.
-use Rattle.std.specs.Prelude.{ℕ, suc}
+use Rattle.std.specs.Prelude.{ℕ, suc, nat_eq}
+use Rattle.indexmap.specs.IndexMap.{insert_entry}
+use Rattle.case_forms.specs.declared.calls.Host.{Host}
 use Rattle.case_forms.specs.declared.trace.Header.{Header}
-use Rattle.hosts.specs.Hosts.{World, Step}
+use Rattle.hosts.specs.Tables.{Both, pick, with_host}
+use Rattle.hosts.specs.Hosts.{HostState, World, Step}
 use Rattle.hosts.specs.HostSteps as hosts
+use Rattle.machine.specs.declared.endpoint.Emission.{Emission}
 use Rattle.machine.specs.Machine.{tcp, tcp_shape}
 use Rattle.machine.specs.Forgetting.{forget}
 
@@ -20,3 +24,11 @@ start header = record { header = header; world = hosts.start (tcp header); steps
 -- after one step more at a moment
 abbrev pub after : Progress → ℕ → Step tcp_shape → Progress
 after p moment step = record p { world = forget (hosts.after (tcp p.header) moment p.world step); steps = suc p.steps }
+
+-- both hosts, once a segment stands on that host's wire under that line, in place of one that stood there
+abbrev pub hosts_brought : Both (HostState tcp_shape) → Host → ℕ → Emission → Both (HostState tcp_shape)
+hosts_brought hosts host line m = with_host hosts host (record (pick hosts host) { wire = insert_entry nat_eq (pick hosts host).wire line m })
+
+-- once it was brought there; that is no step, and what came in stays as it was
+abbrev pub brought : Progress → Host → ℕ → Emission → Progress
+brought p host line m = record p { world = record p.world { hosts = hosts_brought p.world.hosts host line m } }

@@ -1,6 +1,6 @@
 //! What one host has, and how it is found.
 
-ghost use Rattle.std.specs.Prelude.{◌≡◌, slice_get};
+ghost use Rattle.std.specs.Prelude.{◌≡◌, length, slice_get};
 ghost use Rattle.std.specs.Option.{option_copied};
 ghost use Rattle.machine.specs.Bodies.{empty, endpoint_of, given, is_connected, if_live, is_listening, listener_on, place_of, thing_of};
 
@@ -51,6 +51,13 @@ impl Body {
         ensures { result ≡ given self.now number }
     {
         self.sockets.contains_key(&number)
+    }
+
+    /// How many socket numbers were given at this host.
+    pub fn socket_count(&self) -> usize
+        ensures { result ≡ length self.now.sockets }
+    {
+        self.sockets.len()
     }
 
     /// What a socket number names. None: it is not live.

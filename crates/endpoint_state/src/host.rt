@@ -1,10 +1,10 @@
 //! What one host has, and what it does. Moments are in microseconds, windows and thresholds in bytes. Where memory runs out
 //! nothing is changed.
 
-ghost use Rattle.std.specs.Prelude.{◌≡◌, ◌≤◌, true, Some, nat_eq, IfOk, OnOk, OnErr};
+ghost use Rattle.std.specs.Prelude.{◌≡◌, ◌≤◌, true, [], Some, nat_eq, IfOk, OnOk, OnErr};
 ghost use Rattle.std.specs.Map.{lookup};
 ghost use Rattle.indexmap.specs.IndexMap.{insert_entry};
-ghost use Rattle.std.specs.Option.{IfSome};
+ghost use Rattle.std.specs.Option.{IfSome, option_copied};
 ghost use Rattle.std.specs.Result.{result_err};
 ghost use Rattle.verdict.specs.Rules.{first_broken};
 ghost use Rattle.hosts.specs.HostSteps.{empty_host};
@@ -113,6 +113,16 @@ pub(crate) fn arrive(host: &mut HostState, line: u64, m: Emission) -> Result<(),
     ensures err { OnErr result (host.new ≡ host.old) }
 {
     host.inbox.insert(line, Some(m))?;
+    Ok(())
+}
+
+/// A segment of elsewhere stands on the host's wire under this line, in place of one that stood there. Where memory runs out
+/// nothing is changed.
+pub(crate) fn bring(host: &mut HostState, line: u64, emission: &Emission) -> Result<(), OutOfMemory>
+    ensures ok { OnOk result (host.new ≡ record host.old { wire = insert_entry nat_eq host.old.wire line emission.now }) }
+    ensures err { OnErr result (host.new ≡ host.old) }
+{
+    host.wire.insert(line, emission.copy()?)?;
     Ok(())
 }
 
@@ -225,6 +235,27 @@ impl HostState {
             wire: IndexMap::new(alloc),
             inbox: IndexMap::new(alloc),
         }
+    }
+
+    /// What stands on its wire under this line.
+    pub(crate) fn sent(&self, line: u64) -> Option<&Emission>
+        ensures { option_copied result ≡ lookup (nat_eq line) self.now.wire }
+    {
+        self.wire.get(&line)
+    }
+
+    /// The segment that was made under this number.
+    pub(crate) fn made(&self, number: u32) -> Option<&Made>
+        ensures { option_copied result ≡ lookup (nat_eq number) self.now.made }
+    {
+        self.made.get(&number)
+    }
+
+    /// Its endpoints, listeners and sockets.
+    pub(crate) fn body(&self) -> &Body
+        ensures { result.now ≡ self.now.body }
+    {
+        &self.body
     }
 
     /// Whether the host gave a socket number.

@@ -8,9 +8,11 @@ ghost use Rattle.machine.specs.Machine.{tcp};
 ghost use Rattle.machine.specs.Calls.{after_call, call_allows};
 ghost use Rattle.endpoint_state.specs.Sides.{AreReady, forget_hosts};
 ghost use Rattle.endpoint_state.specs.Lending.{LendsSide};
+ghost use Rattle.endpoint_state.specs.Worlds.{hosts_brought};
 
 use crate::host::{self, HostState};
 use case_forms::{Answer, Call, Header, Host};
+use machine::Emission;
 use segment::OutOfMemory;
 use std::alloc::Global;
 use std::marker::Model;
@@ -62,6 +64,22 @@ impl Hosts {
         match host {
             Host::Zero => &mut self.zero,
             Host::One => &mut self.one,
+        }
+    }
+
+    /// A segment stands on a host's wire under this line.
+    pub(crate) fn bring(
+        &mut self,
+        host: Host,
+        line: u64,
+        emission: &Emission,
+    ) -> Result<(), OutOfMemory>
+        ensures ok { OnOk result (self.new ≡ hosts_brought self.old host line emission.now) }
+        ensures err { OnErr result (self.new ≡ self.old) }
+    {
+        match host {
+            Host::Zero => host::bring(&mut self.zero, line, emission),
+            Host::One => host::bring(&mut self.one, line, emission),
         }
     }
 

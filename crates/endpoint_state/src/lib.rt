@@ -39,8 +39,10 @@ mod made;
 mod threads;
 mod world;
 
+pub use body::Body;
 pub use calls::{admits_effect, call_allowed, do_call};
 pub use fault::StepFault;
 pub use laws::{acts_keep, emissions_are_small, have_room, kept_longer};
 pub use machine::{Endpoint, Listener};
+pub use made::Made;
 pub use world::World;

@@ -3,13 +3,14 @@
 ghost use Rattle.std.specs.Prelude.{◌≡◌, nat_eq, is_some, false, not, IfOk, OnOk, OnErr};
 ghost use Rattle.endpoint_state.specs.Turns.{turn_shown};
 ghost use Rattle.std.specs.Map.{lookup};
-ghost use Rattle.std.specs.Option.{option_map};
+ghost use Rattle.std.specs.Option.{option_copied, option_map};
 ghost use Rattle.std.specs.Result.{result_err};
 ghost use Rattle.indexmap.specs.IndexMap.{insert_entry};
 ghost use Rattle.verdict.specs.Rules.{first_broken};
 ghost use Rattle.hosts.specs.HostRules.{begin_rules, end_rules, pending_rules};
 ghost use Rattle.hosts.specs.Hosts.{Answered, Called, Idle, turn_of};
 ghost use Rattle.machine.specs.Same.{same_answer};
+ghost use Rattle.endpoint_state.specs.Turns.{pending_call};
 ghost use Rattle.endpoint_state.specs.Faults.{fault_rule};
 
 use crate::fault::StepFault;
@@ -103,6 +104,16 @@ pub(crate) fn open_call(threads: &IndexMap<u32, Turn>, thread: u32) -> Result<&C
         Some(Place::Called(call)) => Ok(call),
         Some(Place::Answered(_)) => Err(Rule::DoneTwice),
         Some(Place::Idle) | None => Err(Rule::NoCall),
+    }
+}
+
+/// The call of a thread that is open and had no effect yet. None: there is none, or it had its effect.
+pub(crate) fn pending_call(threads: &IndexMap<u32, Turn>, thread: u32) -> Option<&Call>
+    ensures { option_copied result ≡ pending_call (turn_of thread threads.now.entries) }
+{
+    match place_in(threads, thread) {
+        Some(Place::Called(call)) => Some(call),
+        Some(Place::Answered(_)) | Some(Place::Idle) | None => None,
     }
 }
 

@@ -1,25 +1,34 @@
 //! What a case has come to: the two hosts, where threads are in their calls, and how many steps were done.
 
-ghost use Rattle.std.specs.Prelude.{◌≡◌, ◌<◌, ◌≤◌, ◌+◌, ◌^◌, suc, None, OnOk, OnErr};
+ghost use Rattle.std.specs.Prelude.{◌≡◌, ◌<◌, ◌≤◌, ◌+◌, ◌^◌, suc, nat_eq, None, OnOk, OnErr};
+ghost use Rattle.std.specs.Map.{lookup};
+ghost use Rattle.std.specs.Option.{option_copied};
 ghost use Rattle.std.specs.Result.{result_err};
 ghost use Rattle.verdict.specs.Rules.{first_broken};
-ghost use Rattle.hosts.specs.Hosts.{At, Begin, Finish, Answers, Does, Drops, Gets, Makes, Sends, Takes};
+ghost use Rattle.hosts.specs.Tables.{pick};
+ghost use Rattle.hosts.specs.Hosts.{At, Begin, Finish, Answers, Does, Drops, Gets, Makes, Sends, Takes, turn_of};
 ghost use Rattle.hosts.specs.HostRules.{step_rules};
-ghost use Rattle.machine.specs.Bounds.{greatest_position, most_steps};
+ghost use Rattle.machine.specs.Bounds.{greatest_position, most_steps, IsSmallEmission};
 ghost use Rattle.machine.specs.Machine.{tcp};
 ghost use Rattle.endpoint_state.specs.Faults.{fault_rule};
+ghost use Rattle.endpoint_state.specs.Kept.{IsKeptWorld};
 ghost use Rattle.endpoint_state.specs.Kinds.{expiry_of};
-ghost use Rattle.endpoint_state.specs.Worlds.{after, start};
+ghost use Rattle.endpoint_state.specs.Turns.{pending_call};
+ghost use Rattle.endpoint_state.specs.Worlds.{after, brought, start};
 ghost use Rattle.endpoint_state.specs.Sides.{AreReady};
 
+use crate::body::Body;
 use crate::fault::StepFault;
 use crate::host;
 use crate::host_pair::Hosts;
-use crate::threads::{Turn, admits_begin, admits_end, begin, finish};
+use crate::made::Made;
+use crate::threads::{Turn, admits_begin, admits_end, begin, finish, pending_call};
 use case_forms::{
     Answer, Call, Expired, Header, Host, Ports, Recovery, SegmentPlan, TakeChoice, Wire,
 };
 use indexmap::IndexMap;
+use machine::Emission;
+use segment::OutOfMemory;
 use std::alloc::Global;
 use std::marker::Model;
 use verdict::Rule;
@@ -79,6 +88,60 @@ impl World {
         ensures { result ≡ self.now.steps }
     {
         self.steps
+    }
+
+    /// What a host put on its wire with this line, or what was brought there under it. None: nothing.
+    pub fn sent(&self, host: Host, line: u64) -> Option<&Emission>
+        ensures { option_copied result ≡ lookup (nat_eq line) (pick self.now.world.hosts host).wire }
+    {
+        self.hosts.near(host).sent(line)
+    }
+
+    /// The segment that a host made under this number. None: it made none under it.
+    pub fn made(&self, host: Host, number: u32) -> Option<&Made>
+        ensures { option_copied result ≡ lookup (nat_eq number) (pick self.now.world.hosts host).made }
+    {
+        self.hosts.near(host).made(number)
+    }
+
+    /// How many segments both hosts made; the last has this number.
+    pub fn count(&self) -> u32
+        ensures { result ≡ self.now.world.count }
+    {
+        self.count
+    }
+
+    /// The endpoints, listeners and sockets of a host.
+    pub fn body(&self, host: Host) -> &Body
+        ensures { result.now ≡ (pick self.now.world.hosts host).body }
+    {
+        self.hosts.near(host).body()
+    }
+
+    /// The call of a thread that is open and had no effect yet. None: there is none, or it had its effect.
+    pub fn pending_call(&self, thread: u32) -> Option<&Call>
+        ensures { option_copied result ≡ pending_call (turn_of thread self.now.world.threads) }
+    {
+        pending_call(&self.threads, thread)
+    }
+
+    /// What holds of every world here: a call that does nothing, whose contract says it.
+    pub fn is_kept(&self)
+        ensures { IsKeptWorld self.now.steps self.now.world }
+    {
+        let _ = &self.alloc;
+    }
+
+    /// A segment of elsewhere stands on a host's wire under this line, in place of one that stood there. It is no step, and
+    /// nothing else is changed: a copy that came in stays as it was. The error is that memory ran out, and then nothing is
+    /// changed.
+    pub fn bring(&mut self, host: Host, line: u64, emission: &Emission) -> Result<(), OutOfMemory>
+        requires small { IsSmallEmission emission.now }
+        ensures ok { OnOk result (self.new ≡ brought self.old host line emission.now) }
+        ensures err { OnErr result (self.new ≡ self.old) }
+    {
+        self.hosts.bring(host, line, emission)?;
+        Ok(())
     }
 
     /// Whether a thread may begin a call: it is in no other. An error is the first rule that is broken.

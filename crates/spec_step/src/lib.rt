@@ -6,14 +6,17 @@
 //! - `line`: a step that takes a line: the least rule that it breaks, and the world after it
 //! - `hidden`: a step that takes none: the same
 //! - `step`: any step
+//! - `wires`: what stands on a host's wire under a line, and a segment that is brought there, which is no step
 #![tactic(auto)]
 
 mod hidden;
 mod line;
 mod step;
+mod wires;
 
 pub use endpoint_state::StepFault;
 pub use hidden::apply_hidden;
 pub use line::apply_line;
 pub use machine::Emission;
 pub use step::{Label, admits, apply};
+pub use wires::{bring, sent};

@@ -1,0 +1,34 @@
+//! What stands on the hosts' wires, by host and line.
+
+ghost use Rattle.std.specs.Prelude.{◌≡◌, nat_eq, OnOk, OnErr};
+ghost use Rattle.std.specs.Map.{lookup};
+ghost use Rattle.std.specs.Option.{option_copied};
+ghost use Rattle.hosts.specs.Tables.{pick};
+ghost use Rattle.machine.specs.Bounds.{IsSmallEmission};
+ghost use Rattle.endpoint_state.specs.Worlds.{brought};
+
+use case_forms::{Host, OutOfMemory};
+use endpoint_state::World;
+use machine::Emission;
+
+/// What a host put on its wire with this line of the trace, or what was brought there under it. None: nothing.
+pub fn sent(world: &World, host: Host, line: u64) -> Option<&Emission>
+    ensures { option_copied result ≡ lookup (nat_eq line) (pick world.now.world.hosts host).wire }
+{
+    world.sent(host, line)
+}
+
+/// Puts a segment on a host's wire under this line, in place of one that stood there. It is no step, and nothing else is
+/// changed: a copy that came in before stays as it was. The error is that memory ran out, and then nothing is changed.
+pub fn bring(
+    world: &mut World,
+    host: Host,
+    line: u64,
+    emission: &Emission,
+) -> Result<(), OutOfMemory>
+    requires small { IsSmallEmission emission.now }
+    ensures ok { OnOk result (world.new ≡ brought world.old host line emission.now) }
+    ensures err { OnErr result (world.new ≡ world.old) }
+{
+    world.bring(host, line, emission)
+}

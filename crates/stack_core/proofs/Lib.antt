@@ -1,0 +1,12 @@
+pub mod Growing
+pub mod Sockets
+pub mod Owned
+pub mod Cores
+pub mod AnswerLemmas
+pub mod MakingLemmas
+pub mod Same
+pub mod Shown
+pub mod OutgoingLemmas
+pub mod MadeLemmas
+pub mod TimerLemmas
+pub mod ArriveLemmas

@@ -1,0 +1,35 @@
+-- What goes out shows the made segment.
+use Rattle.std.proofs.Common.{◌≡◌, ℕ, Bool, true, false, Option, refl}
+use Rattle.std.specs.Prelude.{◌||◌, not}
+use Rattle.case_forms.specs.declared.steps.Flags.{Flags}
+use Rattle.segment.specs.declared.fields.Segment.{Segment}
+use Rattle.segment.specs.Encoding.{as_written}
+use Rattle.machine.specs.declared.endpoint.Emission.{Emission}
+use Rattle.machine.specs.Wire.{shows, same_flags}
+use Rattle.stack_core.specs.Outgoing.{flag_bits, segment_of}
+use Rattle.stack_core.proofs.Same.{bytes_same, number_same}
+
+or_true : (a : Bool) → (a || true) ≡ true
+or_true true = refl
+or_true false = refl
+
+bits : (ack rst syn fin : Bool) (s : Segment) → let f : Flags = record { ack = ack; rst = rst; syn = syn; fin = fin } in s.flags ≡ flag_bits f → same_flags s f ≡ true
+bits true true true true s is = rw is refl
+bits true true true false s is = rw is refl
+bits true true false true s is = rw is refl
+bits true true false false s is = rw is refl
+bits true false true true s is = rw is refl
+bits true false true false s is = rw is refl
+bits true false false true s is = rw is refl
+bits true false false false s is = rw is refl
+bits false true true true s is = rw is refl
+bits false true true false s is = rw is refl
+bits false true false true s is = rw is refl
+bits false true false false s is = rw is refl
+bits false false true true s is = rw is refl
+bits false false true false s is = rw is refl
+bits false false false true s is = rw is refl
+bits false false false false s is = rw is refl
+
+pub shown : (m : Emission) (mss : Option ℕ) → shows (as_written (segment_of m mss)) m ≡ true
+shown m mss = rw (number_same m.lport, number_same m.rport, number_same m.seq.0, number_same m.ack_seq.0, number_same m.window, bits m.flags.ack m.flags.rst m.flags.syn m.flags.fin (as_written (segment_of m mss)) refl, or_true m.answers, or_true (not m.flags.ack), bytes_same m.payload) refl

@@ -1,0 +1,5 @@
+use Rattle.stack_core.proofs.ArriveLemmas.{settled_taken}
+use Rattle.stack_core.proofs.host_core.HostCore.settle.Goals as goal
+
+pub returns-clause-ok : goal.returns-clause-ok
+returns-clause-ok c = settled_taken c.args.self.now c.add.new.self c.recover.new.self c.args.line c.args.ports c.in-Some.choice c.me-host.result c.in-Some.ensures.some c.me-host.ensures c.in_ok-add.ensures.ok c.in_ok-recover.ensures.ok

@@ -1,0 +1,62 @@
+-- When a call has no answer yet.
+use Rattle.std.specs.Prelude.{◌≡◌, ◌≤◌, ◌⊎◌, ◌-◌, ℕ, max, Bool, true, false, Option, None, Some, slice_get}
+use Rattle.std.specs.Option.{IsSomeAnd, option_map_or}
+use Rattle.case_forms.specs.declared.calls.Answer.TheVariants as answers
+use Rattle.case_forms.specs.declared.calls.Call.{Call}
+use Rattle.case_forms.specs.declared.calls.Call.TheVariants as calls
+use Rattle.case_forms.specs.declared.calls.State.{State}
+use Rattle.case_forms.specs.declared.calls.State.TheVariants as states
+use Rattle.streams.specs.Sent.{end_of}
+use Rattle.machine.specs.Bodies.{Body, thing_of}
+use Rattle.machine.specs.Calls.{call_allows}
+use Rattle.machine.specs.declared.endpoint.Endpoint.{Endpoint}
+use Rattle.machine.specs.declared.endpoint.Thing.{Thing}
+use Rattle.machine.specs.declared.endpoint.Thing.TheVariants.{Listens, Ends}
+
+-- a call on a socket number
+abbrev pub IsOnSocket : Call → Type 0
+IsOnSocket (calls.Listen host port backlog) = ⊥
+IsOnSocket (calls.Connect host lport rport) = ⊥
+IsOnSocket call = Unit {0}
+
+-- the handshake is not done (RFC 9293, 3.5)
+abbrev pub is_before_handshake : State → Bool
+is_before_handshake states.SynSent = true
+is_before_handshake states.SynReceived = true
+is_before_handshake state = false
+
+-- how many bytes that were accepted are not acknowledged
+abbrev pub unacknowledged : Endpoint → ℕ
+unacknowledged e = end_of e.stream.accepted - max e.stream.una 1
+
+-- a send waits: before the handshake is done, or while the ring is full
+abbrev pub SendWaits : ℕ → Endpoint → Type 0
+SendWaits ring e = (is_before_handshake e.state ≡ true) ⊎ (ring ≤ unacknowledged e)
+
+abbrev pub IfSendWaits : ℕ → Endpoint → Call → Type 0
+IfSendWaits ring e (calls.Send n bytes) = SendWaits ring e
+IfSendWaits ring e call = Unit {0}
+
+-- the endpoint that a live socket number names
+abbrev pub thing_endpoint : Body → Thing → Option Endpoint
+thing_endpoint b (Listens l) = None
+thing_endpoint b (Ends i) = slice_get b.endpoints i
+
+abbrev pub endpoint_named : Body → ℕ → Option Endpoint
+endpoint_named b n = option_map_or (thing_endpoint b) (thing_of b n) None
+
+-- a send on this socket number waits at the endpoint that it names
+abbrev pub WaitsAt : ℕ → Body → ℕ → Call → Type 0
+WaitsAt ring b n call = (e : Endpoint) → endpoint_named b n ≡ Some e → IfSendWaits ring e call
+
+abbrev pub IfSendingWaits : ℕ → Body → Call → Type 0
+IfSendingWaits ring b (calls.Send n bytes) = WaitsAt ring b n (calls.Send n bytes)
+IfSendingWaits ring b call = Unit {0}
+
+-- a call waits: it may be answered `again`, and a send waits for the handshake or for room in the ring
+abbrev pub Waits : ℕ → Body → Call → Type 0
+Waits ring b call = (call_allows b call answers.Again ≡ true) × IfSendingWaits ring b call
+
+-- each live socket number of an endpoint has its endpoint
+abbrev pub IsNamed : Body → Type 0
+IsNamed b = (n i : ℕ) → thing_of b n ≡ Some (Ends i) → IsSomeAnd (slice_get b.endpoints i) (λ e. Unit {0})

@@ -1,0 +1,80 @@
+-- What an event adds that lets a segment arrive.
+use Rattle.std.specs.Prelude.{◌≡◌, ◌⊎◌, ◌+◌, ℕ, Bool, true, false, nat_lt}
+use Rattle.case_forms.specs.declared.calls.Ports.{Ports}
+use Rattle.case_forms.specs.declared.steps.TakeChoice.{TakeChoice}
+use Rattle.case_forms.specs.declared.timer.Recovery.{Recovery}
+use Rattle.case_forms.specs.declared.trace.Wire.{Wire}
+use Rattle.hosts.specs.Hosts.{Answers, At, Does, Drops, Gets, Takes}
+use Rattle.hosts.specs.HostRules.{Permitted}
+use Rattle.machine.specs.declared.endpoint.Emission.{Emission}
+use Rattle.machine.specs.Machine.{tcp, tcp_shape}
+use Rattle.recordings.specs.Books.{Bring, Flying}
+use Rattle.stack_core.specs.declared.tick.Tick.{Tick}
+use Rattle.stack_core.specs.Cores.{Core, line_to_come, opened, with_item, with_step, world}
+
+-- it is brought
+abbrev pub brought : Core → Tick → Flying tcp_shape → Core
+brought c tick f = with_item (opened c tick) (Bring f)
+
+-- it comes in: its line
+abbrev pub came : Core → Tick → Flying tcp_shape → Wire → Core
+came c tick f wire = with_step (brought c tick f) (At c.recorded.me (Gets (line_to_come c) f.line wire))
+
+-- in an event that began: it is brought, and comes in
+abbrev pub IsCameIn : Core → Flying tcp_shape → Core → Type 0
+IsCameIn c f d = (wire : Wire) × (wire.bytes ≡ f.emission.bytes) × (d ≡ with_step (with_item c (Bring f)) (At c.recorded.me (Gets (line_to_come c) f.line wire)))
+
+-- what waits under a line may be dropped: it is there
+abbrev pub MayDrop : Core → ℕ → Type 0
+MayDrop c n = Permitted (tcp c.recorded.header) c.last.moment (world c) (At c.recorded.me (Drops n))
+
+-- it may be taken, with its bytes
+abbrev pub MayTake : Core → ℕ → Type 0
+MayTake c n = Permitted (tcp c.recorded.header) c.last.moment (world c) (At c.recorded.me (Takes n (record { cwnd = 0; keep = true; sample = false })))
+
+-- it may be answered by a reset
+abbrev pub MayReset : Core → ℕ → Type 0
+MayReset c n = Permitted (tcp c.recorded.header) c.last.moment (world c) (At c.recorded.me (Answers n))
+
+-- fast recovery may begin at the endpoint of these ports
+abbrev pub MayRecover : Core → Ports → Type 0
+MayRecover c ports = (cwnd : ℕ) × (ssthresh : ℕ) × Permitted (tcp c.recorded.header) c.last.moment (world c) (At c.recorded.me (Does (record { lport = ports.lport; rport = ports.rport; cwnd = cwnd; ssthresh = ssthresh })))
+
+-- it began, exactly where it may
+abbrev pub IsRecovered : Core → Ports → Core → Type 0
+IsRecovered c ports d = ((x : Recovery) × (x.lport ≡ ports.lport) × (x.rport ≡ ports.rport) × (d ≡ with_step c (At c.recorded.me (Does x)))) ⊎ ((d ≡ c) × (MayRecover c ports → ⊥))
+
+-- what waits was taken with its bytes, and fast recovery began where it may; else it was answered by a reset; else it was dropped
+pub data IsSettled (c : Core) (n : ℕ) (ports : Ports) (d : Core) : Type 0 where
+  Taken : (choice : TakeChoice) (keep : choice.keep ≡ true) (may : MayTake c n) (recovered : IsRecovered (with_step c (At c.recorded.me (Takes n choice))) ports d) → IsSettled c n ports d
+  Reset : (not_taken : MayTake c n → ⊥) (may : MayReset c n) (row : d ≡ with_step c (At c.recorded.me (Answers n))) → IsSettled c n ports d
+  Dropped : (not_taken : MayTake c n → ⊥) (no_reset : MayReset c n → ⊥) (row : d ≡ with_step c (At c.recorded.me (Drops n))) → IsSettled c n ports d
+
+-- what memory may leave of it: nothing, or that it was taken
+abbrev pub IsSettledShort : Core → ℕ → Core → Type 0
+IsSettledShort c n d = (d ≡ c) ⊎ ((choice : TakeChoice) × (d ≡ with_step c (At c.recorded.me (Takes n choice))))
+
+-- the ports of the endpoint that a segment is for
+abbrev pub ports_of : Emission → Ports
+ports_of m = record { lport = m.rport; rport = m.lport }
+
+-- an event let a segment arrive
+pub record IsArrived (c : Core) (tick : Tick) (f : Flying tcp_shape) (d : Core) : Type 0 where
+  pub wire : Wire
+  pub bytes : wire.bytes ≡ f.emission.bytes
+  pub settled : IsSettled (came c tick f wire) (line_to_come c) (ports_of f.emission) d
+
+-- the segment is this host's own, or older than the maximum segment lifetime
+abbrev pub IsNotLetIn : Core → Tick → Flying tcp_shape → Type 0
+IsNotLetIn c tick f = (f.key.host ≡ c.recorded.me) ⊎ (nat_lt (f.emission.moment + c.recorded.header.msl) tick.moment ≡ true)
+
+-- what memory may leave of it: the tick has passed, it was brought, came in, or was taken too
+pub data IsArrivedShort (c : Core) (tick : Tick) (f : Flying tcp_shape) (d : Core) : Type 0 where
+  Ticked : (row : d ≡ opened c tick) → IsArrivedShort c tick f d
+  Brought : (row : d ≡ brought c tick f) → IsArrivedShort c tick f d
+  Came : (wire : Wire) (row : d ≡ came c tick f wire) → IsArrivedShort c tick f d
+  Took : (wire : Wire) (choice : TakeChoice) (row : d ≡ with_step (came c tick f wire) (At c.recorded.me (Takes (line_to_come c) choice))) → IsArrivedShort c tick f d
+
+abbrev pub IsArrival : Core → Tick → Flying tcp_shape → Bool → Core → Type 0
+IsArrival c tick f true d = IsArrived c tick f d
+IsArrival c tick f false d = (d ≡ c) × IsNotLetIn c tick f

@@ -1,0 +1,34 @@
+-- What the events of a call add.
+use Rattle.std.specs.Prelude.{◌≡◌, ◌⊎◌, ℕ}
+use Rattle.case_forms.specs.declared.calls.Answer.{Answer}
+use Rattle.case_forms.specs.declared.calls.Call.{Call}
+use Rattle.hosts.specs.Hosts.{Begin, Called, Effect, Finish, turn_of}
+use Rattle.machine.specs.Forgetting.{forget_body}
+use Rattle.stack_core.specs.declared.answered.Answered.{Answered}
+use Rattle.stack_core.specs.declared.tick.Tick.{Tick}
+use Rattle.stack_core.specs.Answers.{Waits}
+use Rattle.stack_core.specs.Cores.{Core, line_to_come, opened, own_body, with_step, world}
+
+-- a call began: its line
+abbrev pub begun : Core → Tick → ℕ → Call → Core
+begun c tick thread call = with_step (opened c tick) (Begin (line_to_come c) thread call)
+
+-- a call had its effect
+abbrev pub effected : Core → Tick → ℕ → Answer → Core
+effected c tick thread answer = with_step (opened c tick) (Effect thread answer)
+
+-- and ended with that answer: its line
+abbrev pub answered : Core → Tick → ℕ → Answer → Core
+answered c tick thread answer = with_step (effected c tick thread answer) (Finish (line_to_come c) thread answer)
+
+-- an event ended a call, with this answer
+abbrev pub IsAttempted : Core → Tick → ℕ → Answered → Core → Type 0
+IsAttempted c tick thread a d = (a.thread ≡ thread) × (d ≡ answered c tick thread a.answer)
+
+-- what memory may leave of it: the tick has passed, or the effect stands too
+abbrev pub IsAttemptShort : Core → Tick → ℕ → Core → Type 0
+IsAttemptShort c tick thread d = (d ≡ opened c tick) ⊎ ((answer : Answer) × (d ≡ effected c tick thread answer))
+
+-- no call of the thread is open without effect, or it waits; what a host may let go matters to neither
+abbrev pub NoAnswer : Core → ℕ → Type 0
+NoAnswer c thread = (call : Call) → turn_of thread (world c).threads ≡ Called call → Waits c.ring (forget_body (own_body c)) call

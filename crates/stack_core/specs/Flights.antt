@@ -1,0 +1,12 @@
+-- What holds of a segment on its way.
+use Rattle.std.specs.Prelude.{◌≡◌}
+use Rattle.case_forms.specs.declared.trace.Wire.{Wire}
+use Rattle.segment.specs.Layout.{IsSegment}
+use Rattle.machine.specs.Bounds.{IsSmallEmission}
+use Rattle.machine.specs.declared.endpoint.Emission.{Emission}
+
+-- what flies is small, and has the bytes of a segment
+pub record IsFlying (m : Emission) (wire : Wire) : Type 0 where
+  pub small : IsSmallEmission m
+  pub bytes : wire.bytes ≡ m.bytes
+  pub reads : IsSegment wire.bytes wire.seg

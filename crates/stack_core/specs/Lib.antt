@@ -1,0 +1,12 @@
+pub mod Flights
+pub mod Keys
+pub mod Entries
+pub mod Recordings
+pub mod Cores
+pub mod Answers
+pub mod Makings
+pub mod Outgoing
+pub mod CallEvents
+pub mod PumpEvents
+pub mod TimerEvents
+pub mod ArrivalEvents

@@ -1,0 +1,44 @@
+-- What an event adds that looks for a timer.
+use Rattle.std.specs.Prelude.{◌≡◌, ℕ, Bool, true, false}
+use Rattle.case_forms.specs.declared.calls.Host.{Host}
+use Rattle.case_forms.specs.declared.calls.Ports.{Ports}
+use Rattle.case_forms.specs.declared.taken_line.Expired.{Expired}
+use Rattle.case_forms.specs.declared.timer.Expiry.{Expiry}
+use Rattle.case_forms.specs.declared.timer.Growth.{Growth}
+use Rattle.case_forms.specs.declared.timer.Timer.{Timer}
+use Rattle.case_forms.specs.declared.timer.Timer.TheVariants.{Giveup, Msl2, Persist, Rto}
+use Rattle.hosts.specs.Hosts.{At, Expires, Step}
+use Rattle.hosts.specs.HostRules.{Permitted}
+use Rattle.machine.specs.Machine.{tcp, tcp_shape}
+use Rattle.machine.specs.Steps.{growth_of, timer_of}
+use Rattle.stack_core.specs.declared.tick.Tick.{Tick}
+use Rattle.stack_core.specs.Cores.{Core, line_to_come, opened, with_step}
+use Rattle.stack_core.specs.Recordings.{Recorded, world_left}
+
+-- the line of a timer that expires
+abbrev pub expiry_step : Host → ℕ → Ports → Expired → Step tcp_shape
+expiry_step me line ports expired = At me (Expires line (record { lport = ports.lport; rport = ports.rport; timer = timer_of expired }) (growth_of expired))
+
+abbrev pub expired : Core → Tick → Ports → Expired → Core
+expired c tick ports e = with_step (opened c tick) (expiry_step c.recorded.me (line_to_come c) ports e)
+
+-- no line of a retransmission timer, a persist timer or a wait in TIME-WAIT is permitted at this moment
+abbrev pub NoneDueAt : Recorded → ℕ → Type 0
+NoneDueAt r moment = (x : Expiry) (growth : Growth) → (x.timer ≡ Giveup → ⊥) → Permitted (tcp r.header) moment (world_left r) (At r.me (Expires 0 x growth)) → ⊥
+
+abbrev pub NoneDue : Core → ℕ → Type 0
+NoneDue c moment = NoneDueAt c.recorded moment
+
+-- none of the three is at the endpoint of these ports, with the least values
+abbrev pub RefusesAt : Recorded → ℕ → Ports → Timer → Type 0
+RefusesAt r moment ports timer = Permitted (tcp r.header) moment (world_left r) (At r.me (Expires 0 (record { lport = ports.lport; rport = ports.rport; timer = timer }) (record { cwnd = 0; ssthresh = 0 }))) → ⊥
+
+pub record IsRefused (r : Recorded) (moment : ℕ) (ports : Ports) : Type 0 where
+  pub rto : RefusesAt r moment ports Rto
+  pub persist : RefusesAt r moment ports Persist
+  pub msl2 : RefusesAt r moment ports Msl2
+
+-- an event found a timer that expired, or none due
+abbrev pub IsTimed : Core → Tick → Bool → Core → Type 0
+IsTimed c tick true d = (ports : Ports) × (e : Expired) × (d ≡ expired c tick ports e)
+IsTimed c tick false d = (d ≡ c) × NoneDue c tick.moment

@@ -1,0 +1,94 @@
+//! The open call of a thread has its effect, and ends.
+
+ghost use Rattle.std.specs.Prelude.{◌≡◌, ◌<◌, ◌≤◌, ℕ, length, IfNone, IfOk, OnErr};
+ghost use Rattle.std.specs.Option.{IfSome};
+ghost use Rattle.hosts.specs.Hosts.{Effect};
+ghost use Rattle.hosts.specs.HostRules.{Permitted};
+ghost use Rattle.hosts.specs.Tables.{lane};
+ghost use Rattle.hosts.specs.Hosts.{turn_of};
+ghost use Rattle.machine.specs.Machine.{tcp};
+ghost use Rattle.stack_core.specs.Cores.{GivesNext, IsAfter, next_socket, own_body, world};
+ghost use Rattle.stack_core.specs.Entries.{steps_in};
+ghost use Rattle.stack_core.specs.CallEvents.{IsAttempted, IsAttemptShort, NoAnswer};
+
+use crate::answered::Answered;
+use crate::answers::choose;
+use crate::host_core::HostCore;
+use crate::tick::Tick;
+use case_forms::{Answer, Host, OutOfMemory, TakenLine};
+use endpoint_state::Body;
+use machine_laws::forgetting_is_free;
+use spec_step::Label;
+
+impl HostCore {
+    /// The open call of a thread of this host has its effect, and ends with that answer: its line. None, and nothing is changed:
+    /// the thread has no open call without effect, or the call waits (for `send`: before the handshake is done, or while the
+    /// ring is full). The error is that memory ran out; then the tick has passed, and the effect may stand without the end.
+    pub fn attempt(&mut self, thread: u32, tick: Tick) -> Result<Option<Answered>, OutOfMemory>
+        requires tick { IsAfter self.old.last tick }
+        requires events { self.old.events < 10000000 }
+        requires lane { lane thread ≡ self.old.recorded.me }
+        ensures some { IfOk result (λ o. IfSome o (λ a. IsAttempted self.old tick thread a self.new)) }
+        ensures none { IfOk result (λ o. IfNone o ((self.new ≡ self.old) × NoAnswer self.old thread)) }
+        ensures err { OnErr result (IsAttemptShort self.old tick thread self.new) }
+    {
+        self.bounds();
+        let answer = match self.answer(thread) {
+            Ok(Some(answer)) => answer,
+            Ok(None) => return Ok(None),
+            Err(error) => {
+                self.open(tick);
+                return Err(error);
+            }
+        };
+        self.open(tick);
+        let effect = Label::D {
+            thread,
+            answer: answer.copy()?,
+        };
+        let ending = answer.copy()?;
+        self.add(effect)?;
+        let end = TakenLine::CallEnd {
+            line: self.line(),
+            thread,
+            answer: ending,
+        };
+        self.add(Label::L(end))?;
+        Ok(Some(Answered { thread, answer }))
+    }
+
+    // The answer that the open call of a thread has now. None: there is no such call, or it waits.
+    fn answer(&self, thread: u32) -> Result<Option<Answer>, OutOfMemory>
+        requires few { steps_in self.now.recorded.entries < 1000000000 }
+        ensures permitted { IfOk result (λ o. IfSome o (λ a. (moment : ℕ) → Permitted (tcp self.now.recorded.header) moment (world self.now) (Effect thread a))) }
+        ensures gives { IfOk result (λ o. IfSome o (λ a. GivesNext self.now.recorded.me (own_body self.now) (turn_of thread (world self.now).threads) a)) }
+        ensures none { IfOk result (λ o. IfNone o (NoAnswer self.now thread)) }
+    {
+        forgetting_is_free();
+        self.bounds();
+        self.recording.is_recording();
+        let Some(call) = self.recording.pending_call(thread) else {
+            return Ok(None);
+        };
+        let body = self.recording.body();
+        choose(
+            self.recording.allocator(),
+            body,
+            call,
+            next_socket(self.me(), body),
+            self.config.ring,
+        )
+    }
+}
+
+// The next socket number that a host gives.
+fn next_socket(me: Host, body: &Body) -> u32
+    requires few { length body.now.sockets ≤ 1000000000 }
+    ensures { result ≡ next_socket me body.now }
+{
+    let first = match me {
+        Host::Zero => 2,
+        Host::One => 3,
+    };
+    first + 2 * body.socket_count() as u32
+}

@@ -1,0 +1,67 @@
+//! Segments on their way.
+
+ghost use Rattle.std.specs.Prelude.{◌≡◌};
+ghost use Rattle.stack_core.specs.Keys.{key_shown};
+
+use crate::tick::{Key, Tick};
+use case_forms::{Host, Wire};
+use machine::Emission;
+use std::marker::Model;
+
+/// A segment on its way, with the key and the line with which it went out. `HostCore::pump` alone makes one.
+#[derive(Drop)]
+pub struct Flying {
+    pub(crate) host: Host,
+    pub(crate) tick: Tick,
+    pub(crate) line: u64,
+    pub(crate) emission: Emission,
+    // How it looks on the wire.
+    pub(crate) wire: Wire,
+}
+
+impl Model for Flying {
+    ghost use Rattle.recordings.specs.Books.{Flying};
+    ghost use Rattle.machine.specs.Machine.{tcp_shape};
+    ghost use Rattle.stack_core.specs.Keys.{key_of};
+    ghost use Rattle.stack_core.specs.Flights.{IsFlying};
+
+    ghost Value = { Flying tcp_shape };
+
+    ghost view = { λ a. record { key = key_of a.host a.tick; line = a.line; emission = a.emission } };
+
+    ghost invariant = { λ a. IsFlying a.emission a.wire };
+}
+
+impl Flying {
+    /// The key of the event in which it went out.
+    pub fn key(&self) -> Key
+        ensures { key_shown result ≡ self.now.key }
+    {
+        Key {
+            moment: self.tick.moment,
+            counter: self.tick.counter,
+            host: self.host,
+        }
+    }
+
+    /// The line of its host's book with which it went out.
+    pub fn line(&self) -> u64
+        ensures { result ≡ self.now.line }
+    {
+        self.line
+    }
+
+    /// The segment.
+    pub fn emission(&self) -> &Emission
+        ensures { result.now ≡ self.now.emission }
+    {
+        &self.emission
+    }
+
+    // How it looks on the wire.
+    pub(crate) fn wire(&self) -> &Wire
+        ensures bytes { result.now.bytes ≡ self.now.emission.bytes }
+    {
+        &self.wire
+    }
+}

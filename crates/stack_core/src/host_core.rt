@@ -1,0 +1,175 @@
+//! The core of one host: what it recorded, and what each event asks of it.
+
+ghost use Rattle.std.specs.Prelude.{◌≡◌, ◌≤◌, ◌<◌, ◌+◌, ◌*◌, suc, [], OnOk, OnErr};
+ghost use Rattle.case_forms.specs.Traces.{first_event_line};
+ghost use Rattle.case_forms.specs.Witnesses.{IsWithinLimits};
+ghost use Rattle.hosts.specs.HostSteps.{after};
+ghost use Rattle.machine.specs.Machine.{tcp};
+ghost use Rattle.machine.specs.Steps.{step_of};
+ghost use Rattle.recordings.specs.Books.{Bring};
+ghost use Rattle.recordings.specs.Recordings.{IsKept};
+ghost use Rattle.stack_core.specs.Cores.{Fits, IsAfter, IsNextLine, IsOrderly, IsOwn, line_to_come, lines_taken, opened, with_item, with_step, world};
+ghost use Rattle.stack_core.specs.Entries.{steps_in};
+
+use crate::flying::Flying;
+use crate::recording::Recording;
+use crate::tick::Tick;
+use case_forms::{Header, Host, OutOfMemory};
+use spec_step::Label;
+use std::alloc::Global;
+use std::marker::Model;
+
+/// How a core chooses.
+#[derive(Clone, Copy, Debug, PartialEq, Eq)]
+pub struct CoreConfig {
+    /// The MSS that its SYNs tell, in bytes, 1 to 65495.
+    pub mss: u16,
+    /// How many bytes it holds for the peer's acknowledgment, and how many for its own threads' reads, 1 to 65535.
+    pub ring: u16,
+    /// The initial send sequence number of its first endpoint. Each later one's is 65,536 more.
+    pub first_iss: u32,
+}
+
+/// The core of one host. Contracts see what it recorded, its ring, its last tick and the count of its events.
+#[derive(Drop)]
+pub struct HostCore {
+    pub(crate) recording: Recording,
+    pub(crate) config: CoreConfig,
+    // The number of the next line.
+    line: u64,
+    last: Tick,
+    events: u64,
+    // The initial send sequence number of the next endpoint.
+    pub(crate) iss: u32,
+}
+
+impl Model for HostCore {
+    ghost use Rattle.stack_core.specs.Cores.{Core, IsCore};
+
+    ghost Value = { Core };
+
+    ghost view = { λ a. record { recorded = a.recording; ring = a.config.ring; last = a.last; events = a.events } };
+
+    ghost invariant = { λ a. IsCore a.recording a.line a.last a.events };
+}
+
+impl HostCore {
+    /// The core of a host that recorded nothing yet.
+    pub fn new(alloc: Global, host: Host, header: Header, config: CoreConfig) -> HostCore
+        ensures { result ≡ record { recorded = record { header = header; me = host; entries = [] }; ring = config.ring; last = record { moment = 0; counter = 0 }; events = 0 } }
+    {
+        HostCore {
+            recording: Recording::start(alloc, host, &header),
+            config,
+            line: header.first_event_line(),
+            last: Tick {
+                moment: 0,
+                counter: 0,
+            },
+            events: 0,
+            iss: config.first_iss,
+        }
+    }
+
+    /// What it recorded.
+    pub fn recording(&self) -> &Recording
+        ensures { result.now ≡ self.now.recorded }
+    {
+        &self.recording
+    }
+
+    /// What it recorded is a run of its host: a call that does nothing, whose contract says it.
+    pub fn is_recording(&self)
+        ensures { IsKept self.now.recorded.header self.now.recorded.me (first_event_line self.now.recorded.header) self.now.recorded.entries }
+    {
+        self.recording.is_recording();
+    }
+
+    /// The tick of the last event: moment and counter 0 before the first.
+    pub fn last_tick(&self) -> Tick
+        ensures { result ≡ self.now.last }
+    {
+        self.last
+    }
+
+    /// How many events there were.
+    pub fn events(&self) -> u64
+        ensures { result ≡ self.now.events }
+    {
+        self.events
+    }
+
+    /// The host.
+    pub fn me(&self) -> Host
+        ensures { result ≡ self.now.recorded.me }
+    {
+        self.recording.me()
+    }
+
+    // The number of the next line.
+    pub(crate) fn line(&self) -> u64
+        ensures { result ≡ line_to_come self.now }
+    {
+        self.line
+    }
+
+    // What is known of every core: a call that does nothing, whose contract says it.
+    pub(crate) fn bounds(&self)
+        ensures steps { steps_in self.now.recorded.entries ≤ 4 * self.now.events }
+        ensures own { IsOwn self.now.recorded.me (world self.now) }
+    {
+        let _ = &self.line;
+    }
+
+    // An event begins.
+    pub(crate) fn open(&mut self, tick: Tick)
+        requires tick { IsAfter self.old.last tick }
+        requires events { self.old.events < 10000000 }
+        ensures opened { self.new ≡ opened self.old tick }
+        ensures room { steps_in self.new.recorded.entries + 4 ≤ 4 * self.new.events }
+        ensures events { self.new.events ≤ 10000000 }
+    {
+        self.last = tick;
+        self.events += 1;
+    }
+
+    // A step joins, at the moment of the last tick. The error is that memory ran out, and then nothing is changed.
+    pub(crate) fn add(&mut self, label: Label) -> Result<(), OutOfMemory>
+        requires room { steps_in self.old.recorded.entries < 4 * self.old.events }
+        requires events { self.old.events ≤ 10000000 }
+        requires limits { IsWithinLimits label }
+        requires fits { Fits self.old (step_of label) }
+        requires line { IsNextLine self.old (step_of label) }
+        requires orderly { IsOrderly self.old.recorded.me (world self.old) (step_of label) }
+        ensures ok { OnOk result (self.new ≡ with_step self.old (step_of label)) }
+        ensures count { OnOk result (steps_in self.new.recorded.entries ≡ suc (steps_in self.old.recorded.entries)) }
+        ensures world { OnOk result (world self.new ≡ after (tcp self.old.recorded.header) self.old.last.moment (world self.old) (step_of label)) }
+        ensures err { OnErr result (self.new ≡ self.old) }
+    {
+        let lines = lines_taken(&label);
+        let tick = self.last;
+        self.recording.step(tick, label)?;
+        self.line += lines;
+        Ok(())
+    }
+
+    // A segment of the other host is brought, at the last tick. The error is that memory ran out, and then nothing is changed.
+    pub(crate) fn bring(&mut self, flying: Flying) -> Result<(), OutOfMemory>
+        ensures ok { OnOk result (self.new ≡ with_item self.old (Bring flying)) }
+        ensures err { OnErr result (self.new ≡ self.old) }
+    {
+        let tick = self.last;
+        self.recording.bring(tick, flying)?;
+        Ok(())
+    }
+}
+
+// How many lines a step takes.
+fn lines_taken(label: &Label) -> u64
+    ensures { result ≡ lines_taken (step_of label.now) }
+{
+    match label {
+        Label::L(_) => 1,
+        _ => 0,
+    }
+}

@@ -1,0 +1,69 @@
+//! A made segment on its way out.
+
+ghost use Rattle.std.specs.Prelude.{◌≡◌, ◌≤◌, IfOk, true, length};
+ghost use Rattle.segment.specs.Layout.{IsSegment};
+ghost use Rattle.machine.specs.Wire.{shows};
+ghost use Rattle.stack_core.specs.Outgoing.{flag_bits, greatest_payload, segment_of};
+
+use crate::flying::Flying;
+use case_forms::{Flags, OutOfMemory, Wire};
+use machine::Emission;
+use segment::{Bytes, EncFault, SegFault, Segment, decode, encode};
+use std::alloc::{AllocError, Global};
+
+/// How a made segment goes out, and what flies then.
+#[derive(Drop)]
+pub(crate) struct Outgoing {
+    pub(crate) wire: Wire,
+    pub(crate) flying: Flying,
+}
+
+/// A made segment as it goes out, with this MSS option if there is one. The error is that memory ran out.
+pub(crate) fn wire_of(alloc: Global, m: &Emission, mss: Option<u16>) -> Result<Wire, OutOfMemory>
+    requires short { length m.now.payload ≤ greatest_payload }
+    ensures shows { IfOk result (λ w. shows w.seg m.now ≡ true) }
+    ensures reads { IfOk result (λ w. IsSegment w.bytes w.seg) }
+{
+    let segment = written(alloc, m, mss)?;
+    let bytes = match encode(alloc, &segment) {
+        Ok(bytes) => bytes,
+        Err(EncFault::OutOfMemory) => return Err(AllocError),
+        Err(EncFault::TooLong) => unreachable!(),
+    };
+    let seg = match decode(alloc, bytes.as_slice()) {
+        Ok(seg) => seg,
+        Err(SegFault::OutOfMemory) => return Err(AllocError),
+        // What was written reads again.
+        Err(_) => unreachable!(),
+    };
+    Ok(Wire {
+        bytes: Bytes::from_slice(alloc, bytes.as_slice())?,
+        seg,
+    })
+}
+
+fn written(alloc: Global, m: &Emission, mss: Option<u16>) -> Result<Segment, OutOfMemory>
+    ensures { IfOk result (λ s. s ≡ segment_of m.now mss) }
+{
+    Ok(Segment {
+        src: m.lport,
+        dst: m.rport,
+        seq: m.seq,
+        ack: m.ack_seq,
+        flags: flag_bits(m.flags),
+        window: m.window,
+        mss,
+        options: Bytes::from_slice(alloc, &[])?,
+        payload: m.payload.copy()?,
+    })
+}
+
+fn flag_bits(flags: Flags) -> u8
+    ensures { result ≡ flag_bits flags }
+{
+    let ack = if flags.ack { 16u8 } else { 0 };
+    let rst = if flags.rst { 4u8 } else { 0 };
+    let syn = if flags.syn { 2u8 } else { 0 };
+    let fin = if flags.fin { 1u8 } else { 0 };
+    ack + rst + syn + fin
+}

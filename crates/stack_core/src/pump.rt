@@ -1,0 +1,133 @@
+//! A segment is made, and goes out.
+
+ghost use Rattle.std.specs.Prelude.{◌≡◌, ◌<◌, ◌≤◌, ◌+◌, ◌*◌, suc, IfNone, IfOk, OnOk, OnErr};
+ghost use Rattle.std.specs.Option.{IfSome};
+ghost use Rattle.hosts.specs.Hosts.{At, Makes};
+ghost use Rattle.hosts.specs.HostRules.{Permitted};
+ghost use Rattle.machine.specs.Bounds.{greatest_position, most_steps};
+ghost use Rattle.machine.specs.Machine.{tcp};
+ghost use Rattle.stack_core.specs.Cores.{IsAfter, with_step, world};
+ghost use Rattle.stack_core.specs.Entries.{steps_in};
+ghost use Rattle.stack_core.specs.PumpEvents.{IsPumped, IsPumpedShort, NothingToPump};
+ghost use Rattle.stack_core.specs.Outgoing.{GoesOut, MayGo, WaitsToGo, greatest_payload};
+
+use crate::flying::Flying;
+use crate::host_core::HostCore;
+use crate::makings::find_making;
+use crate::outgoing::{Outgoing, wire_of};
+use crate::tick::Tick;
+use case_forms::{OutOfMemory, SegmentPlan, TakenLine};
+use endpoint::sent;
+use machine_laws::forgetting_is_free;
+use seqno::Word;
+use spec_step::Label;
+
+impl HostCore {
+    /// A segment is made and goes out: its line; it flies. None, and nothing is changed: no segment without RST may be made
+    /// that takes new positions. The error is that memory ran out; then the tick has passed, and the segment may be made and
+    /// not gone out.
+    pub fn pump(&mut self, tick: Tick) -> Result<Option<Flying>, OutOfMemory>
+        requires tick { IsAfter self.old.last tick }
+        requires events { self.old.events < 10000000 }
+        ensures some { IfOk result (λ o. IfSome o (λ f. IsPumped self.old tick f self.new)) }
+        ensures none { IfOk result (λ o. IfNone o ((self.new ≡ self.old) × NothingToPump self.old)) }
+        ensures err { OnErr result (IsPumpedShort self.old tick self.new) }
+    {
+        self.bounds();
+        let Some(plan) = self.plan() else {
+            return Ok(None);
+        };
+        self.open(tick);
+        self.make(plan)?;
+        self.spend_iss(plan);
+        let number = self.recording.count();
+        let flying = self.send(number)?;
+        Ok(Some(flying))
+    }
+
+    // A segment that takes new positions and may be made.
+    fn plan(&self) -> Option<SegmentPlan>
+        requires steps { steps_in self.now.recorded.entries < most_steps }
+        ensures some { IfSome result (λ m. (m.pos ≤ greatest_position) × (m.len ≤ greatest_payload) × Permitted (tcp self.now.recorded.header) 0 (world self.now) (At self.now.recorded.me (Makes m))) }
+        ensures none { IfNone result (NothingToPump self.now) }
+    {
+        forgetting_is_free();
+        find_making(
+            self.recording.world(),
+            self.me(),
+            Word(self.iss),
+            self.config.ring,
+        )
+    }
+
+    // A segment is made, in an event that began.
+    fn make(&mut self, plan: SegmentPlan) -> Result<(), OutOfMemory>
+        requires room { steps_in self.old.recorded.entries < 4 * self.old.events }
+        requires events { self.old.events ≤ 10000000 }
+        requires limits { plan.pos ≤ greatest_position }
+        requires short { plan.len ≤ greatest_payload }
+        requires permitted { Permitted (tcp self.old.recorded.header) 0 (world self.old) (At self.old.recorded.me (Makes plan)) }
+        ensures ok { OnOk result (self.new ≡ with_step self.old (At self.old.recorded.me (Makes plan))) }
+        ensures count { OnOk result (steps_in self.new.recorded.entries ≡ suc (steps_in self.old.recorded.entries)) }
+        ensures waits { OnOk result (WaitsToGo self.new (world self.new).count) }
+        ensures err { OnErr result (self.new ≡ self.old) }
+    {
+        let host = self.me();
+        self.add(Label::M { host, plan })?;
+        Ok(())
+    }
+
+    // The initial send sequence number that a segment gave is spent: the next is 65,536 more.
+    fn spend_iss(&mut self, plan: SegmentPlan)
+        ensures { self.new ≡ self.old }
+    {
+        if plan.iss.is_some() {
+            self.iss = self.iss.wrapping_add(65_536);
+        }
+    }
+
+    // A segment that was made goes out, in an event that began.
+    fn send(&mut self, number: u32) -> Result<Flying, OutOfMemory>
+        requires room { steps_in self.old.recorded.entries < 4 * self.old.events }
+        requires events { self.old.events ≤ 10000000 }
+        requires waits { WaitsToGo self.old number }
+        ensures ok { IfOk result (λ f. GoesOut self.old f self.new) }
+        ensures err { OnErr result (self.new ≡ self.old) }
+    {
+        let Outgoing { wire, flying } = self.outgoing(number)?;
+        let line = TakenLine::Sent {
+            line: self.line(),
+            host: self.me(),
+            made: number,
+            wire,
+        };
+        self.add(Label::L(line))?;
+        Ok(flying)
+    }
+
+    // How it goes out, and what flies then.
+    fn outgoing(&self, number: u32) -> Result<Outgoing, OutOfMemory>
+        requires waits { WaitsToGo self.now number }
+        ensures { IfOk result (λ x. MayGo self.now number x.wire x.flying) }
+    {
+        let Some(made) = self.recording.made(number) else {
+            unreachable!();
+        };
+        let m = made.emission();
+        let mss = if m.flags.syn {
+            Some(self.config.mss)
+        } else {
+            None
+        };
+        let wire = wire_of(self.recording.allocator(), m, mss)?;
+        let tick = self.last_tick();
+        let flying = Flying {
+            host: self.me(),
+            tick,
+            line: self.line(),
+            emission: sent(tick.moment, &wire, m)?,
+            wire: wire.copy()?,
+        };
+        Ok(Outgoing { wire, flying })
+    }
+}

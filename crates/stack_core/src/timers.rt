@@ -1,0 +1,144 @@
+//! A timer expires.
+
+ghost use Rattle.std.specs.Prelude.{◌≡◌, ◌<◌, ℕ, IfNone, IfOk, OnErr};
+ghost use Rattle.std.specs.Option.{IfSome};
+ghost use Rattle.hosts.specs.HostRules.{Permitted};
+ghost use Rattle.machine.specs.Bounds.{most_steps};
+ghost use Rattle.machine.specs.Machine.{tcp};
+ghost use Rattle.stack_core.specs.Cores.{IsAfter, opened, world};
+ghost use Rattle.stack_core.specs.Entries.{steps_in};
+ghost use Rattle.stack_core.specs.Recordings.{world_left};
+ghost use Rattle.stack_core.specs.TimerEvents.{IsRefused, IsTimed, NoneDue, NoneDueAt, expiry_step};
+
+use crate::host_core::HostCore;
+use crate::recording::Recording;
+use crate::tick::Tick;
+use case_forms::{Expired, Growth, OutOfMemory, Ports, TakenLine};
+use endpoint_state::Endpoint;
+use spec_step::Label;
+use window_rules::on_timeout;
+
+// A core gives up after so many expiries without an answer.
+const TRIES: u32 = 12;
+
+/// A timer that may expire, with what is chosen there.
+#[derive(Clone, Copy, Debug, PartialEq, Eq)]
+pub(crate) struct Due {
+    pub(crate) ports: Ports,
+    pub(crate) expired: Expired,
+}
+
+impl HostCore {
+    /// A timer that is due expires: its line. False, and nothing is changed: no line of a retransmission timer, a persist timer
+    /// or a wait in TIME-WAIT is permitted. The error is that memory ran out; then the tick has passed, and nothing is added.
+    pub fn timers(&mut self, tick: Tick) -> Result<bool, OutOfMemory>
+        requires tick { IsAfter self.old.last tick }
+        requires events { self.old.events < 10000000 }
+        ensures ok { IfOk result (λ found. IsTimed self.old tick found self.new) }
+        ensures err { OnErr result (self.new ≡ opened self.old tick) }
+    {
+        self.bounds();
+        let Some(due) = self.due(tick.moment) else {
+            return Ok(false);
+        };
+        self.open(tick);
+        let line = TakenLine::Expired {
+            line: self.line(),
+            host: self.me(),
+            ports: due.ports,
+            expired: due.expired,
+        };
+        self.add(Label::L(line))?;
+        Ok(true)
+    }
+
+    // A timer that may expire at a moment.
+    fn due(&self, moment: u64) -> Option<Due>
+        requires steps { steps_in self.now.recorded.entries < most_steps }
+        ensures some { IfSome result (λ due. (n : ℕ) → Permitted (tcp self.now.recorded.header) moment (world self.now) (expiry_step self.now.recorded.me n due.ports due.expired)) }
+        ensures none { IfNone result (NoneDue self.now moment) }
+    {
+        find_due(&self.recording, moment)
+    }
+}
+
+// A timer that may expire at a moment. None: no retransmission timer, persist timer or wait in TIME-WAIT may.
+fn find_due(recording: &Recording, moment: u64) -> Option<Due>
+    requires steps { steps_in recording.now.entries < most_steps }
+    ensures some { IfSome result (λ due. (n : ℕ) → Permitted (tcp recording.now.header) moment (world_left recording.now) (expiry_step recording.now.me n due.ports due.expired)) }
+    ensures none { IfNone result (NoneDueAt recording.now moment) }
+{
+    recording.few_endpoints();
+    let body = recording.body();
+    let mut place = 0u32;
+    while let Some(endpoint) = body.endpoint_at(place) {
+        if let Some(due) = due_at(recording, moment, endpoint) {
+            return Some(due);
+        }
+        place += 1;
+    }
+    None
+}
+
+// The same of an endpoint.
+fn due_at(recording: &Recording, moment: u64, endpoint: &Endpoint) -> Option<Due>
+    requires steps { steps_in recording.now.entries < most_steps }
+    ensures some { IfSome result (λ due. (n : ℕ) → Permitted (tcp recording.now.header) moment (world_left recording.now) (expiry_step recording.now.me n due.ports due.expired)) }
+    ensures none { IfNone result (IsRefused recording.now moment (record { lport = endpoint.now.lport; rport = endpoint.now.rport })) }
+{
+    let ports = Ports {
+        lport: endpoint.lport,
+        rport: endpoint.rport,
+    };
+    if TRIES <= endpoint.tries && !endpoint.state.is_fin_wait_2() {
+        if let Some(due) = ask(recording, moment, ports, Expired::Giveup) {
+            return Some(due);
+        }
+    }
+    let least = Expired::Rto(Growth {
+        cwnd: 0,
+        ssthresh: 0,
+    });
+    if let Some(due) = ask(recording, moment, ports, least) {
+        return match ask(recording, moment, ports, Expired::Rto(greatest(endpoint))) {
+            Some(greatest) => Some(greatest),
+            None => Some(due),
+        };
+    }
+    if let Some(due) = ask(recording, moment, ports, Expired::Persist) {
+        return Some(due);
+    }
+    ask(recording, moment, ports, Expired::Msl2)
+}
+
+// The timer, if it may expire.
+fn ask(recording: &Recording, moment: u64, ports: Ports, expired: Expired) -> Option<Due>
+    requires steps { steps_in recording.now.entries < most_steps }
+    ensures some { IfSome result (λ due. (n : ℕ) → Permitted (tcp recording.now.header) moment (world_left recording.now) (expiry_step recording.now.me n due.ports due.expired)) }
+    ensures none { IfNone result (Permitted (tcp recording.now.header) moment (world_left recording.now) (expiry_step recording.now.me 0 ports expired) → ⊥) }
+{
+    let line = TakenLine::Expired {
+        line: 0,
+        host: recording.me(),
+        ports,
+        expired,
+    };
+    match recording.admits(moment, &Label::L(line)) {
+        Ok(()) => Some(Due { ports, expired }),
+        Err(_) => None,
+    }
+}
+
+// The greatest congestion window and slow start threshold that an expiry allows (RFC 5681, 3.1).
+fn greatest(endpoint: &Endpoint) -> Growth {
+    let (cwnd, ssthresh) = on_timeout(
+        &endpoint.congestion,
+        endpoint.flight(),
+        endpoint.stream.una == 0,
+        0 < endpoint.backs,
+    );
+    Growth {
+        cwnd: cwnd.min(u64::from(u32::MAX)) as u32,
+        ssthresh: ssthresh.min(u64::from(u32::MAX)) as u32,
+    }
+}
