@@ -26,6 +26,7 @@ use crate::item::Item;
 use crate::tick::Tick;
 use case_forms::{Call, Header, Host, OutOfMemory};
 use endpoint_state::{Body, Made, World};
+use machine::Emission;
 use machine_laws::{forgetting_is_free, runs_forget};
 use recordings::books_grow;
 use spec_step::{Label, StepFault, admits, apply, bring};
@@ -144,6 +145,13 @@ impl Recording {
         ensures { result.now ≡ forget_body (pick (world_left self.now).hosts self.now.me).body }
     {
         self.world.body(self.me)
+    }
+
+    /// The segment that the host let out with this line.
+    pub fn sent(&self, line: u64) -> Option<&Emission>
+        ensures { option_copied result ≡ lookup (nat_eq line) (pick (world_left self.now).hosts self.now.me).wire }
+    {
+        self.world.sent(self.me, line)
     }
 
     // A host has at most as many endpoints as there were steps: a call that does nothing, whose contract says it.
