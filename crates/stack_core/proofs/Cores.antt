@@ -6,6 +6,9 @@ use Rattle.case_forms.specs.Traces.{first_event_line}
 use Rattle.case_forms.specs.declared.calls.Host.{Host}
 use Rattle.case_forms.specs.declared.calls.Host.TheVariants.{Zero, One}
 use Rattle.case_forms.specs.declared.trace.Header.{Header}
+use Rattle.case_forms.specs.declared.version.Version.{Version}
+use Rattle.case_forms.specs.declared.version.Version.TheVariants as versions
+use Rattle.case_forms.specs.Versions.{first_line_of}
 use Rattle.hosts.specs.Tables.{on, other, pick}
 use Rattle.hosts.specs.Hosts.{World, Step, Begin, Finish, Effect, At, Does, Expires, Makes, Sends, Gets, Takes, Drops, Answers}
 use Rattle.hosts.specs.HostSteps.{after, start}
@@ -95,6 +98,10 @@ nothing_own : (h : Header) (me : Host) → IsOwn me (start (tcp h))
 nothing_own h Zero = record { own = λ n is. absurd cc; below = λ n is. absurd cc; none = λ n. refl; aims = λ t call is. absurd cc; within = λ t call is. absurd cc }
 nothing_own h One = record { own = λ n is. absurd cc; below = λ n is. absurd cc; none = λ n. refl; aims = λ t call is. absurd cc; within = λ t call is. absurd cc }
 
+few_first : (v : Version) → first_line_of v ≤ 16
+few_first versions.One = omega arith
+few_first versions.Two = omega arith
+
 few_none : (h : Header) (me : Host) → length (pick (start (tcp h)).hosts me).body.sockets ≤ 0
 few_none h Zero = omega arith
 few_none h One = omega arith
@@ -102,7 +109,7 @@ few_none h One = omega arith
 pub core_starts : (h : Header) (me : Host) (r : Recorded) (line : ℕ) (last : Tick) → r ≡ record { header = h; me = me; entries = [] } → line ≡ first_event_line h → IsCore r line last 0
 core_starts h me r line last is first = subst (λ (n : ℕ). IsCore r n last 0) (sym first) (subst (λ (r : Recorded). IsCore r (first_event_line h) last 0) (sym is) (record {
   numbered = refl;
-  few_lines = omega arith;
+  few_lines = let low = few_first h.version in omega arith;
   few_steps = omega arith;
   few_sockets = few_none h me;
   keys = tt;

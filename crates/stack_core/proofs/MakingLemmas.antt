@@ -26,6 +26,7 @@ use Rattle.case_forms.specs.States.{is_closed, is_syn_sent, is_syn_received}
 use Rattle.machine.specs.Makes.{making_rules}
 use Rattle.machine.specs.Makes.Payload.{making_length, is_bad_empty_place, old_end}
 use Rattle.machine.specs.Makes.Kind.{may_not_send, may_carry, may_finish}
+use Rattle.stack_core.specs.declared.makings.Opening.{Opening}
 use Rattle.stack_core.specs.Makings.{syn_of, bytes_of, fin_of, IsTried, NothingToMake, Refuses}
 use Rattle.std.specs.List.{All}
 use Rattle.std.specs.Prelude.{IfNone}
@@ -42,8 +43,8 @@ use Rattle.endpoint_state.specs.Kept.{IsKeptWorld}
 use Rattle.case_forms.specs.declared.calls.Host.TheVariants.{Zero, One}
 
 -- a segment without SYN and RST
-abbrev pub plain : Endpoint → ℕ → ℕ → Bool → Bool → ℕ → Option Word → SegmentPlan
-plain e pos len ack fin window iss = record { lport = e.lport; rport = e.rport; pos = pos; len = len; flags = record { ack = ack; rst = false; syn = false; fin = fin }; window = window; iss = iss }
+abbrev pub plain : Endpoint → ℕ → ℕ → Bool → Bool → ℕ → Option Word → Option ℕ → SegmentPlan
+plain e pos len ack fin window iss shift = record { lport = e.lport; rport = e.rport; pos = pos; len = len; flags = record { ack = ack; rst = false; syn = false; fin = fin }; window = window; iss = iss; shift = shift }
 
 -- what holds where a plain segment that takes new positions may be made
 pub record Room (e : Endpoint) (pos len : ℕ) (fin : Bool) : Type 0 where
@@ -117,9 +118,9 @@ not_zero a p = grind (arith, nat_tests)
 is_zero : (a : ℕ) → 0 < a → (a == 0) ≡ false
 is_zero a p = grind (arith, nat_tests)
 
-module _ (e : Endpoint) (pos len : ℕ) (ack fin : Bool) (window : ℕ) (iss : Option Word) where
+module _ (e : Endpoint) (pos len : ℕ) (ack fin : Bool) (window : ℕ) (iss : Option Word) (shift : Option ℕ) where
   abbrev m : SegmentPlan
-  m = plain e pos len ack fin window iss
+  m = plain e pos len ack fin window iss shift
 
   room : first_broken (making_rules e m) ≡ None → 0 < making_length m → Room e pos len fin
   room h some =
@@ -240,8 +241,8 @@ fin_may e pos len window r new =
     ))
 
 -- a segment with SYN and without RST
-abbrev pub synned : Endpoint → ℕ → ℕ → Bool → Bool → ℕ → Option Word → SegmentPlan
-synned e pos len ack fin window iss = record { lport = e.lport; rport = e.rport; pos = pos; len = len; flags = record { ack = ack; rst = false; syn = true; fin = fin }; window = window; iss = iss }
+abbrev pub synned : Endpoint → ℕ → ℕ → Bool → Bool → ℕ → Option Word → Option ℕ → SegmentPlan
+synned e pos len ack fin window iss shift = record { lport = e.lport; rport = e.rport; pos = pos; len = len; flags = record { ack = ack; rst = false; syn = true; fin = fin }; window = window; iss = iss; shift = shift }
 
 ack_is : (n : ℕ) (ack : Bool) → (if ack then n == 0 else nat_le 1 n) ≡ false → nat_le 1 n ≡ ack
 ack_is n true h = grind (arith, nat_tests)
@@ -256,10 +257,10 @@ pub syn_place : (e : Endpoint) (ack : Bool) → e.stream.una ≡ 0 → max_made 
 syn_place e true una max = refl
 syn_place e false una max = rw (una, not_above 0 (max_made e) (omega arith), not_above (max_made e) 0 max) refl
 
-pub syn_may : (e : Endpoint) (pos len window w : ℕ) (ack fin : Bool) (iss : Option Word) (new : Word) → first_broken (making_rules e (synned e pos len ack fin window iss)) ≡ None
-    → max_made e < pos + making_length (synned e pos len ack fin window iss) → (max_made e ≤ 0) × (first_broken (making_rules e (syn_of e new w)) ≡ None)
-syn_may e pos len window w ack fin iss new h past =
-    let t = none_all (making_rules e (synned e pos len ack fin window iss)) h in
+pub syn_may : (e : Endpoint) (pos len window w : ℕ) (ack fin : Bool) (iss : Option Word) (shift : Option ℕ) (new : Opening) → first_broken (making_rules e (synned e pos len ack fin window iss shift)) ≡ None
+    → max_made e < pos + making_length (synned e pos len ack fin window iss shift) → (max_made e ≤ 0) × (first_broken (making_rules e (syn_of e new w)) ≡ None)
+syn_may e pos len window w ack fin iss shift new h past =
+    let t = none_all (making_rules e (synned e pos len ack fin window iss shift)) h in
     let acks : nat_le 1 (next e) ≡ ack = ack_is (next e) ack t.1.1.1.1.0 in
     let state = both_hold (((if ack then is_syn_received e.state else is_syn_sent e.state) && e.stream.una == 0) && not fin) true (not_false _ t.1.0) in
     let fins = both_hold ((if ack then is_syn_received e.state else is_syn_sent e.state) && e.stream.una == 0) (not fin) state.0 in
@@ -276,7 +277,7 @@ syn_may e pos len window w ack fin iss new h past =
         (
           rw (acks, at_zero.0, at_zero.1) refl,
           (
-            iss_good (is_some e.iss) new,
+            iss_good (is_some e.iss) new.iss,
             (
               refl,
               (
@@ -307,15 +308,15 @@ by_test : {P : Type 0} (b : Bool) → (b ≡ true → P) → (b ≡ false → P)
 by_test true yes_ no_ = yes_ refl
 by_test false yes_ no_ = no_ refl
 
-abbrev pub OneMay : Endpoint → Word → ℕ → Type 0
-OneMay e new w = ((max_made e ≤ 0) × (first_broken (making_rules e (syn_of e new w)) ≡ None)) ⊎ ((first_broken (making_rules e (bytes_of e 1 w)) ≡ None) ⊎ (first_broken (making_rules e (fin_of e w)) ≡ None))
+abbrev pub OneMay : Endpoint → Opening → (at_syn window : ℕ) → Type 0
+OneMay e new v w = ((max_made e ≤ 0) × (first_broken (making_rules e (syn_of e new v)) ≡ None)) ⊎ ((first_broken (making_rules e (bytes_of e 1 w)) ≡ None) ⊎ (first_broken (making_rules e (fin_of e w)) ≡ None))
 
 -- so many positions, with the counts of SYN and FIN
 abbrev pub reach : SegmentPlan → Bool → Bool → ℕ
 reach m syn fin = m.pos + (m.len + flag_count syn + flag_count fin)
 
 abbrev pub flagged : SegmentPlan → Bool → Bool → Bool → SegmentPlan
-flagged m rst syn fin = record { lport = m.lport; rport = m.rport; pos = m.pos; len = m.len; flags = record { ack = m.flags.ack; rst = rst; syn = syn; fin = fin }; window = m.window; iss = m.iss }
+flagged m rst syn fin = record { lport = m.lport; rport = m.rport; pos = m.pos; len = m.len; flags = record { ack = m.flags.ack; rst = rst; syn = syn; fin = fin }; window = m.window; iss = m.iss; shift = m.shift }
 
 -- an empty one takes no new positions
 not_empty : (e : Endpoint) (m : SegmentPlan) (fin : Bool) → first_broken (making_rules e (flagged m false false fin)) ≡ None → max_made e < reach m false fin → 0 < making_length (flagged m false false fin)
@@ -337,20 +338,20 @@ spent : (max pos len : ℕ) (fin : Bool) → max < pos + (len + 0 + flag_count f
 spent max pos len true past is = let top = at_most (pos + len) max is in (refl, omega arith)
 spent max pos len false past is = let top = at_most (pos + len) max is in absurd (omega arith)
 
-plain_may : (e : Endpoint) (new : Word) (w : ℕ) (m : SegmentPlan) (fin : Bool) → first_broken (making_rules e (flagged m false false fin)) ≡ None → max_made e < reach m false fin → OneMay e new w
-plain_may e new w m fin h past =
-    let r : Room e m.pos m.len fin = room e m.pos m.len m.flags.ack fin m.window m.iss h (not_empty e m fin h past) in
+plain_may : (e : Endpoint) (new : Opening) (v w : ℕ) (m : SegmentPlan) (fin : Bool) → first_broken (making_rules e (flagged m false false fin)) ≡ None → max_made e < reach m false fin → OneMay e new v w
+plain_may e new v w m fin h past =
+    let r : Room e m.pos m.len fin = room e m.pos m.len m.flags.ack fin m.window m.iss m.shift h (not_empty e m fin h past) in
     let low = r.max in
     by_test (nat_lt (max_made e) (m.pos + m.len))
     (λ is. let new_end : max_made e < m.pos + m.len = is_more (max_made e) (m.pos + m.len) is in inr (inl (byte_may e m.pos m.len w fin r (omega arith) new_end)))
     (λ is. let fins = spent (max_made e) m.pos m.len fin past is in inr (inr (fin_may e m.pos m.len w (subst (λ (b : Bool). Room e m.pos m.len b) fins.0 r) fins.1)))
 
-pub one_may : (e : Endpoint) (new : Word) (w : ℕ) (m : SegmentPlan) → m.flags.rst ≡ false → first_broken (making_rules e m) ≡ None → max_made e < m.pos + making_length m → OneMay e new w
-one_may e new w m rst h past = by m.flags.syn (subst (λ (b : Bool). first_broken (making_rules e (flagged m b m.flags.syn m.flags.fin)) ≡ None) rst h) past
+pub one_may : (e : Endpoint) (new : Opening) (v w : ℕ) (m : SegmentPlan) → m.flags.rst ≡ false → first_broken (making_rules e m) ≡ None → max_made e < m.pos + making_length m → OneMay e new v w
+one_may e new v w m rst h past = by m.flags.syn (subst (λ (b : Bool). first_broken (making_rules e (flagged m b m.flags.syn m.flags.fin)) ≡ None) rst h) past
   where
-    by : (syn : Bool) → first_broken (making_rules e (flagged m false syn m.flags.fin)) ≡ None → max_made e < reach m syn m.flags.fin → OneMay e new w
-    by true h past = inl (syn_may e m.pos m.len m.window w m.flags.ack m.flags.fin m.iss new h past)
-    by false h past = plain_may e new w m m.flags.fin h past
+    by : (syn : Bool) → first_broken (making_rules e (flagged m false syn m.flags.fin)) ≡ None → max_made e < reach m syn m.flags.fin → OneMay e new v w
+    by true h past = inl (syn_may e m.pos m.len m.window v m.flags.ack m.flags.fin m.iss m.shift new h past)
+    by false h past = plain_may e new v w m m.flags.fin h past
 
 -- 3. at a host
 
@@ -384,8 +385,8 @@ of_ports b l r e found = by (place_of b l r) refl found
             let ports = same_ports l r e (subst (λ (y : Endpoint). has_ports l r y ≡ true) same passes) in
             (i, found, ports.0, ports.1)
 
-pub nothing : (h : Header) (me : Host) (w : World tcp_shape) (new : Word) (window : ℕ) → ((i : ℕ) (e : Endpoint) → slice_get (pick w.hosts me).body.endpoints i ≡ Some e → IsTried h me w new window e) → NothingToMake h me w
-nothing h me w new window tried m e rst found past permitted = refute (one_may e new window m rst may past)
+pub nothing : (h : Header) (me : Host) (w : World tcp_shape) → ((i : ℕ) (e : Endpoint) → slice_get (pick w.hosts me).body.endpoints i ≡ Some e → IsTried h me w e) → NothingToMake h me w
+nothing h me w tried m e rst found past permitted = refute (one_may e t.opening t.at_syn t.window m rst may past)
   where
     b : Body
     b = (pick w.hosts me).body
@@ -393,7 +394,7 @@ nothing h me w new window tried m e rst found past permitted = refute (one_may e
     at : (i : ℕ) × (slice_get b.endpoints i ≡ Some e) × (e.lport ≡ m.lport) × (e.rport ≡ m.rport)
     at = of_ports b m.lport m.rport e found
 
-    t : IsTried h me w new window e
+    t : IsTried h me w e
     t = tried at.0 e at.1
 
     found2 : endpoint_of b e.lport e.rport ≡ Some e
@@ -405,10 +406,10 @@ nothing h me w new window tried m e rst found past permitted = refute (one_may e
     back : (c : SegmentPlan) → c.lport ≡ e.lport → c.rport ≡ e.rport → first_broken (making_rules e c) ≡ None → Permitted (tcp h) 0 w (At me (Makes c))
     back c l r is = subst (λ (o : Option Endpoint). first_broken (option_map_or (λ x. making_rules x c) o ((rules.NoEndpoint, true) ∷ [])) ≡ None) (sym (subst (λ (p : ℕ). endpoint_of b p c.rport ≡ Some e) (sym l) (subst (λ (q : ℕ). endpoint_of b e.lport q ≡ Some e) (sym r) found2))) is
 
-    refute : OneMay e new window → ⊥
-    refute (inl (low, is)) = t.syn low (back (syn_of e new window) refl refl is)
-    refute (inr (inl is)) = t.byte (back (bytes_of e 1 window) refl refl is)
-    refute (inr (inr is)) = t.fin (back (fin_of e window) refl refl is)
+    refute : OneMay e t.opening t.at_syn t.window → ⊥
+    refute (inl (low, is)) = t.syn low (back (syn_of e t.opening t.at_syn) refl refl is)
+    refute (inr (inl is)) = t.byte (back (bytes_of e 1 t.window) refl refl is)
+    refute (inr (inr is)) = t.fin (back (fin_of e t.window) refl refl is)
 
 -- 4. nothing is made above the greatest position
 
@@ -432,11 +433,14 @@ far h me w m fin all some above ends permitted = by (endpoint_of (pick w.hosts m
     by None is may = absurd cc
     by (Some e) is may =
         let place = of_ports (pick w.hosts me).body m.lport m.rport e is in
-        too_far e (short_at IsShort (pick w.hosts me).body.endpoints place.0 e place.1 all) (room e m.pos m.len m.flags.ack fin m.window m.iss may some)
+        too_far e (short_at IsShort (pick w.hosts me).body.endpoints place.0 e place.1 all) (room e m.pos m.len m.flags.ack fin m.window m.iss m.shift may some)
 
 -- an endpoint with more than that was tried where its SYN was
-pub tried_far : (h : Header) (me : Host) (w : World tcp_shape) (iss : Word) (window : ℕ) (e : Endpoint) → All (λ e. IsShort e) (pick w.hosts me).body.endpoints → greatest_position < max_made e → IsTried h me w iss window e
-tried_far h me w iss window e all above = record {
+pub tried_far : (h : Header) (me : Host) (w : World tcp_shape) (opening : Opening) (window : ℕ) (e : Endpoint) → All (λ e. IsShort e) (pick w.hosts me).body.endpoints → greatest_position < max_made e → IsTried h me w e
+tried_far h me w opening window e all above = record {
+  opening = opening;
+  at_syn = window;
+  window = window;
   syn = λ low. absurd (omega arith);
   byte = far h me w (bytes_of e 1 window) false all (omega arith) above (λ is. absurd (omega arith));
   fin = far h me w (fin_of e window) true all (omega arith) above (λ is. refl);
@@ -488,7 +492,7 @@ none_whole p r me header left is None f = subst (λ (h : Header). NothingToMake 
 
 -- 7. all three were tried
 
-pub all_tried : (h : Header) (me : Host) (w : World tcp_shape) (iss : Word) (window : ℕ) (e : Endpoint) (byte fin : SegmentPlan) (o : Option SegmentPlan) → (max_made e ≤ 0 → Refuses h me w (syn_of e iss window)) → byte ≡ bytes_of e 1 window → Refuses h me w byte
-    → fin ≡ fin_of e window → IfNone o (Refuses h me w fin) → IfNone o (IsTried h me w iss window e)
-all_tried h me w iss window e byte fin (Some m) syn byte_is no_byte fin_is no_fin = tt
-all_tried h me w iss window e byte fin None syn byte_is no_byte fin_is no_fin = record { syn = syn; byte = subst (λ (m : SegmentPlan). Refuses h me w m) byte_is no_byte; fin = subst (λ (m : SegmentPlan). Refuses h me w m) fin_is no_fin }
+pub all_tried : (h : Header) (me : Host) (w : World tcp_shape) (opening : Opening) (at_syn window : ℕ) (e : Endpoint) (byte fin : SegmentPlan) (o : Option SegmentPlan) → (max_made e ≤ 0 → Refuses h me w (syn_of e opening at_syn)) → byte ≡ bytes_of e 1 window → Refuses h me w byte
+    → fin ≡ fin_of e window → IfNone o (Refuses h me w fin) → IfNone o (IsTried h me w e)
+all_tried h me w opening at_syn window e byte fin (Some m) syn byte_is no_byte fin_is no_fin = tt
+all_tried h me w opening at_syn window e byte fin None syn byte_is no_byte fin_is no_fin = record { opening = opening; at_syn = at_syn; window = window; syn = syn; byte = subst (λ (m : SegmentPlan). Refuses h me w m) byte_is no_byte; fin = subst (λ (m : SegmentPlan). Refuses h me w m) fin_is no_fin }

@@ -23,7 +23,7 @@ use Rattle.machine.specs.declared.endpoint.Endpoint.{Endpoint}
 use Rattle.machine.specs.Machine.{act_makes, act_rules, made_at, tcp, tcp_shape}
 use Rattle.machine.specs.Machine as acts
 use Rattle.machine.specs.Makes.{emission_of, making_rules}
-use Rattle.machine.specs.Wire.{out_rules, sent, shows}
+use Rattle.machine.specs.Wire.{is_shown, out_rules, sent}
 use Rattle.recordings.specs.Books.{Flying}
 use Rattle.stack_core.specs.Cores.{Core, Fits, line_to_come, with_step, world}
 use Rattle.stack_core.specs.Outgoing.{GoesOut, MayGo, WaitsToGo, greatest_payload}
@@ -75,11 +75,11 @@ made_waits c d m may short is = subst (λ (x : Core). WaitsToGo x (world x).coun
 
 -- 2. sent
 
-goes : (o : Option (Made Emission)) (wire : Wire) (e : Emission) → o ≡ Some (unsent e) → shows wire.seg e ≡ true → first_broken (on o (just rules.NotMade true) (λ m. out_rules wire m.emission ++ just rules.NotMade m.sent)) ≡ None
-goes o wire e is shown = rw (is, shown) refl
+goes : (h : Header) (o : Option (Made Emission)) (wire : Wire) (e : Emission) → o ≡ Some (unsent e) → is_shown h wire e ≡ true → first_broken (on o (just rules.NotMade true) (λ m. out_rules h wire m.emission ++ just rules.NotMade m.sent)) ≡ None
+goes h o wire e is shown = rw (is, shown) refl
 
 pub go_fits : (c : Core) (number : ℕ) (wire : Wire) (f : Flying tcp_shape) (me : Host) (line : ℕ) → MayGo c number wire f → me ≡ c.recorded.me → Fits c (At me (Sends line number wire))
-go_fits c number wire f me line s is = subst (λ (h : Host). Fits c (At h (Sends line number wire))) (sym is) (goes (lookup (nat_eq number) (pick (world c).hosts c.recorded.me).made) wire s.emission s.found s.shown, refl)
+go_fits c number wire f me line s is = subst (λ (h : Host). Fits c (At h (Sends line number wire))) (sym is) (goes c.recorded.header (lookup (nat_eq number) (pick (world c).hosts c.recorded.me).made) wire s.emission s.found s.shown, refl)
 
 wire_has : (moment line number : ℕ) (wire : Wire) (e : Emission) (out : List (ℕ × Emission)) (o : Option (Made Emission)) → o ≡ Some (unsent e) → lookup (nat_eq line) (on o out (λ m. insert_entry nat_eq out line (sent moment wire m.emission))) ≡ Some (sent moment wire e)
 wire_has moment line number wire e out o is = rw is (lookup_insert line line (sent moment wire e) out ∙ ap (λ (b : Bool). cond b (Some (sent moment wire e)) (lookup (nat_eq line) out)) (same_key line))

@@ -1,6 +1,5 @@
 -- What a core tries to make at an endpoint, of what takes new positions.
 use Rattle.std.specs.Prelude.{◌≡◌, ◌+◌, ◌<◌, ◌≤◌, ℕ, nat_le, true, false, if◌then◌else◌, None, Some, is_some}
-use Rattle.seqno.specs.declared.word.Word.{Word}
 use Rattle.case_forms.specs.declared.calls.Host.{Host}
 use Rattle.case_forms.specs.declared.steps.SegmentPlan.{SegmentPlan}
 use Rattle.case_forms.specs.declared.trace.Header.{Header}
@@ -12,25 +11,38 @@ use Rattle.machine.specs.declared.endpoint.Endpoint.{Endpoint}
 use Rattle.machine.specs.Endpoints.{max_made, next}
 use Rattle.machine.specs.Machine.{tcp, tcp_shape}
 use Rattle.machine.specs.Makes.Payload.{making_length}
+use Rattle.stack_core.specs.declared.makings.Opening.{Opening}
 
 -- the SYN, with an acknowledgment once the peer's SYN is taken
-abbrev pub syn_of : Endpoint → Word → ℕ → SegmentPlan
-syn_of e iss window = record { lport = e.lport; rport = e.rport; pos = 0; len = 0; flags = record { ack = nat_le 1 (next e); rst = false; syn = true; fin = false }; window = window; iss = if is_some e.iss then None else Some iss }
+abbrev pub syn_of : Endpoint → Opening → ℕ → SegmentPlan
+syn_of e opening window = record {
+  lport = e.lport;
+  rport = e.rport;
+  pos = 0;
+  len = 0;
+  flags = record { ack = nat_le 1 (next e); rst = false; syn = true; fin = false };
+  window = window;
+  iss = if is_some e.iss then None else Some opening.iss;
+  shift = if is_some e.iss then None else opening.shift;
+}
 
 -- so many new bytes
 abbrev pub bytes_of : Endpoint → ℕ → ℕ → SegmentPlan
-bytes_of e len window = record { lport = e.lport; rport = e.rport; pos = max_made e; len = len; flags = record { ack = nat_le 1 (next e); rst = false; syn = false; fin = false }; window = window; iss = None }
+bytes_of e len window = record { lport = e.lport; rport = e.rport; pos = max_made e; len = len; flags = record { ack = nat_le 1 (next e); rst = false; syn = false; fin = false }; window = window; iss = None; shift = None }
 
 -- the FIN alone
 abbrev pub fin_of : Endpoint → ℕ → SegmentPlan
-fin_of e window = record { lport = e.lport; rport = e.rport; pos = max_made e; len = 0; flags = record { ack = nat_le 1 (next e); rst = false; syn = false; fin = true }; window = window; iss = None }
+fin_of e window = record { lport = e.lport; rport = e.rport; pos = max_made e; len = 0; flags = record { ack = nat_le 1 (next e); rst = false; syn = false; fin = true }; window = window; iss = None; shift = None }
 
 abbrev pub Refuses : Header → Host → World tcp_shape → SegmentPlan → Type 0
 Refuses h me w plan = Permitted (tcp h) 0 w (At me (Makes plan)) → ⊥
 
--- none of the three may be made for this endpoint; the SYN takes a new position where nothing was made before
-pub record IsTried (h : Header) (me : Host) (w : World tcp_shape) (iss : Word) (window : ℕ) (e : Endpoint) : Type 0 where
-  pub syn : max_made e ≤ 0 → Refuses h me w (syn_of e iss window)
+-- none of the three may be made for this endpoint, with some windows; the SYN takes a new position where nothing was made before
+pub record IsTried (h : Header) (me : Host) (w : World tcp_shape) (e : Endpoint) : Type 0 where
+  pub opening : Opening
+  pub at_syn : ℕ
+  pub window : ℕ
+  pub syn : max_made e ≤ 0 → Refuses h me w (syn_of e opening at_syn)
   pub byte : Refuses h me w (bytes_of e 1 window)
   pub fin : Refuses h me w (fin_of e window)
 

@@ -1,5 +1,5 @@
 -- A made segment on its way out.
-use Rattle.std.specs.Prelude.{◌≡◌, ◌≤◌, ℕ, ◌+◌, nat_eq, true, if◌then◌else◌, [], length, Option, Some}
+use Rattle.std.specs.Prelude.{◌≡◌, ◌≤◌, ℕ, ◌+◌, nat_eq, true, if◌then◌else◌, [], length, Option, None, Some}
 use Rattle.std.specs.Map.{lookup}
 use Rattle.case_forms.specs.declared.steps.Flags.{Flags}
 use Rattle.case_forms.specs.declared.trace.Wire.{Wire}
@@ -8,7 +8,7 @@ use Rattle.hosts.specs.Tables.{pick, unsent}
 use Rattle.hosts.specs.Hosts.{At, Sends}
 use Rattle.machine.specs.declared.endpoint.Emission.{Emission}
 use Rattle.machine.specs.Machine.{tcp_shape}
-use Rattle.machine.specs.Wire.{sent, shows}
+use Rattle.machine.specs.Wire.{is_shown, sent}
 use Rattle.recordings.specs.Books.{Flying}
 use Rattle.stack_core.specs.Cores.{Core, line_to_come, with_step, world}
 use Rattle.stack_core.specs.Keys.{key_of}
@@ -17,13 +17,17 @@ use Rattle.stack_core.specs.Keys.{key_of}
 abbrev pub flag_bits : Flags → ℕ
 flag_bits f = (if f.ack then 16 else 0) + (if f.rst then 4 else 0) + (if f.syn then 2 else 0) + (if f.fin then 1 else 0)
 
+-- a SYN tells the shift that its maker gave (RFC 7323, 2.2)
+abbrev pub told_shift : Emission → Option ℕ
+told_shift m = if m.flags.syn then m.shift else None
+
 -- a made segment as it goes out, with this MSS option if there is one
 abbrev pub segment_of : Emission → Option ℕ → Segment
-segment_of m mss = record { src = m.lport; dst = m.rport; seq = m.seq; ack = m.ack_seq; flags = flag_bits m.flags; window = m.window; mss = mss; options = []; payload = m.payload }
+segment_of m mss = record { src = m.lport; dst = m.rport; seq = m.seq; ack = m.ack_seq; flags = flag_bits m.flags; window = m.window; mss = mss; scale = told_shift m; options = []; payload = m.payload }
 
--- the greatest payload that a core lets out: with a header and an MSS option it fits into a segment
+-- the greatest payload that a core lets out: with a header and the options that are written it fits into a segment
 abbrev pub greatest_payload : ℕ
-greatest_payload = 65491
+greatest_payload = 65487
 
 -- a segment under this number was made and didn't go out
 pub record WaitsToGo (c : Core) (number : ℕ) : Type 0 where
@@ -35,7 +39,7 @@ pub record WaitsToGo (c : Core) (number : ℕ) : Type 0 where
 pub record MayGo (c : Core) (number : ℕ) (wire : Wire) (f : Flying tcp_shape) : Type 0 where
   pub emission : Emission
   pub found : lookup (nat_eq number) (pick (world c).hosts c.recorded.me).made ≡ Some (unsent emission)
-  pub shown : shows wire.seg emission ≡ true
+  pub shown : is_shown c.recorded.header wire emission ≡ true
   pub flying : f ≡ record { key = key_of c.recorded.me c.last; line = line_to_come c; emission = sent c.last.moment wire emission }
 
 -- a made segment went out: its line; this flies, and stands on its host's wire under that line

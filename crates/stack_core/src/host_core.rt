@@ -28,6 +28,9 @@ pub struct CoreConfig {
     pub ring: u16,
     /// The initial send sequence number of its first endpoint. Each later one's is 65,536 more.
     pub first_iss: u32,
+    /// By how many bits its endpoints shift the windows that they offer, where the header's version scales windows; above 14 as
+    /// 14 (RFC 7323, 2.3). None: they tell no shift.
+    pub shift: Option<u8>,
 }
 
 /// The core of one host. Contracts see what it recorded, its ring, its last tick and the count of its events.

@@ -17,9 +17,23 @@ use case_forms::{Flags, Host, SegmentPlan};
 use endpoint_state::{Endpoint, World};
 use seqno::Word;
 
+/// What an endpoint is given with its first SYN.
+#[derive(Clone, Copy, Debug, PartialEq, Eq)]
+pub(crate) struct Opening {
+    /// Its initial send sequence number (RFC 9293, 3.4.1).
+    pub(crate) iss: Word,
+    /// By how many bits it shifts the windows that it offers, if it tells that (RFC 7323, 2.2).
+    pub(crate) shift: Option<u8>,
+}
+
 /// A segment that takes new positions and may be made. None: no such segment without RST may be made.
 #[tactic(auto, using(crate::proofs::MakingLemmas::short_host))]
-pub(crate) fn find_making(world: &World, me: Host, iss: Word, window: u16) -> Option<SegmentPlan>
+pub(crate) fn find_making(
+    world: &World,
+    me: Host,
+    opening: Opening,
+    window: u16,
+) -> Option<SegmentPlan>
     requires steps { world.now.steps < most_steps }
     ensures some { IfSome result (λ m. (m.pos ≤ greatest_position) × (m.len ≤ greatest_payload) × Permitted (tcp world.now.header) 0 world.now.world (At me (Makes m))) }
     ensures none { IfNone result (NothingToMake world.now.header me world.now.world) }
@@ -28,7 +42,7 @@ pub(crate) fn find_making(world: &World, me: Host, iss: Word, window: u16) -> Op
     let body = world.body(me);
     let mut place = 0u32;
     while let Some(endpoint) = body.endpoint_at(place) {
-        if let Some(plan) = try_endpoint(world, me, endpoint, iss, window) {
+        if let Some(plan) = try_endpoint(world, me, endpoint, opening, window) {
             return Some(plan);
         }
         place += 1;
@@ -42,15 +56,15 @@ fn try_endpoint(
     world: &World,
     me: Host,
     endpoint: &Endpoint,
-    iss: Word,
+    opening: Opening,
     window: u16,
 ) -> Option<SegmentPlan>
     requires steps { world.now.steps < most_steps }
     requires short { All (λ e. end_of e.stream.accepted ≤ greatest_position) (pick world.now.world.hosts me).body.endpoints }
     ensures some { IfSome result (λ m. (m.pos ≤ greatest_position) × (m.len ≤ greatest_payload) × Permitted (tcp world.now.header) 0 world.now.world (At me (Makes m))) }
-    ensures none { IfNone result (IsTried world.now.header me world.now.world iss window endpoint.now) }
+    ensures none { IfNone result (IsTried world.now.header me world.now.world endpoint.now) }
 {
-    if let Some(plan) = try_syn(world, me, endpoint, iss, window) {
+    if let Some(plan) = try_syn(world, me, endpoint, opening, window) {
         return Some(plan);
     }
     // Above the greatest position stands no byte that was accepted, nor an end behind one.
@@ -68,17 +82,17 @@ fn try_syn(
     world: &World,
     me: Host,
     endpoint: &Endpoint,
-    iss: Word,
+    opening: Opening,
     window: u16,
 ) -> Option<SegmentPlan>
     requires steps { world.now.steps < most_steps }
     ensures some { IfSome result (λ m. (m.pos ≤ greatest_position) × (m.len ≤ greatest_payload) × Permitted (tcp world.now.header) 0 world.now.world (At me (Makes m))) }
-    ensures none { IfNone result (max_made endpoint.now ≤ 0 → Refuses world.now.header me world.now.world (syn_of endpoint.now iss window)) }
+    ensures none { IfNone result (max_made endpoint.now ≤ 0 → Refuses world.now.header me world.now.world (syn_of endpoint.now opening window)) }
 {
     if endpoint.makings.end() > 0 {
         return None;
     }
-    ask(world, me, syn_of(endpoint, iss, window))
+    ask(world, me, syn_of(endpoint, opening, window))
 }
 
 // The segment, if it may be made.
@@ -95,8 +109,8 @@ fn ask(world: &World, me: Host, plan: SegmentPlan) -> Option<SegmentPlan>
     }
 }
 
-fn syn_of(endpoint: &Endpoint, iss: Word, window: u16) -> SegmentPlan
-    ensures { result ≡ syn_of endpoint.now iss window }
+fn syn_of(endpoint: &Endpoint, opening: Opening, window: u16) -> SegmentPlan
+    ensures { result ≡ syn_of endpoint.now opening window }
 {
     SegmentPlan {
         lport: endpoint.lport,
@@ -113,7 +127,12 @@ fn syn_of(endpoint: &Endpoint, iss: Word, window: u16) -> SegmentPlan
         iss: if endpoint.iss.is_some() {
             None
         } else {
-            Some(iss)
+            Some(opening.iss)
+        },
+        shift: if endpoint.iss.is_some() {
+            None
+        } else {
+            opening.shift
         },
     }
 }
@@ -134,6 +153,7 @@ fn byte_of(endpoint: &Endpoint, window: u16) -> SegmentPlan
         },
         window,
         iss: None,
+        shift: None,
     }
 }
 
@@ -153,5 +173,6 @@ fn fin_of(endpoint: &Endpoint, window: u16) -> SegmentPlan
         },
         window,
         iss: None,
+        shift: None,
     }
 }

@@ -1,8 +1,9 @@
 //! A made segment on its way out.
 
 ghost use Rattle.std.specs.Prelude.{◌≡◌, ◌≤◌, IfOk, true, length};
+ghost use Rattle.case_forms.specs.declared.trace.Header.{Header};
 ghost use Rattle.segment.specs.Layout.{IsSegment};
-ghost use Rattle.machine.specs.Wire.{shows};
+ghost use Rattle.machine.specs.Wire.{is_shown};
 ghost use Rattle.stack_core.specs.Outgoing.{flag_bits, greatest_payload, segment_of};
 
 use crate::flying::Flying;
@@ -18,10 +19,11 @@ pub(crate) struct Outgoing {
     pub(crate) flying: Flying,
 }
 
-/// A made segment as it goes out, with this MSS option if there is one. The error is that memory ran out.
+/// A made segment as it goes out, with this MSS option if there is one, and with its shift if it is a SYN that gives one. The
+/// error is that memory ran out.
 pub(crate) fn wire_of(alloc: Global, m: &Emission, mss: Option<u16>) -> Result<Wire, OutOfMemory>
     requires short { length m.now.payload ≤ greatest_payload }
-    ensures shows { IfOk result (λ w. shows w.seg m.now ≡ true) }
+    ensures shows { IfOk result (λ w. (h : Header) → is_shown h w m.now ≡ true) }
     ensures reads { IfOk result (λ w. IsSegment w.bytes w.seg) }
 {
     let segment = written(alloc, m, mss)?;
@@ -53,6 +55,7 @@ fn written(alloc: Global, m: &Emission, mss: Option<u16>) -> Result<Segment, Out
         flags: flag_bits(m.flags),
         window: m.window,
         mss,
+        scale: if m.flags.syn { m.shift } else { None },
         options: Bytes::from_slice(alloc, &[])?,
         payload: m.payload.copy()?,
     })

@@ -13,7 +13,7 @@ ghost use Rattle.stack_core.specs.Outgoing.{GoesOut, MayGo, WaitsToGo, greatest_
 
 use crate::flying::Flying;
 use crate::host_core::HostCore;
-use crate::makings::find_making;
+use crate::makings::{Opening, find_making};
 use crate::outgoing::{Outgoing, wire_of};
 use crate::tick::Tick;
 use case_forms::{OutOfMemory, SegmentPlan, TakenLine};
@@ -55,9 +55,22 @@ impl HostCore {
         find_making(
             self.recording.world(),
             self.me(),
-            Word(self.iss),
+            self.opening(),
             self.config.ring,
         )
+    }
+
+    // What the next endpoint is given with its first SYN.
+    fn opening(&self) -> Opening {
+        let shift = if self.recording.header().version.scales() {
+            self.config.shift.map(|shift| shift.min(14))
+        } else {
+            None
+        };
+        Opening {
+            iss: Word(self.iss),
+            shift,
+        }
     }
 
     // A segment is made, in an event that began.
