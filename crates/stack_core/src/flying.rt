@@ -1,10 +1,10 @@
 //! Segments on their way.
 
-ghost use Rattle.std.specs.Prelude.{◌≡◌};
+ghost use Rattle.std.specs.Prelude.{◌≡◌, IfOk};
 ghost use Rattle.stack_core.specs.Keys.{key_shown};
 
 use crate::tick::{Key, Tick};
-use case_forms::{Host, Wire};
+use case_forms::{Host, OutOfMemory, Wire};
 use machine::Emission;
 use std::marker::Model;
 
@@ -56,6 +56,19 @@ impl Flying {
         ensures { result.now ≡ self.now.emission }
     {
         &self.emission
+    }
+
+    /// An equal one. The error is that memory ran out.
+    pub fn copy(&self) -> Result<Flying, OutOfMemory>
+        ensures { IfOk result (λ f. f ≡ self.now) }
+    {
+        Ok(Flying {
+            host: self.host,
+            tick: self.tick,
+            line: self.line,
+            emission: self.emission.copy()?,
+            wire: self.wire.copy()?,
+        })
     }
 
     // How it looks on the wire.

@@ -1,6 +1,6 @@
 //! What one host recorded, and the world to which it leads.
 
-ghost use Rattle.std.specs.Prelude.{◌≡◌, ◌<◌, ◌≤◌, [], length, nat_eq, OnOk, OnErr};
+ghost use Rattle.std.specs.Prelude.{◌≡◌, ◌<◌, ◌≤◌, [], length, nat_eq, true, OnOk, OnErr};
 ghost use Rattle.std.specs.Map.{lookup};
 ghost use Rattle.std.specs.Option.{IfSome, option_copied};
 ghost use Rattle.std.specs.Result.{result_err};
@@ -8,7 +8,7 @@ ghost use Rattle.case_forms.specs.Witnesses.{IsWithinLimits};
 ghost use Rattle.case_forms.specs.Traces.{first_event_line};
 ghost use Rattle.verdict.specs.Rules.{first_broken};
 ghost use Rattle.hosts.specs.Tables.{other, pick};
-ghost use Rattle.hosts.specs.Hosts.{turn_of};
+ghost use Rattle.hosts.specs.Hosts.{Idle, turn_of};
 ghost use Rattle.hosts.specs.HostRules.{step_rules};
 ghost use Rattle.machine.specs.Bounds.{IsSmallEmission, most_steps};
 ghost use Rattle.machine.specs.Forgetting.{forget, forget_body};
@@ -122,6 +122,13 @@ impl Recording {
         ensures { option_copied result ≡ pending_call (turn_of thread (world_left self.now).threads) }
     {
         self.world.pending_call(thread)
+    }
+
+    /// Whether a thread is in no call, so that it may begin this one.
+    pub fn admits_begin(&self, thread: u32, call: &Call) -> bool
+        ensures { result ≡ true → turn_of thread (world_left self.now).threads ≡ Idle }
+    {
+        self.world.admits_begin(thread, call).is_ok()
     }
 
     /// How many segments were made.
