@@ -13,10 +13,11 @@ use Rattle.case_forms.specs.declared.timer.Timer.TheVariants as timers
 use Rattle.case_forms.specs.declared.trace.Event.{Event}
 use Rattle.case_forms.specs.declared.trace.Event.TheVariants as events
 use Rattle.case_forms.specs.declared.trace.Line.{Line}
-use Rattle.hosts.specs.Tables.{on}
+use Rattle.hosts.specs.Tables.{on, other}
 use Rattle.hosts.specs.Hosts.{Deed, Does, Expires, Makes, Sends, Gets, Takes, Drops, Answers, Step, Begin, Finish, Effect, At, Stamped}
 use Rattle.machine.specs.Machine.{tcp_shape}
-use Rattle.recordings.specs.Books.{Item, Do, Bring}
+use Rattle.recordings.specs.Books.{Item, Do, Bring, Key}
+use Rattle.recordings.specs.Merging.{Names}
 use Rattle.recordings.specs.Keys.{rank}
 use Rattle.recordings.specs.Recordings.{TcpEntry}
 use Rattle.checker.specs.Again.{nowhere}
@@ -74,6 +75,32 @@ step_said x = record { moment = x.moment; label = label_said x.step; span = nowh
 
 abbrev pub steps_said : List (Stamped tcp_shape) → List witness.Step
 steps_said xs = map step_said xs
+
+-- a deed of host h under new numbers, and a step; whatever the header says
+abbrev pub deed_renumbered : Names → Host → Deed tcp_shape → Deed tcp_shape
+deed_renumbered names h (Does x) = Does x
+deed_renumbered names h (Expires line x growth) = Expires (names.line h line) x growth
+deed_renumbered names h (Makes plan) = Makes plan
+deed_renumbered names h (Sends line number wire) = Sends (names.line h line) (names.made h number) wire
+deed_renumbered names h (Gets line copied wire) = Gets (names.line h line) (names.line (other h) copied) wire
+deed_renumbered names h (Takes line choice) = Takes (names.line h line) choice
+deed_renumbered names h (Drops line) = Drops (names.line h line)
+deed_renumbered names h (Answers line) = Answers (names.line h line)
+
+abbrev pub renumbered : Names → Host → Step tcp_shape → Step tcp_shape
+renumbered names h (Begin line t call) = Begin (names.line h line) t call
+renumbered names h (Finish line t answer) = Finish (names.line h line) t answer
+renumbered names h (Effect t answer) = Effect t answer
+renumbered names h (At host deed) = At host (deed_renumbered names h deed)
+
+-- the steps of entries under new numbers
+abbrev pub with_renumbered : Names → Key → Item tcp_shape → List (Stamped tcp_shape) → List (Stamped tcp_shape)
+with_renumbered names key (Do step) xs = record { moment = key.moment; step = renumbered names key.host step } ∷ xs
+with_renumbered names key (Bring f) xs = xs
+
+abbrev pub all_renumbered : Names → List TcpEntry → List (Stamped tcp_shape)
+all_renumbered names [] = []
+all_renumbered names (x ∷ xs) = with_renumbered names x.key x.item (all_renumbered names xs)
 
 -- nothing is chosen at a timer that is no retransmission timer
 abbrev pub IsPlain : Timer → Growth → Type 0

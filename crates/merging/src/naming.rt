@@ -1,13 +1,12 @@
 //! Which segment of the other host an arrival names.
 
-ghost use Rattle.std.specs.Prelude.{◌≡◌, ◌↔◌, ◌≤◌, ◌+◌, IsTrue, IfNone, IfOk, map};
+ghost use Rattle.std.specs.Prelude.{◌≡◌, ◌↔◌, ◌≤◌, IsTrue, IfNone, IfOk, map};
 ghost use Rattle.std.specs.Option.{IfSome};
 ghost use Rattle.case_forms.specs.Traces.{first_event_line};
 ghost use Rattle.hosts.specs.Tables.{pick};
-ghost use Rattle.stack_core.specs.Entries.{steps_in};
 ghost use Rattle.stack_core.specs.Keys.{key_shown};
 ghost use Rattle.stack_core.specs.Recordings.{world_left};
-ghost use Rattle.merging.specs.Naming.{IsNamed, SameBytes, SameHead, SameMark, SameOptions, line_keys};
+ghost use Rattle.merging.specs.Naming.{AllNamed, FirstStranger, IsNamed, NamedItem, SameBytes, SameHead, SameMark, SameOptions, line_keys};
 ghost use Rattle.merging.specs.Faults.{NamesAll, HasStranger};
 
 use crate::numbers::takes_line;
@@ -93,41 +92,66 @@ fn is_named(keys: &[Key], other: &Recording, flying: &Flying) -> bool
     }
 }
 
+// Whether an entry is no segment that was brought, or one that the other host let out.
+fn is_known(keys: &[Key], other: &Recording, entry: &Entry) -> bool
+    ensures { IsTrue result ↔ NamedItem (first_event_line other.now.header) (map key_shown keys.now) (pick (world_left other.now).hosts other.now.me).wire entry.now.item }
+{
+    match entry.item() {
+        Item::Does(_) => true,
+        Item::Brings(flying) => is_named(keys, other, flying),
+    }
+}
+
 // The keys of the entries that take lines.
 fn line_keys(alloc: Global, entries: &[Entry]) -> Result<Vec<Key>, OutOfMemory>
     ensures { IfOk result (λ keys. map key_shown keys.items ≡ line_keys entries.now) }
 {
     let mut keys = Vec::new(alloc);
-    for entry in entries {
+    let mut left = entries;
+    while let [entry, rest @ ..] = left {
         if takes_line(entry.item()) {
             keys.push(entry.key())?;
         }
+        left = rest;
     }
     Ok(keys)
 }
 
+// The number of the line behind the first segment among these entries that was not let out, where the first line has the
+// number `first`.
+#[tactic(auto, using(crate::proofs::Strangers::stranger_here, crate::proofs::Strangers::stranger_later))]
+fn find_stranger(keys: &[Key], other: &Recording, first: u64, entries: &[Entry]) -> Option<u64>
+    requires { first ≤ 100 }
+    ensures none { IfNone result (AllNamed (first_event_line other.now.header) (map key_shown keys.now) (pick (world_left other.now).hosts other.now.me).wire entries.now) }
+    ensures some { IfSome result (FirstStranger (first_event_line other.now.header) (map key_shown keys.now) (pick (world_left other.now).hosts other.now.me).wire first entries.now) }
+{
+    let mut left = entries;
+    let mut line = first;
+    while let [entry, rest @ ..] = left {
+        if !is_known(keys, other, entry) {
+            return Some(line);
+        }
+        if takes_line(entry.item()) {
+            line += 1;
+        }
+        left = rest;
+    }
+    None
+}
+
 /// The number of the line behind the first segment that a recording brought and that the other's host didn't let out. None:
 /// there is no such segment. The error is that memory ran out.
+#[tactic(auto, using(crate::proofs::Strangers::stranger_at))]
 pub(crate) fn first_stranger(
     alloc: Global,
     mine: &Recording,
     other: &Recording,
 ) -> Result<Option<u64>, OutOfMemory>
-    requires few { steps_in mine.now.entries ≤ 1000000000 }
+    requires headers { mine.now.header ≡ other.now.header }
     ensures none { IfOk result (λ o. IfNone o (NamesAll mine.now other.now)) }
     ensures some { IfOk result (λ o. IfSome o (HasStranger mine.now other.now)) }
 {
     let keys = line_keys(alloc, other.entries())?;
-    let mut line = mine.header().first_event_line();
-    for entry in mine.entries() {
-        if let Item::Brings(flying) = entry.item() {
-            if !is_named(keys.as_slice(), other, flying) {
-                return Ok(Some(line));
-            }
-        }
-        if takes_line(entry.item()) {
-            line += 1;
-        }
-    }
-    Ok(None)
+    let first = other.header().first_event_line();
+    Ok(find_stranger(keys.as_slice(), other, first, mine.entries()))
 }

@@ -131,12 +131,13 @@ impl Counts {
 }
 
 /// All entries counted, lines from `first` on and made segments from 1 on.
+#[tactic(auto, using(crate::proofs::TellLemmas::lines_room, crate::proofs::TellLemmas::mades_room))]
 pub(crate) fn count_all(
     alloc: Global,
     first: u32,
     mut entries: InOrder,
 ) -> Result<Counts, OutOfMemory>
-    requires few { first + steps_in entries.entry ≤ 1000000000 }
+    requires few { first + steps_in entries ≤ 1000000000 }
     ensures counts { IfOk result (λ c. record { lines = c.lines; mades = c.mades } ≡ counted (no_counts first) entries.entry) }
     ensures lines { IfOk result (λ c. c.lines.next ≤ 2147483647) }
     ensures mades { IfOk result (λ c. c.mades.next ≤ 2147483647) }

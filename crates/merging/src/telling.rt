@@ -1,14 +1,10 @@
 //! Steps as lines of a trace, and as steps of a witness.
 
-ghost use Rattle.std.specs.Prelude.{◌≡◌, ◌≤◌, ◌++◌, ◌∷◌, [], IfOk, OnOk};
-ghost use Rattle.std.specs.Option.{option_to_list};
-ghost use Rattle.case_forms.specs.declared.trace.Header.{Header};
-ghost use Rattle.hosts.specs.Tables.{other};
-ghost use Rattle.machine.specs.Machine.{tcp};
-ghost use Rattle.machine.specs.Steps.{step_of};
-ghost use Rattle.recordings.specs.Merging.{restep, steps_of};
-ghost use Rattle.merging.specs.Numbers.{AllSmall, IsSmall, IsSmallItem, IsSmallStep, names_in, number_in};
-ghost use Rattle.merging.specs.Saying.{AllSaid, IsSaid, IsSaidItem, label_said, line_said, lines_said, steps_said};
+ghost use Rattle.std.specs.Prelude.{◌≡◌, ◌≤◌, ◌+◌, ◌++◌, ◌∷◌, [], Some, IfOk, OnOk};
+ghost use Rattle.hosts.specs.Tables.{on, other};
+ghost use Rattle.machine.specs.Steps.{growth_of, line_step, step_of, timer_of};
+ghost use Rattle.merging.specs.Numbers.{AllSmall, IsSmallItem, IsSmallStep, names_in};
+ghost use Rattle.merging.specs.Saying.{AllSaid, IsSaid, IsSaidItem, all_renumbered, growth_said, label_said, line_said, lines_said, names, renumbered, said, steps_said};
 ghost use Rattle.checker.specs.Again.{nowhere};
 
 use crate::numbers::Counts;
@@ -48,7 +44,10 @@ fn other(host: Host) -> Host
 }
 
 // A line that is named with these numbers.
-fn told_line(number: u32, moment: u64, thread: u32, event: Event, extras: Extras) -> Told {
+fn told_line(number: u32, moment: u64, thread: u32, event: Event, extras: Extras) -> Told
+    ensures label { result.label ≡ names number extras }
+    ensures line { result.line ≡ Some (said number moment thread event) }
+{
     let number = u64::from(number);
     Told {
         label: case_forms::Label::L(NamedLine { number, extras }),
@@ -68,7 +67,14 @@ fn tell_line(
     moment: u64,
     host: Host,
     taken: &TakenLine,
-) -> Result<Told, OutOfMemory> {
+) -> Result<Told, OutOfMemory>
+    requires small { IsSmallStep (line_step taken.now) }
+    requires lines { counts.now.lines.next ≤ 2147483647 }
+    requires mades { counts.now.mades.next ≤ 2147483647 }
+    ensures label { IfOk result (λ t. t.label ≡ label_said (renumbered (names_in (record { lines = counts.now.lines; mades = counts.now.mades })) host (line_step taken.now))) }
+    ensures line { IfOk result (λ t. t.line ≡ line_said moment (renumbered (names_in (record { lines = counts.now.lines; mades = counts.now.mades })) host (line_step taken.now))) }
+    ensures said { IsSaid (line_step taken.now) }
+{
     Ok(match taken {
         TakenLine::CallBegin { line, thread, call } => told_line(
             counts.lines.number(host, *line),
@@ -127,7 +133,9 @@ fn tell_line(
     })
 }
 
-fn timer_of(expired: Expired) -> Timer {
+fn timer_of(expired: Expired) -> Timer
+    ensures { result ≡ timer_of expired }
+{
     match expired {
         Expired::Rto(_) => Timer::Rto,
         Expired::Persist => Timer::Persist,
@@ -136,7 +144,9 @@ fn timer_of(expired: Expired) -> Timer {
     }
 }
 
-fn extras_of(expired: Expired) -> Extras {
+fn extras_of(expired: Expired) -> Extras
+    ensures { result ≡ growth_said (timer_of expired) (growth_of expired) }
+{
     match expired {
         Expired::Rto(growth) => Extras::Two(growth.cwnd, growth.ssthresh),
         Expired::Persist | Expired::Msl2 | Expired::Giveup => Extras::Bare,
@@ -149,7 +159,14 @@ fn tell_step(
     moment: u64,
     host: Host,
     label: &Label,
-) -> Result<Told, OutOfMemory> {
+) -> Result<Told, OutOfMemory>
+    requires small { IsSmallStep (step_of label.now) }
+    requires lines { counts.now.lines.next ≤ 2147483647 }
+    requires mades { counts.now.mades.next ≤ 2147483647 }
+    ensures label { IfOk result (λ t. t.label ≡ label_said (renumbered (names_in (record { lines = counts.now.lines; mades = counts.now.mades })) host (step_of label.now))) }
+    ensures line { IfOk result (λ t. t.line ≡ line_said moment (renumbered (names_in (record { lines = counts.now.lines; mades = counts.now.mades })) host (step_of label.now))) }
+    ensures said { IsSaid (step_of label.now) }
+{
     let label = match label {
         Label::L(taken) => return tell_line(counts, moment, host, taken),
         Label::D { thread, answer } => case_forms::Label::D {
@@ -185,21 +202,37 @@ fn tell_step(
     Ok(Told { label, line: None })
 }
 
+// A line joins, where there is one.
+fn push_told(line: Option<Line>, lines: &mut Lines) -> Result<(), OutOfMemory>
+    ensures { OnOk result (lines.new ≡ lines.old ++ on line [] (λ l. l ∷ [])) }
+{
+    if let Some(line) = line {
+        lines.push(line)?;
+    }
+    Ok(())
+}
+
 // One entry more is told.
+#[tactic(auto, using(crate::proofs::TellLemmas::line_joined))]
 fn tell_entry(
     counts: &Counts,
     entry: &Entry,
     lines: &mut Lines,
     steps: &mut Steps,
-) -> Result<(), OutOfMemory> {
+) -> Result<(), OutOfMemory>
+    requires small { IsSmallItem entry.now.item }
+    requires lines { counts.now.lines.next ≤ 2147483647 }
+    requires mades { counts.now.mades.next ≤ 2147483647 }
+    ensures lines { OnOk result (lines.new ≡ lines.old ++ lines_said (all_renumbered (names_in (record { lines = counts.now.lines; mades = counts.now.mades })) (entry.now ∷ []))) }
+    ensures steps { OnOk result (steps.new ≡ steps.old ++ steps_said (all_renumbered (names_in (record { lines = counts.now.lines; mades = counts.now.mades })) (entry.now ∷ []))) }
+    ensures said { OnOk result (IsSaidItem entry.now.item) }
+{
     let Item::Does(label) = entry.item() else {
         return Ok(());
     };
     let key = entry.key();
     let Told { label, line } = tell_step(counts, key.moment, key.host, label)?;
-    if let Some(line) = line {
-        lines.push(line)?;
-    }
+    push_told(line, lines)?;
     steps.push(Step {
         moment: key.moment,
         label,
@@ -209,11 +242,19 @@ fn tell_entry(
 }
 
 /// The lines and the steps of all entries, in their order, under these numbers.
+#[tactic(auto, using(crate::proofs::TellLemmas::lines_on, crate::proofs::TellLemmas::steps_on))]
 pub(crate) fn tell_all(
     alloc: Global,
     counts: &Counts,
     mut entries: InOrder,
-) -> Result<(Lines, Steps), OutOfMemory> {
+) -> Result<(Lines, Steps), OutOfMemory>
+    requires small { AllSmall entries }
+    requires lines { counts.now.lines.next ≤ 2147483647 }
+    requires mades { counts.now.mades.next ≤ 2147483647 }
+    ensures lines { IfOk result (λ r. r.0 ≡ lines_said (all_renumbered (names_in (record { lines = counts.now.lines; mades = counts.now.mades })) entries.entry)) }
+    ensures steps { IfOk result (λ r. r.1 ≡ steps_said (all_renumbered (names_in (record { lines = counts.now.lines; mades = counts.now.mades })) entries.entry)) }
+    ensures said { IfOk result (λ r. AllSaid entries.entry) }
+{
     let mut lines = Lines::new(alloc);
     let mut steps = Steps::new(alloc);
     while let Some(entry) = entries.next() {

@@ -282,7 +282,8 @@ fn finish<L: Site, R: Wait>(
     seat: Seat<L>,
 ) -> Result<HostBook, RecordFault> {
     let mut seats = Vec::new(alloc);
-    seats.push(seat)?;
+    seats.reserve(1)?;
+    seats.push_reserved(seat);
     match recorder.finish(rt, seats) {
         Ok(book) => Ok(book),
         Err(unfinished) => match unfinished.cause {
@@ -318,8 +319,9 @@ fn record_with<L: Site + Send + Sync, M: Site + Send + Sync, R: Threads + Wait +
     };
     let Caller { seat: client_seat, mut receipts, .. } = client;
     let Caller { seat: server_seat, receipts: others, .. } = server;
+    receipts.reserve(others.len())?;
     for receipt in others {
-        receipts.push(receipt)?;
+        receipts.push_reserved(receipt);
     }
     let zero = finish(rt, alloc, zero, client_seat)?;
     let one = finish(rt, alloc, one, server_seat)?;
