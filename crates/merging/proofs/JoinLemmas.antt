@@ -68,10 +68,10 @@ lined h (Do (At host d)) = deed d
     deed (Answers line) = inl (refl, refl)
 
 -- the first of numbered entries
-abbrev Front : Header → ℕ → TcpEntry → List TcpEntry → Type 0
+abbrev pub Front : Header → ℕ → TcpEntry → List TcpEntry → Type 0
 Front h n e es = ((takes_line e.item ≡ false) × (item_line (tcp h) e.item ≡ None) × Numbered (tcp h) n es) ⊎ ((takes_line e.item ≡ true) × (item_line (tcp h) e.item ≡ Some n) × Numbered (tcp h) (suc n) es)
 
-front : (h : Header) (n : ℕ) (e : TcpEntry) (es : List TcpEntry) → Numbered (tcp h) n (e ∷ es) → Front h n e es
+pub front : (h : Header) (n : ℕ) (e : TcpEntry) (es : List TcpEntry) → Numbered (tcp h) n (e ∷ es) → Front h n e es
 front h n e es num = go (lined h e.item)
   where
     go : ((takes_line e.item ≡ false) × (item_line (tcp h) e.item ≡ None)) ⊎ ((m : ℕ) × (takes_line e.item ≡ true) × (item_line (tcp h) e.item ≡ Some m)) → Front h n e es
@@ -98,9 +98,6 @@ key_there : (h : Header) (n j : ℕ) (k : Key) (ys : List TcpEntry) → Numbered
 key_there h n j k [] num at = tt
 key_there h n j k (y ∷ ys) num at = go (front h n y ys num) j at (λ m j num at. key_there h m j k ys num at)
   where
-    abbrev keys_by : Bool → List Key
-    keys_by b = if b then y.key ∷ line_keys ys else line_keys ys
-
     go : Front h n y ys → (j : ℕ) → slice_get (line_keys (y ∷ ys)) j ≡ Some k → ((m j : ℕ) → Numbered (tcp h) m ys → slice_get (line_keys ys) j ≡ Some k → HaveKey h (m + j) k ys) → HaveKey h (n + j) k (y ∷ ys)
     go (inl g) j at rest = ((λ is. absurd (none-some (n + j) (sym g.1 ∙ is))), rest n j g.2 (sym (ap (λ (b : Bool). slice_get (if b then y.key ∷ line_keys ys else line_keys ys) j) g.0) ∙ at))
     go (inr g) zero at rest =

@@ -5,3 +5,5 @@ pub mod TellLemmas
 pub mod OrderLemmas
 pub mod SayLemmas
 pub mod JoinLemmas
+pub mod SmallLemmas
+pub mod MergeLemmas

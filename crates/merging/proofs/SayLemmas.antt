@@ -120,9 +120,6 @@ pub lines_are : (h : Header) (xs : List (Stamped tcp_shape)) → AllSaidSteps xs
 lines_are h [] s = refl
 lines_are h (x ∷ xs) s = go (step_is h x.moment x.step s.0) (lines_are h xs s.1)
   where
-    abbrev front : Option (placing.Event tcp_shape) → List (placing.Line tcp_shape)
-    front o = on o (placing.lines_of (tcp h) xs) (λ e. record { moment = x.moment; event = e } ∷ placing.lines_of (tcp h) xs)
-
     go : IsHidden h x.moment x.step ⊎ IsLine h x.moment x.step → map line_told (lines_said xs) ≡ placing.lines_of (tcp h) xs → map line_told (lines_said (x ∷ xs)) ≡ placing.lines_of (tcp h) (x ∷ xs)
     go (inl k) rest =
         ap (λ (o : Option Line). map line_told (on o (lines_said xs) (λ line. line ∷ lines_said xs))) k.said ∙ rest
@@ -158,9 +155,6 @@ pub told_from : (h : Header) (all : List Line) (n : ℕ) (xs : List (Stamped tcp
 told_from h all n [] s rise finds = (refl, tt)
 told_from h all n (x ∷ xs) s rise finds = go (step_is h x.moment x.step s.0) (λ m r f. told_from h all m xs s.1 r f)
   where
-    abbrev acted : Option (Step tcp_shape) → List (Stamped tcp_shape)
-    acted o = cons_option (option_map (λ step. record { moment = x.moment; step = step }) o) (stamped h all (steps_said xs))
-
     go : IsHidden h x.moment x.step ⊎ IsLine h x.moment x.step → ((m : ℕ) → LinesRise (tcp h) m xs → Finds h all m (lines_said xs) → (stamped h all (steps_said xs) ≡ xs) × AllTakeWell h all (steps_said xs))
         → (stamped h all (steps_said (x ∷ xs)) ≡ x ∷ xs) × AllTakeWell h all (steps_said (x ∷ xs))
     go (inl k) rest =

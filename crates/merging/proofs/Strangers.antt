@@ -1,26 +1,36 @@
 -- A first stranger stands at a place.
-use Rattle.std.proofs.Common.{◌≡◌, ℕ, ◌+◌, zero, suc, Bool, true, false, if◌then◌else◌, List, [], ◌∷◌, length, take, refl, arith, Some, ◌⊎◌, inl, inr}
+use Rattle.std.proofs.Common.{◌≡◌, ℕ, ◌+◌, zero, suc, Bool, true, false, if◌then◌else◌, List, [], ◌∷◌, length, take, refl, sym, ap, subst, arith, Some, ◌⊎◌, inl, inr}
 use Rattle.machine.specs.declared.endpoint.Emission.{Emission}
 use Rattle.machine.specs.Machine.{tcp_shape}
 use Rattle.recordings.specs.Books.{Item, Do, Bring, Key}
 use Rattle.recordings.specs.Recordings.{TcpEntry}
 use Rattle.merging.specs.Numbers.{takes_line}
-use Rattle.merging.specs.Naming.{line_keys, NamedItem, StrangerItem, FirstStranger, IsStranger, StrangerFrom}
+use Rattle.merging.specs.Naming.{AllNamed, line_keys, NamedItem, StrangerItem, FirstStranger, IsStranger, StrangerFrom}
 
--- the first of some entries is one, or a later one is
-pub stranger_here : (first : ℕ) (keys : List Key) (wire : List (ℕ × Emission)) (line : ℕ) (x : TcpEntry) (xs : List TcpEntry) → (NamedItem first keys wire x.item → ⊥) → FirstStranger first keys wire line (x ∷ xs) line
-stranger_here first keys wire line x xs = go x.item
+-- the first of some entries is one
+pub stranger_here : (first : ℕ) (keys : List Key) (wire : List (ℕ × Emission)) (line : ℕ) (left : List TcpEntry) (x : TcpEntry) (xs : List TcpEntry) → left ≡ x ∷ xs → (NamedItem first keys wire x.item → ⊥) → FirstStranger first keys wire line left line
+stranger_here first keys wire line left x xs is unnamed = subst (λ (es : List TcpEntry). FirstStranger first keys wire line es line) (sym is) (go x.item unnamed)
   where
     go : (item : Item tcp_shape) → (NamedItem first keys wire item → ⊥) → StrangerItem first keys wire line line item (FirstStranger first keys wire (if takes_line item then line + 1 else line) xs line)
     go (Do step) unnamed = absurd (unnamed tt)
     go (Bring f) unnamed = inl (unnamed, refl)
 
-pub stranger_later : (first : ℕ) (keys : List Key) (wire : List (ℕ × Emission)) (line n : ℕ) (x : TcpEntry) (xs : List TcpEntry) → NamedItem first keys wire x.item → FirstStranger first keys wire (if takes_line x.item then line + 1 else line) xs n → FirstStranger first keys wire line (x ∷ xs) n
-stranger_later first keys wire line n x xs = go x.item
+-- a later one is, where the first is none
+stranger_later : (first : ℕ) (keys : List Key) (wire : List (ℕ × Emission)) (line next n : ℕ) (left : List TcpEntry) (x : TcpEntry) (xs : List TcpEntry) → left ≡ x ∷ xs → NamedItem first keys wire x.item → (if takes_line x.item then line + 1 else line) ≡ next → FirstStranger first keys wire next xs n → FirstStranger first keys wire line left n
+stranger_later first keys wire line next n left x xs is named to s = subst (λ (es : List TcpEntry). FirstStranger first keys wire line es n) (sym is) (go x.item named (subst (λ (m : ℕ). FirstStranger first keys wire m xs n) (sym to) s))
   where
     go : (item : Item tcp_shape) → NamedItem first keys wire item → FirstStranger first keys wire (if takes_line item then line + 1 else line) xs n → StrangerItem first keys wire line n item (FirstStranger first keys wire (if takes_line item then line + 1 else line) xs n)
     go (Do step) named rest = rest
     go (Bring f) named rest = inr (named, rest)
+
+pub stranger_taken : (first : ℕ) (keys : List Key) (wire : List (ℕ × Emission)) (line n : ℕ) (left : List TcpEntry) (x : TcpEntry) (xs : List TcpEntry) → left ≡ x ∷ xs → NamedItem first keys wire x.item → takes_line x.item ≡ true → FirstStranger first keys wire (line + 1) xs n → FirstStranger first keys wire line left n
+stranger_taken first keys wire line n left x xs is named takes = stranger_later first keys wire line (line + 1) n left x xs is named (ap (λ (b : Bool). if b then line + 1 else line) takes)
+
+pub stranger_hidden : (first : ℕ) (keys : List Key) (wire : List (ℕ × Emission)) (line n : ℕ) (left : List TcpEntry) (x : TcpEntry) (xs : List TcpEntry) → left ≡ x ∷ xs → NamedItem first keys wire x.item → takes_line x.item ≡ false → FirstStranger first keys wire line xs n → FirstStranger first keys wire line left n
+stranger_hidden first keys wire line n left x xs is named takes = stranger_later first keys wire line line n left x xs is named (ap (λ (b : Bool). if b then line + 1 else line) takes)
+
+pub named_more : (first : ℕ) (keys : List Key) (wire : List (ℕ × Emission)) (left : List TcpEntry) (x : TcpEntry) (xs : List TcpEntry) → left ≡ x ∷ xs → NamedItem first keys wire x.item → AllNamed first keys wire xs → AllNamed first keys wire left
+named_more first keys wire left x xs is named rest = subst (λ (es : List TcpEntry). AllNamed first keys wire es) (sym is) (named, rest)
 
 pub stranger_from : (first : ℕ) (keys : List Key) (wire : List (ℕ × Emission)) (line : ℕ) (es : List TcpEntry) (n : ℕ) → FirstStranger first keys wire line es n → StrangerFrom first keys wire line es n
 stranger_from first keys wire line [] n s = absurd s

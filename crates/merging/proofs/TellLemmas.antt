@@ -7,7 +7,7 @@ use Rattle.case_forms.specs.declared.steps.Step as witness
 use Rattle.hosts.specs.Tables.{on}
 use Rattle.hosts.specs.Hosts.{Stamped, Step}
 use Rattle.machine.specs.Machine.{tcp_shape}
-use Rattle.recordings.specs.Books.{Item, Do, Bring}
+use Rattle.recordings.specs.Books.{Item, Do, Bring, Key}
 use Rattle.recordings.specs.Merging.{Names}
 use Rattle.recordings.specs.Recordings.{TcpEntry}
 use Rattle.stack_core.specs.Entries.{item_steps, steps_in}
@@ -51,10 +51,12 @@ steps_on names whole told new e left es was is longer =
     ∙ was
 
 -- a step's line joins
-pub line_joined : (names : Names) (x : TcpEntry) (step : Step tcp_shape) (o : Option Line) (old new : List Line) → Do step ≡ x.item → o ≡ line_said x.key.moment (renumbered names x.key.host step) → new ≡ old ++ on o [] (λ l. l ∷ [])
+pub line_joined : (names : Names) (x : TcpEntry) (key : Key) (step : Step tcp_shape) (o : Option Line) (old new : List Line) → key ≡ x.key → Do step ≡ x.item → o ≡ line_said key.moment (renumbered names key.host step) → new ≡ old ++ on o [] (λ l. l ∷ [])
     → new ≡ old ++ lines_said (all_renumbered names (x ∷ []))
-line_joined names x step o old new is said joined =
-    joined ∙ ap (λ (p : Option Line). old ++ on p [] (λ l. l ∷ [])) said ∙ ap (λ (item : Item tcp_shape). old ++ lines_said (with_renumbered names x.key item [])) is
+line_joined names x key step o old new same is said joined =
+    joined ∙ ap (λ (p : Option Line). old ++ on p [] (λ l. l ∷ [])) said
+    ∙ ap (λ (k : Key). old ++ lines_said (with_renumbered names k (Do step) [])) same
+    ∙ ap (λ (item : Item tcp_shape). old ++ lines_said (with_renumbered names x.key item [])) is
 
 -- ---- counts
 

@@ -43,6 +43,10 @@ pub enum MergeFault {
 }
 
 impl From<OutOfMemory> for MergeFault {
+    ghost use Rattle.merging.specs.declared.joining.MergeFault.TheVariants.{OutOfMemory};
+
+    ghost from_gives = { λ _ e. e ≡ OutOfMemory };
+
     fn from(_: OutOfMemory) -> MergeFault {
         MergeFault::OutOfMemory
     }

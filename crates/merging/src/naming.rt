@@ -10,6 +10,7 @@ ghost use Rattle.merging.specs.Naming.{AllNamed, FirstStranger, IsNamed, NamedIt
 ghost use Rattle.merging.specs.Faults.{NamesAll, HasStranger};
 
 use crate::numbers::takes_line;
+use crate::order::first_entry;
 use case_forms::OutOfMemory;
 use machine::Emission;
 use stack_core::{Entry, Flying, Item, Key, Recording};
@@ -108,18 +109,17 @@ fn line_keys(alloc: Global, entries: &[Entry]) -> Result<Vec<Key>, OutOfMemory>
 {
     let mut keys = Vec::new(alloc);
     let mut left = entries;
-    while let [entry, rest @ ..] = left {
-        if takes_line(entry.item()) {
+    while let Some((entry, behind)) = first_entry(left) {
+        if takes_line(entry) {
             keys.push(entry.key())?;
         }
-        left = rest;
+        left = behind;
     }
     Ok(keys)
 }
 
 // The number of the line behind the first segment among these entries that was not let out, where the first line has the
 // number `first`.
-#[tactic(auto, using(crate::proofs::Strangers::stranger_here, crate::proofs::Strangers::stranger_later))]
 fn find_stranger(keys: &[Key], other: &Recording, first: u64, entries: &[Entry]) -> Option<u64>
     requires { first ≤ 100 }
     ensures none { IfNone result (AllNamed (first_event_line other.now.header) (map key_shown keys.now) (pick (world_left other.now).hosts other.now.me).wire entries.now) }
@@ -127,14 +127,14 @@ fn find_stranger(keys: &[Key], other: &Recording, first: u64, entries: &[Entry])
 {
     let mut left = entries;
     let mut line = first;
-    while let [entry, rest @ ..] = left {
+    while let Some((entry, behind)) = first_entry(left) {
         if !is_known(keys, other, entry) {
             return Some(line);
         }
-        if takes_line(entry.item()) {
+        if takes_line(entry) {
             line += 1;
         }
-        left = rest;
+        left = behind;
     }
     None
 }

@@ -2,7 +2,7 @@
 
 ghost use Rattle.std.specs.Prelude.{◌≡◌, ◌<◌, ◌≤◌, ◌+◌, IfOk, OnOk, OnErr};
 ghost use Rattle.hosts.specs.Tables.{pick};
-ghost use Rattle.stack_core.specs.Entries.{item_shown, steps_in};
+ghost use Rattle.stack_core.specs.Entries.{steps_in};
 ghost use Rattle.merging.specs.Numbers.{IsSmall, counted, counted_one, makes_segment, no_counts, no_turns, number_in, takes_line, with_turn};
 
 use crate::order::InOrder;
@@ -92,21 +92,21 @@ pub(crate) struct Counts {
     pub(crate) mades: Turns,
 }
 
-/// Whether an item takes a line.
-pub(crate) fn takes_line(item: &Item) -> bool
-    ensures { result ≡ takes_line (item_shown item.now) }
+/// Whether an entry takes a line.
+pub(crate) fn takes_line(entry: &Entry) -> bool
+    ensures { result ≡ takes_line entry.now.item }
 {
-    match item {
+    match entry.item() {
         Item::Does(label) => matches!(label, Label::L(_)),
         Item::Brings(_) => false,
     }
 }
 
 // Whether it makes a segment.
-fn makes_segment(item: &Item) -> bool
-    ensures { result ≡ makes_segment (item_shown item.now) }
+fn makes_segment(entry: &Entry) -> bool
+    ensures { result ≡ makes_segment entry.now.item }
 {
-    match item {
+    match entry.item() {
         Item::Does(label) => matches!(label, Label::M { .. } | Label::R { .. }),
         Item::Brings(_) => false,
     }
@@ -120,10 +120,10 @@ impl Counts {
         ensures { OnOk result (record { lines = self.new.lines; mades = self.new.mades } ≡ counted_one (record { lines = self.old.lines; mades = self.old.mades }) entry.now) }
     {
         let host = entry.key().host;
-        if takes_line(entry.item()) {
+        if takes_line(entry) {
             self.lines.take(host)?;
         }
-        if makes_segment(entry.item()) {
+        if makes_segment(entry) {
             self.mades.take(host)?;
         }
         Ok(())

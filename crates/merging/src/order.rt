@@ -63,6 +63,17 @@ impl<'a> InOrder<'a> {
     }
 }
 
+/// The first of some entries, and those behind it.
+pub(crate) fn first_entry(entries: &[Entry]) -> Option<(&Entry, &[Entry])>
+    ensures some { IfSome result (λ r. entries.now ≡ r.0.now ∷ r.1.now) }
+    ensures none { IfNone result (entries.now ≡ []) }
+{
+    match entries {
+        [] => None,
+        [entry, behind @ ..] => Some((entry, behind)),
+    }
+}
+
 /// A host's place among the hosts of keys that are else the same.
 pub(crate) fn rank(host: Host) -> u32
     ensures { result ≡ rank host }

@@ -213,7 +213,6 @@ fn push_told(line: Option<Line>, lines: &mut Lines) -> Result<(), OutOfMemory>
 }
 
 // One entry more is told.
-#[tactic(auto, using(crate::proofs::TellLemmas::line_joined))]
 fn tell_entry(
     counts: &Counts,
     entry: &Entry,
@@ -231,11 +230,11 @@ fn tell_entry(
         return Ok(());
     };
     let key = entry.key();
-    let Told { label, line } = tell_step(counts, key.moment, key.host, label)?;
-    push_told(line, lines)?;
+    let told = tell_step(counts, key.moment, key.host, label)?;
+    push_told(told.line, lines)?;
     steps.push(Step {
         moment: key.moment,
-        label,
+        label: told.label,
         span: nowhere(),
     })?;
     Ok(())
