@@ -212,7 +212,7 @@ own_kept : (me : Host) (w : World tcp_shape) → IsOwn me w → IsOwn me (forget
 own_kept Zero w own = record { own = own.own; below = own.below; none = own.none; aims = own.aims; within = own.within }
 own_kept One w own = record { own = own.own; below = own.below; none = own.none; aims = own.aims; within = own.within }
 
-kept_body : (me : Host) (w : World tcp_shape) → (pick (forget w).hosts me).body ≡ forget_body (pick w.hosts me).body
+pub kept_body : (me : Host) (w : World tcp_shape) → (pick (forget w).hosts me).body ≡ forget_body (pick w.hosts me).body
 kept_body Zero w = refl
 kept_body One w = refl
 

@@ -7,6 +7,8 @@ pub mod MakingLemmas
 pub mod Same
 pub mod Shown
 pub mod OutgoingLemmas
+pub mod ResetLemmas
+pub mod FlightLemmas
 pub mod MadeLemmas
 pub mod TimerLemmas
 pub mod ArriveLemmas

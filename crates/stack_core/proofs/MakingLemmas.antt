@@ -26,16 +26,19 @@ use Rattle.case_forms.specs.States.{is_closed, is_syn_sent, is_syn_received}
 use Rattle.machine.specs.Makes.{making_rules}
 use Rattle.machine.specs.Makes.Payload.{making_length, is_bad_empty_place, old_end}
 use Rattle.machine.specs.Makes.Kind.{may_not_send, may_carry, may_finish}
-use Rattle.stack_core.specs.declared.makings.Opening.{Opening}
-use Rattle.stack_core.specs.Makings.{syn_of, bytes_of, fin_of, IsTried, NothingToMake, Refuses}
+use Rattle.stack_core.specs.declared.plans.Opening.{Opening}
+use Rattle.stack_core.specs.Makings.{syn_of, bytes_of, fin_of, IsMakeable, IsTried, NothingToMake, Refuses}
 use Rattle.std.specs.List.{All}
 use Rattle.std.specs.Prelude.{IfNone}
 use Rattle.std.specs.Option.{IfSome}
 use Rattle.verdict.specs.declared.rule.Rule.{Rule}
-use Rattle.machine.specs.Forgetting.{forget}
+use Rattle.std.specs.Option.{option_map}
+use Rattle.machine.specs.Forgetting.{forget, forget_endpoint}
+use Rattle.machine_laws.proofs.ForgetBodies.{endpoint-forget}
+use Rattle.machine_laws.proofs.ForgetReads.{max_made-forget}
+use Rattle.stack_core.proofs.AnswerLemmas.{kept_body}
 use Rattle.machine_laws.specs.ForgettingLaws.{ForgettingIsFree}
 use Rattle.endpoint_state.specs.Worlds.{Progress}
-use Rattle.stack_core.specs.Outgoing.{greatest_payload}
 use Rattle.stack_core.specs.Recordings.{Recorded, world_left}
 use Rattle.std.proofs.lemmas.List.Elements.{All-head, All-tail, All-weaker}
 use Rattle.machine.specs.Bounds.{greatest_position, most_steps, IsKept, IsKeptBody}
@@ -473,8 +476,7 @@ inside (y ∷ ys) (suc i) (suc p) x at out = let less = inside ys i p x at out i
 -- 6. told of the whole world
 
 pub plan_whole : ForgettingIsFree → (p : Progress) (r : Recorded) (me : Host) → p.header ≡ r.header → p.world ≡ forget (world_left r) → me ≡ r.me → (o : Option SegmentPlan)
-    → IfSome o (λ m. (m.pos ≤ greatest_position) × (m.len ≤ greatest_payload) × Permitted (tcp p.header) 0 p.world (At me (Makes m)))
-    → IfSome o (λ m. (m.pos ≤ greatest_position) × (m.len ≤ greatest_payload) × Permitted (tcp r.header) 0 (world_left r) (At r.me (Makes m)))
+    → IfSome o (λ m. IsMakeable p.header me p.world m) → IfSome o (λ m. IsMakeable r.header r.me (world_left r) m)
 plan_whole free p r me header left is None f = tt
 plan_whole free p r me header left is (Some m) f = (
   f.0,
@@ -485,10 +487,17 @@ plan_whole free p r me header left is (Some m) f = (
       (subst (λ (x : Host). Permitted (tcp p.header) 0 p.world (At x (Makes m))) is f.2))),
 )
 
-pub none_whole : (p : Progress) (r : Recorded) (me : Host) → p.header ≡ r.header → p.world ≡ forget (world_left r) → me ≡ r.me → (o : Option SegmentPlan)
-    → IfNone o (NothingToMake p.header me p.world) → IfNone o (NothingToMake r.header r.me (forget (world_left r)))
-none_whole p r me header left is (Some m) f = tt
-none_whole p r me header left is None f = subst (λ (h : Header). NothingToMake h r.me (forget (world_left r))) header (subst (λ (w : World tcp_shape). NothingToMake p.header r.me w) left (subst (λ (x : Host). NothingToMake p.header x p.world) is f))
+-- the same is refused where nothing was forgotten
+nothing_whole : ForgettingIsFree → (h : Header) (me : Host) (w : World tcp_shape) → NothingToMake h me (forget w) → NothingToMake h me w
+nothing_whole free h me w none m e rst found past permitted = none m (forget_endpoint e) rst
+    (ap (λ (b : Body). endpoint_of b m.lport m.rport) (kept_body me w) ∙ endpoint-forget (pick w.hosts me).body m.lport m.rport ∙ ap (option_map forget_endpoint) found)
+    (subst (λ (n : ℕ). n < m.pos + making_length m) (sym (max_made-forget e)) past)
+    (subst (λ (rs : List (Rule × Bool)). first_broken rs ≡ None) (sym (free.rules h 0 w (At me (Makes m)))) permitted)
+
+pub none_whole : ForgettingIsFree → (p : Progress) (r : Recorded) (me : Host) → p.header ≡ r.header → p.world ≡ forget (world_left r) → me ≡ r.me → (o : Option SegmentPlan)
+    → IfNone o (NothingToMake p.header me p.world) → IfNone o (NothingToMake r.header r.me (world_left r))
+none_whole free p r me header left is (Some m) f = tt
+none_whole free p r me header left is None f = nothing_whole free r.header r.me (world_left r) (subst (λ (h : Header). NothingToMake h r.me (forget (world_left r))) header (subst (λ (w : World tcp_shape). NothingToMake p.header r.me w) left (subst (λ (x : Host). NothingToMake p.header x p.world) is f)))
 
 -- 7. all three were tried
 

@@ -89,12 +89,11 @@ on_wire : (hd : Header) (me : Host) (moment line number : ℕ) (w : World tcp_sh
 on_wire hd Zero moment line number w wire e is = wire_has moment line number wire e w.hosts.zero.wire (lookup (nat_eq number) w.hosts.zero.made) is
 on_wire hd One moment line number w wire e is = wire_has moment line number wire e w.hosts.one.wire (lookup (nat_eq number) w.hosts.one.made) is
 
-pub goes_out : (c d : Core) (number : ℕ) (wire : Wire) (f : Flying tcp_shape) (me : Host) (line : ℕ) → MayGo c number wire f → me ≡ c.recorded.me → line ≡ line_to_come c → d ≡ with_step c (At me (Sends line number wire)) → GoesOut c f d
+pub goes_out : (c d : Core) (number : ℕ) (wire : Wire) (f : Flying tcp_shape) (me : Host) (line : ℕ) → MayGo c number wire f → me ≡ c.recorded.me → line ≡ line_to_come c → d ≡ with_step c (At me (Sends line number wire)) → GoesOut c number f d
 goes_out c d number wire f me line s me_is line_is is =
     let step : Step tcp_shape = At c.recorded.me (Sends (line_to_come c) number wire) in
     let row : d ≡ with_step c step = is ∙ ap (λ (h : Host). with_step c (At h (Sends line number wire))) me_is ∙ ap (λ (n : ℕ). with_step c (At c.recorded.me (Sends n number wire))) line_is in
     record {
-      number = number;
       wire = wire;
       row = row;
       key = ap (λ (x : Flying tcp_shape). x.key) s.flying;

@@ -5,12 +5,11 @@ use Rattle.case_forms.specs.declared.steps.TakeChoice.{TakeChoice}
 use Rattle.case_forms.specs.declared.timer.Recovery.{Recovery}
 use Rattle.case_forms.specs.declared.trace.Wire.{Wire}
 use Rattle.hosts.specs.Hosts.{Answers, At, Does, Drops, Gets, Takes}
-use Rattle.hosts.specs.HostRules.{Permitted}
 use Rattle.machine.specs.declared.endpoint.Emission.{Emission}
-use Rattle.machine.specs.Machine.{tcp, tcp_shape}
+use Rattle.machine.specs.Machine.{tcp_shape}
 use Rattle.recordings.specs.Books.{Bring, Flying}
 use Rattle.stack_core.specs.declared.tick.Tick.{Tick}
-use Rattle.stack_core.specs.Cores.{Core, line_to_come, opened, with_item, with_step, world}
+use Rattle.stack_core.specs.Cores.{Core, MayDo, line_to_come, opened, with_item, with_step}
 
 -- it is brought
 abbrev pub brought : Core → Tick → Flying tcp_shape → Core
@@ -26,19 +25,27 @@ IsCameIn c f d = (wire : Wire) × (wire.bytes ≡ f.emission.bytes) × (d ≡ wi
 
 -- what waits under a line may be dropped: it is there
 abbrev pub MayDrop : Core → ℕ → Type 0
-MayDrop c n = Permitted (tcp c.recorded.header) c.last.moment (world c) (At c.recorded.me (Drops n))
+MayDrop c n = MayDo c (At c.recorded.me (Drops n))
 
 -- it may be taken, with its bytes
 abbrev pub MayTake : Core → ℕ → Type 0
-MayTake c n = Permitted (tcp c.recorded.header) c.last.moment (world c) (At c.recorded.me (Takes n (record { cwnd = 0; keep = true; sample = false })))
+MayTake c n = MayDo c (At c.recorded.me (Takes n (record { cwnd = 0; keep = true; sample = false })))
 
 -- it may be answered by a reset
 abbrev pub MayReset : Core → ℕ → Type 0
-MayReset c n = Permitted (tcp c.recorded.header) c.last.moment (world c) (At c.recorded.me (Answers n))
+MayReset c n = MayDo c (At c.recorded.me (Answers n))
 
 -- fast recovery may begin at the endpoint of these ports
 abbrev pub MayRecover : Core → Ports → Type 0
-MayRecover c ports = (cwnd : ℕ) × (ssthresh : ℕ) × Permitted (tcp c.recorded.header) c.last.moment (world c) (At c.recorded.me (Does (record { lport = ports.lport; rport = ports.rport; cwnd = cwnd; ssthresh = ssthresh })))
+MayRecover c ports = (cwnd : ℕ) × (ssthresh : ℕ) × MayDo c (At c.recorded.me (Does (record { lport = ports.lport; rport = ports.rport; cwnd = cwnd; ssthresh = ssthresh })))
+
+-- so it may begin there
+abbrev pub IsRecoveryAt : Core → Ports → Recovery → Type 0
+IsRecoveryAt c ports x = (x.lport ≡ ports.lport) × (x.rport ≡ ports.rport) × MayDo c (At c.recorded.me (Does x))
+
+-- with these values it may not
+abbrev pub IsRefusedRecovery : Core → Ports → (cwnd ssthresh : ℕ) → Type 0
+IsRefusedRecovery c ports cwnd ssthresh = MayDo c (At c.recorded.me (Does (record { lport = ports.lport; rport = ports.rport; cwnd = cwnd; ssthresh = ssthresh }))) → ⊥
 
 -- it began, exactly where it may
 abbrev pub IsRecovered : Core → Ports → Core → Type 0
@@ -67,6 +74,10 @@ pub record IsArrived (c : Core) (tick : Tick) (f : Flying tcp_shape) (d : Core) 
 -- the segment is this host's own, or older than the maximum segment lifetime
 abbrev pub IsNotLetIn : Core → Tick → Flying tcp_shape → Type 0
 IsNotLetIn c tick f = (f.key.host ≡ c.recorded.me) ⊎ (nat_lt (f.emission.moment + c.recorded.header.msl) tick.moment ≡ true)
+
+-- it is not older than the maximum segment lifetime
+abbrev pub IsYoung : Core → Tick → Flying tcp_shape → Type 0
+IsYoung c tick f = nat_lt (f.emission.moment + c.recorded.header.msl) tick.moment ≡ false
 
 -- what memory may leave of it: the tick has passed, it was brought, came in, or was taken too
 pub data IsArrivedShort (c : Core) (tick : Tick) (f : Flying tcp_shape) (d : Core) : Type 0 where

@@ -3,7 +3,9 @@ use Rattle.std.specs.Prelude.{◌≡◌, ◌⊎◌, ℕ}
 use Rattle.case_forms.specs.declared.calls.Answer.{Answer}
 use Rattle.case_forms.specs.declared.calls.Call.{Call}
 use Rattle.hosts.specs.Hosts.{Begin, Called, Effect, Finish, turn_of}
+use Rattle.hosts.specs.HostRules.{Permitted}
 use Rattle.machine.specs.Forgetting.{forget_body}
+use Rattle.machine.specs.Machine.{tcp}
 use Rattle.stack_core.specs.declared.answered.Answered.{Answered}
 use Rattle.stack_core.specs.declared.tick.Tick.{Tick}
 use Rattle.stack_core.specs.Answers.{Waits}
@@ -12,6 +14,10 @@ use Rattle.stack_core.specs.Cores.{Core, line_to_come, opened, own_body, with_st
 -- a call began: its line
 abbrev pub begun : Core → Tick → ℕ → Call → Core
 begun c tick thread call = with_step (opened c tick) (Begin (line_to_come c) thread call)
+
+-- a thread's call may have this effect, at any moment
+abbrev pub MayAnswer : Core → ℕ → Answer → Type 0
+MayAnswer c thread answer = (moment : ℕ) → Permitted (tcp c.recorded.header) moment (world c) (Effect thread answer)
 
 -- a call had its effect
 abbrev pub effected : Core → Tick → ℕ → Answer → Core
@@ -29,6 +35,6 @@ IsAttempted c tick thread a d = (a.thread ≡ thread) × (d ≡ answered c tick 
 abbrev pub IsAttemptShort : Core → Tick → ℕ → Core → Type 0
 IsAttemptShort c tick thread d = (d ≡ opened c tick) ⊎ ((answer : Answer) × (d ≡ effected c tick thread answer))
 
--- no call of the thread is open without effect, or it waits; what a host may let go matters to neither
+-- no call of the thread is open without effect, or it waits; what a host may discard matters to neither
 abbrev pub NoAnswer : Core → ℕ → Type 0
 NoAnswer c thread = (call : Call) → turn_of thread (world c).threads ≡ Called call → Waits c.ring (forget_body (own_body c)) call

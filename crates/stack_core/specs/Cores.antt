@@ -1,16 +1,18 @@
 -- What callers see of a core, and what holds of one.
-use Rattle.std.specs.Prelude.{◌≡◌, ◌≤◌, ◌<◌, ◌+◌, ◌*◌, ℕ, suc, true, false, length, Some}
+use Rattle.std.specs.Prelude.{◌≡◌, ◌≤◌, ◌<◌, ◌+◌, ◌*◌, ℕ, suc, true, false, [], length, Some}
 use Rattle.case_forms.specs.Traces.{first_event_line}
 use Rattle.case_forms.specs.declared.calls.Host.{Host}
 use Rattle.case_forms.specs.declared.calls.Host.TheVariants.{Zero, One}
 use Rattle.case_forms.specs.declared.calls.Answer.{Answer}
 use Rattle.case_forms.specs.declared.calls.Call.{Call}
 use Rattle.case_forms.specs.declared.calls.Call.TheVariants as calls
+use Rattle.case_forms.specs.declared.trace.Header.{Header}
+use Rattle.hosts.specs.HostRules.{Permitted}
 use Rattle.hosts.specs.Tables.{lane, other, pick}
 use Rattle.hosts.specs.Hosts.{Deed, Does, Drops, Expires, Gets, Makes, Sends, Takes, Answers, At, Begin, Called, Effect, Finish, Idle, Answered, Step, Turn, World, turn_of}
 use Rattle.recordings.specs.Books.{Aims, Do, FitsItem, Item, Key, step_line}
 use Rattle.recordings.specs.Keys.{EachEntry, If}
-use Rattle.recordings.specs.Recordings.{next_line}
+use Rattle.recordings.specs.Recordings.{IsKept, next_line}
 use Rattle.machine.specs.Bodies.{Body, given}
 use Rattle.machine.specs.Machine.{aim, gives, tcp, tcp_shape}
 use Rattle.stack_core.specs.declared.tick.Tick.{Tick}
@@ -36,6 +38,18 @@ own_body c = (pick (world c).hosts c.recorded.me).body
 -- the number of the line to come
 abbrev pub line_to_come : Core → ℕ
 line_to_come c = next_line c.recorded.header (first_event_line c.recorded.header) c.recorded.entries
+
+-- what it recorded is a run of its host alone, under keys that don't fall: so it may be merged with what the other host recorded
+abbrev pub IsRecorded : Core → Type 0
+IsRecorded c = IsKept c.recorded.header c.recorded.me (first_event_line c.recorded.header) c.recorded.entries
+
+-- a step is permitted at the last tick
+abbrev pub MayDo : Core → Step tcp_shape → Type 0
+MayDo c step = Permitted (tcp c.recorded.header) c.last.moment (world c) step
+
+-- a core that recorded nothing yet
+abbrev pub new_core : Header → Host → ℕ → Core
+new_core header me ring = record { recorded = record { header = header; me = me; entries = [] }; ring = ring; last = record { moment = 0; counter = 0 }; events = 0 }
 
 -- an event began, with this tick
 abbrev pub opened : Core → Tick → Core

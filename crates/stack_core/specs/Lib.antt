@@ -1,4 +1,5 @@
 pub mod Flights
+pub mod Flown
 pub mod Keys
 pub mod Entries
 pub mod Recordings
@@ -6,6 +7,7 @@ pub mod Cores
 pub mod Answers
 pub mod Makings
 pub mod Outgoing
+pub mod Resets
 pub mod CallEvents
 pub mod PumpEvents
 pub mod TimerEvents

@@ -7,11 +7,13 @@ use Rattle.hosts.specs.Tables.{pick}
 use Rattle.hosts.specs.Hosts.{At, Makes, World}
 use Rattle.hosts.specs.HostRules.{Permitted}
 use Rattle.machine.specs.Bodies.{endpoint_of}
+use Rattle.machine.specs.Bounds.{greatest_position}
 use Rattle.machine.specs.declared.endpoint.Endpoint.{Endpoint}
 use Rattle.machine.specs.Endpoints.{max_made, next}
 use Rattle.machine.specs.Machine.{tcp, tcp_shape}
 use Rattle.machine.specs.Makes.Payload.{making_length}
-use Rattle.stack_core.specs.declared.makings.Opening.{Opening}
+use Rattle.stack_core.specs.declared.plans.Opening.{Opening}
+use Rattle.stack_core.specs.Outgoing.{greatest_payload}
 
 -- the SYN, with an acknowledgment once the peer's SYN is taken
 abbrev pub syn_of : Endpoint → Opening → ℕ → SegmentPlan
@@ -34,15 +36,23 @@ bytes_of e len window = record { lport = e.lport; rport = e.rport; pos = max_mad
 abbrev pub fin_of : Endpoint → ℕ → SegmentPlan
 fin_of e window = record { lport = e.lport; rport = e.rport; pos = max_made e; len = 0; flags = record { ack = nat_le 1 (next e); rst = false; syn = false; fin = true }; window = window; iss = None; shift = None }
 
+-- it may be made, at a position that a step may name, with a payload that may go out
+abbrev pub IsMakeable : Header → Host → World tcp_shape → SegmentPlan → Type 0
+IsMakeable h me w m = (m.pos ≤ greatest_position) × (m.len ≤ greatest_payload) × Permitted (tcp h) 0 w (At me (Makes m))
+
 abbrev pub Refuses : Header → Host → World tcp_shape → SegmentPlan → Type 0
 Refuses h me w plan = Permitted (tcp h) 0 w (At me (Makes plan)) → ⊥
 
--- none of the three may be made for this endpoint, with some windows; the SYN takes a new position where nothing was made before
+-- its SYN may not be made; it takes a new position where nothing was made before
+abbrev pub IsSynRefused : Header → Host → World tcp_shape → Endpoint → Opening → ℕ → Type 0
+IsSynRefused h me w e opening window = max_made e ≤ 0 → Refuses h me w (syn_of e opening window)
+
+-- none of the three may be made for this endpoint, with some windows
 pub record IsTried (h : Header) (me : Host) (w : World tcp_shape) (e : Endpoint) : Type 0 where
   pub opening : Opening
   pub at_syn : ℕ
   pub window : ℕ
-  pub syn : max_made e ≤ 0 → Refuses h me w (syn_of e opening at_syn)
+  pub syn : IsSynRefused h me w e opening at_syn
   pub byte : Refuses h me w (bytes_of e 1 window)
   pub fin : Refuses h me w (fin_of e window)
 

@@ -42,9 +42,8 @@ pub record MayGo (c : Core) (number : ℕ) (wire : Wire) (f : Flying tcp_shape) 
   pub shown : is_shown c.recorded.header wire emission ≡ true
   pub flying : f ≡ record { key = key_of c.recorded.me c.last; line = line_to_come c; emission = sent c.last.moment wire emission }
 
--- a made segment went out: its line; this flies, and stands on its host's wire under that line
-pub record GoesOut (c : Core) (f : Flying tcp_shape) (d : Core) : Type 0 where
-  pub number : ℕ
+-- the segment that was made under this number went out: its line; this flies, and stands on its host's wire under that line
+pub record GoesOut (c : Core) (number : ℕ) (f : Flying tcp_shape) (d : Core) : Type 0 where
   pub wire : Wire
   pub row : d ≡ with_step c (At c.recorded.me (Sends (line_to_come c) number wire))
   pub key : f.key ≡ key_of c.recorded.me c.last

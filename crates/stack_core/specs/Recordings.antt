@@ -26,7 +26,7 @@ with_entry r x = record r { entries = r.entries ++ x ∷ [] }
 abbrev pub Joins : Recorded → TcpEntry → Type 0
 Joins r x = MayJoin r.header r.me (first_event_line r.header) r.entries (x ∷ [])
 
--- the entries are a run of the host; the world is the one to which they lead, of which all is forgotten that may be let go; and its steps are theirs
+-- the entries are a run of the host; the world is the one to which they lead, of which all is discarded that may be; and its steps are theirs
 pub record IsRecording (me : Host) (p : Progress) (entries : List TcpEntry) : Type 0 where
   pub kept : IsKept p.header me (first_event_line p.header) entries
   pub world : p.world ≡ forget (world_of p.header me entries)

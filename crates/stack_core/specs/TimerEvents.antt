@@ -19,6 +19,10 @@ use Rattle.stack_core.specs.Recordings.{Recorded, world_left}
 abbrev pub expiry_step : Host → ℕ → Ports → Expired → Step tcp_shape
 expiry_step me line ports expired = At me (Expires line (record { lport = ports.lport; rport = ports.rport; timer = timer_of expired }) (growth_of expired))
 
+-- that timer may expire there at this moment, with any line
+abbrev pub IsDueAt : Recorded → ℕ → Ports → Expired → Type 0
+IsDueAt r moment ports e = (n : ℕ) → Permitted (tcp r.header) moment (world_left r) (expiry_step r.me n ports e)
+
 abbrev pub expired : Core → Tick → Ports → Expired → Core
 expired c tick ports e = with_step (opened c tick) (expiry_step c.recorded.me (line_to_come c) ports e)
 

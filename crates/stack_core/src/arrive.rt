@@ -9,17 +9,19 @@ ghost use Rattle.machine.specs.Bounds.{most_steps};
 ghost use Rattle.machine.specs.Machine.{tcp};
 ghost use Rattle.machine.specs.Steps.{step_of};
 ghost use Rattle.recordings.specs.Books.{Bring};
-ghost use Rattle.stack_core.specs.ArrivalEvents.{IsArrival, IsArrivedShort, IsCameIn, IsNotLetIn, IsRecovered, IsSettled, IsSettledShort, MayDrop, MayRecover, MayTake, ports_of};
-ghost use Rattle.stack_core.specs.Cores.{IsAfter, line_to_come, with_item, world};
+ghost use Rattle.stack_core.specs.ArrivalEvents.{IsArrival, IsArrivedShort, IsCameIn, IsRecovered, IsRecoveryAt};
+ghost use Rattle.stack_core.specs.ArrivalEvents.{IsRefusedRecovery, IsSettled, IsSettledShort, IsYoung, MayDrop, MayRecover, MayTake, ports_of};
+ghost use Rattle.stack_core.specs.Cores.{IsAfter, IsRecorded, MayDo, line_to_come, with_item, world};
 ghost use Rattle.stack_core.specs.Entries.{steps_in};
 
+use crate::duties::{Before, Seen};
 use crate::flying::Flying;
+use crate::greatest::{at_recovery, cwnd_at_arrival};
 use crate::host_core::HostCore;
 use crate::tick::Tick;
-use case_forms::{OutOfMemory, Ports, Recovery, TakeChoice, TakenLine};
+use case_forms::{Growth, OutOfMemory, Ports, Recovery, TakeChoice, TakenLine};
 use machine::Emission;
 use spec_step::Label;
-use window_rules::{initial_window, may_grow, on_duplicate, on_fast};
 
 impl HostCore {
     /// A segment of the other host arrives: it is brought, and comes in, which is its line. It is taken with its bytes where it
@@ -30,19 +32,76 @@ impl HostCore {
         requires tick { IsAfter self.old.last tick }
         requires events { self.old.events < 10000000 }
         ensures ok { IfOk result (λ let_in. IsArrival self.old tick flying let_in self.new) }
+        ensures young { IfOk result (λ let_in. let_in ≡ true → IsYoung self.old tick flying) }
+        ensures err { OnErr result (IsArrivedShort self.old tick flying self.new) }
+        ensures kept { IsRecorded self.new }
+    {
+        let arrived = self.record_arrival(flying, tick);
+        self.is_recording();
+        arrived
+    }
+
+    // The same, but that what is recorded then is a run.
+    fn record_arrival(&mut self, flying: Flying, tick: Tick) -> Result<bool, OutOfMemory>
+        requires tick { IsAfter self.old.last tick }
+        requires events { self.old.events < 10000000 }
+        ensures ok { IfOk result (λ let_in. IsArrival self.old tick flying let_in self.new) }
+        ensures young { IfOk result (λ let_in. let_in ≡ true → IsYoung self.old tick flying) }
         ensures err { OnErr result (IsArrivedShort self.old tick flying self.new) }
     {
         if self.is_own(&flying) || self.is_old(&flying, tick.moment) {
             return Ok(false);
         }
         self.bounds();
-        self.open(tick);
+        self.open_with_room(tick)?;
         let line = self.line();
         let ports = ports_of(flying.emission());
-        let window = self.window_for(flying.emission(), ports);
+        let before = self.before(flying.emission(), ports);
         self.come_in(flying)?;
-        self.settle(line, ports, window)?;
+        self.settle(line, ports, before.window)?;
+        self.note_arrival(ports, before);
         Ok(true)
+    }
+
+    // What is told of an endpoint before a segment comes in for its ports.
+    fn before(&self, m: &Emission, ports: Ports) -> Before {
+        let asks = !m.flags.rst && 0 < m.length();
+        let body = self.recording.body();
+        let place = body.place_of(ports.lport, ports.rport);
+        let endpoint = match place {
+            Some(place) => body.endpoint_at(place),
+            None => None,
+        };
+        Before {
+            place,
+            window: match endpoint {
+                Some(endpoint) => cwnd_at_arrival(self.recording.header().initial, endpoint, m),
+                None => 0,
+            },
+            seen: match endpoint {
+                Some(endpoint) => Some(Seen::of(endpoint)),
+                None => None,
+            },
+            asks,
+            syn: m.flags.syn,
+        }
+    }
+
+    // It is remembered what an arrival asks of the endpoint of these ports.
+    fn note_arrival(&mut self, ports: Ports, before: Before)
+        ensures { self.new ≡ self.old }
+    {
+        let body = self.recording.body();
+        let Some(place) = body.place_of(ports.lport, ports.rport) else {
+            return;
+        };
+        if let Some(endpoint) = body.endpoint_at(place) {
+            let duty = self
+                .duties
+                .of(place)
+                .after_arrival(place, &before, endpoint);
+            self.duties.note(place, duty);
+        }
     }
 
     fn is_own(&self, flying: &Flying) -> bool
@@ -119,7 +178,7 @@ impl HostCore {
     // How it may be taken with its bytes: with this window if it may, and a sample. None: it may not.
     fn choice(&self, line: u64, window: u32) -> Option<TakeChoice>
         requires steps { steps_in self.now.recorded.entries < most_steps }
-        ensures some { IfSome result (λ choice. (choice.keep ≡ true) × MayTake self.now line × Permitted (tcp self.now.recorded.header) self.now.last.moment (world self.now) (At self.now.recorded.me (Takes line choice))) }
+        ensures some { IfSome result (λ choice. (choice.keep ≡ true) × MayTake self.now line × MayDo self.now (At self.now.recorded.me (Takes line choice))) }
         ensures none { IfNone result (MayTake self.now line → ⊥) }
     {
         let least = self.take_with(line, 0, false)?;
@@ -135,9 +194,9 @@ impl HostCore {
     // How it is taken so, if it may be.
     fn take_with(&self, line: u64, cwnd: u32, sample: bool) -> Option<TakeChoice>
         requires steps { steps_in self.now.recorded.entries < most_steps }
-        ensures some { IfSome result (λ choice. (choice.keep ≡ true) × Permitted (tcp self.now.recorded.header) self.now.last.moment (world self.now) (At self.now.recorded.me (Takes line choice))) }
+        ensures some { IfSome result (λ choice. (choice.keep ≡ true) × MayDo self.now (At self.now.recorded.me (Takes line choice))) }
         ensures same { IfSome result (λ choice. choice ≡ record { cwnd = cwnd; keep = true; sample = sample }) }
-        ensures none { IfNone result (Permitted (tcp self.now.recorded.header) self.now.last.moment (world self.now) (At self.now.recorded.me (Takes line (record { cwnd = cwnd; keep = true; sample = sample }))) → ⊥) }
+        ensures none { IfNone result (MayDo self.now (At self.now.recorded.me (Takes line (record { cwnd = cwnd; keep = true; sample = sample }))) → ⊥) }
     {
         let choice = TakeChoice {
             cwnd,
@@ -170,12 +229,12 @@ impl HostCore {
     // How it may begin: with the greatest values, or with none. None: it may not.
     fn recovery(&self, ports: Ports) -> Option<Recovery>
         requires steps { steps_in self.now.recorded.entries < most_steps }
-        ensures some { IfSome result (λ x. (x.lport ≡ ports.lport) × (x.rport ≡ ports.rport) × Permitted (tcp self.now.recorded.header) self.now.last.moment (world self.now) (At self.now.recorded.me (Does x))) }
+        ensures some { IfSome result (λ x. IsRecoveryAt self.now ports x) }
         ensures none { IfNone result (MayRecover self.now ports → ⊥) }
     {
         let least = self.recover_with(ports, 0, 0)?;
-        let (cwnd, ssthresh) = self.greatest_recovery(ports);
-        match self.recover_with(ports, cwnd, ssthresh) {
+        let greatest = self.greatest_recovery(ports);
+        match self.recover_with(ports, greatest.cwnd, greatest.ssthresh) {
             Some(recovery) => Some(recovery),
             None => Some(least),
         }
@@ -183,8 +242,8 @@ impl HostCore {
 
     fn recover_with(&self, ports: Ports, cwnd: u32, ssthresh: u32) -> Option<Recovery>
         requires steps { steps_in self.now.recorded.entries < most_steps }
-        ensures some { IfSome result (λ x. (x.lport ≡ ports.lport) × (x.rport ≡ ports.rport) × Permitted (tcp self.now.recorded.header) self.now.last.moment (world self.now) (At self.now.recorded.me (Does x))) }
-        ensures none { IfNone result (Permitted (tcp self.now.recorded.header) self.now.last.moment (world self.now) (At self.now.recorded.me (Does (record { lport = ports.lport; rport = ports.rport; cwnd = cwnd; ssthresh = ssthresh }))) → ⊥) }
+        ensures some { IfSome result (λ x. IsRecoveryAt self.now ports x) }
+        ensures none { IfNone result (IsRefusedRecovery self.now ports cwnd ssthresh) }
     {
         let recovery = Recovery {
             lport: ports.lport,
@@ -204,8 +263,8 @@ impl HostCore {
     fn admits(&self, label: &Label) -> bool
         requires steps { steps_in self.now.recorded.entries < most_steps }
         requires limits { IsWithinLimits label.now }
-        ensures yes { result ≡ true → Permitted (tcp self.now.recorded.header) self.now.last.moment (world self.now) (step_of label.now) }
-        ensures no { result ≡ false → Permitted (tcp self.now.recorded.header) self.now.last.moment (world self.now) (step_of label.now) → ⊥ }
+        ensures yes { result ≡ true → MayDo self.now (step_of label.now) }
+        ensures no { result ≡ false → MayDo self.now (step_of label.now) → ⊥ }
     {
         match self.recording.admits(self.last_tick().moment, label) {
             Ok(()) => true,
@@ -213,45 +272,14 @@ impl HostCore {
         }
     }
 
-    // The greatest congestion window that a segment allows its endpoint (RFC 5681, 3.1 and 3.2), as far as can be told before.
-    fn window_for(&self, m: &Emission, ports: Ports) -> u32 {
-        let Some(endpoint) = self.recording.body().endpoint_of(ports.lport, ports.rport) else {
-            return 0;
-        };
-        let una = endpoint.stream.una;
-        let greatest = if !m.flags.ack || m.ack < una {
-            u64::from(endpoint.congestion.cwnd)
-        } else if una == 0 {
-            let smss = match m.mss {
-                Some(mss) if m.flags.syn && 0 < mss => u32::from(mss),
-                _ => endpoint.congestion.smss,
-            };
-            initial_window(smss, endpoint.syn_lost)
-        } else if una < m.ack {
-            may_grow(&endpoint.congestion, m.ack - una)
-        } else if m.payload.is_empty()
-            && !m.flags.fin
-            && !m.flags.syn
-            && una < endpoint.max_made()
-        {
-            on_duplicate(&endpoint.congestion)
-        } else {
-            u64::from(endpoint.congestion.cwnd)
-        };
-        greatest.min(u64::from(u32::MAX)) as u32
-    }
-
-    // The greatest congestion window and slow start threshold of fast recovery (RFC 5681, 3.2).
-    fn greatest_recovery(&self, ports: Ports) -> (u32, u32) {
+    // The greatest congestion window and slow start threshold of fast recovery.
+    fn greatest_recovery(&self, ports: Ports) -> Growth {
         match self.recording.body().endpoint_of(ports.lport, ports.rport) {
-            Some(endpoint) => {
-                let (cwnd, ssthresh) = on_fast(&endpoint.congestion, endpoint.flight());
-                (
-                    cwnd.min(u64::from(u32::MAX)) as u32,
-                    ssthresh.min(u64::from(u32::MAX)) as u32,
-                )
-            }
-            None => (0, 0),
+            Some(endpoint) => at_recovery(endpoint),
+            None => Growth {
+                cwnd: 0,
+                ssthresh: 0,
+            },
         }
     }
 }

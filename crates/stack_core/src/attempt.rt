@@ -7,24 +7,51 @@ ghost use Rattle.hosts.specs.HostRules.{Permitted};
 ghost use Rattle.hosts.specs.Tables.{lane};
 ghost use Rattle.hosts.specs.Hosts.{turn_of};
 ghost use Rattle.machine.specs.Machine.{tcp};
-ghost use Rattle.stack_core.specs.Cores.{GivesNext, IsAfter, next_socket, own_body, world};
+ghost use Rattle.stack_core.specs.Cores.{GivesNext, IsAfter, IsRecorded, next_socket, own_body, world};
 ghost use Rattle.stack_core.specs.Entries.{steps_in};
-ghost use Rattle.stack_core.specs.CallEvents.{IsAttempted, IsAttemptShort, NoAnswer};
+ghost use Rattle.stack_core.specs.CallEvents.{IsAttempted, IsAttemptShort, MayAnswer, NoAnswer};
 
 use crate::answered::Answered;
 use crate::answers::choose;
 use crate::host_core::HostCore;
 use crate::tick::Tick;
-use case_forms::{Answer, Host, OutOfMemory, TakenLine};
+use case_forms::{Answer, Call, Host, OutOfMemory, TakenLine};
 use endpoint_state::Body;
+use machine::Thing;
 use machine_laws::forgetting_is_free;
 use spec_step::Label;
+
+// What a call is about.
+#[derive(Clone, Copy, Debug, PartialEq, Eq)]
+enum Subject {
+    /// No endpoint whose duties the call changes.
+    Nothing,
+    /// The endpoint that it opens, by its ports.
+    Opened(u16, u16),
+    /// The endpoint at this place.
+    At(u32),
+}
 
 impl HostCore {
     /// The open call of a thread of this host has its effect, and ends with that answer: its line. None, and nothing is changed:
     /// the thread has no open call without effect, or the call waits (for `send`: before the handshake is done, or while the
     /// ring is full). The error is that memory ran out; then the tick has passed, and the effect may stand without the end.
     pub fn attempt(&mut self, thread: u32, tick: Tick) -> Result<Option<Answered>, OutOfMemory>
+        requires tick { IsAfter self.old.last tick }
+        requires events { self.old.events < 10000000 }
+        requires lane { lane thread ≡ self.old.recorded.me }
+        ensures some { IfOk result (λ o. IfSome o (λ a. IsAttempted self.old tick thread a self.new)) }
+        ensures none { IfOk result (λ o. IfNone o ((self.new ≡ self.old) × NoAnswer self.old thread)) }
+        ensures err { OnErr result (IsAttemptShort self.old tick thread self.new) }
+        ensures kept { IsRecorded self.new }
+    {
+        let attempted = self.record_attempt(thread, tick);
+        self.is_recording();
+        attempted
+    }
+
+    // The same, but that what is recorded then is a run.
+    fn record_attempt(&mut self, thread: u32, tick: Tick) -> Result<Option<Answered>, OutOfMemory>
         requires tick { IsAfter self.old.last tick }
         requires events { self.old.events < 10000000 }
         requires lane { lane thread ≡ self.old.recorded.me }
@@ -41,7 +68,8 @@ impl HostCore {
                 return Err(error);
             }
         };
-        self.open(tick);
+        let subject = self.subject(thread);
+        self.open_with_room(tick)?;
         let effect = Label::D {
             thread,
             answer: answer.copy()?,
@@ -54,13 +82,57 @@ impl HostCore {
             answer: ending,
         };
         self.add(Label::L(end))?;
+        self.note_answer(subject, &answer);
         Ok(Some(Answered { thread, answer }))
+    }
+
+    // What the open call of a thread is about.
+    fn subject(&self, thread: u32) -> Subject {
+        let Some(call) = self.recording.pending_call(thread) else {
+            return Subject::Nothing;
+        };
+        match call {
+            Call::Connect(_, lport, rport) => Subject::Opened(*lport, *rport),
+            Call::Send(number, _)
+            | Call::Recv(number, _)
+            | Call::Shut(number)
+            | Call::Close(number)
+            | Call::Abort(number) => match self.recording.body().thing(*number) {
+                Some(Thing::Ends(place)) => Subject::At(place),
+                Some(Thing::Listens(_)) | None => Subject::Nothing,
+            },
+            Call::Listen(_, _, _) | Call::Await(_) | Call::Accept(_) | Call::Status(_) => {
+                Subject::Nothing
+            }
+        }
+    }
+
+    // It is remembered what an answer asks of the endpoint that it is about.
+    fn note_answer(&mut self, subject: Subject, answer: &Answer)
+        ensures { self.new ≡ self.old }
+    {
+        let body = self.recording.body();
+        let found = match subject {
+            Subject::Nothing => None,
+            Subject::Opened(lport, rport) => body.place_of(lport, rport),
+            Subject::At(place) => Some(place),
+        };
+        let Some(place) = found else {
+            return;
+        };
+        if let Some(endpoint) = body.endpoint_at(place) {
+            let duty = self
+                .duties
+                .of(place)
+                .after_call(endpoint, answer, self.config.ring);
+            self.duties.note(place, duty);
+        }
     }
 
     // The answer that the open call of a thread has now. None: there is no such call, or it waits.
     fn answer(&self, thread: u32) -> Result<Option<Answer>, OutOfMemory>
         requires few { steps_in self.now.recorded.entries < 1000000000 }
-        ensures permitted { IfOk result (λ o. IfSome o (λ a. (moment : ℕ) → Permitted (tcp self.now.recorded.header) moment (world self.now) (Effect thread a))) }
+        ensures permitted { IfOk result (λ o. IfSome o (λ a. MayAnswer self.now thread a)) }
         ensures gives { IfOk result (λ o. IfSome o (λ a. GivesNext self.now.recorded.me (own_body self.now) (turn_of thread (world self.now).threads) a)) }
         ensures none { IfOk result (λ o. IfNone o (NoAnswer self.now thread)) }
     {

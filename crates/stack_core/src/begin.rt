@@ -5,7 +5,7 @@ ghost use Rattle.hosts.specs.Hosts.{Idle, turn_of};
 ghost use Rattle.hosts.specs.Tables.{lane};
 ghost use Rattle.machine.specs.Machine.{aim};
 ghost use Rattle.recordings.specs.Books.{Aims};
-ghost use Rattle.stack_core.specs.Cores.{IsAfter, IsCallWithin, opened, world};
+ghost use Rattle.stack_core.specs.Cores.{IsAfter, IsCallWithin, IsRecorded, opened, world};
 ghost use Rattle.stack_core.specs.CallEvents.{begun};
 
 use crate::host_core::HostCore;
@@ -17,6 +17,23 @@ impl HostCore {
     /// A thread of this host, which is in no call, begins one that means this host or a socket number of its own: the line of
     /// the call. The error is that memory ran out; then the tick has passed, and nothing is added.
     pub fn begin(&mut self, thread: u32, call: &Call, tick: Tick) -> Result<(), OutOfMemory>
+        requires tick { IsAfter self.old.last tick }
+        requires events { self.old.events < 10000000 }
+        requires idle { turn_of thread (world self.old).threads ≡ Idle }
+        requires lane { lane thread ≡ self.old.recorded.me }
+        requires aims { Aims self.old.recorded.me (aim call.now) }
+        requires within { IsCallWithin call.now }
+        ensures ok { OnOk result (self.new ≡ begun self.old tick thread call.now) }
+        ensures err { OnErr result (self.new ≡ opened self.old tick) }
+        ensures kept { IsRecorded self.new }
+    {
+        let begun = self.record_begin(thread, call, tick);
+        self.is_recording();
+        begun
+    }
+
+    // The same, but that what is recorded then is a run.
+    fn record_begin(&mut self, thread: u32, call: &Call, tick: Tick) -> Result<(), OutOfMemory>
         requires tick { IsAfter self.old.last tick }
         requires events { self.old.events < 10000000 }
         requires idle { turn_of thread (world self.old).threads ≡ Idle }

@@ -8,7 +8,8 @@ use case_forms::{Host, OutOfMemory, Wire};
 use machine::Emission;
 use std::marker::Model;
 
-/// A segment on its way, with the key and the line with which it went out. `HostCore::pump` alone makes one.
+/// A segment on its way, with the key and the line with which it went out. `HostCore::pump` alone makes one, and `copy` another
+/// like it.
 #[derive(Drop)]
 pub struct Flying {
     pub(crate) host: Host,
@@ -58,7 +59,7 @@ impl Flying {
         &self.emission
     }
 
-    /// An equal one. The error is that memory ran out.
+    /// An equal one, for a network that delivers a segment twice. The error is that memory ran out.
     pub fn copy(&self) -> Result<Flying, OutOfMemory>
         ensures { IfOk result (λ f. f ≡ self.now) }
     {

@@ -1,22 +1,24 @@
 //! The core of one host: what it recorded, and what each event asks of it.
 
 ghost use Rattle.std.specs.Prelude.{◌≡◌, ◌≤◌, ◌<◌, ◌+◌, ◌*◌, suc, [], OnOk, OnErr};
-ghost use Rattle.case_forms.specs.Traces.{first_event_line};
 ghost use Rattle.case_forms.specs.Witnesses.{IsWithinLimits};
 ghost use Rattle.hosts.specs.HostSteps.{after};
 ghost use Rattle.machine.specs.Machine.{tcp};
 ghost use Rattle.machine.specs.Steps.{step_of};
 ghost use Rattle.recordings.specs.Books.{Bring};
-ghost use Rattle.recordings.specs.Recordings.{IsKept};
-ghost use Rattle.stack_core.specs.Cores.{Fits, IsAfter, IsNextLine, IsOrderly, IsOwn, line_to_come, lines_taken, opened, with_item, with_step, world};
+ghost use Rattle.stack_core.specs.Cores.{Fits, IsAfter, IsNextLine, IsOrderly, IsOwn, IsRecorded, line_to_come, lines_taken};
+ghost use Rattle.stack_core.specs.Cores.{new_core, opened, with_item, with_step, world};
 ghost use Rattle.stack_core.specs.Entries.{steps_in};
 
+use crate::duties::Duties;
 use crate::flying::Flying;
 use crate::recording::Recording;
+use crate::resets::await_reset;
 use crate::tick::Tick;
 use case_forms::{Header, Host, OutOfMemory};
 use spec_step::Label;
 use std::alloc::Global;
+use std::collections::VecDeque;
 use std::marker::Model;
 
 /// How a core chooses.
@@ -44,22 +46,26 @@ pub struct HostCore {
     events: u64,
     // The initial send sequence number of the next endpoint.
     pub(crate) iss: u32,
+    // The resets that answer segments and wait to go out, by their numbers; there may be others among them.
+    pub(crate) resets: VecDeque<u32>,
+    pub(crate) duties: Duties,
 }
 
 impl Model for HostCore {
     ghost use Rattle.stack_core.specs.Cores.{Core, IsCore};
+    ghost use Rattle.stack_core.specs.Resets.{AreAwaited, made_of};
 
     ghost Value = { Core };
 
     ghost view = { λ a. record { recorded = a.recording; ring = a.config.ring; last = a.last; events = a.events } };
 
-    ghost invariant = { λ a. IsCore a.recording a.line a.last a.events };
+    ghost invariant = { λ a. IsCore a.recording a.line a.last a.events × AreAwaited (made_of a.recording) a.resets.items };
 }
 
 impl HostCore {
     /// The core of a host that recorded nothing yet.
     pub fn new(alloc: Global, host: Host, header: Header, config: CoreConfig) -> HostCore
-        ensures { result ≡ record { recorded = record { header = header; me = host; entries = [] }; ring = config.ring; last = record { moment = 0; counter = 0 }; events = 0 } }
+        ensures { result ≡ new_core header host config.ring }
     {
         HostCore {
             recording: Recording::start(alloc, host, &header),
@@ -71,6 +77,8 @@ impl HostCore {
             },
             events: 0,
             iss: config.first_iss,
+            resets: VecDeque::new(alloc),
+            duties: Duties::new(alloc),
         }
     }
 
@@ -83,7 +91,7 @@ impl HostCore {
 
     /// What it recorded is a run of its host: a call that does nothing, whose contract says it.
     pub fn is_recording(&self)
-        ensures { IsKept self.now.recorded.header self.now.recorded.me (first_event_line self.now.recorded.header) self.now.recorded.entries }
+        ensures { IsRecorded self.now }
     {
         self.recording.is_recording();
     }
@@ -143,6 +151,27 @@ impl HostCore {
         self.events += 1;
     }
 
+    // The same of an event that may leave a new endpoint, for whose duties there is room then. The error is that memory ran out;
+    // the event began all the same.
+    pub(crate) fn open_with_room(&mut self, tick: Tick) -> Result<(), OutOfMemory>
+        requires tick { IsAfter self.old.last tick }
+        requires events { self.old.events < 10000000 }
+        ensures opened { self.new ≡ opened self.old tick }
+        ensures room { steps_in self.new.recorded.entries + 4 ≤ 4 * self.new.events }
+        ensures events { self.new.events ≤ 10000000 }
+    {
+        self.open(tick);
+        self.duties.make_room()?;
+        Ok(())
+    }
+
+    // How many segments were made: the last one has this number.
+    pub(crate) fn count(&self) -> u32
+        ensures { result ≡ (world self.now).count }
+    {
+        self.recording.count()
+    }
+
     // A step joins, at the moment of the last tick. The error is that memory ran out, and then nothing is changed.
     pub(crate) fn add(&mut self, label: Label) -> Result<(), OutOfMemory>
         requires room { steps_in self.old.recorded.entries < 4 * self.old.events }
@@ -158,6 +187,7 @@ impl HostCore {
     {
         let lines = lines_taken(&label);
         let tick = self.last;
+        await_reset(&mut self.resets, &label, self.recording.count())?;
         self.recording.step(tick, label)?;
         self.line += lines;
         Ok(())

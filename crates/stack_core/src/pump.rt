@@ -6,15 +6,20 @@ ghost use Rattle.hosts.specs.Hosts.{At, Makes};
 ghost use Rattle.hosts.specs.HostRules.{Permitted};
 ghost use Rattle.machine.specs.Bounds.{greatest_position, most_steps};
 ghost use Rattle.machine.specs.Machine.{tcp};
-ghost use Rattle.stack_core.specs.Cores.{IsAfter, with_step, world};
+ghost use Rattle.stack_core.specs.Cores.{IsAfter, IsRecorded, with_step, world};
 ghost use Rattle.stack_core.specs.Entries.{steps_in};
+ghost use Rattle.stack_core.specs.Makings.{IsMakeable, NothingToMake};
 ghost use Rattle.stack_core.specs.PumpEvents.{IsPumped, IsPumpedShort, NothingToPump};
+ghost use Rattle.stack_core.specs.Resets.{IsResetToGo, NoResetWaits};
+ghost use Rattle.stack_core.specs.Flown.{HasFlown};
 ghost use Rattle.stack_core.specs.Outgoing.{GoesOut, MayGo, WaitsToGo, greatest_payload};
 
 use crate::flying::Flying;
 use crate::host_core::HostCore;
-use crate::makings::{Opening, find_making};
+use crate::makings::find_plan;
 use crate::outgoing::{Outgoing, wire_of};
+use crate::plans::Opening;
+use crate::resets::next_reset;
 use crate::tick::Tick;
 use case_forms::{OutOfMemory, SegmentPlan, TakenLine};
 use endpoint::sent;
@@ -23,10 +28,26 @@ use seqno::Word;
 use spec_step::Label;
 
 impl HostCore {
-    /// A segment is made and goes out: its line; it flies. None, and nothing is changed: no segment without RST may be made
-    /// that takes new positions. The error is that memory ran out; then the tick has passed, and the segment may be made and
-    /// not gone out.
+    /// A segment goes out, and flies: its line. First a reset that waits and answers a segment; else a segment is made: a reset
+    /// that is due, what seems lost, new bytes, or an acknowledgment that is owed. None, and nothing is changed: no reset waits,
+    /// and no segment without RST may be made that takes new positions. The error is that memory ran out; then the tick has
+    /// passed, and the segment may be made and not gone out.
     pub fn pump(&mut self, tick: Tick) -> Result<Option<Flying>, OutOfMemory>
+        requires tick { IsAfter self.old.last tick }
+        requires events { self.old.events < 10000000 }
+        ensures some { IfOk result (λ o. IfSome o (λ f. IsPumped self.old tick f self.new)) }
+        ensures none { IfOk result (λ o. IfNone o ((self.new ≡ self.old) × NothingToPump self.old)) }
+        ensures err { OnErr result (IsPumpedShort self.old tick self.new) }
+        ensures flown { IfOk result (λ o. IfSome o (λ f. HasFlown self.new.recorded f)) }
+        ensures kept { IsRecorded self.new }
+    {
+        let pumped = self.record_pump(tick);
+        self.is_recording();
+        pumped
+    }
+
+    // The same, but that what is recorded then is a run.
+    fn record_pump(&mut self, tick: Tick) -> Result<Option<Flying>, OutOfMemory>
         requires tick { IsAfter self.old.last tick }
         requires events { self.old.events < 10000000 }
         ensures some { IfOk result (λ o. IfSome o (λ f. IsPumped self.old tick f self.new)) }
@@ -34,28 +55,46 @@ impl HostCore {
         ensures err { OnErr result (IsPumpedShort self.old tick self.new) }
     {
         self.bounds();
+        if let Some(number) = self.reset_to_go() {
+            self.open(tick);
+            let flying = self.send(number)?;
+            return Ok(Some(flying));
+        }
         let Some(plan) = self.plan() else {
             return Ok(None);
         };
         self.open(tick);
         self.make(plan)?;
         self.spend_iss(plan);
-        let number = self.recording.count();
+        self.note_making(plan);
+        let number = self.count();
         let flying = self.send(number)?;
         Ok(Some(flying))
     }
 
-    // A segment that takes new positions and may be made.
-    fn plan(&self) -> Option<SegmentPlan>
-        requires steps { steps_in self.now.recorded.entries < most_steps }
-        ensures some { IfSome result (λ m. (m.pos ≤ greatest_position) × (m.len ≤ greatest_payload) × Permitted (tcp self.now.recorded.header) 0 (world self.now) (At self.now.recorded.me (Makes m))) }
-        ensures none { IfNone result (NothingToPump self.now) }
+    // A reset that answers a segment and waits.
+    fn reset_to_go(&mut self) -> Option<u32>
+        ensures same { self.new ≡ self.old }
+        ensures some { IfSome result (λ n. IsResetToGo self.old.recorded n) }
+        ensures none { IfNone result (NoResetWaits self.old.recorded) }
+    {
+        next_reset(&mut self.resets, &self.recording)
+    }
+
+    // A segment that may be made.
+    fn plan(&mut self) -> Option<SegmentPlan>
+        requires steps { steps_in self.old.recorded.entries < most_steps }
+        ensures same { self.new ≡ self.old }
+        ensures some { IfSome result (λ m. IsMakeable self.old.recorded.header self.old.recorded.me (world self.old) m) }
+        ensures none { IfNone result (NothingToMake self.old.recorded.header self.old.recorded.me (world self.old)) }
     {
         forgetting_is_free();
-        find_making(
+        let opening = self.opening();
+        find_plan(
             self.recording.world(),
-            self.me(),
-            self.opening(),
+            self.recording.me(),
+            &mut self.duties,
+            opening,
             self.config.ring,
         )
     }
@@ -99,12 +138,22 @@ impl HostCore {
         }
     }
 
+    // What was made is remembered.
+    fn note_making(&mut self, plan: SegmentPlan)
+        ensures { self.new ≡ self.old }
+    {
+        if let Some(place) = self.recording.body().place_of(plan.lport, plan.rport) {
+            let duty = self.duties.of(place).after_making(&plan);
+            self.duties.note(place, duty);
+        }
+    }
+
     // A segment that was made goes out, in an event that began.
     fn send(&mut self, number: u32) -> Result<Flying, OutOfMemory>
         requires room { steps_in self.old.recorded.entries < 4 * self.old.events }
         requires events { self.old.events ≤ 10000000 }
         requires waits { WaitsToGo self.old number }
-        ensures ok { IfOk result (λ f. GoesOut self.old f self.new) }
+        ensures ok { IfOk result (λ f. GoesOut self.old number f self.new) }
         ensures err { OnErr result (self.new ≡ self.old) }
     {
         let Outgoing { wire, flying } = self.outgoing(number)?;

@@ -98,7 +98,7 @@ impl Recording {
         self.entries.as_slice()
     }
 
-    /// The world, of which all is forgotten that may be let go.
+    /// The world, of which all is discarded that may be.
     pub(crate) fn world(&self) -> &World
         ensures header { result.now.header ≡ self.now.header }
         ensures world { result.now.world ≡ forget (world_left self.now) }
@@ -131,10 +131,12 @@ impl Recording {
         self.world.admits_begin(thread, call).is_ok()
     }
 
-    /// How many segments were made.
+    /// How many segments were made: at most one by each step.
     pub fn count(&self) -> u32
-        ensures { result ≡ (world_left self.now).count }
+        ensures count { result ≡ (world_left self.now).count }
+        ensures few { result ≤ steps_in self.now.entries }
     {
+        self.world.is_kept();
         self.world.count()
     }
 

@@ -5,18 +5,18 @@ ghost use Rattle.std.specs.Option.{IfSome};
 ghost use Rattle.hosts.specs.HostRules.{Permitted};
 ghost use Rattle.machine.specs.Bounds.{most_steps};
 ghost use Rattle.machine.specs.Machine.{tcp};
-ghost use Rattle.stack_core.specs.Cores.{IsAfter, opened, world};
+ghost use Rattle.stack_core.specs.Cores.{IsAfter, IsRecorded, opened, world};
 ghost use Rattle.stack_core.specs.Entries.{steps_in};
 ghost use Rattle.stack_core.specs.Recordings.{world_left};
-ghost use Rattle.stack_core.specs.TimerEvents.{IsRefused, IsTimed, NoneDue, NoneDueAt, expiry_step};
+ghost use Rattle.stack_core.specs.TimerEvents.{IsDueAt, IsRefused, IsTimed, NoneDue, NoneDueAt, expiry_step};
 
+use crate::greatest::at_timeout;
 use crate::host_core::HostCore;
 use crate::recording::Recording;
 use crate::tick::Tick;
 use case_forms::{Expired, Growth, OutOfMemory, Ports, TakenLine};
 use endpoint_state::Endpoint;
 use spec_step::Label;
-use window_rules::on_timeout;
 
 // A core gives up after so many expiries without an answer.
 const TRIES: u32 = 12;
@@ -36,6 +36,19 @@ impl HostCore {
         requires events { self.old.events < 10000000 }
         ensures ok { IfOk result (λ found. IsTimed self.old tick found self.new) }
         ensures err { OnErr result (self.new ≡ opened self.old tick) }
+        ensures kept { IsRecorded self.new }
+    {
+        let timed = self.record_expiry(tick);
+        self.is_recording();
+        timed
+    }
+
+    // The same, but that what is recorded then is a run.
+    fn record_expiry(&mut self, tick: Tick) -> Result<bool, OutOfMemory>
+        requires tick { IsAfter self.old.last tick }
+        requires events { self.old.events < 10000000 }
+        ensures ok { IfOk result (λ found. IsTimed self.old tick found self.new) }
+        ensures err { OnErr result (self.new ≡ opened self.old tick) }
     {
         self.bounds();
         let Some(due) = self.due(tick.moment) else {
@@ -49,13 +62,28 @@ impl HostCore {
             expired: due.expired,
         };
         self.add(Label::L(line))?;
+        self.note_expiry(due);
         Ok(true)
+    }
+
+    // It is remembered what an expiry asks of its endpoint.
+    fn note_expiry(&mut self, due: Due)
+        ensures { self.new ≡ self.old }
+    {
+        let body = self.recording.body();
+        let Some(place) = body.place_of(due.ports.lport, due.ports.rport) else {
+            return;
+        };
+        if let Some(endpoint) = body.endpoint_at(place) {
+            let duty = self.duties.of(place).after_expiry(endpoint, due.expired);
+            self.duties.note(place, duty);
+        }
     }
 
     // A timer that may expire at a moment.
     fn due(&self, moment: u64) -> Option<Due>
         requires steps { steps_in self.now.recorded.entries < most_steps }
-        ensures some { IfSome result (λ due. (n : ℕ) → Permitted (tcp self.now.recorded.header) moment (world self.now) (expiry_step self.now.recorded.me n due.ports due.expired)) }
+        ensures some { IfSome result (λ due. IsDueAt self.now.recorded moment due.ports due.expired) }
         ensures none { IfNone result (NoneDue self.now moment) }
     {
         find_due(&self.recording, moment)
@@ -65,7 +93,7 @@ impl HostCore {
 // A timer that may expire at a moment. None: no retransmission timer, persist timer or wait in TIME-WAIT may.
 fn find_due(recording: &Recording, moment: u64) -> Option<Due>
     requires steps { steps_in recording.now.entries < most_steps }
-    ensures some { IfSome result (λ due. (n : ℕ) → Permitted (tcp recording.now.header) moment (world_left recording.now) (expiry_step recording.now.me n due.ports due.expired)) }
+    ensures some { IfSome result (λ due. IsDueAt recording.now moment due.ports due.expired) }
     ensures none { IfNone result (NoneDueAt recording.now moment) }
 {
     recording.few_endpoints();
@@ -83,14 +111,15 @@ fn find_due(recording: &Recording, moment: u64) -> Option<Due>
 // The same of an endpoint.
 fn due_at(recording: &Recording, moment: u64, endpoint: &Endpoint) -> Option<Due>
     requires steps { steps_in recording.now.entries < most_steps }
-    ensures some { IfSome result (λ due. (n : ℕ) → Permitted (tcp recording.now.header) moment (world_left recording.now) (expiry_step recording.now.me n due.ports due.expired)) }
+    ensures some { IfSome result (λ due. IsDueAt recording.now moment due.ports due.expired) }
     ensures none { IfNone result (IsRefused recording.now moment (record { lport = endpoint.now.lport; rport = endpoint.now.rport })) }
 {
     let ports = Ports {
         lport: endpoint.lport,
         rport: endpoint.rport,
     };
-    if TRIES <= endpoint.tries && !endpoint.state.is_fin_wait_2() {
+    let state = endpoint.state;
+    if TRIES <= endpoint.tries && !state.is_fin_wait_2() && !state.is_closed() {
         if let Some(due) = ask(recording, moment, ports, Expired::Giveup) {
             return Some(due);
         }
@@ -100,7 +129,7 @@ fn due_at(recording: &Recording, moment: u64, endpoint: &Endpoint) -> Option<Due
         ssthresh: 0,
     });
     if let Some(due) = ask(recording, moment, ports, least) {
-        return match ask(recording, moment, ports, Expired::Rto(greatest(endpoint))) {
+        return match ask(recording, moment, ports, Expired::Rto(at_timeout(endpoint))) {
             Some(greatest) => Some(greatest),
             None => Some(due),
         };
@@ -114,7 +143,7 @@ fn due_at(recording: &Recording, moment: u64, endpoint: &Endpoint) -> Option<Due
 // The timer, if it may expire.
 fn ask(recording: &Recording, moment: u64, ports: Ports, expired: Expired) -> Option<Due>
     requires steps { steps_in recording.now.entries < most_steps }
-    ensures some { IfSome result (λ due. (n : ℕ) → Permitted (tcp recording.now.header) moment (world_left recording.now) (expiry_step recording.now.me n due.ports due.expired)) }
+    ensures some { IfSome result (λ due. IsDueAt recording.now moment due.ports due.expired) }
     ensures none { IfNone result (Permitted (tcp recording.now.header) moment (world_left recording.now) (expiry_step recording.now.me 0 ports expired) → ⊥) }
 {
     let line = TakenLine::Expired {
@@ -126,19 +155,5 @@ fn ask(recording: &Recording, moment: u64, ports: Ports, expired: Expired) -> Op
     match recording.admits(moment, &Label::L(line)) {
         Ok(()) => Some(Due { ports, expired }),
         Err(_) => None,
-    }
-}
-
-// The greatest congestion window and slow start threshold that an expiry allows (RFC 5681, 3.1).
-fn greatest(endpoint: &Endpoint) -> Growth {
-    let (cwnd, ssthresh) = on_timeout(
-        &endpoint.congestion,
-        endpoint.flight(),
-        endpoint.stream.una == 0,
-        0 < endpoint.backs,
-    );
-    Growth {
-        cwnd: cwnd.min(u64::from(u32::MAX)) as u32,
-        ssthresh: ssthresh.min(u64::from(u32::MAX)) as u32,
     }
 }

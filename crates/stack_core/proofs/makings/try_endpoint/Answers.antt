@@ -4,13 +4,13 @@ use Rattle.machine.specs.Endpoints.{max_made}
 use Rattle.stack_core.proofs.MakingLemmas.{all_tried, tried_far}
 use Rattle.stack_core.proofs.makings.try_endpoint.Goals as goal
 
-pub returns-then-end-gt1000000000000000000-clause-none :
-    goal.returns-then-end-gt1000000000000000000-clause-none
-returns-then-end-gt1000000000000000000-clause-none c =
-    let over = c.if-end-gt1000000000000000000.true in
-    let end = c.end.ensures in
+pub returns-then-max_made-gt-GREATEST_POSITION-clause-none :
+    goal.returns-then-max_made-gt-GREATEST_POSITION-clause-none
+returns-then-max_made-gt-GREATEST_POSITION-clause-none c =
+    let over = c.if-max_made-gt-GREATEST_POSITION.true in
+    let end = c.max_made.ensures in
     let far : greatest_position < max_made c.args.endpoint.now = omega arith in
-    tried_far c.args.world.now.header c.args.me c.args.world.now.world c.args.opening c.args.window c.args.endpoint.now c.requires.short far
+    tried_far c.args.world.now.header c.args.me c.args.world.now.world c.args.offer.opening c.args.offer.window c.args.endpoint.now c.requires.short far
 
 pub returns-clause-none : goal.returns-clause-none
-returns-clause-none c = all_tried c.args.world.now.header c.args.me c.args.world.now.world c.args.opening c.args.window c.args.window c.args.endpoint.now c.byte_of.result c.fin_of.result c.ask-2.result c.in_default.ensures.none c.byte_of.ensures c.in_default-ask.ensures.none c.fin_of.ensures c.ask-2.ensures.none
+returns-clause-none c = all_tried c.args.world.now.header c.args.me c.args.world.now.world c.args.offer.opening c.args.offer.at_syn c.args.offer.window c.args.endpoint.now c.byte_of.result c.fin_of.result c.ask-2.result c.in_default.ensures.none c.byte_of.ensures c.in_default-ask.ensures.none c.fin_of.ensures c.ask-2.ensures.none

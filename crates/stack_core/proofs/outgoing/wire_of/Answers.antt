@@ -1,4 +1,4 @@
-use Rattle.std.proofs.Common.{◌≡◌, sym, subst, List, ℕ, ◌∙◌, ap}
+use Rattle.std.proofs.Common.{sym, subst, List, ℕ, ◌∙◌, ap}
 use Rattle.segment.specs.Encoding.{as_written}
 use Rattle.segment.specs.Layout.{IsSegment}
 use Rattle.stack_core.proofs.Shown.{all_shown}

@@ -16,5 +16,5 @@ choose-requires-clause-named c = subst (λ (b : Body). IsNamed b) (sym c.body-bo
 pub returns-clause-permitted : goal.returns-clause-permitted
 returns-clause-permitted c =
     subst (λ (k : Core). IfOk c.choose.result (λ o. IfSome o (λ a. (moment : ℕ) → Permitted (tcp k.recorded.header) moment (world k) (Effect c.args.thread a)))) c.self.view_is
-    (answers_permitted c.forgetting_is_free.ensures c.self.inside.recording c.self.invariant.own c.args.thread c.in-Some.call.now c.me.result c.body-body.result.now c.next_socket.result
+    (answers_permitted c.forgetting_is_free.ensures c.self.inside.recording c.self.invariant.0.own c.args.thread c.in-Some.call.now c.me.result c.body-body.result.now c.next_socket.result
     (sym c.in-Some.ensures) (c.me.ensures ∙ sym (ap (λ (k : Core). k.recorded.me) c.self.view_is)) c.body-body.ensures c.next_socket.ensures c.choose.result c.choose.ensures.some c.choose.ensures.gives)

@@ -1,4 +1,4 @@
-use Rattle.std.proofs.Common.{refl, subst, ℕ, Option}
+use Rattle.std.proofs.Common.{◌∙◌, refl, subst, ℕ, Option}
 use Rattle.std.specs.Option.{IfSome}
 use Rattle.case_forms.specs.declared.calls.Answer.{Answer}
 use Rattle.hosts.specs.Hosts.{Effect, turn_of}
@@ -6,12 +6,12 @@ use Rattle.hosts.specs.HostRules.{Permitted}
 use Rattle.machine.specs.Machine.{tcp}
 use Rattle.stack_core.specs.Cores.{Core, GivesNext, own_body, world}
 use Rattle.stack_core.proofs.AnswerLemmas.{effect_fits, ended_call, finish_fits}
-use Rattle.stack_core.proofs.host_core.HostCore.attempt.Goals as goal
+use Rattle.stack_core.proofs.host_core.HostCore.record_attempt.Goals as goal
 
 pub add-requires-clause-fits : goal.add-requires-clause-fits
 add-requires-clause-fits c =
     let now : Core = c.args.self.now in
-    effect_fits now c.open-2.new.self c.args.tick c.args.thread c.in-Ok-Some.answer c.in_ok-copy.field-0 c.open-2.ensures.opened c.in_ok-copy.ensures
+    effect_fits now c.open_with_room.new.self c.args.tick c.args.thread c.in-Ok-Some.answer c.in_ok-copy.field-0 c.open_with_room.ensures.opened c.in_ok-copy.ensures
     (subst (λ (o : Option Answer). IfSome o (λ a. (moment : ℕ) → Permitted (tcp now.recorded.header) moment (world now) (Effect c.args.thread a))) c.in-Ok-Some.field-0-is c.in-Ok-Some.ensures.permitted)
     (subst (λ (o : Option Answer). IfSome o (λ a. GivesNext now.recorded.me (own_body now) (turn_of c.args.thread (world now).threads) a)) c.in-Ok-Some.field-0-is c.in-Ok-Some.ensures.gives)
     c.requires.lane
@@ -19,13 +19,13 @@ add-requires-clause-fits c =
 pub add-requires-2-clause-fits : goal.add-requires-2-clause-fits
 add-requires-2-clause-fits c =
     let now : Core = c.args.self.now in
-    finish_fits now c.open-2.new.self c.add.new.self c.args.tick c.line.result c.args.thread c.in-Ok-Some.answer c.in_ok-copy.field-0 c.in_ok-ending.ending c.open-2.ensures.opened c.in_ok-copy.ensures c.in_ok-ending.ensures
+    finish_fits now c.open_with_room.new.self c.add.new.self c.args.tick c.line.result c.args.thread c.in-Ok-Some.answer c.in_ok-copy.field-0 c.in_ok-ending.ending c.open_with_room.ensures.opened c.in_ok-copy.ensures c.in_ok-ending.ensures
     (subst (λ (o : Option Answer). IfSome o (λ a. (moment : ℕ) → Permitted (tcp now.recorded.header) moment (world now) (Effect c.args.thread a))) c.in-Ok-Some.field-0-is c.in-Ok-Some.ensures.permitted)
     c.requires.lane c.in_ok-add.ensures.ok
 
 pub returns-clause-some : goal.returns-clause-some
 returns-clause-some c = (
   refl,
-  ended_call c.args.self.now c.open-2.new.self c.add.new.self c.add-2.new.self c.args.tick c.line.result c.args.thread c.in-Ok-Some.answer c.in_ok-copy.field-0 c.in_ok-ending.ending c.open-2.ensures.opened c.in_ok-add.ensures.ok c.in_ok-add-2.ensures.ok
+  c.note_answer.ensures ∙ ended_call c.args.self.now c.open_with_room.new.self c.add.new.self c.add-2.new.self c.args.tick c.line.result c.args.thread c.in-Ok-Some.answer c.in_ok-copy.field-0 c.in_ok-ending.ending c.open_with_room.ensures.opened c.in_ok-add.ensures.ok c.in_ok-add-2.ensures.ok
       c.in_ok-copy.ensures c.in_ok-ending.ensures c.line.ensures,
 )

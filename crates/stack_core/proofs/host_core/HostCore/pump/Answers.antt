@@ -1,0 +1,5 @@
+use Rattle.stack_core.proofs.FlightLemmas.{pumped_flown}
+use Rattle.stack_core.proofs.host_core.HostCore.pump.Goals as goal
+
+pub returns-clause-flown : goal.returns-clause-flown
+returns-clause-flown c = pumped_flown c.args.self.now c.record_pump-pumped.new.self c.args.tick c.record_pump-pumped.result c.record_pump-pumped.ensures.some c.is_recording.ensures

@@ -1,0 +1,22 @@
+-- Segments that flew from a host.
+use Rattle.std.specs.Prelude.{◌≡◌, ◌≤◌, ◌<◌, nat_eq, Some}
+use Rattle.std.specs.Map.{lookup}
+use Rattle.case_forms.specs.Traces.{first_event_line}
+use Rattle.hosts.specs.Tables.{pick}
+use Rattle.machine.specs.Machine.{tcp, tcp_shape}
+use Rattle.recordings.specs.Books.{Flying, item_line}
+use Rattle.recordings.specs.Keys.{EachEntry}
+use Rattle.recordings.specs.Recordings.{next_line}
+use Rattle.stack_core.specs.declared.tick.Tick.{Tick}
+use Rattle.stack_core.specs.Recordings.{Recorded, world_left}
+
+-- it stands on the host's wire under a line that is recorded, and with the key of that line
+pub record HasFlown (r : Recorded) (f : Flying tcp_shape) : Type 0 where
+  pub stands : lookup (nat_eq f.line) (pick (world_left r).hosts r.me).wire ≡ Some f.emission
+  pub keyed : EachEntry (tcp r.header) (λ x. item_line (tcp r.header) x.item ≡ Some f.line → x.key ≡ f.key) r.entries
+  pub recorded : f.line < next_line r.header (first_event_line r.header) r.entries
+
+-- the tick is above the event in which it flew
+pub record IsAbove (f : Flying tcp_shape) (tick : Tick) : Type 0 where
+  pub moment : f.key.moment ≤ tick.moment
+  pub counter : f.key.counter < tick.counter

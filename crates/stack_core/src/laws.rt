@@ -1,0 +1,25 @@
+//! What holds of segments that fly, for callers that prove more: the contract of a call that does nothing.
+
+ghost use Rattle.std.specs.Prelude.{◌++◌, List};
+ghost use Rattle.case_forms.specs.Traces.{first_event_line};
+ghost use Rattle.case_forms.specs.declared.calls.Host.{Host};
+ghost use Rattle.case_forms.specs.declared.trace.Header.{Header};
+ghost use Rattle.machine.specs.Machine.{tcp, tcp_shape};
+ghost use Rattle.recordings.specs.Books.{Bring, Flying};
+ghost use Rattle.recordings.specs.Keys.{NamesOne};
+ghost use Rattle.recordings.specs.Recordings.{IsKept, TcpEntry};
+ghost use Rattle.stack_core.specs.declared.tick.Tick.{Tick};
+ghost use Rattle.stack_core.specs.Flown.{HasFlown, IsAbove};
+ghost use Rattle.stack_core.specs.Keys.{key_of};
+ghost use Rattle.stack_core.specs.Recordings.{Recorded, world_left};
+
+/// A segment that flew from a host stands on its wire from then on, however the host's recording grows. Where it is brought at a
+/// tick above the event in which it flew, what is brought names it. So the recordings of two hosts, each of which was brought
+/// segments that flew from the other, are two books beside each other (`recordings::books_grow`), and merged they are a run.
+pub fn what_flew_is_named()
+    ensures stays { (h : Header) (me : Host) (old more : List TcpEntry) (f : Flying tcp_shape)
+        → HasFlown (record { header = h; me = me; entries = old }) f → IsKept h me (first_event_line h) (old ++ more)
+        → HasFlown (record { header = h; me = me; entries = old ++ more }) f }
+    ensures named { (r : Recorded) (me : Host) (f : Flying tcp_shape) (tick : Tick) → HasFlown r f → IsAbove f tick
+        → NamesOne (tcp r.header) r.me (world_left r) r.entries (key_of me tick) (Bring f) }
+{}

@@ -1,0 +1,235 @@
+//! The segments that a core would make at an endpoint. Positions and windows count bytes.
+
+ghost use Rattle.std.specs.Prelude.{◌≡◌, ◌≤◌};
+ghost use Rattle.stack_core.specs.Makings.{bytes_of, fin_of, syn_of};
+
+use crate::duties::{Again, Duty};
+use case_forms::{Flags, SegmentPlan};
+use endpoint_state::Endpoint;
+use seqno::Word;
+use window_rules::{congestion_edge, offered_edge};
+
+// The greatest payload that a core lets out, and the greatest position that a step names.
+pub(crate) const GREATEST_PAYLOAD: u16 = 65_487;
+
+pub(crate) const GREATEST_POSITION: u64 = 1_000_000_000_000_000_000;
+
+/// What an endpoint is given with its first SYN.
+#[derive(Clone, Copy, Debug, PartialEq, Eq)]
+pub(crate) struct Opening {
+    /// Its initial send sequence number (RFC 9293, 3.4.1).
+    pub(crate) iss: Word,
+    /// By how many bits it shifts the windows that it offers, if it tells that (RFC 7323, 2.2).
+    pub(crate) shift: Option<u8>,
+}
+
+/// What an endpoint offers with its segments: the window field of a SYN, and that of others.
+#[derive(Clone, Copy, Debug, PartialEq, Eq)]
+pub(crate) struct Offer {
+    pub(crate) opening: Opening,
+    pub(crate) at_syn: u16,
+    pub(crate) window: u16,
+}
+
+/// What an endpoint offers, where its host has a ring of so many bytes for what it takes. Once the peer's SYN told no shift,
+/// none is told (RFC 7323, 2.2).
+pub(crate) fn offer_of(endpoint: &Endpoint, duty: Duty, opening: Opening, ring: u16) -> Offer {
+    let room = duty.room(endpoint, ring);
+    let shift = match endpoint.shift {
+        Some(shift) if endpoint.is_scaling() => u64::from(shift.min(14)),
+        _ => 0,
+    };
+    let tells = endpoint.next() == 0 || endpoint.peer_shift.is_some();
+    Offer {
+        opening: Opening {
+            iss: opening.iss,
+            shift: if tells { opening.shift } else { None },
+        },
+        at_syn: room.min(65_535) as u16,
+        window: (room >> shift).min(65_535) as u16,
+    }
+}
+
+/// What a core would make at an endpoint, in this order, where it may: a reset that is due; what seems lost; its SYN; new bytes,
+/// as many as fit, with the FIN behind the last; these without it; an acknowledgment that it owes.
+pub(crate) fn wishes(endpoint: &Endpoint, duty: Duty, offer: Offer) -> [Option<SegmentPlan>; 6] {
+    let fresh = endpoint.max_made() == 0;
+    let bytes = new_bytes(endpoint, offer);
+    [
+        if endpoint.reset_due {
+            Some(reset_of(endpoint, offer))
+        } else {
+            None
+        },
+        match duty.again {
+            Some(again) => made_again(endpoint, again, offer),
+            None => None,
+        },
+        if fresh {
+            Some(syn_of(endpoint, offer.opening, offer.at_syn))
+        } else {
+            None
+        },
+        if fresh {
+            None
+        } else {
+            with_fin(endpoint, bytes)
+        },
+        if bytes.len == 0 { None } else { Some(bytes) },
+        if duty.acknowledges {
+            Some(plain(endpoint, endpoint.max_made(), 0, offer.window))
+        } else {
+            None
+        },
+    ]
+}
+
+// New bytes: as many as are there and fit into both windows and a segment (RFC 9293, 3.8.6; RFC 5681, 3.1).
+fn new_bytes(endpoint: &Endpoint, offer: Offer) -> SegmentPlan {
+    bytes_from(endpoint, endpoint.max_made(), edge_of(endpoint), offer)
+}
+
+// What seems lost, from the first of it on: the SYN, or bytes with the FIN behind the last. A segment goes out again also where
+// the congestion window is less than one (RFC 5681, 3.1).
+fn made_again(endpoint: &Endpoint, again: Again, offer: Offer) -> Option<SegmentPlan> {
+    let from = again.next.max(endpoint.stream.una);
+    let end = again.end.min(endpoint.max_made());
+    if end <= from {
+        return None;
+    }
+    if from == 0 {
+        return Some(syn_of(endpoint, offer.opening, offer.at_syn));
+    }
+    let end = end.min(endpoint.recover);
+    let bytes = bytes_from(endpoint, from, edge_of(endpoint).min(end), offer);
+    let last = bytes.pos.saturating_add(u64::from(bytes.len));
+    if last < end {
+        if let Some(plan) = with_fin(endpoint, bytes) {
+            return Some(plan);
+        }
+    }
+    if bytes.len == 0 { None } else { Some(bytes) }
+}
+
+// The position at which bytes end at most by both windows.
+fn edge_of(endpoint: &Endpoint) -> u64 {
+    let una = endpoint.stream.una.min(GREATEST_POSITION);
+    let offered = offered_edge(una, endpoint.window.wnd, endpoint.probe_due);
+    offered.min(congestion_edge(una, &endpoint.congestion))
+}
+
+// Bytes from a position on, up to that one at most.
+fn bytes_from(endpoint: &Endpoint, from: u64, edge: u64, offer: Offer) -> SegmentPlan {
+    let end = edge.min(endpoint.stream.accepted.end());
+    let most = u64::from(endpoint.congestion.smss).min(u64::from(GREATEST_PAYLOAD));
+    let len = end.saturating_sub(from).min(most).min(65_535) as u16;
+    plain(endpoint, from, len, offer.window)
+}
+
+// The same with the FIN, if it stands behind the last byte.
+fn with_fin(endpoint: &Endpoint, plan: SegmentPlan) -> Option<SegmentPlan> {
+    let last = plan.pos.saturating_add(u64::from(plan.len));
+    if !endpoint.stream.ended || last != endpoint.stream.accepted.end() {
+        return None;
+    }
+    let mut plan = plan;
+    plan.flags.fin = true;
+    Some(plan)
+}
+
+// A segment without SYN, FIN and RST.
+fn plain(endpoint: &Endpoint, pos: u64, len: u16, window: u16) -> SegmentPlan {
+    SegmentPlan {
+        lport: endpoint.lport,
+        rport: endpoint.rport,
+        pos,
+        len,
+        flags: Flags {
+            ack: 1 <= endpoint.next(),
+            rst: false,
+            syn: false,
+            fin: false,
+        },
+        window,
+        iss: None,
+        shift: None,
+    }
+}
+
+// A reset behind all that was made (RFC 9293, 3.10.4 and 3.10.5).
+fn reset_of(endpoint: &Endpoint, offer: Offer) -> SegmentPlan {
+    let mut plan = plain(endpoint, endpoint.max_made(), 0, offer.window);
+    plan.flags.rst = true;
+    plan
+}
+
+/// Its SYN.
+pub(crate) fn syn_of(endpoint: &Endpoint, opening: Opening, window: u16) -> SegmentPlan
+    ensures { result ≡ syn_of endpoint.now opening window }
+{
+    SegmentPlan {
+        lport: endpoint.lport,
+        rport: endpoint.rport,
+        pos: 0,
+        len: 0,
+        flags: Flags {
+            ack: 1 <= endpoint.next(),
+            rst: false,
+            syn: true,
+            fin: false,
+        },
+        window,
+        iss: if endpoint.iss.is_some() {
+            None
+        } else {
+            Some(opening.iss)
+        },
+        shift: if endpoint.iss.is_some() {
+            None
+        } else {
+            opening.shift
+        },
+    }
+}
+
+/// One new byte.
+pub(crate) fn byte_of(endpoint: &Endpoint, window: u16) -> SegmentPlan
+    ensures { result ≡ bytes_of endpoint.now 1 window }
+{
+    SegmentPlan {
+        lport: endpoint.lport,
+        rport: endpoint.rport,
+        pos: endpoint.max_made(),
+        len: 1,
+        flags: Flags {
+            ack: 1 <= endpoint.next(),
+            rst: false,
+            syn: false,
+            fin: false,
+        },
+        window,
+        iss: None,
+        shift: None,
+    }
+}
+
+/// Its FIN alone.
+pub(crate) fn fin_of(endpoint: &Endpoint, window: u16) -> SegmentPlan
+    ensures { result ≡ fin_of endpoint.now window }
+{
+    SegmentPlan {
+        lport: endpoint.lport,
+        rport: endpoint.rport,
+        pos: endpoint.max_made(),
+        len: 0,
+        flags: Flags {
+            ack: 1 <= endpoint.next(),
+            rst: false,
+            syn: false,
+            fin: true,
+        },
+        window,
+        iss: None,
+        shift: None,
+    }
+}
