@@ -1,11 +1,11 @@
 -- What holds of a host's book.
-use Rattle.std.specs.Prelude.{◌≡◌, ◌≤◌, ◌+◌, ℕ, suc, true, List, [], ◌∷◌}
+use Rattle.std.specs.Prelude.{◌≡◌, ◌≤◌, ℕ, suc, List, [], ◌∷◌}
 use Rattle.hosts.specs.Hosts.{Step, Begin, Finish, Effect, At}
 use Rattle.machine.specs.Machine.{tcp_shape}
-use Rattle.recordings.specs.Books.{Item, Do, Bring, Key}
-use Rattle.recordings.specs.Keys.{before}
+use Rattle.recordings.specs.Books.{Item, Do, Bring}
 use Rattle.recordings.specs.Recordings.{TcpEntry}
 use Rattle.stack_core.specs.Cores.{Core}
+use Rattle.merging.specs.Naming.{AllAbove}
 
 -- how many entries are lines that end a call
 abbrev pub step_ends : Step tcp_shape → ℕ → ℕ
@@ -22,16 +22,7 @@ abbrev pub ends_in : List TcpEntry → ℕ
 ends_in [] = 0
 ends_in (x ∷ xs) = item_ends x.item (ends_in xs)
 
--- each segment that was brought has a key below that of the entry
-abbrev pub IsAbove : Key → Item tcp_shape → Type 0
-IsAbove key (Do step) = Unit {0}
-IsAbove key (Bring f) = before f.key key ≡ true
-
-abbrev pub AllAbove : List TcpEntry → Type 0
-AllAbove [] = Unit {0}
-AllAbove (x ∷ xs) = IsAbove x.key x.item × AllAbove xs
-
--- the total is the number of lines that end a call, and the counts stay small
+-- the total is the number of lines that end a call; what was brought has a key below that of its entry; and the counts are small
 pub record IsBook (c : Core) (total : ℕ) : Type 0 where
   pub ends : total ≡ ends_in c.recorded.entries
   pub few : total ≤ c.events

@@ -82,6 +82,12 @@ impl HostBook {
     }
 
     // A thread begins a call.
+    #[tactic(
+        auto,
+        using(
+            crate::proofs::BookLemmas::begun_book,
+        )
+    )]
     pub(crate) fn begin(&mut self, thread: u32, call: &Call, tick: Tick) -> Result<(), OutOfMemory>
         requires tick { IsAfter self.old.core.last tick }
         requires events { self.old.core.events < 10000000 }
@@ -92,10 +98,20 @@ impl HostBook {
         ensures site { IsSameSite self.old.core self.new.core }
         ensures total { self.new.total ≡ self.old.total }
     {
-        self.core.begin(thread, call, tick)
+        self.core.begin(thread, call, tick)?;
+        Ok(())
     }
 
     // The open call of a thread has its effect, and ends.
+    #[tactic(
+        auto,
+        using(
+            crate::proofs::BookLemmas::attempted_book,
+            crate::proofs::BookLemmas::attempted_site,
+            crate::proofs::BookLemmas::short_book,
+            crate::proofs::BookLemmas::short_site,
+        )
+    )]
     pub(crate) fn attempt(&mut self, thread: u32, tick: Tick) -> Result<Option<Answered>, OutOfMemory>
         requires tick { IsAfter self.old.core.last tick }
         requires events { self.old.core.events < 10000000 }
@@ -105,14 +121,25 @@ impl HostBook {
         ensures none { IfOk result (λ o. IfNone o (self.new.total ≡ self.old.total)) }
         ensures err { OnErr result (self.new.total ≡ self.old.total) }
     {
-        let answered = self.core.attempt(thread, tick)?;
-        if answered.is_some() {
-            self.total += 1;
+        match self.core.attempt(thread, tick)? {
+            Some(answered) => {
+                self.total += 1;
+                Ok(Some(answered))
+            }
+            None => Ok(None),
         }
-        Ok(answered)
     }
 
     // A segment of the other host arrives.
+    #[tactic(
+        auto,
+        using(
+            crate::proofs::BookLemmas::arrival_book,
+            crate::proofs::BookLemmas::arrival_site,
+            crate::proofs::BookLemmas::arrived_short_book,
+            crate::proofs::BookLemmas::arrived_short_site,
+        )
+    )]
     pub(crate) fn arrive(&mut self, flying: Flying, tick: Tick) -> Result<bool, OutOfMemory>
         requires tick { IsAfter self.old.core.last tick }
         requires events { self.old.core.events < 10000000 }
@@ -120,26 +147,45 @@ impl HostBook {
         ensures site { IsSameSite self.old.core self.new.core }
         ensures total { self.new.total ≡ self.old.total }
     {
-        self.core.arrive(flying, tick)
+        let let_in = self.core.arrive(flying, tick)?;
+        Ok(let_in)
     }
 
     // A segment is made, and goes out.
+    #[tactic(
+        auto,
+        using(
+            crate::proofs::BookLemmas::pumped_book,
+            crate::proofs::BookLemmas::pumped_site,
+            crate::proofs::BookLemmas::pumped_short_book,
+            crate::proofs::BookLemmas::pumped_short_site,
+        )
+    )]
     pub(crate) fn pump(&mut self, tick: Tick) -> Result<Option<Flying>, OutOfMemory>
         requires tick { IsAfter self.old.core.last tick }
         requires events { self.old.core.events < 10000000 }
         ensures site { IsSameSite self.old.core self.new.core }
         ensures total { self.new.total ≡ self.old.total }
     {
-        self.core.pump(tick)
+        let flying = self.core.pump(tick)?;
+        Ok(flying)
     }
 
     // A timer that is due expires.
+    #[tactic(
+        auto,
+        using(
+            crate::proofs::BookLemmas::timed_book,
+            crate::proofs::BookLemmas::timed_site,
+        )
+    )]
     pub(crate) fn timers(&mut self, tick: Tick) -> Result<bool, OutOfMemory>
         requires tick { IsAfter self.old.core.last tick }
         requires events { self.old.core.events < 10000000 }
         ensures site { IsSameSite self.old.core self.new.core }
         ensures total { self.new.total ≡ self.old.total }
     {
-        self.core.timers(tick)
+        let found = self.core.timers(tick)?;
+        Ok(found)
     }
 }

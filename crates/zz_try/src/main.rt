@@ -10,7 +10,7 @@ use std::process::ExitCode;
 
 fn main(rt: HostRuntime) -> anyhow::Result<ExitCode> {
     let alloc = rt.alloc();
-    let plan = Plan { rounds: 20, lose: 0, version: Version::One };
+    let plan = Plan { rounds: 20, lose: 3, version: Version::One };
     match record(&rt, alloc, plan) {
         Ok(recording) => {
             let verdict = check(alloc, &recording.recorded.trace, &recording.recorded.witness)?;
