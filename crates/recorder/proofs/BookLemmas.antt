@@ -1,5 +1,5 @@
 -- What each event leaves of a book.
-use Rattle.std.proofs.Common.{◌≡◌, ◌⊎◌, inl, inr, ℕ, ◌+◌, ◌≤◌, ◌<◌, suc, Bool, true, false, List, [], ◌∷◌, ◌++◌, refl, sym, ap, ◌∙◌, subst, arith}
+use Rattle.std.proofs.Common.{◌≡◌, ◌⊎◌, inl, inr, ℕ, ◌+◌, ◌≤◌, ◌<◌, suc, Bool, true, false, List, [], ◌∷◌, ◌++◌, Option, None, Some, refl, sym, ap, ◌∙◌, subst, arith}
 use Rattle.case_forms.specs.declared.calls.Answer.{Answer}
 use Rattle.case_forms.specs.declared.calls.Call.{Call}
 use Rattle.case_forms.specs.declared.trace.Wire.{Wire}
@@ -15,7 +15,9 @@ use Rattle.stack_core.specs.ArrivalEvents as arrivals
 use Rattle.stack_core.specs.CallEvents.{IsAttempted, IsAttemptShort, answered, begun, effected}
 use Rattle.stack_core.specs.Cores.{Core, line_to_come, opened, with_item, with_step}
 use Rattle.stack_core.specs.Keys.{key_of}
-use Rattle.stack_core.specs.PumpEvents.{IsPumped, IsPumpedShort, made}
+use Rattle.std.specs.Prelude.{IfNone}
+use Rattle.std.specs.Option.{IfSome}
+use Rattle.stack_core.specs.PumpEvents.{IsPumped, IsPumpedShort, NothingToPump, made}
 use Rattle.stack_core.specs.PumpEvents as pumps
 use Rattle.stack_core.specs.TimerEvents.{IsTimed, expired}
 use Rattle.merging.specs.Naming.{AllAbove, IsAbove}
@@ -220,6 +222,11 @@ pumped_short_book c d tick total b room is = (pumped_short_goes c d tick total b
 
 pub timed_book : (c d : Core) (tick : Tick) (found : Bool) (total : ℕ) → IsBook c total → c.events < 10000000 → IsTimed c tick found d → IsBook d total
 timed_book c d tick found total b room is = (timed_goes c d tick found total b room is).book
+
+-- whether a segment went out or not
+pub maybe_pumped_book : (c d : Core) (tick : Tick) (o : Option (Flying tcp_shape)) (total : ℕ) → IsBook c total → c.events < 10000000 → IfSome o (λ f. IsPumped c tick f d) → IfNone o ((d ≡ c) × NothingToPump c) → IsBook d total
+maybe_pumped_book c d tick None total b room some none = (stays c d total b none.0).book
+maybe_pumped_book c d tick (Some f) total b room some none = pumped_book c d tick f total b room some
 
 -- ---- and of its site
 

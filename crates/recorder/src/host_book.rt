@@ -8,7 +8,9 @@ ghost use Rattle.machine.specs.Machine.{aim};
 ghost use Rattle.recordings.specs.Books.{Aims};
 ghost use Rattle.recordings.specs.Keys.{before};
 ghost use Rattle.stack_core.specs.Cores.{IsAfter, IsCallWithin, world};
+ghost use Rattle.stack_core.specs.Entries.{steps_in};
 ghost use Rattle.stack_core.specs.Keys.{key_of};
+ghost use Rattle.merging.specs.Naming.{AllAbove};
 ghost use Rattle.recorder.specs.Books.{IsSameSite};
 
 use case_forms::{Call, Header, Host, OutOfMemory};
@@ -72,6 +74,15 @@ impl HostBook {
         ensures { result ≡ self.now.core.events }
     {
         self.core.events()
+    }
+
+    // What was brought has keys below those of its entries, and the steps are few: a call that does nothing, whose contract
+    // says it.
+    pub(crate) fn few_steps(&self)
+        ensures above { AllAbove self.now.core.recorded.entries }
+        ensures steps { steps_in self.now.core.recorded.entries ≤ 40000000 }
+    {
+        self.core.few_steps();
     }
 
     // Whether a thread is in no call.
