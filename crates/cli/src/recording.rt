@@ -3,8 +3,8 @@
 use case_forms::{Answer, Call, Header, Host, Initial, OutOfMemory, Version};
 use crossbeam_channel::{Receiver, Sender, unbounded};
 use recorder::{
-    Cause, CoreConfig, Flying, HostBook, LoopEnd, MergeFault, RecFault, Receipt, Recorded, Recorder, Seat,
-    Site, merge,
+    Cause, CoreConfig, Flying, HostBook, LoopEnd, MergeFault, RecFault, Receipt, Recorded,
+    Recorder, Seat, Site, merge,
 };
 use segment::Bytes;
 use std::alloc::Global;
@@ -19,6 +19,7 @@ const TURNS: u64 = 2_000_000;
 
 // The port on which host 1 listens, and that from which host 0 opens.
 const SERVER_PORT: u16 = 80;
+
 const CLIENT_PORT: u16 = 4_000;
 
 // How many bytes are sent in a round.
@@ -238,10 +239,30 @@ fn run_all_threads<L: Site + Send + Sync, M: Site + Send + Sync, R: Threads + Wa
     let (to_zero, from_one) = back;
     let Plan { rounds, lose, .. } = plan;
     thread::scope(thread::scope_env(), rt, |scope| {
-        let pump_zero = scope.spawn(move || ended(rt, zero, one, zero.pump_loop(rt, to_one, lose, TURNS)));
-        let pump_one = scope.spawn(move || ended(rt, zero, one, one.pump_loop(rt, to_zero, lose, TURNS)));
-        let take_zero = scope.spawn(move || ended(rt, zero, one, zero.receive_loop(rt, from_one, TURNS)));
-        let take_one = scope.spawn(move || ended(rt, zero, one, one.receive_loop(rt, from_zero, TURNS)));
+        let pump_zero = scope.spawn(move || ended(
+            rt,
+            zero,
+            one,
+            zero.pump_loop(rt, to_one, lose, TURNS),
+        ));
+        let pump_one = scope.spawn(move || ended(
+            rt,
+            zero,
+            one,
+            one.pump_loop(rt, to_zero, lose, TURNS),
+        ));
+        let take_zero = scope.spawn(move || ended(
+            rt,
+            zero,
+            one,
+            zero.receive_loop(rt, from_one, TURNS),
+        ));
+        let take_one = scope.spawn(move || ended(
+            rt,
+            zero,
+            one,
+            one.receive_loop(rt, from_zero, TURNS),
+        ));
         let time_zero = scope.spawn(move || ended(rt, zero, one, zero.timer_loop(rt, TURNS)));
         let time_one = scope.spawn(move || ended(rt, zero, one, one.timer_loop(rt, TURNS)));
         let app_one = scope.spawn(move || server.run_server(rt, rounds).is_ok());
@@ -252,9 +273,18 @@ fn run_all_threads<L: Site + Send + Sync, M: Site + Send + Sync, R: Threads + Wa
         };
         zero.stop(rt);
         one.stop(rt);
-        match (pump_zero, pump_one, take_zero, take_one, time_zero, time_one) {
+        match (
+            pump_zero, pump_one, take_zero, take_one, time_zero, time_one,
+        ) {
             (Ok(c), Ok(d), Ok(e), Ok(f), Ok(g), Ok(h)) => {
-                let _ = [c.join(rt), d.join(rt), e.join(rt), f.join(rt), g.join(rt), h.join(rt)];
+                let _ = [
+                    c.join(rt),
+                    d.join(rt),
+                    e.join(rt),
+                    f.join(rt),
+                    g.join(rt),
+                    h.join(rt),
+                ];
                 outcome
             }
             _ => None,
@@ -317,8 +347,16 @@ fn record_with<L: Site + Send + Sync, M: Site + Send + Sync, R: Threads + Wait +
     let Some(ended) = ended else {
         return Err(RecordFault::Device);
     };
-    let Caller { seat: client_seat, mut receipts, .. } = client;
-    let Caller { seat: server_seat, receipts: others, .. } = server;
+    let Caller {
+        seat: client_seat,
+        mut receipts,
+        ..
+    } = client;
+    let Caller {
+        seat: server_seat,
+        receipts: others,
+        ..
+    } = server;
     receipts.reserve(others.len())?;
     for receipt in others {
         receipts.push_reserved(receipt);
@@ -326,7 +364,11 @@ fn record_with<L: Site + Send + Sync, M: Site + Send + Sync, R: Threads + Wait +
     let zero = finish(rt, alloc, zero, client_seat)?;
     let one = finish(rt, alloc, one, server_seat)?;
     match merge(alloc, zero, one) {
-        Ok(recorded) => Ok(Recording { recorded, ended, receipts }),
+        Ok(recorded) => Ok(Recording {
+            recorded,
+            ended,
+            receipts,
+        }),
         Err(MergeFault::Stranger { .. }) => Err(RecordFault::Device),
         Err(MergeFault::OutOfMemory) => Err(RecordFault::OutOfMemory),
     }
@@ -346,7 +388,12 @@ pub fn record<R: Threads + Wait + Sync>(
         config_of(4_294_967_294),
         Blank::new(65_535),
     );
-    let one: Recorder<Brand> =
-        Recorder::new(alloc, Host::One, header, config_of(100), Blank::new(65_535));
+    let one: Recorder<Brand> = Recorder::new(
+        alloc,
+        Host::One,
+        header,
+        config_of(100),
+        Blank::new(65_535),
+    );
     record_with::<Brand, Brand, R>(rt, alloc, plan, zero, one)
 }

@@ -104,9 +104,10 @@ key_there h n j k (y ∷ ys) num at = go (front h n y ys num) j at (λ m j num a
         let same : y.key ≡ k = same_Some y.key k (sym (ap (λ (b : Bool). slice_get (if b then y.key ∷ line_keys ys else line_keys ys) zero) g.0) ∙ at) in
         ((λ is. same), none_below h (suc n) (n + zero) k ys g.2 (omega arith))
     go (inr g) (suc j) at rest =
-        let z : suc n + j ≡ n + suc j = omega arith in
-        ((λ is. let e : n ≡ n + suc j = same_Some n (n + suc j) (sym g.1 ∙ is) in absurd (omega arith)),
-        subst (λ (l : ℕ). HaveKey h l k ys) z (rest (suc n) j g.2 (sym (ap (λ (b : Bool). slice_get (if b then y.key ∷ line_keys ys else line_keys ys) (suc j)) g.0) ∙ at)))
+        let z : suc n + j ≡ n + suc j = omega arith in (
+          (λ is. let e : n ≡ n + suc j = same_Some n (n + suc j) (sym g.1 ∙ is) in absurd (omega arith)),
+          subst (λ (l : ℕ). HaveKey h l k ys) z (rest (suc n) j g.2 (sym (ap (λ (b : Bool). slice_get (if b then y.key ∷ line_keys ys else line_keys ys) (suc j)) g.0) ∙ at)),
+        )
 
 -- what is named stands on the other's wire
 pub named_sent : (h : Header) (o : Host) (first : ℕ) (ys : List TcpEntry) → Numbered (tcp h) first ys → (xs : List TcpEntry) → AllAbove xs → AllNamed first (line_keys ys) (pick (world_of h o ys).hosts o).wire xs → NamesSent h o xs ys

@@ -148,7 +148,7 @@ pub told_as : (h : Header) (t : Trace) (w : Witness) (zs os : List TcpEntry) →
 told_as h t w zs os is version lines_is steps_is s books =
     subst (λ (g : Header). Tells t w (merged g (first_event_line g) zs os)) is
     (told_by t w zs os (version ∙ ap (λ (g : Header). g.version) (sym is))
-      (lines_is ∙ ap (λ (g : Header). lines_said (all_renumbered (new_names g (in_order zs os)) (in_order zs os))) (sym is))
-      (steps_is ∙ ap (λ (g : Header). steps_said (all_renumbered (new_names g (in_order zs os)) (in_order zs os))) (sym is))
-      s
-      (subst (λ (g : Header). Books (tcp g) (first_event_line g) zs os) (sym is) books))
+    (lines_is ∙ ap (λ (g : Header). lines_said (all_renumbered (new_names g (in_order zs os)) (in_order zs os))) (sym is))
+    (steps_is ∙ ap (λ (g : Header). steps_said (all_renumbered (new_names g (in_order zs os)) (in_order zs os))) (sym is))
+    s
+    (subst (λ (g : Header). Books (tcp g) (first_event_line g) zs os) (sym is) books))

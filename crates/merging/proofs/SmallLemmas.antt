@@ -180,10 +180,10 @@ goes h me moment w (Do (Effect t answer)) b fits own new brought = record {
 goes h me moment w (Do (At host d)) b fits own new brought =
     subst (λ (g : Host). Goes me (Do (At g d)) (next_item (tcp h) me moment w (Do (At g d))) (w.count + 1)) (sym fits.1)
     (let may = subst (λ (g : Host). Permitted (tcp h) moment w (At g d)) fits.1 fits.0 in
-     let fresh : IsSmall (suc w.count) = omega (arith, new) in
-     let named = deed_small h me moment (suc w.count) (pick w.hosts (other me)).wire (pick w.hosts me) b d may own in
-     let kept = deed_keeps h me moment (suc w.count) (pick w.hosts (other me)).wire (pick w.hosts me) b d may (λ is. fresh) named in
-     record { small = named; bounded = deed_at me w.hosts _ kept.bounded; count = let le = if_more (makes (tcp h) d) w.count in omega (arith, le) })
+    let fresh : IsSmall (suc w.count) = omega (arith, new) in
+    let named = deed_small h me moment (suc w.count) (pick w.hosts (other me)).wire (pick w.hosts me) b d may own in
+    let kept = deed_keeps h me moment (suc w.count) (pick w.hosts (other me)).wire (pick w.hosts me) b d may (λ is. fresh) named in
+    record { small = named; bounded = deed_at me w.hosts _ kept.bounded; count = let le = if_more (makes (tcp h) d) w.count in omega (arith, le) })
 
 abbrev AllBroughtSmall : List TcpEntry → Type 0
 AllBroughtSmall [] = Unit {0}

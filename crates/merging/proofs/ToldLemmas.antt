@@ -185,17 +185,25 @@ module _ (h : Header) (lines : List Line) where
 
   later : (s : Step) (steps : List Step) (p : ℕ) → TakesWell h lines s.label → AtPlace steps p → AtPlace (s ∷ steps) (suc p)
   later s steps p w a = record {
-      step = a.step; act = a.act; well = a.well; moved = a.moved;
-      acts = ap (λ (o : Option (Stamped tcp_shape)). slice_get (cons_option o (stamped h lines steps)) (suc p)) (act_at s w).1 ∙ a.acts;
-      is = a.is; moment = a.moment;
-    }
+    step = a.step;
+    act = a.act;
+    well = a.well;
+    moved = a.moved;
+    acts = ap (λ (o : Option (Stamped tcp_shape)). slice_get (cons_option o (stamped h lines steps)) (suc p)) (act_at s w).1 ∙ a.acts;
+    is = a.is;
+    moment = a.moment;
+  }
 
   here : (s : Step) (steps : List Step) → TakesWell h lines s.label → AtPlace (s ∷ steps) zero
   here s steps w = record {
-      step = s; act = (act_at s w).0; well = w; moved = refl;
-      acts = ap (λ (o : Option (Stamped tcp_shape)). slice_get (cons_option o (stamped h lines steps)) zero) (act_at s w).1;
-      is = (act_at s w).1; moment = (act_at s w).2;
-    }
+    step = s;
+    act = (act_at s w).0;
+    well = w;
+    moved = refl;
+    acts = ap (λ (o : Option (Stamped tcp_shape)). slice_get (cons_option o (stamped h lines steps)) zero) (act_at s w).1;
+    is = (act_at s w).1;
+    moment = (act_at s w).2;
+  }
 
   move_place : (steps : List Step) → AllTakeWell h lines steps → (p : ℕ) (m : Move) → slice_get (moves steps) p ≡ Some m → AtPlace steps p
   move_place [] all p m at = absurd (none-some m at)
@@ -294,8 +302,8 @@ told_explains t w steps e told =
     let seen : steps ≡ stamped t.header t.lines w.steps = sym told.steps_are in
     let tells : Tells t w (stamped t.header t.lines w.steps) = subst (λ (xs : List (Stamped tcp_shape)). Tells t w xs) seen told in
     let placement : Placement (tcp t.header) t.header.skew (first_event_line t.header) (map line_told t.lines) (stamped t.header t.lines w.steps) =
-        subst (λ (ls : List (placing.Line tcp_shape)). Placement (tcp t.header) t.header.skew (first_event_line t.header) ls (stamped t.header t.lines w.steps)) (sym tells.lines_are)
-        (subst (λ (xs : List (Stamped tcp_shape)). Placement (tcp t.header) t.header.skew (first_event_line t.header) (lines_of (tcp t.header) xs) xs) seen e.0) in
+    subst (λ (ls : List (placing.Line tcp_shape)). Placement (tcp t.header) t.header.skew (first_event_line t.header) ls (stamped t.header t.lines w.steps)) (sym tells.lines_are)
+    (subst (λ (xs : List (Stamped tcp_shape)). Placement (tcp t.header) t.header.skew (first_event_line t.header) (lines_of (tcp t.header) xs) xs) seen e.0) in
     record {
       placed = is_placed t w tells placement;
       turns = placement.turns;

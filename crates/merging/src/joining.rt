@@ -66,11 +66,7 @@ fn tell(alloc: Global, zero: &Recording, one: &Recording) -> Result<Recorded, Ou
     let header = *zero.header();
     let first = header.first_event_line() as u32;
     let counts = count_all(alloc, first, InOrder::new(zero.entries(), one.entries()))?;
-    let (lines, steps) = tell_all(
-        alloc,
-        &counts,
-        InOrder::new(zero.entries(), one.entries()),
-    )?;
+    let (lines, steps) = tell_all(alloc, &counts, InOrder::new(zero.entries(), one.entries()))?;
     Ok(Recorded {
         trace: Trace { header, lines },
         witness: Witness {

@@ -51,7 +51,10 @@ impl Turns {
         ensures { OnOk result (self.new ≡ with_turn self.old host) }
     {
         let Turns {
-            zero, one, next, ..
+            zero,
+            one,
+            next,
+            ..
         } = self;
         match host {
             Host::Zero => zero.reserve(1)?,

@@ -10,7 +10,8 @@ ghost use Rattle.checker.specs.Again.{nowhere};
 use crate::numbers::Counts;
 use crate::order::{InOrder, rank};
 use case_forms::{
-    Event, Expired, Extras, Host, Line, Lines, NamedLine, OutOfMemory, Span, Step, Steps, TakenLine, Timer,
+    Event, Expired, Extras, Host, Line, Lines, NamedLine, OutOfMemory, Span, Step, Steps,
+    TakenLine, Timer,
 };
 use spec_step::Label;
 use stack_core::{Entry, Item};
@@ -154,12 +155,7 @@ fn extras_of(expired: Expired) -> Extras
 }
 
 // What a step of a host tells, under new numbers.
-fn tell_step(
-    counts: &Counts,
-    moment: u64,
-    host: Host,
-    label: &Label,
-) -> Result<Told, OutOfMemory>
+fn tell_step(counts: &Counts, moment: u64, host: Host, label: &Label) -> Result<Told, OutOfMemory>
     requires small { IsSmallStep (step_of label.now) }
     requires lines { counts.now.lines.next ≤ 2147483647 }
     requires mades { counts.now.mades.next ≤ 2147483647 }

@@ -217,7 +217,9 @@ impl<L: Site> Desk<L> {
             return Err(LoopEnd::Stopped);
         }
         let Key {
-            moment, counter, ..
+            moment,
+            counter,
+            ..
         } = flying.key();
         let moment = moment.max(self.clock);
         let Held { book, .. } = &mut self.held;

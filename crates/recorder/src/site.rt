@@ -14,11 +14,13 @@ use std::sync::ledger::Ledger;
 /// The ledger of a recorder's seats, with its host and its header. Whoever makes a recorder picks both.
 pub trait Site: Ledger {
     ghost host: { Host };
+
     ghost header: { Header };
 }
 
 impl Site for Brand {
     ghost host = { Zero };
+
     ghost header = { record { version = One; skew = 0; msl = 1; grain = 0; minrto = 0; extra = 0; initial = Rfc5681 } };
 }
 
