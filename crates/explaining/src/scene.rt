@@ -3,10 +3,11 @@
 ghost use Rattle.std.specs.Prelude.{◌<◌, OnOk};
 ghost use Rattle.machine.specs.Bounds.{most_steps};
 
-use case_forms::{Header, Host, Label, Line, NamedLine, OutOfMemory, Step, TakenLine};
+use case_forms::{Header, Host, Label, Line, NamedLine, OutOfMemory, Step};
 use endpoint_state::{Endpoint, StepFault, World};
 use indexmap::IndexMap;
 use machine::{Arrived, Emission};
+use spec_step::apply_line;
 use std::alloc::{AllocError, Global};
 
 // The greatest position of a segment that is made.
@@ -81,7 +82,8 @@ impl<'t> Scene<'t> {
             return Ok(());
         };
         self.taken.insert(named.number, at)?;
-        do_line(&mut self.world, moment, &taken)
+        has_room(&self.world)?;
+        apply_line(&mut self.world, moment, &taken)
     }
 
     /// The line of this number. None: the trace has no such event line.
@@ -112,36 +114,6 @@ impl<'t> Scene<'t> {
     /// The endpoint that a segment finds.
     pub(crate) fn taker(&self, host: Host, m: &Emission) -> Option<&Endpoint> {
         self.endpoint(host, m.rport, m.lport)
-    }
-}
-
-fn do_line(world: &mut World, moment: u64, line: &TakenLine) -> Result<(), StepFault> {
-    has_room(world)?;
-    match line {
-        TakenLine::CallBegin { thread, call, .. } => world.begin(*thread, call),
-        TakenLine::CallEnd { thread, answer, .. } => world.finish(*thread, answer),
-        TakenLine::Sent {
-            line,
-            host,
-            made,
-            wire,
-        } => world.send(*host, *line, *made, wire, moment),
-        TakenLine::Came {
-            line,
-            host,
-            copied,
-            wire,
-        } => world.arrive(*host, *line, *copied, wire, moment),
-        TakenLine::Heard { line, host, wire } => world.hear(*host, *line, wire, moment),
-        TakenLine::Expired {
-            host,
-            ports,
-            expired,
-            ..
-        } => {
-            world.expire(*host, *ports, *expired, moment)?;
-            Ok(())
-        }
     }
 }
 
