@@ -69,7 +69,7 @@ taker-forget b m = rw (place-forget b m.rport m.lport) (by (place_of b m.rport m
     by None = listener-forget b m
     by (Some i) = endpoint_taker-forget b m i
 
--- where positions are read nothing is looked at that may be let go
+-- where positions are read nothing is looked at that may be discarded
 read-forget : (h : Header) (e : Endpoint) (m : Emission) → as_read h.version (forget_endpoint e) m ≡ as_read h.version e m
 read-forget h e m = rw (next-forget e) refl
 

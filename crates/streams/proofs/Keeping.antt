@@ -61,7 +61,7 @@ length_gone : (gone : ℕ) (xs : List (Option Cell)) → length (gone_cells gone
 length_gone zero xs = omega arith
 length_gone (suc n) xs = let all = length-append (replicate n (Some (Byte 0))) xs in let ones = length-replicate n (Some (Byte 0)) in omega arith
 
--- nor by what was let go
+-- nor by what was discarded
 last_gone : (gone : ℕ) (xs : List (Option Cell)) → (gone ≡ 0 → length xs ≡ 0) → has_end (gone_cells gone ++ xs) ≡ has_end xs
 last_gone gone [] empty = rw (length_gone gone []) (let same : gone + 0 - 1 ≡ gone - 1 = omega arith in rw same (gone_fin gone [] empty))
 last_gone gone (x ∷ xs) empty = rw (length_gone gone (x ∷ xs)) (let same : gone + suc (length xs) - 1 ≡ gone + length xs = omega arith in let last : suc (length xs) - 1 ≡ length xs = omega arith in rw (same, last) (ap is_fin (get_gone gone (x ∷ xs) (length xs))))
@@ -73,7 +73,7 @@ body_kept_gone gone at xs bytes fin empty =
     let behind : gone + at + length bytes ≡ gone + (at + length bytes) = omega arith in
     rw (last_gone gone xs empty, long, before, behind, same_order gone (length xs) (at + length bytes)) refl
 
--- what is kept, of a buffer whose cells stand behind those that were let go
+-- what is kept, of a buffer whose cells stand behind those that were discarded
 pub kept_gone : (gone at : ℕ) (xs : List (Option Cell)) (bytes : List ℕ) (fin : Bool) → (gone ≡ 0 → length xs ≡ 0)
     → kept (record { taken = gone_cells gone ++ xs; delivered = gone - 1 }) (gone + at) bytes fin ≡ record { taken = gone_cells gone ++ put_all xs at (body_kept xs at bytes fin); delivered = gone - 1 }
 kept_gone gone at xs bytes fin empty =
