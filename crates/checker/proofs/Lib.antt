@@ -15,3 +15,5 @@ pub mod StreamTurns
 pub mod TurnLemmas
 pub mod EndLemmas
 pub mod TextLemmas
+pub mod StepSpans
+pub mod PrintedLemmas

@@ -17,3 +17,5 @@ pub mod HostLaw
 pub mod RowLemmas
 pub mod LeftLemmas
 pub mod ReadsLemmas
+pub mod Printable
+pub mod ShortAnswers

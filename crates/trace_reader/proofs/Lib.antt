@@ -7,3 +7,5 @@ pub mod TraceLaw
 pub mod LinesText
 pub mod StreamLaw
 pub mod HeaderReads
+pub mod ShortLines
+pub mod PrintableLaw

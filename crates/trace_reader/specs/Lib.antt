@@ -15,3 +15,4 @@ pub mod EventLines
 pub mod TraceText
 pub mod TraceLeft
 pub mod Printed
+pub mod Printable

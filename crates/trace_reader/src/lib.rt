@@ -28,6 +28,6 @@ pub use counted::Counted;
 pub use events::event_line;
 pub use header::version_named;
 pub use line_fields::{FaultKind, ReadFault, SegFault, Span, TextFault, Token};
-pub use printing::{print_law, print_trace};
+pub use printing::{event_bytes, print_law, print_trace, printable_law};
 pub use reading::read_trace;
 pub use stream::TraceReader;
