@@ -21,12 +21,14 @@ expired_by Msl2 Bare = Some expired.Msl2
 expired_by Giveup Bare = Some expired.Giveup
 expired_by timer extras = None
 
--- a segment's line has the number that it was made under, or the line that it copies; a call's nothing
+-- a segment's line has the number that it was made under, or the line that it copies; a call's nothing, nor that of a segment
+-- which is heard of a host that is not recorded
 abbrev pub event_taken : (line thread : ℕ) → Event → Extras → Option TakenLine
 event_taken line thread (CallBegin call) Bare = Some (taken.CallBegin line thread call)
 event_taken line thread (CallEnd answer) Bare = Some (taken.CallEnd line thread answer)
 event_taken line thread (Sent host wire) (One made) = Some (taken.Sent line host made wire)
 event_taken line thread (Came host wire) (One copied) = Some (taken.Came line host copied wire)
+event_taken line thread (Came host wire) Bare = Some (taken.Heard line host wire)
 event_taken line thread (TimerExpired host lport rport timer) extras =
     option_map (λ e. taken.Expired line host (record { lport = lport; rport = rport }) e) (expired_by timer extras)
 event_taken line thread event extras = None

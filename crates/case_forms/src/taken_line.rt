@@ -50,6 +50,12 @@ pub enum TakenLine {
         copied: u64,
         wire: Wire,
     },
+    /// A segment comes in at the host from the other one, which is not recorded.
+    Heard {
+        line: u64,
+        host: Host,
+        wire: Wire,
+    },
     /// A timer of the host's endpoint of these ports expires.
     Expired {
         line: u64,
@@ -96,6 +102,11 @@ impl Takes for TakenLine {
                 line: *line,
                 host: *host,
                 copied: *copied,
+                wire: wire.copy()?,
+            },
+            TakenLine::Heard { line, host, wire } => TakenLine::Heard {
+                line: *line,
+                host: *host,
                 wire: wire.copy()?,
             },
             TakenLine::Expired {
@@ -155,6 +166,7 @@ impl Line {
                 copied: u64::from(copied),
                 wire,
             }),
+            (Event::Came(host, wire), Extras::Bare) => Some(TakenLine::Heard { line, host, wire }),
             (Event::Expired(host, lport, rport, timer), extras) => {
                 let expired = expired_by(timer, extras)?;
                 Some(TakenLine::Expired {

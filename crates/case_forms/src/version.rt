@@ -1,7 +1,7 @@
 //! The versions of a trace and its witness.
 
 ghost use Rattle.std.specs.Prelude.{◌≡◌};
-ghost use Rattle.case_forms.specs.Versions.{first_line_of, scales};
+ghost use Rattle.case_forms.specs.Versions.{first_line_of, is_half, scales};
 
 /// Which version a text is of. A trace and its witness are of the same.
 #[derive(Clone, Copy, Debug, PartialEq, Eq)]
@@ -10,6 +10,8 @@ pub enum Version {
     One,
     /// Windows may be scaled (RFC 7323, 2), and the trace says which RFC gives the first congestion window.
     Two,
+    /// The same of a half case: host 0 alone is recorded.
+    Three,
 }
 
 impl Version {
@@ -20,6 +22,7 @@ impl Version {
         match self {
             Version::One => 7,
             Version::Two => 8,
+            Version::Three => 9,
         }
     }
 
@@ -29,7 +32,17 @@ impl Version {
     {
         match self {
             Version::One => false,
-            Version::Two => true,
+            Version::Two | Version::Three => true,
+        }
+    }
+
+    /// Whether host 0 alone is recorded.
+    pub fn is_half(self) -> bool
+        ensures { result ≡ is_half self }
+    {
+        match self {
+            Version::One | Version::Two => false,
+            Version::Three => true,
         }
     }
 }

@@ -15,5 +15,11 @@ pub mod StreamTurns
 pub mod TurnLemmas
 pub mod EndLemmas
 pub mod TextLemmas
+pub mod HeadlineLemmas
+pub mod HeadlineFacts
+pub mod SocketLemmas
+pub mod PortRuns
+pub mod PortLemmas
+pub mod StreamLemmas
 pub mod StepSpans
 pub mod PrintedLemmas

@@ -11,6 +11,8 @@ use Rattle.case_forms.specs.declared.calls.Call.TheVariants as calls
 use Rattle.case_forms.specs.declared.calls.Answer.{Answer}
 use Rattle.case_forms.specs.declared.calls.Answer.TheVariants as answers
 use Rattle.case_forms.specs.declared.calls.State.TheVariants as states
+use Rattle.case_forms.specs.Versions.{is_half}
+use Rattle.case_forms.specs.declared.version.Version.{Version}
 use Rattle.case_forms.specs.declared.timer.Timer.{Timer}
 use Rattle.case_forms.specs.declared.timer.Timer.TheVariants.{Rto, Persist, Msl2, Giveup}
 use Rattle.verdict.specs.declared.rule.Rule.TheVariants as rules
@@ -19,7 +21,7 @@ use Rattle.verdict.proofs.RuleLemmas.{none_all}
 use Rattle.streams.specs.Lists.{modify}
 use Rattle.streams.proofs.Places.{get_append, all_push, all_modify}
 use Rattle.hosts.specs.Tables.{pick, other, with_host, waiting}
-use Rattle.hosts.specs.Hosts.{HostState, Turn, Idle, Called, Answered, World, Deed, Does, Expires, Makes, Sends, Gets, Takes, Drops, Answers, Step, Begin, Finish, Effect, At, Stamped, turn_of}
+use Rattle.hosts.specs.Hosts.{HostState, Turn, Idle, Called, Answered, World, Deed, Does, Expires, Makes, Sends, Gets, Hears, Takes, Drops, Answers, Step, Begin, Finish, Effect, At, Stamped, turn_of}
 use Rattle.hosts.specs.HostRules.{aim_of, Permitted}
 use Rattle.hosts.specs.HostSteps.{deed_after, call_after, effect_after, after, after_all, start, Lawful}
 use Rattle.machine.specs.declared.endpoint.Name.{Name}
@@ -38,34 +40,35 @@ use Rattle.machine.specs.Calls.Accept.{accepted_from, after_accept}
 use Rattle.machine.specs.Calls.{change_thing, after_call}
 use Rattle.machine.specs.Makes.{endpoint_made, after_making}
 use Rattle.case_forms.specs.declared.steps.TakeChoice.{TakeChoice}
+use Rattle.machine.specs.Heard.{as_read, read_at}
 use Rattle.machine.specs.Arrives.Otherwise.{connected_rules, taken as segment_taken}
 use Rattle.machine.specs.Arrives.SynSent.{syn_sent_rules, met_peer}
 use Rattle.machine.specs.Arrives.Listen.{listener_rules, child}
 use Rattle.machine.specs.Arrives.Otherwise.Reset.{was_reset}
-use Rattle.machine.specs.Arrives.{Taker, Nobody, AtListener, AtEndpoint, taker, taker_rules, endpoint_taken, after_taking}
+use Rattle.machine.specs.Arrives.{Taker, Nobody, AtListener, AtEndpoint, taker, taker_rules, endpoint_rules, endpoint_taken, after_taking}
 use Rattle.machine.specs.Timeouts.{after_expiry}
 use Rattle.machine.specs.Recovery.{after_recovery}
 use Rattle.machine.specs.Machine.{Calls, tcp, tcp_shape, aim}
 use Rattle.machine_laws.specs.Runs.{world_at_end}
 use Rattle.machine_laws.specs.Consequences.{find}
 use Rattle.machine_laws.proofs.Rules.{on_passes, on_cases, map_or_cases, not_false, both_true}
-use Rattle.machine_laws.proofs.Later.{Hosts, name, Good, Waits}
+use Rattle.machine_laws.proofs.Later.{Hosts, name, Waits}
 use Rattle.machine_laws.proofs.Moves.{with_cases, modify_each, map_onward, map_back}
 use Rattle.machine_laws.proofs.Makes.{either_stream}
 use Rattle.machine_laws.proofs.Takes.{taker_there}
-use Rattle.machine_laws.proofs.Runs.{Fine, fine_start, fine_run, fine_step}
+use Rattle.machine_laws.proofs.Runs.{Steady, steady_start, steady_run, steady_step}
 use Rattle.checker.specs.Peers.{peer_of, TakesSynOf, PeersAreMet, PeersWereMet}
 
 -- an endpoint's peer stays, or it is met
-abbrev Meets : World tcp_shape → Step tcp_shape → Name → Option Name → Option Name → Type 0
+abbrev pub Meets : World tcp_shape → Step tcp_shape → Name → Option Name → Option Name → Type 0
 Meets w step me before now = (now ≡ before) ⊎ ((before ≡ None) × (q : Name) × (now ≡ Some q) × TakesSynOf w step me q)
 
 -- an endpoint begins without a peer, or by a SYN
-abbrev Begins : World tcp_shape → Step tcp_shape → Name → Endpoint → Type 0
+abbrev pub Begins : World tcp_shape → Step tcp_shape → Name → Endpoint → Type 0
 Begins w step me f = (f.stream.peer ≡ None) ⊎ ((q : Name) × (f.stream.peer ≡ Some q) × (find w.hosts me ≡ None → TakesSynOf w step me q))
 
 -- the endpoints of a host after a step
-record Moves (w : World tcp_shape) (step : Step tcp_shape) (host : Host) (es fs : List Endpoint) : Type 0 where
+pub record Moves (w : World tcp_shape) (step : Step tcp_shape) (host : Host) (es fs : List Endpoint) : Type 0 where
   pub onward : (i : ℕ) (e : Endpoint) → slice_get es i ≡ Some e → (f : Endpoint) × (slice_get fs i ≡ Some f) × Meets w step (name host i) e.stream.peer f.stream.peer
   pub back : (i : ℕ) (f : Endpoint) → slice_get fs i ≡ Some f → ((e : Endpoint) × (slice_get es i ≡ Some e)) ⊎ Begins w step (name host i) f
 
@@ -108,17 +111,33 @@ syn_or_reset true rst either not_reset = refl
 syn_or_reset false true either not_reset = absurd cc
 syn_or_reset false false either not_reset = absurd cc
 
-meets_taking : (h : Header) (s : ℕ) (w : World tcp_shape) (host : Host) (line : ℕ) (how : TakeChoice) (m : Emission) (i : ℕ) (e : Endpoint) → waiting line (pick w.hosts host).inbox ≡ Some m
-    → slice_get (pick w.hosts host).body.endpoints i ≡ Some e → taker (pick w.hosts host).body m ≡ AtEndpoint i e → Waits e → first_broken (if is_syn_sent e.state then syn_sent_rules h.initial e how m else connected_rules h (pick w.hosts host).body (name host i) e how m) ≡ None
-    → Meets w (At host (Takes line how)) (name host i) e.stream.peer (endpoint_taken h e how m s).stream.peer
-meets_taking h s w host line how m i e waits there is calm may = go m.flags.rst (is_syn_sent e.state) refl refl may
+-- an endpoint reads its maker and its flags as they are
+read_maker : (v : Version) (e : Endpoint) (m : Emission) → m.maker ≡ (as_read v e m).maker
+read_maker v e m = by (is_half v)
   where
-    go : (r t : Bool) → m.flags.rst ≡ r → is_syn_sent e.state ≡ t → first_broken (if t then syn_sent_rules h.initial e how m else connected_rules h (pick w.hosts host).body (name host i) e how m) ≡ None
-        → Meets w (At host (Takes line how)) (name host i) e.stream.peer (if r then was_reset e how else if t then met_peer h e how m s else segment_taken h e how m s).stream.peer
+    by : (half : Bool) → m.maker ≡ (if half then read_at e m else m).maker
+    by true = refl
+    by false = refl
+
+read_syn : (v : Version) (e : Endpoint) (m : Emission) → m.flags.syn ≡ (as_read v e m).flags.syn
+read_syn v e m = by (is_half v)
+  where
+    by : (half : Bool) → m.flags.syn ≡ (if half then read_at e m else m).flags.syn
+    by true = refl
+    by false = refl
+
+-- a segment that comes in (`m`), as the endpoint reads it (`r`)
+meets_taking : (h : Header) (s : ℕ) (w : World tcp_shape) (host : Host) (line : ℕ) (how : TakeChoice) (m r : Emission) (i : ℕ) (e : Endpoint) → waiting line (pick w.hosts host).inbox ≡ Some m
+    → slice_get (pick w.hosts host).body.endpoints i ≡ Some e → taker (pick w.hosts host).body m ≡ AtEndpoint i e → Waits e → m.maker ≡ r.maker → m.flags.syn ≡ r.flags.syn → first_broken (endpoint_rules h host (pick w.hosts host).body how r i e) ≡ None
+    → Meets w (At host (Takes line how)) (name host i) e.stream.peer (endpoint_taken h e how r s).stream.peer
+meets_taking h s w host line how m r i e waits there is calm maker syn may = go r.flags.rst (is_syn_sent e.state) refl refl may
+  where
+    go : (b t : Bool) → r.flags.rst ≡ b → is_syn_sent e.state ≡ t → first_broken (if t then syn_sent_rules h.initial e how r else connected_rules h (pick w.hosts host).body (name host i) e how r) ≡ None
+        → Meets w (At host (Takes line how)) (name host i) e.stream.peer (if b then was_reset e how else if t then met_peer h e how r s else segment_taken h e how r s).stream.peer
     go true t reset sent may = inl refl
     go false true reset sent may = inr (
       (calm sent).0,
-      m.maker,
+      r.maker,
       refl,
       record {
         line = line;
@@ -126,17 +145,17 @@ meets_taking h s w host line how m i e waits there is calm may = go m.flags.rst 
         segment = m;
         takes = refl;
         waits = waits;
-        syn = syn_or_reset m.flags.syn m.flags.rst (not_false (m.flags.syn || m.flags.rst) (none_all (syn_sent_rules h.initial e how m) may).0) reset;
-        made = refl;
+        syn = syn ∙ syn_or_reset r.flags.syn r.flags.rst (not_false (r.flags.syn || r.flags.rst) (none_all (syn_sent_rules h.initial e how r) may).0) reset;
+        made = maker;
         goes = inl (e, there, is);
       },
     )
     go false false reset sent may = inl refl
 
-moves_taking : (h : Header) (s : ℕ) (w : World tcp_shape) (host : Host) (line : ℕ) (how : TakeChoice) (m : Emission) → Good w.hosts → waiting line (pick w.hosts host).inbox ≡ Some m
+moves_taking : (h : Header) (s : ℕ) (w : World tcp_shape) (host : Host) (line : ℕ) (how : TakeChoice) (m : Emission) → Steady w.hosts → waiting line (pick w.hosts host).inbox ≡ Some m
     → first_broken (taker_rules h host (pick w.hosts host).body how m (taker (pick w.hosts host).body m)) ≡ None
     → Moves w (At host (Takes line how)) host (pick w.hosts host).body.endpoints (after_taking h (pick w.hosts host).body how m s (taker (pick w.hosts host).body m)).endpoints
-moves_taking h s w host line how m good waits may = go (taker (pick w.hosts host).body m) refl may
+moves_taking h s w host line how m steady waits may = go (taker (pick w.hosts host).body m) refl may
   where
     b : Body
     b = (pick w.hosts host).body
@@ -148,28 +167,30 @@ moves_taking h s w host line how m good waits may = go (taker (pick w.hosts host
         let syn = (both_true m.flags.syn (not m.flags.ack) (both_true (m.flags.syn && not m.flags.ack) (not m.flags.rst) first).0).0 in
         moves_push w (At host (Takes line how)) host b.endpoints (child l how m s)
         (λ j. inr (m.maker, refl, λ none. record { line = line; how = how; segment = m; takes = refl; waits = waits; syn = syn; made = refl; goes = inr (l, none, is) }))
-    go (AtEndpoint i e) is may = moves_one w (At host (Takes line how)) host b.endpoints i (λ x. endpoint_taken h x how m s)
+    go (AtEndpoint i e) is may = let r = as_read h.version e m in
+        moves_one w (At host (Takes line how)) host b.endpoints i (λ x. endpoint_taken h x how r s)
         (λ x there.
         let one : e ≡ x = same_Some e x (sym (taker_there b m i e is) ∙ there) in
-        meets_taking h s w host line how m i x waits there (is ∙ ap (λ (y : Endpoint). AtEndpoint i y) one) ((good host).endpoints i x there).waits
-        (subst (λ (y : Endpoint). first_broken (if is_syn_sent y.state then syn_sent_rules h.initial y how m else connected_rules h b (name host i) y how m) ≡ None) one may))
+        meets_taking h s w host line how m r i x waits there (is ∙ ap (λ (y : Endpoint). AtEndpoint i y) one) (steady.own host i x there).waits (read_maker h.version e m) (read_syn h.version e m)
+        (subst (λ (y : Endpoint). first_broken (endpoint_rules h host b how r i y) ≡ None) one may))
 
-moves_deed : (h : Header) (s : ℕ) (w : World tcp_shape) (host : Host) (d : Deed tcp_shape) → Good w.hosts → Permitted (tcp h) s w (At host d)
+moves_deed : (h : Header) (s : ℕ) (w : World tcp_shape) (host : Host) (d : Deed tcp_shape) → Steady w.hosts → Permitted (tcp h) s w (At host d)
     → Moves w (At host d) host (pick w.hosts host).body.endpoints (deed_after (tcp h) host s (suc w.count) (pick w.hosts (other host)).wire (pick w.hosts host) d).body.endpoints
-moves_deed h s w host (Does x) good may = moves_at_ports w (At host (Does x)) host (pick w.hosts host).body x.lport x.rport (λ e. after_recovery e x.cwnd x.ssthresh) (λ e. refl)
-moves_deed h s w host (Expires line x growth) good may = moves_at_ports w (At host (Expires line x growth)) host (pick w.hosts host).body x.lport x.rport (λ e. after_expiry e x.timer growth s) (λ e. expiry_stream x.timer e growth s)
-moves_deed h s w host (Makes m) good may = moves_at_ports w (At host (Makes m)) host (pick w.hosts host).body m.lport m.rport (λ e. after_making e m s)
+moves_deed h s w host (Does x) steady may = moves_at_ports w (At host (Does x)) host (pick w.hosts host).body x.lport x.rport (λ e. after_recovery e x.cwnd x.ssthresh) (λ e. refl)
+moves_deed h s w host (Expires line x growth) steady may = moves_at_ports w (At host (Expires line x growth)) host (pick w.hosts host).body x.lport x.rport (λ e. after_expiry e x.timer growth s) (λ e. expiry_stream x.timer e growth s)
+moves_deed h s w host (Makes m) steady may = moves_at_ports w (At host (Makes m)) host (pick w.hosts host).body m.lport m.rport (λ e. after_making e m s)
     (λ e. either_stream m.flags.rst (record (shut_down (endpoint_made e m s)) { reset_due = false }) (endpoint_made e m s) e.stream refl refl)
-moves_deed h s w host (Sends line number wire) good may = moves_not w (At host (Sends line number wire)) host (pick w.hosts host).body.endpoints
-moves_deed h s w host (Gets line copied wire) good may = moves_not w (At host (Gets line copied wire)) host (pick w.hosts host).body.endpoints
-moves_deed h s w host (Takes line how) good may = let k = pick w.hosts host in let step : Step tcp_shape = At host (Takes line how) in
+moves_deed h s w host (Sends line number wire) steady may = moves_not w (At host (Sends line number wire)) host (pick w.hosts host).body.endpoints
+moves_deed h s w host (Gets line copied wire) steady may = moves_not w (At host (Gets line copied wire)) host (pick w.hosts host).body.endpoints
+moves_deed h s w host (Hears line wire) steady may = moves_not w (At host (Hears line wire)) host (pick w.hosts host).body.endpoints
+moves_deed h s w host (Takes line how) steady may = let k = pick w.hosts host in let step : Step tcp_shape = At host (Takes line how) in
     on_cases (λ (b : Body). Moves w step host k.body.endpoints b.endpoints) (waiting line k.inbox) k.body _ (moves_not w step host k.body.endpoints)
     (λ m e.
     let t = on_passes (waiting line k.inbox) rules.Inbox (λ x. taker_rules h host k.body how x (taker k.body x)) may in
     let one : t.0 ≡ m = same_Some t.0 m (sym t.1 ∙ e) in
-    moves_taking h s w host line how m good e (subst (λ (x : Emission). first_broken (taker_rules h host k.body how x (taker k.body x)) ≡ None) one t.2))
-moves_deed h s w host (Drops line) good may = moves_not w (At host (Drops line)) host (pick w.hosts host).body.endpoints
-moves_deed h s w host (Answers line) good may = let k = pick w.hosts host in let step : Step tcp_shape = At host (Answers line) in
+    moves_taking h s w host line how m steady e (subst (λ (x : Emission). first_broken (taker_rules h host k.body how x (taker k.body x)) ≡ None) one t.2))
+moves_deed h s w host (Drops line) steady may = moves_not w (At host (Drops line)) host (pick w.hosts host).body.endpoints
+moves_deed h s w host (Answers line) steady may = let k = pick w.hosts host in let step : Step tcp_shape = At host (Answers line) in
     on_cases (λ (b : Body). Moves w step host k.body.endpoints b.endpoints) (waiting line k.inbox) k.body _ (moves_not w step host k.body.endpoints) (λ m e. moves_not w step host k.body.endpoints)
 
 -- 2. calls
@@ -215,7 +236,7 @@ moves_call w step host b call answer = moves_not w step host b.endpoints
 -- 3. both hosts
 
 -- the endpoints of both
-record BothMove (w : World tcp_shape) (step : Step tcp_shape) (b : Hosts) : Type 0 where
+pub record BothMove (w : World tcp_shape) (step : Step tcp_shape) (b : Hosts) : Type 0 where
   pub all : (x : Host) → Moves w step x (pick w.hosts x).body.endpoints (pick b x).body.endpoints
 
 both_not : (w : World tcp_shape) (step : Step tcp_shape) → BothMove w step w.hosts
@@ -224,10 +245,10 @@ both_not w step = record { all = λ x. moves_not w step x (pick w.hosts x).body.
 both_host : (w : World tcp_shape) (step : Step tcp_shape) (host : Host) (k : HostState tcp_shape) → Moves w step host (pick w.hosts host).body.endpoints k.body.endpoints → BothMove w step (with_host w.hosts host k)
 both_host w step host k f = record { all = with_cases w.hosts host k (λ x y. Moves w step x (pick w.hosts x).body.endpoints y.body.endpoints) f (moves_not w step (other host) (pick w.hosts (other host)).body.endpoints) }
 
-both_step : (h : Header) (s : ℕ) (w : World tcp_shape) (step : Step tcp_shape) → Good w.hosts → Permitted (tcp h) s w step → BothMove w step (after (tcp h) s w step).hosts
-both_step h s w (Begin line t call) good may = both_not w (Begin line t call)
-both_step h s w (Finish line t answer) good may = both_not w (Finish line t answer)
-both_step h s w (Effect t answer) good may = go (turn_of t w.threads)
+pub both_step : (h : Header) (s : ℕ) (w : World tcp_shape) (step : Step tcp_shape) → Steady w.hosts → Permitted (tcp h) s w step → BothMove w step (after (tcp h) s w step).hosts
+both_step h s w (Begin line t call) steady may = both_not w (Begin line t call)
+both_step h s w (Finish line t answer) steady may = both_not w (Finish line t answer)
+both_step h s w (Effect t answer) steady may = go (turn_of t w.threads)
   where
     by : (call : Call) (o : Option Host) → BothMove w (Effect t answer) (call_after (tcp h) s w.hosts (Calls call answer) o)
     by call None = both_not w (Effect t answer)
@@ -237,13 +258,13 @@ both_step h s w (Effect t answer) good may = go (turn_of t w.threads)
     go Idle = both_not w (Effect t answer)
     go (Called call) = by call (aim_of (tcp h) w.hosts (aim call))
     go (Answered x) = both_not w (Effect t answer)
-both_step h s w (At host d) good may = both_host w (At host d) host (deed_after (tcp h) host s (suc w.count) (pick w.hosts (other host)).wire (pick w.hosts host) d) (moves_deed h s w host d good may)
+both_step h s w (At host d) steady may = both_host w (At host d) host (deed_after (tcp h) host s (suc w.count) (pick w.hosts (other host)).wire (pick w.hosts host) d) (moves_deed h s w host d steady may)
 
 abbrev peer_in : Option Endpoint → Option Name
 peer_in o = option_map_or (λ e. e.stream.peer) o None
 
 -- the peer of one endpoint
-meets : (w : World tcp_shape) (step : Step tcp_shape) (b : Hosts) → BothMove w step b → (me : Name) → Meets w step me (peer_of w.hosts me) (peer_of b me)
+pub meets : (w : World tcp_shape) (step : Step tcp_shape) (b : Hosts) → BothMove w step b → (me : Name) → Meets w step me (peer_of w.hosts me) (peer_of b me)
 meets w step b both me = go (find w.hosts me) (find b me) refl refl
   where
     new : (f : Endpoint) → find w.hosts me ≡ None → ((e : Endpoint) × (find w.hosts me ≡ Some e)) ⊎ Begins w step me f → Meets w step me None f.stream.peer
@@ -262,7 +283,7 @@ meets w step b both me = go (find w.hosts me) (find b me) refl refl
 pub peers_met : (h : Header) (before : List (Stamped tcp_shape)) (x : Stamped tcp_shape) → Lawful (tcp h) (start (tcp h)) before → Permitted (tcp h) x.moment (world_at_end h before) x.step → PeersAreMet h before x
 peers_met h before x run may me =
     let w = world_at_end h before in
-    meets w x.step (after (tcp h) x.moment w x.step).hosts (both_step h x.moment w x.step (fine_run h (start (tcp h)) before (fine_start h) run).good may) me
+    meets w x.step (after (tcp h) x.moment w x.step).hosts (both_step h x.moment w x.step (steady_run h (start (tcp h)) before (steady_start h) run) may) me
 
 -- a step before which the endpoint had no peer takes the SYN of this one
 abbrev WasMet : Header → World tcp_shape → List (Stamped tcp_shape) → Name → Name → Type 0
@@ -271,10 +292,10 @@ WasMet h w steps me q =
     × (peer_of (after_all (tcp h) w (take place steps)).hosts me ≡ None) × TakesSynOf (after_all (tcp h) w (take place steps)) x.step me q
 
 -- a peer at the end was there before the run, or was met in it
-from_run : (h : Header) (w : World tcp_shape) (steps : List (Stamped tcp_shape)) (me q : Name) → Fine w.hosts → Lawful (tcp h) w steps → peer_of (after_all (tcp h) w steps).hosts me ≡ Some q
+from_run : (h : Header) (w : World tcp_shape) (steps : List (Stamped tcp_shape)) (me q : Name) → Steady w.hosts → Lawful (tcp h) w steps → peer_of (after_all (tcp h) w steps).hosts me ≡ Some q
     → (peer_of w.hosts me ≡ Some q) ⊎ WasMet h w steps me q
-from_run h w [] me q fine run is = inl is
-from_run h w (x ∷ xs) me q fine run is = go (from_run h v xs me q (fine_step h x.moment w x.step fine run.0) run.1 is)
+from_run h w [] me q steady run is = inl is
+from_run h w (x ∷ xs) me q steady run is = go (from_run h v xs me q (steady_step h x.moment w x.step steady run.0) run.1 is)
   where
     v : World tcp_shape
     v = after (tcp h) x.moment w x.step
@@ -286,7 +307,7 @@ from_run h w (x ∷ xs) me q fine run is = go (from_run h v xs me q (fine_step h
         inr (0, x, refl, met.0, subst (λ (n : Name). TakesSynOf w x.step me n) same met.3)
 
     go : (peer_of v.hosts me ≡ Some q) ⊎ WasMet h v xs me q → (peer_of w.hosts me ≡ Some q) ⊎ WasMet h w (x ∷ xs) me q
-    go (inl now) = first now (meets w x.step v.hosts (both_step h x.moment w x.step fine.good run.0) me)
+    go (inl now) = first now (meets w x.step v.hosts (both_step h x.moment w x.step steady run.0) me)
     go (inr met) = inr (suc met.0, met.1, met.2, met.3, met.4)
 
 no_peer : (h : Header) (me : Name) (host : Host) → slice_get (pick (start (tcp h)).hosts host).body.endpoints me.number ≡ None
@@ -294,7 +315,7 @@ no_peer h me Zero = refl
 no_peer h me One = refl
 
 pub peers_were_met : (h : Header) (steps : List (Stamped tcp_shape)) → Lawful (tcp h) (start (tcp h)) steps → PeersWereMet h steps
-peers_were_met h steps run me q is = go (from_run h (start (tcp h)) steps me q (fine_start h) run is)
+peers_were_met h steps run me q is = go (from_run h (start (tcp h)) steps me q (steady_start h) run is)
   where
     go : (peer_of (start (tcp h)).hosts me ≡ Some q) ⊎ WasMet h (start (tcp h)) steps me q → WasMet h (start (tcp h)) steps me q
     go (inl before) = absurd (none-some q (sym (ap peer_in (no_peer h me me.host)) ∙ before))

@@ -75,7 +75,7 @@ earlier_bare o n thread = any_bare (λ e. nat_lt e.0 n && e.1.thread == thread) 
 -- the rules of order, where the line that is taken was looked up
 abbrev rules_with : Order → ℕ → Take → Option Line → List (Rule × Bool)
 rules_with o moment t found =
-    (LineRange, not (is_offered o t.number) || option_map_or (λ line. not (t.extras == extras_of line.event)) found false)
+    (LineRange, not (is_offered o t.number) || option_map_or (λ line. not (t.extras == extras_of o.header.version line.event)) found false)
     ∷ (LineAgain, is_offered o t.number && is_none found)
     ∷ (ThreadOrder, option_map_or (λ line. has_earlier o t.number line.thread) found false)
     ∷ (MomentFalls, nat_lt moment o.last)

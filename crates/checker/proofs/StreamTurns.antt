@@ -2,6 +2,7 @@
 use Rattle.std.proofs.Common.{inl, inr, ◌≡◌, ℕ, ◌+◌, ◌<◌, ◌≤◌, List, [], ◌∷◌, ◌++◌, length, refl, sym, ap, subst, ◌∙◌, arith, Option, Some, None, Result, Ok, Err, IfSome, append_assoc, length-append, append-nil}
 use Rattle.std.specs.Option.{option_map}
 use Rattle.std.specs.List.{enumerate_from}
+use Rattle.case_forms.specs.declared.version.Version.{Version}
 use Rattle.case_forms.specs.declared.trace.Header.{Header}
 use Rattle.case_forms.specs.declared.trace.Line.{Line}
 use Rattle.case_forms.specs.declared.trace.Span.{Span}
@@ -30,7 +31,7 @@ use Rattle.line_fields.specs.Folding.{read_lines}
 use Rattle.line_fields.proofs.Loop.{spelled_takes}
 use Rattle.line_fields.specs.Rows.{rows_of}
 use Rattle.trace_reader.specs.EventLines.{Place, behind, line_of, IsEventLine}
-use Rattle.trace_reader.specs.TraceLeft.{lines_left, place_of}
+use Rattle.trace_reader.specs.TraceLeft.{lines_left, place_of, version_of}
 use Rattle.trace_reader.proofs.EventLineLaw.{reads_line}
 use Rattle.trace_reader.proofs.TraceLaw.{are_recorded}
 use Rattle.checker.specs.declared.ahead.Ahead.{Ahead}
@@ -164,11 +165,11 @@ later_with moment (Some line) None late rest = tt
 later_with moment (Some line) (Some (Err e)) late rest = tt
 later_with moment (Some line) (Some (Ok more)) late rest = (late, rest line more refl refl)
 
-left_recorded : (place : Place) (rows : Option (List (List ℕ))) (rest : List Line) → option_map (read_lines line_of behind place) rows ≡ Some (Ok rest) → IsRecorded place.1 place.0 rest
-left_recorded place None rest is = absurd cc
-left_recorded place (Some raws) rest is =
-    let read : read_lines line_of behind place raws ≡ Ok rest = cc in
-    are_recorded place rest raws (spelled_takes line_of behind IsEventLine reads_line place raws rest read)
+left_recorded : (v : Version) (place : Place) (rows : Option (List (List ℕ))) (rest : List Line) → option_map (read_lines (line_of v) behind place) rows ≡ Some (Ok rest) → IsRecorded place.1 place.0 rest
+left_recorded v place None rest is = absurd cc
+left_recorded v place (Some raws) rest is =
+    let read : read_lines (line_of v) behind place raws ≡ Ok rest = cc in
+    are_recorded v place rest raws (spelled_takes (line_of v) behind (IsEventLine v) (reads_line v) place raws rest read)
 
 -- where the line that was read ahead is not reached, none is that is left
 pub left_later : {A : Type 0} (known : A → Option (List ℕ)) (s : Ahead A) (moment : ℕ) → IsAhead s → IfSome (line_ahead s) (λ line. moment < line.moment) → AllLater moment (left_ahead known s)
@@ -176,7 +177,7 @@ left_later known s moment h late = later_with moment (line_ahead s) (lines_left 
     let place = subst (λ (l : Option Line). IfSome l (λ line. (place_of s.reader ≡ (line.moment, line.number + 1)) × (line.number ≤ 10000000))) at h.place in
     let not_reached = subst (λ (l : Option Line). IfSome l (λ line. moment < line.moment)) at late in
     let since : (place_of s.reader).0 ≡ line.moment = ap (λ (p : Place). p.0) place.0 in
-    not_before (place_of s.reader).1 (place_of s.reader).0 rest (left_recorded (place_of s.reader) (rows_of (left_of known s.reader.source)) rest is) moment (omega (arith, since, not_reached)))
+    not_before (place_of s.reader).1 (place_of s.reader).0 rest (left_recorded (version_of s.reader) (place_of s.reader) (rows_of (left_of known s.reader.source)) rest is) moment (omega (arith, since, not_reached)))
 
 -- ---- a whole turn
 

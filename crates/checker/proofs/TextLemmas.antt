@@ -6,7 +6,6 @@ use Rattle.bstr.specs.Text.{lines_of}
 use Rattle.case_forms.specs.declared.trace.Header.{Header}
 use Rattle.case_forms.specs.declared.trace.Line.{Line}
 use Rattle.case_forms.specs.declared.trace.Trace.{Trace}
-use Rattle.case_forms.specs.declared.steps.Step.{Step}
 use Rattle.case_forms.specs.declared.steps.Witness.{Witness}
 use Rattle.case_forms.specs.declared.version.Version.{Version}
 use Rattle.counted.specs.declared.ends.Counted.{Counted}

@@ -1,5 +1,7 @@
--- What follows, of a trace and a witness that explains it, for the bytes of streams and for windows (RFC 9293, 3.4, 3.8 and 3.10; RFC 5681, 3.1 and 3.2).
-use Rattle.std.specs.Prelude.{◌≡◌, ℕ, List, Some, slice_get, take}
+-- What follows, of a trace and a witness that explains it, for the bytes of streams, for windows and for states (RFC 9293, 3.3,
+-- 3.4, 3.8 and 3.10; RFC 5681, 3.1 and 3.2).
+use Rattle.std.specs.Prelude.{◌≡◌, ℕ, false, List, Some, slice_get, take}
+use Rattle.case_forms.specs.Versions.{is_half}
 use Rattle.case_forms.specs.declared.trace.Header.{Header}
 use Rattle.case_forms.specs.declared.trace.Trace.{Trace}
 use Rattle.case_forms.specs.declared.calls.Host.{Host}
@@ -9,7 +11,9 @@ use Rattle.case_forms.specs.declared.steps.SegmentPlan.{SegmentPlan}
 use Rattle.machine.specs.Machine.{tcp_shape}
 use Rattle.machine_laws.specs.Runs.{world_at_end}
 use Rattle.machine_laws.specs.Consequences.{ReceivedIsAPrefix, EndIsWhole, AcknowledgedWasTaken}
+use Rattle.machine_laws.specs.Carried.{ReadsWereCarried}
 use Rattle.machine_laws.specs.Bounds.{NewDataFits, WindowsFollow}
+use Rattle.machine_laws.specs.Transitions.{StatesFollow, PositionsNeverFall}
 use Rattle.checker.specs.Seen.{stamped}
 
 -- the steps of a witness as the machine sees them
@@ -20,7 +24,16 @@ steps_of t w = stamped t.header t.lines w.steps
 abbrev pub EachStep : List (Stamped tcp_shape) → (List (Stamped tcp_shape) → Stamped tcp_shape → Type 0) → Type 0
 EachStep steps P = (place : ℕ) (x : Stamped tcp_shape) → slice_get steps place ≡ Some x → P (take place steps) x
 
--- what the reads on a socket number were told is how the bytes begin that the sends of its peer accepted
+-- both hosts are recorded: the case is no half case
+abbrev pub AreBothRecorded : Trace → Type 0
+AreBothRecorded t = is_half t.header.version ≡ false
+
+-- each byte that the reads on a socket number were told, and the end where they were told it, came with a segment that was
+-- taken at its endpoint; so it is in half cases, too
+abbrev pub AllReadsWereCarried : Trace → Witness → Type 0
+AllReadsWereCarried t w = ReadsWereCarried t.header (steps_of t w)
+
+-- what the reads on a socket number were told is a prefix of what the sends of its peer accepted
 abbrev pub ReadsBeginWhatWasSent : Trace → Witness → Type 0
 ReadsBeginWhatWasSent t w = ReceivedIsAPrefix t.header (steps_of t w)
 
@@ -34,10 +47,19 @@ AllAcknowledgedWasTaken t w = EachStep (steps_of t w) (λ before x. Acknowledged
 
 -- what a step does with windows, in the world that the steps before it left
 pub record KeepsWindows (h : Header) (before : List (Stamped tcp_shape)) (x : Stamped tcp_shape) : Type 0 where
-  -- the congestion window and the slow start threshold change where a segment is taken, where a retransmission timer expires and where fast recovery begins alone, and stay at or below what these allow
+  -- the congestion window and the slow start threshold change where a segment is taken, where a retransmission timer expires
+  -- and where fast recovery begins alone, and stay at or below what these allow
   pub follow : WindowsFollow h x.moment (world_at_end h before) x.step
   -- bytes that are made for the first time end in the window that the peer offers and in the congestion window
   pub fits : (host : Host) (m : SegmentPlan) → x.step ≡ At host (Makes m) → NewDataFits (world_at_end h before) host m
 
 abbrev pub AllKeepWindows : Trace → Witness → Type 0
 AllKeepWindows t w = EachStep (steps_of t w) (λ before x. KeepsWindows t.header before x)
+
+-- each step leaves the states of endpoints as they are, or leads on from them by arrows of figure 5 (RFC 9293, 3.3.2)
+abbrev pub AllStatesFollow : Trace → Witness → Type 0
+AllStatesFollow t w = EachStep (steps_of t w) (λ before x. StatesFollow t.header x.moment (world_at_end t.header before) x.step)
+
+-- no step leaves a position of an endpoint below what it was (RFC 9293, 3.3.1)
+abbrev pub NoPositionFalls : Trace → Witness → Type 0
+NoPositionFalls t w = EachStep (steps_of t w) (λ before x. PositionsNeverFall t.header before x)

@@ -11,3 +11,4 @@ pub mod Ahead
 pub mod Streaming
 pub mod Turns
 pub mod Texts
+pub mod Headline

@@ -98,7 +98,8 @@ Tells header lines steps (Ok v) = Ends header lines steps v
 Tells header lines steps (Err e) = CaseFails e lines steps
 
 -- lines that are passed on the way to a line which is named before it is reached
-pub record Between (o : Order) (a b : Option (Result (List Line) TextFault)) (ahead : Option Line) (noted : ℕ → Bool) (number moment : ℕ) (between : List Line) : Type 0 where
+pub record Between (o : Order) (a b : Option (Result (List Line) TextFault)) (ahead : Option Line) (noted : ℕ → Bool)
+    (number moment : ℕ) (between : List Line) : Type 0 where
   pub passed : Passes a b between
   pub next : IfSome ahead (λ line. (line.number ≡ o.next + length between) × (moment < line.moment))
   pub threads : (t : ℕ) → noted t ≡ is_among t between
@@ -107,7 +108,8 @@ pub record Between (o : Order) (a b : Option (Result (List Line) TextFault)) (ah
 -- the least rule that is broken by a step which takes a line that is not offered: one of four, or the first where there is no such line
 abbrev pub IsLate : Order → Option (Result (List Line) TextFault) → Option (Result (List Line) TextFault) → ℕ → ℕ → ℕ → Rule → Type 0
 IsLate o a b number extras moment rule =
-    ((between : List Line) × (line : Line) × Passes a b (between ++ line ∷ []) × (number ≡ o.next + length between) × (moment < line.moment) × (rule ≡ late_rule o between line extras moment))
+    ((between : List Line) × (line : Line) × Passes a b (between ++ line ∷ []) × (number ≡ o.next + length between) ×
+    (moment < line.moment) × (rule ≡ late_rule o between line extras moment))
     ⊎ ((between : List Line) × Passes a b between × (b ≡ Some (Ok [])) × (o.next + length between ≤ number) × (rule ≡ LineRange))
 
 -- a step breaks no rule, and is done

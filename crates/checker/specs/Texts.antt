@@ -1,14 +1,16 @@
 -- A case in two texts.
 use Rattle.std.specs.Prelude.{◌≡◌, ℕ, List, Option, None, Some, Result, Ok, Err}
+use Rattle.bstr.specs.Text.{lines_of}
 use Rattle.case_forms.specs.declared.trace.Trace.{Trace}
 use Rattle.case_forms.specs.declared.steps.Witness.{Witness}
 use Rattle.line_fields.specs.declared.fault.TextFault.{TextFault}
+use Rattle.trace_reader.specs.Headers.{version_named}
 use Rattle.trace_reader.specs.TraceText.{trace_of}
 use Rattle.witness.specs.WitnessText.{witness_for}
 use Rattle.verdict.specs.declared.report.Verdict.{Verdict}
 use Rattle.checker.specs.declared.case.CaseFault.{CaseFault}
 use Rattle.checker.specs.declared.case.CaseFault.TheVariants as faults
-use Rattle.checker.specs.Cases.{judged}
+use Rattle.checker.specs.Cases.{judged, trace_part, witness_part}
 
 -- the witness of a text for that trace, in its version; behind a fault of the trace it is not looked at
 abbrev pub witness_behind : Result Trace TextFault → List ℕ → Result Witness TextFault
@@ -32,3 +34,7 @@ abbrev pub AreOf : Option (List ℕ) → Option (List ℕ) → Trace → Witness
 AreOf None witness t w = ⊥
 AreOf (Some xs) None t w = ⊥
 AreOf (Some xs) (Some ys) t w = (trace_of xs ≡ Ok t) × (witness_for t.header.version ys ≡ Ok w)
+
+-- the two parts of a case in one text are read so
+abbrev pub AreInCase : List ℕ → Trace → Witness → Type 0
+AreInCase text t w = let v = version_named (lines_of text) in AreOf (Some (trace_part v text)) (Some (witness_part v text)) t w

@@ -31,7 +31,9 @@ act_after header w act = after (tcp header) act.moment w act.step
 
 -- all rules of a step, after these earlier ones and in the world that they leave: those of order, then those of the machine
 abbrev pub all_rules : Header → List Line → List Step → World tcp_shape → Step → List (Rule × Bool)
-all_rules header lines earlier w s = order_rules (order_of header lines (moves earlier)) (move_of s) ++ option_map_or (act_rules header w) (act_of header lines s) []
+all_rules header lines earlier w s =
+    order_rules (order_of header lines (moves earlier)) (move_of s)
+    ++ option_map_or (act_rules header w) (act_of header lines s) []
 
 -- the least rule that the step breaks
 abbrev pub broken : Header → List Line → List Step → World tcp_shape → Step → Option Rule

@@ -135,7 +135,8 @@ fn next_line<A: BufRead>(reader: &mut TraceReader<A>) -> Result<Option<Line>, Ca
     requires working { fault_of reader.old ≡ None }
     requires begun { IsBegun reader.old }
     ensures next { IfOk result (Yields (lines_left A.remaining reader.old) (lines_left A.remaining reader.new)) }
-    ensures place { IfOk result (λ item. IfSome item (λ line. StandsAt (place_of reader.old) line × (place_of reader.new ≡ behind (place_of reader.old) line))) }
+    ensures place { IfOk result (λ item. IfSome item (λ line. StandsAt (place_of reader.old) line ×
+        (place_of reader.new ≡ behind (place_of reader.old) line))) }
     ensures working { IfOk result (λ item. fault_of reader.new ≡ None) }
     ensures begun { IsBegun reader.new }
     ensures fault { IfErr result (λ e. TraceFails e (lines_left A.remaining reader.old)) }

@@ -20,17 +20,24 @@ ghost use Rattle.checker.specs.Verdicts.{verdict};
 ghost use Rattle.checker.specs.Explains.{Explains, IsYes};
 ghost use Rattle.checker.specs.Peers.{AllPeersAreMet, EachPeerWasMet};
 ghost use Rattle.checker.specs.Again.{HaveTwo, without_spans};
+ghost use Rattle.checker.specs.Headline.{ReceivesBeginSends};
 ghost use Rattle.machine_laws.specs.Consequences.{ReceivedIsAPrefix, EndIsWhole};
-ghost use Rattle.checker.specs.Consequences.{steps_of, ReadsBeginWhatWasSent, EndsAreWhole, AllAcknowledgedWasTaken, AllKeepWindows};
+ghost use Rattle.machine_laws.specs.Carried.{ReadsWereCarried};
+ghost use Rattle.checker.specs.Consequences.{steps_of, AreBothRecorded, ReadsBeginWhatWasSent, EndsAreWhole};
+ghost use Rattle.checker.specs.Consequences.{AllAcknowledgedWasTaken, AllReadsWereCarried, AllKeepWindows, AllStatesFollow};
+ghost use Rattle.checker.specs.Consequences.{NoPositionFalls};
 
 use machine_laws::{
-    acknowledged_was_taken, end_is_whole, new_data_fits, received_is_a_prefix, windows_follow,
+    acknowledged_was_taken, end_is_whole, new_data_fits, positions_never_fall, reads_were_carried,
+    received_is_a_prefix, states_follow, windows_follow,
 };
 
 /// Where a witness explains a trace, a line that precedes another in the interval order (of one thread and with the
 /// smaller number, or earlier by more than the skew) is taken first.
 pub fn earlier_lines_are_taken_first()
-    ensures { (t : Trace) (w : Witness) → Explains t w → (m n i j : ℕ) (a b : Line) → line_at t.header t.lines m ≡ Some a → line_at t.header t.lines n ≡ Some b → Precedes t.header m a n b → TakesAt (moves w.steps) i m → TakesAt (moves w.steps) j n → i < j }
+    ensures { (t : Trace) (w : Witness) → Explains t w → (m n i j : ℕ) (a b : Line) → line_at t.header t.lines m ≡ Some a →
+        line_at t.header t.lines n ≡ Some b → Precedes t.header m a n b → TakesAt (moves w.steps) i m →
+        TakesAt (moves w.steps) j n → i < j }
 {}
 
 /// The verdict is yes exactly where the witness explains the trace.
@@ -43,37 +50,62 @@ pub fn yes_counts_all_lines()
     ensures { (t : Trace) (w : Witness) (lines hidden : ℕ) → verdict t w ≡ Yes lines hidden → lines ≡ length t.lines }
 {}
 
-/// What follows for streams and windows where the witness explains the trace.
+/// What the receives on a socket number were told is a prefix of what the sends on one number of the other host accepted, at each
+/// moment of the witness; once the end was told it is all of it. The ports of the one are those of the other turned round. So it
+/// is said by the lines of the trace and the steps of the witness alone. A number whose receives are told nothing need have no
+/// such other number.
+pub fn receives_begin_sends()
+    ensures { (t : Trace) (w : Witness) → Explains t w → AreBothRecorded t → ReceivesBeginSends t w }
+{
+    received_is_a_prefix();
+    end_is_whole();
+}
+
+/// What follows for streams, windows and states where the witness explains the trace.
 pub fn explained_follows()
-    // What reads were told is how the bytes begin that the peer's sends accepted.
-    ensures received { (t : Trace) (w : Witness) → Explains t w → ReadsBeginWhatWasSent t w }
+    // Where both hosts are recorded: what reads were told is a prefix of what the peer's sends accepted.
+    ensures received { (t : Trace) (w : Witness) → Explains t w → AreBothRecorded t → ReadsBeginWhatWasSent t w }
 
     // Reads that were told the end were told all of them.
-    ensures whole { (t : Trace) (w : Witness) → Explains t w → EndsAreWhole t w }
+    ensures whole { (t : Trace) (w : Witness) → Explains t w → AreBothRecorded t → EndsAreWhole t w }
 
     // What is acknowledged was taken before.
-    ensures acknowledged { (t : Trace) (w : Witness) → Explains t w → AllAcknowledgedWasTaken t w }
+    ensures acknowledged { (t : Trace) (w : Witness) → Explains t w → AreBothRecorded t → AllAcknowledgedWasTaken t w }
+
+    // In every case: what reads were told came with segments that were taken.
+    ensures carried { (t : Trace) (w : Witness) → Explains t w → AllReadsWereCarried t w }
 
     // New data ends in both windows, and windows follow their rules.
     ensures windows { (t : Trace) (w : Witness) → Explains t w → AllKeepWindows t w }
+
+    // States follow each other by the arrows of RFC 9293, 3.3.2, figure 5, and positions never fall.
+    ensures states { (t : Trace) (w : Witness) → Explains t w → AllStatesFollow t w }
+    ensures positions { (t : Trace) (w : Witness) → Explains t w → NoPositionFalls t w }
 {
     received_is_a_prefix();
     end_is_whole();
     acknowledged_was_taken();
+    reads_were_carried();
     new_data_fits();
     windows_follow();
+    states_follow();
+    positions_never_fall();
 }
 
 /// What follows for streams holds at each moment of the witness, for what was told and accepted by then.
 pub fn streams_at_each_moment()
-    // What reads were told by then is how the bytes begin that the peer's sends accepted by then.
-    ensures received { (t : Trace) (w : Witness) → Explains t w → (place : ℕ) → ReceivedIsAPrefix t.header (take place (steps_of t w)) }
+    // Where both hosts are recorded: what reads were told by then is a prefix of what the peer's sends accepted by then.
+    ensures received { (t : Trace) (w : Witness) → Explains t w → AreBothRecorded t → (place : ℕ) → ReceivedIsAPrefix t.header (take place (steps_of t w)) }
 
     // Reads that were told the end by then were told all of them by then.
-    ensures whole { (t : Trace) (w : Witness) → Explains t w → (place : ℕ) → EndIsWhole t.header (take place (steps_of t w)) }
+    ensures whole { (t : Trace) (w : Witness) → Explains t w → AreBothRecorded t → (place : ℕ) → EndIsWhole t.header (take place (steps_of t w)) }
+
+    // In every case: what reads were told by then came with segments that were taken by then.
+    ensures carried { (t : Trace) (w : Witness) → Explains t w → (place : ℕ) → ReadsWereCarried t.header (take place (steps_of t w)) }
 {
     received_is_a_prefix();
     end_is_whole();
+    reads_were_carried();
 }
 
 /// Who the peer of an endpoint is, where a witness explains a trace: the endpoint that made the SYN which it took first.

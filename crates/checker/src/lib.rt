@@ -2,8 +2,8 @@
 //!
 //! `check` replays a witness once, step by step: `interval_order` says whether the step may take its line now, and
 //! `spec_step` whether the machine permits it. `specs/Explains` says what a yes means, in places of the two lists;
-//! `specs/Judges` what each verdict says; `specs/Verdicts` which verdict it is; `specs/Consequences` what follows from a yes
-//! for streams and windows.
+//! `specs/Headline` says what follows from a yes for what receives are told, by lines and steps alone; `specs/Judges` what each
+//! verdict says; `specs/Verdicts` which verdict it is; `specs/Consequences` what follows from a yes for streams and windows.
 //!
 //! `check_streams` does the same while both texts are read: `specs/Ahead` says what a trace has left that is read one line
 //! ahead, `specs/Streaming` and `specs/Turns` how far a case has come, and `specs/Texts` what both texts give.
@@ -17,9 +17,9 @@
 //! - `case`: a case in one text, which is cut and judged by the same reading
 //! - `printed`: a trace and its witness as one text, which is a case with their verdict
 //! - `laws`: what holds for every trace and witness; each law is the contract of a call that does nothing. They say when the
-//!   verdict is yes and what it counts, which line is taken first, what follows for streams, windows and peers, also after the
-//!   first n steps, that the verdict stays where the trace is printed and read again, or both are
-//!   printed as a case, and that a trace may have two witnesses
+//!   verdict is yes and what it counts, which line is taken first, that receives are told a prefix of what the peer's sends
+//!   accepted, what else follows for streams, windows and peers, also after the first n steps, that the verdict stays where the
+//!   trace is printed and read again, or both are printed as a case, and that a trace may have two witnesses
 #![tactic(auto)]
 
 mod ahead;
@@ -35,8 +35,8 @@ mod two_texts;
 pub use case::{CaseFault, check_case};
 pub use laws::{
     earlier_lines_are_taken_first, explained_follows, explained_is_yes, peers_are_met,
-    printed_case, streams_at_each_moment, two_witnesses_of_one_trace, verdict_when_read_again,
-    yes_counts_all_lines,
+    printed_case, receives_begin_sends, streams_at_each_moment, two_witnesses_of_one_trace,
+    verdict_when_read_again, yes_counts_all_lines,
 };
 pub use printed::print_case;
 pub use replay::check;

@@ -1,8 +1,9 @@
 //! Lines that are offered to the window when their moment is reached.
 
-ghost use Rattle.std.specs.Prelude.{◌≡◌, ◌≢◌, ◌<◌, ◌≤◌, ◌++◌, ◌||◌, ◌==◌, ℕ, List, Err, IfOk, IfErr, IfSome, is_some, nat_eq};
+ghost use Rattle.std.specs.Prelude.{◌≡◌, ◌≢◌, ◌<◌, ◌≤◌, ◌++◌, ◌||◌, ◌==◌, ℕ, List, Err, IfOk, IfErr, IfSome, is_some};
 ghost use Rattle.case_forms.specs.declared.trace.Line.{Line};
-ghost use Rattle.indexmap.specs.IndexMap.{get};
+ghost use Rattle.std.specs.Ordering.{nat_cmp};
+ghost use Rattle.std.specs.BTreeMap.{get};
 ghost use Rattle.counted.specs.Counting.{failures_of, one_more};
 ghost use Rattle.interval_order.specs.Later.{with_lines};
 ghost use Rattle.checker.specs.Ahead.{source_ahead, line_ahead, left_ahead, IsAhead, IsInStep, Passes, TraceFails};
@@ -11,9 +12,9 @@ ghost use Rattle.checker.specs.Streaming.{IsLate};
 use crate::ahead::Ahead;
 use crate::case::CaseFault;
 use case_forms::Line;
-use indexmap::IndexMap;
 use interval_order::Window;
 use std::alloc::{AllocError, Global};
+use std::collections::BTreeMap;
 use std::io::BufRead;
 use verdict::Rule;
 
@@ -27,7 +28,8 @@ pub(crate) fn offer_reached<A: BufRead>(
     requires step { IsInStep window.old (line_ahead lines.old) }
     ensures ahead { IfOk result (λ u. IsAhead lines.new) }
     ensures step { IfOk result (λ u. IsInStep window.new (line_ahead lines.new)) }
-    ensures offered { IfOk result (λ u. (items : List Line) × Passes (left_ahead A.remaining lines.old) (left_ahead A.remaining lines.new) items × (window.new ≡ with_lines window.old items)) }
+    ensures offered { IfOk result (λ u. (items : List Line) × Passes (left_ahead A.remaining lines.old) (left_ahead A.remaining lines.new) items ×
+        (window.new ≡ with_lines window.old items)) }
     ensures later { IfOk result (λ u. IfSome (line_ahead lines.new) (λ line. moment < line.moment)) }
     ensures fault { IfErr result (λ e. TraceFails e (left_ahead A.remaining lines.old)) }
     ensures read { result ≡ Err CaseFault.Read → failures_of (source_ahead lines.new) ≡ one_more (failures_of (source_ahead lines.old)) }
@@ -61,7 +63,7 @@ pub(crate) fn refuse_late<A: BufRead>(
     ensures read { result ≡ Err CaseFault.Read → failures_of (source_ahead lines.new) ≡ one_more (failures_of (source_ahead lines.old)) }
     ensures same { result ≢ Err CaseFault.Read → failures_of (source_ahead lines.new) ≡ failures_of (source_ahead lines.old) }
 {
-    let mut threads = IndexMap::new(alloc);
+    let mut threads = BTreeMap::new(alloc);
     while let Some(line) = lines.next()? {
         if line.number == number {
             let is_behind = threads.contains_key(&line.thread);
@@ -73,8 +75,8 @@ pub(crate) fn refuse_late<A: BufRead>(
 }
 
 // Keeps a line's thread.
-fn note(threads: &mut IndexMap<u32, u64>, line: Line) -> Result<(), AllocError>
-    ensures { IfOk result (λ u. (t : ℕ) → is_some (get nat_eq threads.new t) ≡ (line.thread == t || is_some (get nat_eq threads.old t))) }
+fn note(threads: &mut BTreeMap<u32, u64>, line: Line) -> Result<(), AllocError>
+    ensures { IfOk result (λ u. (t : ℕ) → is_some (get nat_cmp threads.new t) ≡ (line.thread == t || is_some (get nat_cmp threads.old t))) }
 {
     threads.insert(line.thread, line.number)?;
     Ok(())

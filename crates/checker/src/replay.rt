@@ -22,9 +22,11 @@ ghost use Rattle.checker.specs.Verdicts.{verdict, verdict_from, verdict_left, ta
 ghost use Rattle.checker.specs.Kept.{kept_broken, kept_progress};
 ghost use Rattle.checker.specs.Explains.{Explains, IsYes};
 ghost use Rattle.checker.specs.Judges.{Says};
-ghost use Rattle.checker.specs.Consequences.{ReadsBeginWhatWasSent, EndsAreWhole, AllAcknowledgedWasTaken, AllKeepWindows};
+ghost use Rattle.checker.specs.Headline.{ReceivesBeginSends};
+ghost use Rattle.checker.specs.Consequences.{AreBothRecorded, ReadsBeginWhatWasSent, EndsAreWhole, AllAcknowledgedWasTaken};
+ghost use Rattle.checker.specs.Consequences.{AllReadsWereCarried, AllKeepWindows, AllStatesFollow, NoPositionFalls};
 
-use crate::laws::explained_follows;
+use crate::laws::{explained_follows, receives_begin_sends};
 use case_forms::{Header, Label, Line, NamedLine, OutOfMemory, Step, TakenLine, Trace, Witness};
 use endpoint_state::World;
 use interval_order::Window;
@@ -40,20 +42,34 @@ pub fn check(alloc: Global, trace: &Trace, witness: &Witness) -> Result<Verdict,
     requires trace { IsTrace trace.now }
     requires witness { IsWitness witness.now }
     requires versions { trace.now.header.version ≡ witness.now.version }
+
+    // What follows from a yes where both hosts are recorded, by the lines of the trace and the steps of the witness alone: what
+    // receives on a socket number were told is a prefix of what sends on one of the other host accepted, at each moment; once
+    // they were told the end it is all of it.
+    ensures heard { IfOk result (λ v. IsYes v → AreBothRecorded trace.now → ReceivesBeginSends trace.now witness.now) }
+
+    // The verdict is that of the definition.
     ensures exact { IfOk result (λ v. v ≡ verdict trace.now witness.now) }
 
     // What the verdict says of the two lists, in places.
     ensures says { IfOk result (Says trace.now witness.now) }
     ensures explained { IfOk result (λ v. IsYes v ↔ Explains trace.now witness.now) }
 
-    // What follows from a yes: what reads were told is how the bytes begin that the peer's sends accepted; reads that were
-    // told the end were told all of them; what is acknowledged was taken before; windows are kept.
-    ensures received { IfOk result (λ v. IsYes v → ReadsBeginWhatWasSent trace.now witness.now) }
-    ensures whole { IfOk result (λ v. IsYes v → EndsAreWhole trace.now witness.now) }
-    ensures acknowledged { IfOk result (λ v. IsYes v → AllAcknowledgedWasTaken trace.now witness.now) }
+    // The same of the machine's endpoints: what reads were told is a prefix of what the peer's sends accepted; reads that were told
+    // the end were told all of it; what is acknowledged was taken before.
+    ensures received { IfOk result (λ v. IsYes v → AreBothRecorded trace.now → ReadsBeginWhatWasSent trace.now witness.now) }
+    ensures whole { IfOk result (λ v. IsYes v → AreBothRecorded trace.now → EndsAreWhole trace.now witness.now) }
+    ensures acknowledged { IfOk result (λ v. IsYes v → AreBothRecorded trace.now → AllAcknowledgedWasTaken trace.now witness.now) }
+
+    // What follows from every yes, also of a half case: what reads were told came with segments that were taken; windows are kept;
+    // states follow each other by the arrows of RFC 9293, 3.3.2, figure 5; positions never fall.
+    ensures carried { IfOk result (λ v. IsYes v → AllReadsWereCarried trace.now witness.now) }
     ensures windows { IfOk result (λ v. IsYes v → AllKeepWindows trace.now witness.now) }
+    ensures states { IfOk result (λ v. IsYes v → AllStatesFollow trace.now witness.now) }
+    ensures positions { IfOk result (λ v. IsYes v → NoPositionFalls trace.now witness.now) }
 {
     explained_follows();
+    receives_begin_sends();
     judge(
         alloc,
         &trace.header,
@@ -88,7 +104,8 @@ fn replay_all(
     requires begun { world.old ≡ start world.old.header }
     requires few { length steps.now < 10000000 }
     requires within { All (λ s. IsWithinLimits s.label) steps.now }
-    ensures { IfOk result (λ v. (lines : List Line) → window.old ≡ order_of world.old.header lines [] → v ≡ verdict_from world.old.header lines [] (hosts.start (tcp world.old.header)) steps.now) }
+    ensures { IfOk result (λ v. (lines : List Line) → window.old ≡ order_of world.old.header lines [] →
+        v ≡ verdict_from world.old.header lines [] (hosts.start (tcp world.old.header)) steps.now) }
 {
     for (place, step) in steps.iter().enumerate() {
         if let Some(rule) = replay(window, world, step)? {

@@ -92,7 +92,8 @@ fn next_step<A: BufRead, B: BufRead>(
     ensures place { IfOk result (λ item. IfSome item (λ step. (number_of steps.new ≡ number_of steps.old + 1) × (number_of steps.old ≤ 10000000))) }
     ensures lines { IfOk result (λ item. lines.new ≡ lines.old) }
     ensures fault { IfErr result (λ e. CaseFails e (left_ahead A.remaining lines.old) (steps_left B.remaining steps.old)) }
-    ensures read { result ≡ Err CaseFault.Read → OneFailed (failures_of (source_ahead lines.old)) (reader_failures steps.old) (failures_of (source_ahead lines.new)) (reader_failures steps.new) }
+    ensures read { result ≡ Err CaseFault.Read →
+        OneFailed (failures_of (source_ahead lines.old)) (reader_failures steps.old) (failures_of (source_ahead lines.new)) (reader_failures steps.new) }
     ensures same_lines { result ≢ Err CaseFault.Read → failures_of (source_ahead lines.new) ≡ failures_of (source_ahead lines.old) }
     ensures same_steps { result ≢ Err CaseFault.Read → reader_failures steps.new ≡ reader_failures steps.old }
 {
@@ -156,7 +157,8 @@ fn go_on<A: BufRead, B: BufRead>(
     ensures tells { (header : Header) (t : Option (Result (List Line) TextFault)) (s : Option (Result (List Step) TextFault)) (offered : List Line) (earlier : List Step)
         → SoFar header t (left_ahead A.remaining lines.old) s (steps_left B.remaining steps.old) window.old world.old offered earlier
         → TellsTurn header t (left_ahead A.remaining lines.new) s (steps_left B.remaining steps.old) (steps_left B.remaining steps.new) window.new world.new offered earlier result }
-    ensures read { result ≡ Err CaseFault.Read → OneFailed (failures_of (source_ahead lines.old)) (reader_failures steps.old) (failures_of (source_ahead lines.new)) (reader_failures steps.new) }
+    ensures read { result ≡ Err CaseFault.Read →
+        OneFailed (failures_of (source_ahead lines.old)) (reader_failures steps.old) (failures_of (source_ahead lines.new)) (reader_failures steps.new) }
     ensures same_lines { result ≢ Err CaseFault.Read → failures_of (source_ahead lines.new) ≡ failures_of (source_ahead lines.old) }
     ensures same_steps { result ≢ Err CaseFault.Read → reader_failures steps.new ≡ reader_failures steps.old }
 {
@@ -198,7 +200,8 @@ pub(crate) fn replay_steps<A: BufRead, B: BufRead>(
     ensures tells { (header : Header) (t : Option (Result (List Line) TextFault)) (s : Option (Result (List Step) TextFault))
         → SoFar header t (left_ahead A.remaining lines.old) s (steps_left B.remaining steps.old) window.old world.old [] []
         → TellsAll header t (left_ahead A.remaining lines.new) s (steps_left B.remaining steps.new) window.new world.new result }
-    ensures read { result ≡ Err CaseFault.Read → OneFailed (failures_of (source_ahead lines.old)) (reader_failures steps.old) (failures_of (source_ahead lines.new)) (reader_failures steps.new) }
+    ensures read { result ≡ Err CaseFault.Read →
+        OneFailed (failures_of (source_ahead lines.old)) (reader_failures steps.old) (failures_of (source_ahead lines.new)) (reader_failures steps.new) }
     ensures same_lines { result ≢ Err CaseFault.Read → failures_of (source_ahead lines.new) ≡ failures_of (source_ahead lines.old) }
     ensures same_steps { result ≢ Err CaseFault.Read → reader_failures steps.new ≡ reader_failures steps.old }
 {

@@ -17,14 +17,16 @@ ghost use Rattle.witness.specs.StepsLeft.{steps_left, fault_of, number_of, reade
 ghost use Rattle.endpoint_state.specs.Worlds.{Progress};
 ghost use Rattle.checker.specs.Explains.{Explains, IsYes};
 ghost use Rattle.checker.specs.Judges.{Says};
-ghost use Rattle.checker.specs.Consequences.{ReadsBeginWhatWasSent, EndsAreWhole, AllAcknowledgedWasTaken, AllKeepWindows};
+ghost use Rattle.checker.specs.Headline.{ReceivesBeginSends};
+ghost use Rattle.checker.specs.Consequences.{AreBothRecorded, ReadsBeginWhatWasSent, EndsAreWhole, AllAcknowledgedWasTaken};
+ghost use Rattle.checker.specs.Consequences.{AllReadsWereCarried, AllKeepWindows, AllStatesFollow, NoPositionFalls};
 ghost use Rattle.checker.specs.Ahead.{source_ahead, line_ahead, left_ahead, IsAhead, IsInStep};
 ghost use Rattle.checker.specs.Streaming.{OneFailed, SoFar, Tallied, Tells, first_of_both};
 ghost use Rattle.checker.specs.Texts.{GivesTexts, AreOf};
 
 use crate::ahead::Ahead;
 use crate::case::CaseFault;
-use crate::laws::explained_follows;
+use crate::laws::{explained_follows, receives_begin_sends};
 use crate::steps::drain_steps;
 use crate::turns::{Replayed, Tally, replay_steps};
 use case_forms::Header;
@@ -43,18 +45,38 @@ pub fn check_streams<A: BufRead, B: BufRead>(
     a: Counted<A>,
     b: Counted<B>,
 ) -> (Result<Verdict, CaseFault>, Counted<A>, Counted<B>)
+    // What follows from a yes where both hosts are recorded, by the lines of the trace and the steps of the witness that the texts
+    // stand for: what receives on a socket number were told is a prefix of what sends on one of the other host accepted, at each
+    // moment; once they were told the end it is all of it.
+    ensures heard { (t : Trace) (w : Witness) → AreOf (left_of A.remaining a) (left_of B.remaining b) t w →
+        IfOk result.0 (λ v. IsYes v → AreBothRecorded t → ReceivesBeginSends t w) }
+
+    // What both texts give, where their bytes are known.
     ensures exact { GivesTexts result.0 (left_of A.remaining a) (left_of B.remaining b) }
 
     // What the verdict says of the trace and the witness that the texts stand for, in places.
     ensures says { (t : Trace) (w : Witness) → AreOf (left_of A.remaining a) (left_of B.remaining b) t w → IfOk result.0 (Says t w) }
     ensures explained { (t : Trace) (w : Witness) → AreOf (left_of A.remaining a) (left_of B.remaining b) t w → IfOk result.0 (λ v. IsYes v ↔ Explains t w) }
 
-    // What follows from a yes: what reads were told is how the bytes begin that the peer's sends accepted; reads that were
-    // told the end were told all of them; what is acknowledged was taken before; windows are kept.
-    ensures received { (t : Trace) (w : Witness) → AreOf (left_of A.remaining a) (left_of B.remaining b) t w → IfOk result.0 (λ v. IsYes v → ReadsBeginWhatWasSent t w) }
-    ensures whole { (t : Trace) (w : Witness) → AreOf (left_of A.remaining a) (left_of B.remaining b) t w → IfOk result.0 (λ v. IsYes v → EndsAreWhole t w) }
-    ensures acknowledged { (t : Trace) (w : Witness) → AreOf (left_of A.remaining a) (left_of B.remaining b) t w → IfOk result.0 (λ v. IsYes v → AllAcknowledgedWasTaken t w) }
-    ensures windows { (t : Trace) (w : Witness) → AreOf (left_of A.remaining a) (left_of B.remaining b) t w → IfOk result.0 (λ v. IsYes v → AllKeepWindows t w) }
+    // The same of the machine's endpoints: what reads were told is a prefix of what the peer's sends accepted; reads that were told
+    // the end were told all of it; what is acknowledged was taken before.
+    ensures received { (t : Trace) (w : Witness) → AreOf (left_of A.remaining a) (left_of B.remaining b) t w →
+        IfOk result.0 (λ v. IsYes v → AreBothRecorded t → ReadsBeginWhatWasSent t w) }
+    ensures whole { (t : Trace) (w : Witness) → AreOf (left_of A.remaining a) (left_of B.remaining b) t w →
+        IfOk result.0 (λ v. IsYes v → AreBothRecorded t → EndsAreWhole t w) }
+    ensures acknowledged { (t : Trace) (w : Witness) → AreOf (left_of A.remaining a) (left_of B.remaining b) t w →
+        IfOk result.0 (λ v. IsYes v → AreBothRecorded t → AllAcknowledgedWasTaken t w) }
+
+    // What follows from every yes, also of a half case: what reads were told came with segments that were taken; windows are kept;
+    // states follow each other by the arrows of RFC 9293, 3.3.2, figure 5; positions never fall.
+    ensures carried { (t : Trace) (w : Witness) → AreOf (left_of A.remaining a) (left_of B.remaining b) t w →
+        IfOk result.0 (λ v. IsYes v → AllReadsWereCarried t w) }
+    ensures windows { (t : Trace) (w : Witness) → AreOf (left_of A.remaining a) (left_of B.remaining b) t w →
+        IfOk result.0 (λ v. IsYes v → AllKeepWindows t w) }
+    ensures states { (t : Trace) (w : Witness) → AreOf (left_of A.remaining a) (left_of B.remaining b) t w →
+        IfOk result.0 (λ v. IsYes v → AllStatesFollow t w) }
+    ensures positions { (t : Trace) (w : Witness) → AreOf (left_of A.remaining a) (left_of B.remaining b) t w →
+        IfOk result.0 (λ v. IsYes v → NoPositionFalls t w) }
 
     // A failed read is counted, and nothing else is.
     ensures read { result.0 ≡ Err CaseFault.Read → OneFailed (failures_of a) (failures_of b) (failures_of result.1) (failures_of result.2) }
@@ -62,6 +84,7 @@ pub fn check_streams<A: BufRead, B: BufRead>(
     ensures same_witness { result.0 ≢ Err CaseFault.Read → failures_of result.2 ≡ failures_of b }
 {
     explained_follows();
+    receives_begin_sends();
     judge_texts(alloc, a, b)
 }
 
@@ -99,7 +122,8 @@ fn judge<A: BufRead, B: BufRead>(
     requires working { fault_of steps.old ≡ None }
     requires first_step { number_of steps.old ≡ 2 }
     ensures tells { Tells header.now (left_ahead A.remaining lines.old) (steps_left B.remaining steps.old) result }
-    ensures read { result ≡ Err CaseFault.Read → OneFailed (failures_of (source_ahead lines.old)) (reader_failures steps.old) (failures_of (source_ahead lines.new)) (reader_failures steps.new) }
+    ensures read { result ≡ Err CaseFault.Read →
+        OneFailed (failures_of (source_ahead lines.old)) (reader_failures steps.old) (failures_of (source_ahead lines.new)) (reader_failures steps.new) }
     ensures same_lines { result ≢ Err CaseFault.Read → failures_of (source_ahead lines.new) ≡ failures_of (source_ahead lines.old) }
     ensures same_steps { result ≢ Err CaseFault.Read → reader_failures steps.new ≡ reader_failures steps.old }
 {
@@ -124,7 +148,8 @@ fn judge_in<A: BufRead, B: BufRead>(
     ensures tells { (header : Header) (t : Option (Result (List Line) TextFault)) (s : Option (Result (List Step) TextFault))
         → SoFar header t (left_ahead A.remaining lines.old) s (steps_left B.remaining steps.old) window.old world.old [] []
         → Tells header t s result }
-    ensures read { result ≡ Err CaseFault.Read → OneFailed (failures_of (source_ahead lines.old)) (reader_failures steps.old) (failures_of (source_ahead lines.new)) (reader_failures steps.new) }
+    ensures read { result ≡ Err CaseFault.Read →
+        OneFailed (failures_of (source_ahead lines.old)) (reader_failures steps.old) (failures_of (source_ahead lines.new)) (reader_failures steps.new) }
     ensures same_lines { result ≢ Err CaseFault.Read → failures_of (source_ahead lines.new) ≡ failures_of (source_ahead lines.old) }
     ensures same_steps { result ≢ Err CaseFault.Read → reader_failures steps.new ≡ reader_failures steps.old }
 {

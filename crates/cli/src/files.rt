@@ -60,7 +60,8 @@ pub(crate) fn tell_case<W: Write>(
     requires { failures_of w.old < 2 ^ 50 }
     ensures said { result ≢ 5 → Ends (status_of answer.now) (line_of answer.now) result (left_of W.contents w.old) (left_of W.contents w.new) }
     ensures unread { answer.now ≡ Err CaseFault.Read → result ≡ 5 }
-    ensures told { answer.now ≡ Err CaseFault.Read → failures_of w.new ≡ failures_of w.old → Appends (left_of W.contents w.old) (left_of W.contents w.new) (codes "bad device\n") }
+    ensures told { answer.now ≡ Err CaseFault.Read → failures_of w.new ≡ failures_of w.old →
+        Appends (left_of W.contents w.old) (left_of W.contents w.new) (codes "bad device\n") }
     ensures device { answer.now ≢ Err CaseFault.Read → result ≡ 5 → failures_of w.old < failures_of w.new }
     ensures quiet { result ≢ 5 → failures_of w.new ≡ failures_of w.old }
 {

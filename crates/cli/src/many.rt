@@ -36,10 +36,14 @@ pub fn run_all<R: BufRead, W: Write, H: Threads + Wait + Sync>(
     w: &mut Counted<W>,
 ) -> u8
     requires { (failures_of r.old < 2 ^ 50) × (failures_of w.old < 2 ^ 50) }
-    ensures many { (n : ℕ) → AsksMany (map (λ word. word.now) words.now) n → result ≢ 5 → IfSome (left_of R.remaining r.old) (λ text. EndsMany (cases_of text) result (left_of W.contents w.old) (left_of W.contents w.new)) }
-    ensures check { AsksCheck (map (λ word. word.now) words.now) → result ≢ 5 → IfSome (left_of R.remaining r.old) (λ text. Ends (status_of (case_result text)) (line_of (case_result text)) result (left_of W.contents w.old) (left_of W.contents w.new)) }
-    ensures segment { (text : List ℕ) → AsksSegment (map (λ word. word.now) words.now) text → result ≢ 5 → Ends (segment_status (segment_in text)) (segment_line (segment_in text)) result (left_of W.contents w.old) (left_of W.contents w.new) }
-    ensures usage { AsksNothing (map (λ word. word.now) words.now) → ((n : ℕ) → ¬ AsksMany (map (λ word. word.now) words.now) n) → result ≢ 5 → Ends 3 (codes "bad usage\n") result (left_of W.contents w.old) (left_of W.contents w.new) }
+    ensures many { (n : ℕ) → AsksMany (map (λ word. word.now) words.now) n → result ≢ 5 →
+        IfSome (left_of R.remaining r.old) (λ text. EndsMany (cases_of text) result (left_of W.contents w.old) (left_of W.contents w.new)) }
+    ensures check { AsksCheck (map (λ word. word.now) words.now) → result ≢ 5 →
+        IfSome (left_of R.remaining r.old) (λ text. Ends (status_of (case_result text)) (line_of (case_result text)) result (left_of W.contents w.old) (left_of W.contents w.new)) }
+    ensures segment { (text : List ℕ) → AsksSegment (map (λ word. word.now) words.now) text → result ≢ 5 →
+        Ends (segment_status (segment_in text)) (segment_line (segment_in text)) result (left_of W.contents w.old) (left_of W.contents w.new) }
+    ensures usage { AsksNothing (map (λ word. word.now) words.now) → ((n : ℕ) → ¬ AsksMany (map (λ word. word.now) words.now) n) → result ≢ 5 →
+        Ends 3 (codes "bad usage\n") result (left_of W.contents w.old) (left_of W.contents w.new) }
     ensures unread { ¬ AsksCheck (map (λ word. word.now) words.now) → ((n : ℕ) → ¬ AsksMany (map (λ word. word.now) words.now) n) → r.new ≡ r.old }
 
     // The status is 5 only where a count of failures grew. That is said where no write failed.
@@ -63,7 +67,8 @@ fn many<R: BufRead, W: Write, H: Threads + Wait + Sync>(
     w: &mut Counted<W>,
 ) -> u8
     requires { (failures_of r.old < 2 ^ 50) × (failures_of w.old < 2 ^ 50) }
-    ensures many { result ≢ 5 → IfSome (left_of R.remaining r.old) (λ text. EndsMany (cases_of text) result (left_of W.contents w.old) (left_of W.contents w.new)) }
+    ensures many { result ≢ 5 →
+        IfSome (left_of R.remaining r.old) (λ text. EndsMany (cases_of text) result (left_of W.contents w.old) (left_of W.contents w.new)) }
     ensures device { result ≡ 5 → (failures_of r.old < failures_of r.new) ⊎ (failures_of w.old < failures_of w.new) }
     ensures told { result ≡ 5 → failures_of w.new ≡ failures_of w.old → Appends (left_of W.contents w.old) (left_of W.contents w.new) (codes "bad device\n") }
     ensures quiet { result ≢ 5 → (failures_of r.new ≡ failures_of r.old) × (failures_of w.new ≡ failures_of w.old) }
@@ -154,7 +159,11 @@ fn cut_cases(alloc: Global, text: Vec<u8>) -> Result<Vec<Vec<u8>>, OutOfMemory>
 // Writes a line for each answer, and gives the greatest status; where there is no memory for the lines, that alone is said.
 fn tell<W: Write>(alloc: Global, answers: &[CaseResult], w: &mut Counted<W>) -> u8
     requires { failures_of w.old < 2 ^ 50 }
-    ensures said { result ≢ 5 → ((result ≡ 4) × Appends (left_of W.contents w.old) (left_of W.contents w.new) (codes "bad memory\n")) ⊎ ((result ≡ greatest_status answers.now) × Appends (left_of W.contents w.old) (left_of W.contents w.new) (lines_of_all answers.now)) }
+    ensures said { result ≢ 5 →
+        ((result ≡ 4) ×
+        Appends (left_of W.contents w.old) (left_of W.contents w.new) (codes "bad memory\n")) ⊎
+        ((result ≡ greatest_status answers.now) ×
+        Appends (left_of W.contents w.old) (left_of W.contents w.new) (lines_of_all answers.now)) }
     ensures device { greatest_status answers.now ≢ 5 → result ≡ 5 → failures_of w.old < failures_of w.new }
     ensures quiet { result ≢ 5 → failures_of w.new ≡ failures_of w.old }
 {

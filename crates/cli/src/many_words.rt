@@ -61,7 +61,8 @@ fn is_option(option: &str, text: &str) -> bool
 
 /// The number of workers, where the words ask for many cases; None where they do not.
 pub fn asked_workers<'a>(alloc: Global, words: &'a [&'a str]) -> Result<Option<usize>, OutOfMemory>
-    ensures { IfOk result (λ asked. MatchOption asked ((n : ℕ) → ¬ AsksMany (map (λ word. word.now) words.now) n) (AsksMany (map (λ word. word.now) words.now))) }
+    ensures { IfOk result (λ asked. MatchOption asked ((n : ℕ) →
+        ¬ AsksMany (map (λ word. word.now) words.now) n) (AsksMany (map (λ word. word.now) words.now))) }
 {
     if !is_many(words) {
         return Ok(None);

@@ -30,9 +30,12 @@ pub fn run<R: BufRead, W: Write>(
     w: &mut Counted<W>,
 ) -> u8
     requires { (failures_of r.old < 2 ^ 50) × (failures_of w.old < 2 ^ 50) }
-    ensures check { AsksCheck (map (λ word. word.now) words.now) → result ≢ 5 → IfSome (left_of R.remaining r.old) (λ text. Ends (status_of (case_result text)) (line_of (case_result text)) result (left_of W.contents w.old) (left_of W.contents w.new)) }
-    ensures segment { (text : List ℕ) → AsksSegment (map (λ word. word.now) words.now) text → result ≢ 5 → Ends (segment_status (segment_in text)) (segment_line (segment_in text)) result (left_of W.contents w.old) (left_of W.contents w.new) }
-    ensures usage { AsksNothing (map (λ word. word.now) words.now) → result ≢ 5 → Ends 3 (codes "bad usage\n") result (left_of W.contents w.old) (left_of W.contents w.new) }
+    ensures check { AsksCheck (map (λ word. word.now) words.now) → result ≢ 5 →
+        IfSome (left_of R.remaining r.old) (λ text. Ends (status_of (case_result text)) (line_of (case_result text)) result (left_of W.contents w.old) (left_of W.contents w.new)) }
+    ensures segment { (text : List ℕ) → AsksSegment (map (λ word. word.now) words.now) text → result ≢ 5 →
+        Ends (segment_status (segment_in text)) (segment_line (segment_in text)) result (left_of W.contents w.old) (left_of W.contents w.new) }
+    ensures usage { AsksNothing (map (λ word. word.now) words.now) → result ≢ 5 →
+        Ends 3 (codes "bad usage\n") result (left_of W.contents w.old) (left_of W.contents w.new) }
     ensures unread { ¬ AsksCheck (map (λ word. word.now) words.now) → r.new ≡ r.old }
 
     // The status is 5 only where a count of failures grew. That is said where no write failed.
@@ -51,7 +54,8 @@ pub fn run<R: BufRead, W: Write>(
 // Answers words that ask for nothing that the program does.
 fn answer_bad_usage<W: Write>(w: &mut Counted<W>) -> u8
     requires { failures_of w.old < 2 ^ 50 }
-    ensures said { result ≢ 5 → (result ≡ 3) × Appends (left_of W.contents w.old) (left_of W.contents w.new) (codes "bad usage\n") × (failures_of w.new ≡ failures_of w.old) }
+    ensures said { result ≢ 5 → (result ≡ 3) × Appends (left_of W.contents w.old) (left_of W.contents w.new) (codes "bad usage\n") ×
+        (failures_of w.new ≡ failures_of w.old) }
     ensures device { result ≡ 5 → failures_of w.old < failures_of w.new }
 {
     say(w, b"bad usage\n", USAGE)
@@ -61,7 +65,8 @@ fn answer_bad_usage<W: Write>(w: &mut Counted<W>) -> u8
 /// failures has to be below 2^50 before.
 pub fn answer_bad_memory<W: Write>(w: &mut Counted<W>) -> u8
     requires { failures_of w.old < 2 ^ 50 }
-    ensures said { result ≢ 5 → (result ≡ 4) × Appends (left_of W.contents w.old) (left_of W.contents w.new) (codes "bad memory\n") × (failures_of w.new ≡ failures_of w.old) }
+    ensures said { result ≢ 5 → (result ≡ 4) × Appends (left_of W.contents w.old) (left_of W.contents w.new) (codes "bad memory\n") ×
+        (failures_of w.new ≡ failures_of w.old) }
     ensures device { result ≡ 5 → failures_of w.old < failures_of w.new }
 {
     say(w, b"bad memory\n", MEMORY)
@@ -70,7 +75,8 @@ pub fn answer_bad_memory<W: Write>(w: &mut Counted<W>) -> u8
 // Reads a case to its end, and answers it.
 fn check<R: BufRead, W: Write>(alloc: Global, r: &mut Counted<R>, w: &mut Counted<W>) -> u8
     requires { (failures_of r.old < 2 ^ 50) × (failures_of w.old < 2 ^ 50) }
-    ensures check { result ≢ 5 → IfSome (left_of R.remaining r.old) (λ text. Ends (status_of (case_result text)) (line_of (case_result text)) result (left_of W.contents w.old) (left_of W.contents w.new)) }
+    ensures check { result ≢ 5 →
+        IfSome (left_of R.remaining r.old) (λ text. Ends (status_of (case_result text)) (line_of (case_result text)) result (left_of W.contents w.old) (left_of W.contents w.new)) }
     ensures device { result ≡ 5 → (failures_of r.old < failures_of r.new) ⊎ (failures_of w.old < failures_of w.new) }
     ensures told { result ≡ 5 → failures_of w.new ≡ failures_of w.old → Appends (left_of W.contents w.old) (left_of W.contents w.new) (codes "bad device\n") }
     ensures quiet { result ≢ 5 → (failures_of r.new ≡ failures_of r.old) × (failures_of w.new ≡ failures_of w.old) }
@@ -89,7 +95,8 @@ fn check<R: BufRead, W: Write>(alloc: Global, r: &mut Counted<R>, w: &mut Counte
 // Writes the answer to a case.
 fn answer<W: Write>(alloc: Global, text: &[u8], w: &mut Counted<W>) -> u8
     requires { failures_of w.old < 2 ^ 50 }
-    ensures check { result ≢ 5 → Ends (status_of (case_result text.now)) (line_of (case_result text.now)) result (left_of W.contents w.old) (left_of W.contents w.new) }
+    ensures check { result ≢ 5 →
+        Ends (status_of (case_result text.now)) (line_of (case_result text.now)) result (left_of W.contents w.old) (left_of W.contents w.new) }
     ensures device { result ≡ 5 → failures_of w.old < failures_of w.new }
     ensures quiet { result ≢ 5 → failures_of w.new ≡ failures_of w.old }
 {
@@ -105,7 +112,8 @@ fn answer<W: Write>(alloc: Global, text: &[u8], w: &mut Counted<W>) -> u8
 // Writes the segment of a hex text, or its fault.
 fn show<W: Write>(alloc: Global, text: &str, w: &mut Counted<W>) -> u8
     requires { failures_of w.old < 2 ^ 50 }
-    ensures segment { result ≢ 5 → Ends (segment_status (segment_in text.now)) (segment_line (segment_in text.now)) result (left_of W.contents w.old) (left_of W.contents w.new) }
+    ensures segment { result ≢ 5 →
+        Ends (segment_status (segment_in text.now)) (segment_line (segment_in text.now)) result (left_of W.contents w.old) (left_of W.contents w.new) }
     ensures device { result ≡ 5 → failures_of w.old < failures_of w.new }
     ensures quiet { result ≢ 5 → failures_of w.new ≡ failures_of w.old }
 {

@@ -14,7 +14,7 @@ use crate::arrives::otherwise::reset::was_reset;
 use crate::arrives::otherwise::taken;
 use crate::arrives::syn_sent::met_peer;
 use case_forms::{Header, TakeChoice};
-use machine::{Emission, Endpoint};
+use machine::{Arrived, Endpoint};
 use segment::OutOfMemory;
 
 /// An endpoint takes a segment at a moment in microseconds, in every state but CLOSED (RFC 9293, 3.10.7). Where memory
@@ -23,7 +23,7 @@ pub fn take_segment(
     header: &Header,
     endpoint: &mut Endpoint,
     how: TakeChoice,
-    m: &Emission,
+    m: &Arrived<'_>,
     moment: u64,
 ) -> Result<(), OutOfMemory>
     requires room { HasRoom endpoint.old }
@@ -32,7 +32,7 @@ pub fn take_segment(
     ensures ok { OnOk result (endpoint.new ≡ forget_endpoint (endpoint_taken header.now endpoint.old how m.now moment)) }
     ensures err { OnErr result (endpoint.new ≡ endpoint.old) }
 {
-    if m.flags.rst {
+    if m.flags().rst {
         was_reset(endpoint, how);
         return Ok(());
     }

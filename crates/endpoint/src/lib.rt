@@ -22,7 +22,8 @@ mod wire;
 
 pub use arrives::listen::{admits_listening, child};
 pub use arrives::otherwise::admits_connected;
-pub use arrives::syn_sent::{admits_syn_sent, joins};
+pub use arrives::otherwise::congestion::greatest_window;
+pub use arrives::syn_sent::{admits_syn_sent, greatest_at_syn, joins};
 pub use arrives::take_segment;
 pub use calls::accept::{accept, listener_allows};
 pub use calls::close::{abort, close, orphan, shut};
@@ -32,5 +33,5 @@ pub use calls::send::send;
 pub use makes::{admits_making, make};
 pub use recovery::{admits_recovery, recover};
 pub use reset::reset_of;
-pub use timeouts::{admits_expiry, expire};
-pub use wire::{admits_in, is_shown, sent};
+pub use timeouts::{admits_expiry, expire, greatest_values};
+pub use wire::{admits_in, heard, is_shown, sent};

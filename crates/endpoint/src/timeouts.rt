@@ -67,8 +67,9 @@ fn grows_above(endpoint: &Endpoint, expired: Expired) -> bool
     }
 }
 
-// The congestion window and the slow start threshold.
-fn greatest_values(endpoint: &Endpoint) -> (u64, u64)
+/// The greatest congestion window and the greatest slow start threshold, in bytes, that an endpoint may have once its
+/// retransmission timer expired (RFC 5681, 3.1).
+pub fn greatest_values(endpoint: &Endpoint) -> (u64, u64)
     ensures { result ≡ greatest_values endpoint.now }
 {
     on_timeout(

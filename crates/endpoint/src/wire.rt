@@ -1,17 +1,28 @@
 //! Segments as bytes on the wire (RFC 9293, 3.1; RFC 7323, 2.2).
 
 ghost use Rattle.machine.specs.Bounds.{IsSmallEmission};
+ghost use Rattle.machine.specs.Heard.{heard, most_bytes, told_flags};
 ghost use Rattle.machine.specs.Same.{same_bytes};
 ghost use Rattle.machine.specs.Wire.{same_flags, shows, shows_shift, is_shown, sent, in_rules};
-ghost use Rattle.std.specs.Prelude.{◌≡◌, IfOk, ◌+◌, nat_lt};
+ghost use Rattle.std.specs.Prelude.{◌≡◌, ◌≤◌, IfOk, ◌+◌, length, nat_lt, take};
 ghost use Rattle.std.specs.Result.{result_err};
 ghost use Rattle.verdict.specs.Rules.{first_broken};
 
 use crate::same::{same_bool, same_word};
-use case_forms::{Flags, Header, Wire};
-use machine::Emission;
-use segment::{Flag, OutOfMemory, Segment};
+use case_forms::{Flags, Header, Host, Wire};
+use machine::{Emission, Name};
+use segment::{Bytes, Flag, OutOfMemory, Segment};
+use std::alloc::Global;
 use verdict::Rule;
+
+/// All that comes from the host that is not recorded has this maker.
+const FAR_NAME: Name = Name {
+    host: Host::One,
+    number: 0,
+};
+
+/// No segment carries more bytes.
+const MOST_BYTES: usize = 65_535;
 
 /// Whether the segment's fields are those of the made one: the acknowledgment number where there is one, the window of
 /// all but a reset that answers.
@@ -88,6 +99,55 @@ pub fn sent(moment: u64, wire: &Wire, m: &Emission) -> Result<Emission, OutOfMem
         scale: wire.seg.scale,
         moment,
     })
+}
+
+/// What is heard of a host that is not recorded, at a moment in microseconds: a segment as its bytes tell it. An error: memory
+/// ran out.
+pub fn heard(alloc: Global, moment: u64, wire: &Wire) -> Result<Emission, OutOfMemory>
+    ensures heard { IfOk result (λ m. m ≡ heard moment wire.now) }
+    ensures small { IfOk result IsSmallEmission }
+{
+    let payload = carried(wire.seg.payload.as_slice());
+    Ok(Emission {
+        maker: FAR_NAME,
+        knew: None,
+        lport: wire.seg.src,
+        rport: wire.seg.dst,
+        pos: 0,
+        ack: 0,
+        seq: wire.seg.seq,
+        ack_seq: wire.seg.ack,
+        flags: told_flags(&wire.seg),
+        window: wire.seg.window,
+        payload: Bytes::from_slice(alloc, payload)?,
+        shift: None,
+        scaled: false,
+        answers: wire.seg.has(Flag::Rst),
+        bytes: wire.bytes.copy()?,
+        mss: wire.seg.mss,
+        scale: wire.seg.scale,
+        moment,
+    })
+}
+
+// As many of these bytes as a segment carries.
+#[tactic(auto, using(std::proofs::lemmas::List::take_min))]
+fn carried(payload: &[u8]) -> &[u8]
+    ensures bytes { result.now ≡ take most_bytes payload.now }
+    ensures few { length result.now ≤ most_bytes }
+{
+    &payload[..MOST_BYTES.min(payload.len())]
+}
+
+fn told_flags(segment: &Segment) -> Flags
+    ensures { result ≡ told_flags segment.now }
+{
+    Flags {
+        ack: segment.has(Flag::Ack),
+        rst: segment.has(Flag::Rst),
+        syn: segment.has(Flag::Syn),
+        fin: segment.has(Flag::Fin),
+    }
 }
 
 /// Whether what comes in at a moment, in microseconds, is a copy of a segment that went out, at most the maximum segment

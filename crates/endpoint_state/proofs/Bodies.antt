@@ -33,6 +33,7 @@ use Rattle.machine.specs.Makes.{after_making}
 use Rattle.machine.specs.Timeouts.{after_expiry}
 use Rattle.machine.specs.Recovery.{after_recovery}
 use Rattle.machine.specs.Arrives.Otherwise.Ack.{acknowledges_syn}
+use Rattle.machine.specs.Heard.{as_read}
 use Rattle.machine.specs.Arrives.Listen.{child}
 use Rattle.machine.specs.Arrives.{Taker, Nobody, AtListener, AtEndpoint, taker, endpoint_taken, joined, after_taking}
 use Rattle.machine.specs.Bounds.{IsKept, IsKeptBody}
@@ -43,6 +44,7 @@ use Rattle.endpoint_state.specs.Keeping.{IsSmallAct, IsSmallAnswer}
 use Rattle.endpoint_state.proofs.Lists.{all_modify, all_push, length_modify, length_push}
 use Rattle.endpoint_state.proofs.Forgets.{IsBounded, bounded, bounded_later, kept_later, all_kept_forgotten}
 use Rattle.endpoint_state.proofs.Effects.{after_shut_bounded, after_close_bounded, after_abort_bounded, orphaned_bounded, accepted_bounded, after_send_bounded, after_recv_bounded, after_making_bounded, after_expiry_bounded, after_recovery_bounded}
+use Rattle.endpoint_state.proofs.Segments.{read_small}
 use Rattle.endpoint_state.proofs.Takes.{child_bounded, endpoint_taken_bounded}
 
 -- a host after so many steps, of which something may still be discarded
@@ -220,8 +222,9 @@ taking_bounded : (h : Header) (how : TakeChoice) (m : Emission) (moment steps : 
 taking_bounded h how m moment steps b Nobody small k = body_later steps b k
 taking_bounded h how m moment steps b (AtListener l) small k = joins_bounded steps b (child l how m moment) (child_bounded l how m moment (suc steps)) k
 taking_bounded h how m moment steps b (AtEndpoint i e) small k =
-    let one = place_bounded steps b i (λ x. endpoint_taken h x how m moment) (λ x there. endpoint_taken_bounded h how m moment steps x small) k in
-    let same = length_joined b i e m in
+    let read = as_read h.version e m in
+    let one = place_bounded steps b i (λ x. endpoint_taken h x how read moment) (λ x there. endpoint_taken_bounded h how read moment steps x (read_small h.version e m small)) k in
+    let same = length_joined b i e read in
     let listeners = k.listeners in
     record { bounded = one.bounded; endpoints = one.endpoints; listeners = omega arith }
 

@@ -1,16 +1,17 @@
 -- The indexes stay what they have to be, as endpoints and listeners are added and change.
-use Rattle.std.proofs.Common.{◌≡◌, ℕ, zero, suc, ◌+◌, Bool, true, false, cond, List, [], ◌∷◌, ◌++◌, length, Option, None, Some, refl, sym, ap, ◌∙◌, subst, arith}
+use Rattle.std.proofs.Common.{◌≡◌, ℕ, zero, suc, ◌+◌, Bool, true, false, cond, List, [], ◌∷◌, ◌++◌, length, Option, None, Some, refl, sym, ap, ◌∙◌, subst, arith, rules}
 use Rattle.std.proofs.Math.Nat.{zero-add, add-zero}
 use Rattle.std.proofs.lemmas.Bool.Decides.{nat_tests}
 use Rattle.std.proofs.lemmas.Option.{same_Some}
-use Rattle.std.specs.Prelude.{if◌then◌else◌, nat_eq, Vec}
+use Rattle.std.specs.Prelude.{if◌then◌else◌, nat_eq, ◌&&◌, Vec}
 use Rattle.std.specs.declared.alloc.Global.{Global}
 use Rattle.streams.specs.Lists.{modify}
 use Rattle.streams.proofs.Places.{all_push, all_modify}
 use Rattle.machine.specs.declared.endpoint.Endpoint.{Endpoint}
 use Rattle.machine.specs.Bodies.{last_from, has_ports}
-use Rattle.endpoint_state.specs.Indexes.{IsIndexed, is_child_in, stands_in}
+use Rattle.endpoint_state.specs.Indexes.{IsIndexed, is_child_in, stands_in, ports_cmp}
 use Rattle.std.specs.Map.{lookup}
+use Rattle.std.specs.BTreeMap.{is_at}
 use Rattle.std.specs.Option.{option_map_or}
 
 -- one more at the end
@@ -46,6 +47,10 @@ module _ (find : ℕ → ℕ → Option ℕ) (child : ℕ → ℕ → Bool) (es 
     ports = λ l r. index.ports l r ∙ sym (last_modify (has_ports l r) 0 None es i f (ports l r));
     children = λ j l x at is. all_modify (λ j x. (l : ℕ) → x.listener ≡ Some l → child l j ≡ true) f es i (λ j x at l is. index.children j l x at is) (λ x at l is. index.children i l x at (listener l x is)) j x at l is;
   }
+
+-- a pair of ports is found where both are the same
+pub at_ports : (l r l' r' : ℕ) → is_at (ports_cmp (l, r)) (l', r') ≡ (nat_eq l l' && nat_eq r r')
+at_ports l r l' r' = search rules
 
 stands_push : (n m : ℕ) (ns : List ℕ) → stands_in n ns ≡ true → stands_in n (ns ++ m ∷ []) ≡ true
 stands_push n m [] is = absurd cc

@@ -18,11 +18,12 @@ use Rattle.verdict.specs.Rules.{first_broken}
 use Rattle.verdict.specs.declared.rule.Rule.TheVariants as rules
 use Rattle.verdict.proofs.RuleLemmas.{none_both}
 use Rattle.hosts.specs.Tables.{Both, Made, gone_out, on, pick, settled, unsent, waiting}
-use Rattle.hosts.specs.Hosts.{HostState, World, Turn, Idle, Called, Answered, Deed, Does, Expires, Makes, Sends, Gets, Takes, Drops, Answers, Step, Begin, Finish, Effect, At, turn_of}
+use Rattle.hosts.specs.Hosts.{HostState, World, Turn, Idle, Called, Answered, Deed, Does, Expires, Makes, Sends, Gets, Hears, Takes, Drops, Answers, Step, Begin, Finish, Effect, At, turn_of}
 use Rattle.hosts.specs.HostRules.{Permitted, aim_of, call_rules, deed_rules, effect_rules, fresh_rules, just}
 use Rattle.hosts.specs.HostSteps.{act_made, after, call_after, deed_after, effect_after, empty_host, makes, start}
 use Rattle.machine.specs.declared.endpoint.Emission.{Emission}
 use Rattle.machine.specs.Bodies.{Body}
+use Rattle.machine.specs.Heard.{heard}
 use Rattle.machine.specs.Reset.{reset_of}
 use Rattle.machine.specs.Wire.{sent}
 use Rattle.case_forms.specs.declared.steps.TakeChoice.{TakeChoice}
@@ -35,7 +36,7 @@ use Rattle.endpoint_state.specs.Keeping.{IsSmallAct, IsSmallAnswer}
 use Rattle.endpoint_state.proofs.Bodies.{body_keeps, kept_body_later, starts_kept}
 use Rattle.endpoint_state.proofs.Forgets.{IsBounded, all_kept_forgotten, bounded}
 use Rattle.endpoint_state.proofs.Rooms.{have_room}
-use Rattle.endpoint_state.proofs.Segments.{resets_small, sent_small}
+use Rattle.endpoint_state.proofs.Segments.{heard_small, resets_small, sent_small}
 use Rattle.endpoint_state.specs.Kept.{AreSmall, IsKeptHost, IsKeptWorld, IsReady, IsSmallArrival}
 use Rattle.endpoint_state.specs.SmallSteps.{IsSmallDeed, IsSmallStep}
 use Rattle.endpoint_state.specs.Worlds.{hosts_brought}
@@ -142,6 +143,7 @@ module _ (hd : Header) (me : Host) (moment steps : ℕ) (h : HostState tcp_shape
   deed_kept fresh far (Makes making) others small permitted = makes_kept fresh making small permitted
   deed_kept fresh far (Sends line number wire) others small permitted = sends_kept line number wire (lookup (nat_eq number) h.made) (All-lookup (λ (m : Made Emission). IsSmallEmission m.emission) (nat_eq number) h.made k.tables.made)
   deed_kept fresh far (Gets line copied wire) others small permitted = gets_kept line (lookup (nat_eq copied) far) (All-lookup IsSmallEmission (nat_eq copied) far others)
+  deed_kept fresh far (Hears line wire) others small permitted = gets_kept line (Some (heard moment wire)) (heard_small moment wire)
   deed_kept fresh far (Takes line how) others small permitted = takes_kept line how (waiting line h.inbox) refl permitted
   deed_kept fresh far (Drops line) others small permitted = drops_kept line (waiting line h.inbox)
   deed_kept fresh far (Answers line) others small permitted = answers_kept fresh line (waiting line h.inbox) permitted

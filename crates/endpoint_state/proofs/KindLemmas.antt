@@ -7,14 +7,14 @@ use Rattle.case_forms.specs.declared.trace.Wire.{Wire}
 use Rattle.case_forms.specs.declared.calls.Host.{Host}
 use Rattle.case_forms.specs.declared.calls.Host.TheVariants.{Zero, One}
 use Rattle.hosts.specs.Tables.{Both, pick, other, with_host, on, waiting, settled, unsent}
-use Rattle.hosts.specs.Hosts.{HostState, Answers, Drops, Gets, Sends}
+use Rattle.hosts.specs.Hosts.{HostState, Answers, Drops, Gets, Hears, Sends}
 use Rattle.hosts.specs.HostSteps.{inbox_after}
 use Rattle.machine.specs.declared.endpoint.Emission.{Emission}
 use Rattle.machine.specs.Reset.{reset_of}
 use Rattle.machine.specs.Machine.{tcp_shape}
 use Rattle.machine.specs.Forgetting.{forget_host}
 use Rattle.endpoint_state.specs.Kept.{IsReady}
-use Rattle.endpoint_state.specs.Kinds.{answered_one, dropped_one, sent_one}
+use Rattle.endpoint_state.specs.Kinds.{answered_one, dropped_one, heard_one, sent_one}
 use Rattle.endpoint_state.specs.Sides.{AreReady, forget_hosts, hosts_after}
 use Rattle.endpoint_state.proofs.Still.{still_body, still_host}
 
@@ -45,6 +45,9 @@ came_hosts hd moment fresh line copied w m hosts host x are found is =
     let y : Host_ = record k { inbox = inbox_after (pick hosts (other host)).wire line copied k.inbox } in
     let joined : x ≡ y = is ∙ rw found refl in
     ap (λ (z : Host_). with_host hosts host z) joined ∙ tables hosts host y are refl
+
+pub heard_hosts : (hd : Header) (moment fresh line : ℕ) (w : Wire) (hosts : Both Host_) (host : Host) → AreReady hosts → with_host hosts host (heard_one moment line w (pick hosts host)) ≡ hosts_after hd moment fresh hosts host (Hears line w)
+heard_hosts hd moment fresh line w hosts host are = tables hosts host (heard_one moment line w (pick hosts host)) are refl
 
 pub dropped_hosts : (hd : Header) (moment fresh line : ℕ) (hosts : Both Host_) (host : Host) → AreReady hosts → with_host hosts host (dropped_one line (pick hosts host)) ≡ hosts_after hd moment fresh hosts host (Drops line)
 dropped_hosts hd moment fresh line hosts host are = tables hosts host (dropped_one line (pick hosts host)) are refl

@@ -7,7 +7,7 @@ use Rattle.case_forms.specs.declared.calls.State.{State}
 use Rattle.case_forms.specs.declared.calls.State.TheVariants as states
 use Rattle.window_rules.specs.declared.congestion.Congestion.{Congestion}
 use Rattle.window_rules.specs.Growth.{counted_after, fills_window, is_avoiding}
-use Rattle.streams.specs.Cells.{body}
+use Rattle.streams.specs.Received.{body_kept}
 use Rattle.streams.proofs.Fronts.{next_put_all}
 use Rattle.machine.specs.declared.endpoint.Endpoint.{Endpoint}
 use Rattle.machine.specs.declared.endpoint.Emission.{Emission}
@@ -110,7 +110,7 @@ taken_bounded h how m moment steps e small unsent b =
     let later = bounded_later steps e b in
     let una = b.una in
     let state = taken_stays e how m in
-    let front = next_put_all e.stream.receive.taken (kept_start e m) (body (kept_bytes e how m) (keeps_fin e how m)) in
+    let front = next_put_all e.stream.receive.taken (kept_start e m) (body_kept e.stream.receive.taken (kept_start e m) (kept_bytes e how m) (keeps_fin e how m)) in
     record {
       una = omega arith;
       counted = counted_below (is_new_ack e m && not (acknowledges_syn e m)) e.stream.una m.ack e.congestion.counted (counted_after e.congestion (acked e m)) (fresh_above e m) b.counted (counted_grows e.congestion (acked e m));

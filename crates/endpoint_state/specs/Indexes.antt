@@ -1,15 +1,18 @@
 -- Indexes: what leads to an endpoint or a listener in constant time, and what it has to say.
-use Rattle.std.specs.Prelude.{◌≡◌, ℕ, Bool, true, false, nat_eq, ◌&&◌, ◌||◌, List, [], ◌∷◌, Option, None, Some, slice_get, Vec}
+use Rattle.std.specs.Prelude.{◌≡◌, ℕ, Bool, true, false, nat_eq, ◌||◌, List, [], ◌∷◌, Option, None, Some, slice_get, Vec}
 use Rattle.std.specs.declared.alloc.Global.{Global}
 use Rattle.std.specs.Map.{lookup}
+use Rattle.std.specs.declared.cmp.Ordering.{Ordering}
+use Rattle.std.specs.Ordering.{nat_cmp, ordering_then}
+use Rattle.std.specs.BTreeMap.{is_at}
 use Rattle.std.specs.Option.{option_map_or, IsSomeAnd}
 use Rattle.machine.specs.declared.endpoint.Endpoint.{Endpoint}
 use Rattle.machine.specs.declared.endpoint.Listener.{Listener}
 use Rattle.machine.specs.Bodies.{last_from, has_ports}
 
--- the two pairs of ports are one
-abbrev pub same_ports : ℕ × ℕ → ℕ × ℕ → Bool
-same_ports a b = nat_eq a.0 b.0 && nat_eq a.1 b.1
+-- the order of pairs of ports
+abbrev pub ports_cmp : ℕ × ℕ → ℕ × ℕ → Ordering
+ports_cmp a b = ordering_then (nat_cmp a.0 b.0) (nat_cmp a.1 b.1)
 
 -- the number stands in the list
 abbrev pub stands_in : ℕ → List ℕ → Bool
@@ -28,7 +31,7 @@ pub record IsListening (found : ℕ → Option ℕ) (listeners : List Listener) 
 
 -- where a map from pairs of ports leads
 abbrev pub find_ports : List ((ℕ × ℕ) × ℕ) → ℕ → ℕ → Option ℕ
-find_ports entries lport rport = lookup (same_ports (lport, rport)) entries
+find_ports entries lport rport = lookup (is_at (ports_cmp (lport, rport))) entries
 
 -- the place stands among the children of that listener
 abbrev pub is_child_in : List (ℕ × Vec ℕ Global) → ℕ → ℕ → Bool

@@ -12,6 +12,7 @@ use Rattle.machine.specs.declared.endpoint.Emission.{Emission}
 use Rattle.machine.specs.Bodies.{Body, empty}
 use Rattle.machine.specs.Bounds.{HasRoom, IsKept, IsKeptBody, IsSmallEmission, most_steps}
 use Rattle.machine.specs.Forgetting.{forget_body}
+use Rattle.machine.specs.Heard.{heard}
 use Rattle.machine.specs.Machine.{Act, Calls, Makes, Takes, Resets, Expires, Recovers, act_rules, act_after}
 use Rattle.machine.specs.Reset.{reset_of}
 use Rattle.machine.specs.Wire.{sent}
@@ -46,7 +47,8 @@ pub record KeptLonger : Type 0 where
   pub endpoint : (steps : ℕ) (e : Endpoint) → IsKept steps e → IsKept (suc steps) e
   pub body : (steps : ℕ) (b : Body) → IsKeptBody steps b → IsKeptBody (suc steps) b
 
--- resets that answer are small, and segments that go out are as small as they were made
+-- resets that answer are small, and so is what is heard of a host that is not recorded; segments that go out are as small as they were made
 pub record EmissionsAreSmall : Type 0 where
   pub resets : (m : Emission) → IsSmallEmission (reset_of m)
   pub goes : (moment : ℕ) (wire : Wire) (m : Emission) → IsSmallEmission m → IsSmallEmission (sent moment wire m)
+  pub comes : (moment : ℕ) (wire : Wire) → IsSmallEmission (heard moment wire)

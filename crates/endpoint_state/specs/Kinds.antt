@@ -1,6 +1,7 @@
 -- One host at each kind of deed: the rules, and table by table what it has then, each by what the deed reads.
-use Rattle.std.specs.Prelude.{ℕ, nat_eq, Bool, true, List, []}
+use Rattle.std.specs.Prelude.{ℕ, nat_eq, Bool, true, not, List, [], Some}
 use Rattle.indexmap.specs.IndexMap.{insert_entry}
+use Rattle.case_forms.specs.Versions.{is_half}
 use Rattle.case_forms.specs.declared.trace.Header.{Header}
 use Rattle.case_forms.specs.declared.trace.Wire.{Wire}
 use Rattle.case_forms.specs.declared.calls.Host.{Host}
@@ -14,6 +15,7 @@ use Rattle.hosts.specs.HostSteps.{inbox_settled, made_gone_out, wire_after}
 use Rattle.machine.specs.Bodies.{at_ports, Body}
 use Rattle.machine.specs.Machine.{act_makes, tcp_shape, rules_at}
 use Rattle.machine.specs.Machine as acts
+use Rattle.machine.specs.Heard.{heard}
 use Rattle.machine.specs.Makes.{after_making}
 use Rattle.machine.specs.Arrives.{after_taking, taker, taker_rules}
 use Rattle.machine.specs.Reset.{reset_of, reset_rules}
@@ -36,6 +38,13 @@ made_one me moment fresh plan h = record h {
 -- the segment of that number stands on the wire with that line
 abbrev pub sent_one : (moment line number : ℕ) → Wire → HostState tcp_shape → HostState tcp_shape
 sent_one moment line number wire h = record h { made = made_gone_out number h.made; wire = wire_after sent h.made line number wire moment h.wire }
+
+-- what is heard of the host that is not recorded waits with that line, and the rule of it: the case is a half one
+abbrev pub heard_one : (moment line : ℕ) → Wire → HostState tcp_shape → HostState tcp_shape
+heard_one moment line wire h = record h { inbox = insert_entry nat_eq h.inbox line (Some (heard moment wire)) }
+
+abbrev pub hearing_rules : Header → List (Rule × Bool)
+hearing_rules hd = just rules.NoEmission (not (is_half hd.version))
 
 -- what waits with that line is taken, dropped, or answered by a reset under the fresh number
 abbrev pub taken_one : Header → (moment line : ℕ) → TakeChoice → HostState tcp_shape → HostState tcp_shape

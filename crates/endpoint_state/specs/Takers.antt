@@ -3,6 +3,7 @@ use Rattle.std.specs.Prelude.{◌≡◌, ◌&&◌, ℕ, false, if◌then◌else�
 use Rattle.std.specs.Option.{option_map_or, IsSomeAnd}
 use Rattle.machine.specs.Bodies.{Body}
 use Rattle.machine.specs.declared.endpoint.Emission.{Emission}
+use Rattle.machine.specs.declared.endpoint.Endpoint.{Endpoint}
 use Rattle.case_forms.specs.States.{is_closed, is_syn_received}
 use Rattle.machine.specs.Arrives.Otherwise.Ack.{acknowledges_syn}
 use Rattle.machine.specs.Arrives.{Taker, Nobody, AtListener, AtEndpoint}
@@ -19,6 +20,6 @@ abbrev pub IsOpen : Body → Found → Type 0
 IsOpen b (found.Endpoint i) = IsSomeAnd (slice_get b.endpoints i) (λ e. is_closed e.state ≡ false)
 IsOpen b (found.Listener l) = Unit
 
--- the listener whose queue the endpoint at a place joins by a segment
-abbrev pub joins_at : Body → Emission → ℕ → Option ℕ
-joins_at b m i = option_map_or (λ e. if is_syn_received e.state && acknowledges_syn e m then e.listener else None) (slice_get b.endpoints i) None
+-- the listener whose queue an endpoint joins by a segment as it reads it
+abbrev pub joins_by : Endpoint → Emission → Option ℕ
+joins_by e m = if is_syn_received e.state && acknowledges_syn e m then e.listener else None

@@ -1,5 +1,6 @@
 -- Where threads are, as code keeps them, and the call that a thread waits for.
 use Rattle.std.specs.Prelude.{Option, None, Some}
+use Rattle.case_forms.specs.declared.calls.Answer.{Answer}
 use Rattle.case_forms.specs.declared.calls.Call.{Call}
 use Rattle.hosts.specs.Hosts.{Turn, Idle, Called, Answered}
 use Rattle.machine.specs.Machine.{tcp_shape}
@@ -16,3 +17,9 @@ abbrev pub pending_call : Turn tcp_shape → Option Call
 pending_call Idle = None
 pending_call (Called call) = Some call
 pending_call (Answered answer) = None
+
+-- the answer with which the open call had its effect
+abbrev pub given_answer : Turn tcp_shape → Option Answer
+given_answer Idle = None
+given_answer (Called call) = None
+given_answer (Answered answer) = Some answer

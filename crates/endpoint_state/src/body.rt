@@ -12,10 +12,10 @@ mod timeouts;
 
 use crate::endpoints::Endpoints;
 use crate::listeners::Listeners;
-use indexmap::IndexMap;
 use machine::{Endpoint, Listener, Socket, Thing};
 use std::alloc::Global;
 use std::marker::Model;
+use tables::Table;
 
 /// What one host has. Contracts see it as the record `Body` of the definitions.
 #[derive(Drop)]
@@ -23,7 +23,7 @@ pub struct Body {
     pub(crate) endpoints: Endpoints,
     pub(crate) listeners: Listeners,
     /// What each socket number names that was given. None is ever taken out.
-    pub(crate) sockets: IndexMap<u32, Socket>,
+    pub(crate) sockets: Table<Socket>,
 }
 
 impl Model for Body {
@@ -42,7 +42,7 @@ impl Body {
         Body {
             endpoints: Endpoints::new(alloc),
             listeners: Listeners::new(alloc),
-            sockets: IndexMap::new(alloc),
+            sockets: Table::new(alloc),
         }
     }
 
@@ -50,7 +50,7 @@ impl Body {
     pub fn is_given(&self, number: u32) -> bool
         ensures { result ≡ given self.now number }
     {
-        self.sockets.contains_key(&number)
+        self.sockets.contains(number)
     }
 
     /// How many socket numbers were given at this host.
@@ -64,7 +64,7 @@ impl Body {
     pub fn thing(&self, number: u32) -> Option<Thing>
         ensures { result ≡ thing_of self.now number }
     {
-        match self.sockets.get(&number) {
+        match self.sockets.get(number) {
             Some(socket) => if_live(*socket),
             None => None,
         }

@@ -23,9 +23,10 @@ ghost use Rattle.streams.specs.Lists.{modify};
 use case_forms::{Expired, Header, SegmentPlan, TakeChoice};
 use endpoint::take_segment;
 use indexmap::IndexMap;
-use machine::{Emission, Endpoint, Name};
+use machine::{Arrived, Emission, Endpoint, Name};
 use segment::OutOfMemory;
 use std::alloc::Global;
+use std::collections::BTreeMap;
 use std::marker::Model;
 
 /// The endpoints of a host, in the order of creation, which contracts see as a list.
@@ -33,7 +34,7 @@ use std::marker::Model;
 pub(crate) struct Endpoints {
     all: Vec<Endpoint>,
     /// For each pair of ports, the endpoint created last there.
-    places: IndexMap<(u16, u16), u32>,
+    places: BTreeMap<(u16, u16), u32>,
     /// For each listener that made some, the endpoints that it made. None is ever taken out.
     children: IndexMap<u32, Vec<u32>>,
 }
@@ -56,7 +57,7 @@ impl Endpoints {
     {
         Endpoints {
             all: Vec::new(alloc),
-            places: IndexMap::new(alloc),
+            places: BTreeMap::new(alloc),
             children: IndexMap::new(alloc),
         }
     }
@@ -210,14 +211,14 @@ impl Endpoints {
         }
     }
 
-    /// The endpoint at a place takes a segment that it may take, at a moment in microseconds. Where memory runs out
-    /// nothing is changed.
+    /// The endpoint at a place takes a segment as it reads it, and which it may take, at a moment in microseconds. Where memory
+    /// runs out nothing is changed.
     pub(crate) fn take(
         &mut self,
         header: &Header,
         place: u32,
         how: TakeChoice,
-        m: &Emission,
+        m: &Arrived<'_>,
         moment: u64,
     ) -> Result<(), OutOfMemory>
         requires kept { All HasRoom self.old }

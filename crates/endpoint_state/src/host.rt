@@ -8,6 +8,7 @@ ghost use Rattle.std.specs.Option.{IfSome, option_copied};
 ghost use Rattle.std.specs.Result.{result_err};
 ghost use Rattle.verdict.specs.Rules.{first_broken};
 ghost use Rattle.hosts.specs.HostSteps.{empty_host};
+ghost use Rattle.hosts.specs.Tables.{waiting};
 ghost use Rattle.hosts.specs.HostRules.{arrival_rules, sending_rules};
 ghost use Rattle.machine.specs.Wire.{in_rules, out_rules};
 ghost use Rattle.machine.specs.Bodies.{given};
@@ -17,7 +18,7 @@ ghost use Rattle.machine.specs.Machine.{act_makes, rules_at, tcp};
 ghost use Rattle.machine.specs.Machine as acts;
 ghost use Rattle.machine.specs.Forgetting.{forget_host};
 ghost use Rattle.machine.specs.Bounds.{greatest_position, IsSmallEmission};
-ghost use Rattle.endpoint_state.specs.Kept.{IsReady};
+ghost use Rattle.endpoint_state.specs.Kept.{AreReadable, IsReady};
 ghost use Rattle.endpoint_state.specs.Faults.{fault_rule};
 ghost use Rattle.endpoint_state.specs.Kinds.{answered_one, dropped_one, made_one, sent_one, taken_one, answering_rules, dropping_rules, expired_body};
 ghost use Rattle.endpoint_state.specs.Kinds.{expiring_rules, recovered_body, recovering_rules, taking_rules};
@@ -251,6 +252,13 @@ impl HostState {
         self.made.get(&number)
     }
 
+    /// The segment that came in with this line, and waits.
+    pub(crate) fn waiting(&self, line: u64) -> Option<&Emission>
+        ensures { option_copied result ≡ waiting line self.now.inbox }
+    {
+        waiting(&self.inbox, line)
+    }
+
     /// Its endpoints, listeners and sockets.
     pub(crate) fn body(&self) -> &Body
         ensures { result.now ≡ self.now.body }
@@ -318,6 +326,7 @@ impl HostState {
         line: u64,
         how: TakeChoice,
     ) -> Result<(), Rule>
+        requires { AreReadable self.now.body.endpoints }
         ensures { result_err result ≡ first_broken (taking_rules header.now me line how self.now) }
     {
         let Some(m) = waiting(&self.inbox, line) else {

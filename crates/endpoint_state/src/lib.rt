@@ -9,6 +9,7 @@
 //!
 //! - `world`: what a case has come to, and every step but the effect of a call
 //! - `calls`: the effect of a call, and the two rules of its answer
+//! - `readings`: what else is read of a world
 //! - `fault`: why a step was not done
 //! - `host_pair`: the two hosts, of which one is lent to what it does; `host`: what one host has, and each step there
 //!
@@ -36,6 +37,7 @@ mod host_pair;
 mod laws;
 mod listeners;
 mod made;
+mod readings;
 mod threads;
 mod world;
 

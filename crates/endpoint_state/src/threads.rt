@@ -10,13 +10,13 @@ ghost use Rattle.verdict.specs.Rules.{first_broken};
 ghost use Rattle.hosts.specs.HostRules.{begin_rules, end_rules, pending_rules};
 ghost use Rattle.hosts.specs.Hosts.{Answered, Called, Idle, turn_of};
 ghost use Rattle.machine.specs.Same.{same_answer};
-ghost use Rattle.endpoint_state.specs.Turns.{pending_call};
+ghost use Rattle.endpoint_state.specs.Turns.{given_answer, pending_call};
 ghost use Rattle.endpoint_state.specs.Faults.{fault_rule};
 
 use crate::fault::StepFault;
 use case_forms::{Answer, Call, OutOfMemory};
-use indexmap::IndexMap;
 use std::marker::Model;
+use tables::Table;
 use verdict::Rule;
 
 /// Where a thread is in its calls.
@@ -63,7 +63,7 @@ impl Turn {
 }
 
 /// Whether a thread may begin a call: it is in no other. An error is the rule that is broken.
-pub(crate) fn admits_begin(threads: &IndexMap<u32, Turn>, thread: u32) -> Result<(), Rule>
+pub(crate) fn admits_begin(threads: &Table<Turn>, thread: u32) -> Result<(), Rule>
     ensures { result_err result ≡ first_broken (begin_rules (turn_of thread threads.now.entries)) }
 {
     match place_in(threads, thread) {
@@ -74,11 +74,7 @@ pub(crate) fn admits_begin(threads: &IndexMap<u32, Turn>, thread: u32) -> Result
 
 /// Whether a thread's call may end with this answer: one is open, and had its effect with it. An error is the first rule
 /// that is broken.
-pub(crate) fn admits_end(
-    threads: &IndexMap<u32, Turn>,
-    thread: u32,
-    answer: &Answer,
-) -> Result<(), Rule>
+pub(crate) fn admits_end(threads: &Table<Turn>, thread: u32, answer: &Answer) -> Result<(), Rule>
     ensures { result_err result ≡ first_broken (end_rules (λ given answer. not (same_answer given answer)) (turn_of thread threads.now.entries) answer.now) }
 {
     match place_in(threads, thread) {
@@ -96,7 +92,7 @@ pub(crate) fn admits_end(
 
 /// The call of a thread that is open and had no effect yet. An error is the first rule that is broken: there is none, or
 /// it had its effect.
-pub(crate) fn open_call(threads: &IndexMap<u32, Turn>, thread: u32) -> Result<&Call, Rule>
+pub(crate) fn open_call(threads: &Table<Turn>, thread: u32) -> Result<&Call, Rule>
     ensures call { IfOk result (λ call. turn_of thread threads.now.entries ≡ Called call.now) }
     ensures rule { result_err result ≡ first_broken (pending_rules (turn_of thread threads.now.entries)) }
 {
@@ -108,7 +104,7 @@ pub(crate) fn open_call(threads: &IndexMap<u32, Turn>, thread: u32) -> Result<&C
 }
 
 /// The call of a thread that is open and had no effect yet. None: there is none, or it had its effect.
-pub(crate) fn pending_call(threads: &IndexMap<u32, Turn>, thread: u32) -> Option<&Call>
+pub(crate) fn pending_call(threads: &Table<Turn>, thread: u32) -> Option<&Call>
     ensures { option_copied result ≡ pending_call (turn_of thread threads.now.entries) }
 {
     match place_in(threads, thread) {
@@ -117,12 +113,18 @@ pub(crate) fn pending_call(threads: &IndexMap<u32, Turn>, thread: u32) -> Option
     }
 }
 
+/// The answer that a thread's open call had. None: no call is open, or it had no effect yet.
+pub(crate) fn given_answer(threads: &Table<Turn>, thread: u32) -> Option<&Answer>
+    ensures { option_copied result ≡ given_answer (turn_of thread threads.now.entries) }
+{
+    match place_in(threads, thread) {
+        Some(Place::Answered(answer)) => Some(answer),
+        Some(Place::Called(_)) | Some(Place::Idle) | None => None,
+    }
+}
+
 /// A thread begins a call. An error is the rule that is broken, or that memory ran out; nothing is changed then.
-pub(crate) fn begin(
-    threads: &mut IndexMap<u32, Turn>,
-    thread: u32,
-    call: &Call,
-) -> Result<(), StepFault>
+pub(crate) fn begin(threads: &mut Table<Turn>, thread: u32, call: &Call) -> Result<(), StepFault>
     ensures fault { fault_rule result ≡ first_broken (begin_rules (turn_of thread threads.old.entries)) }
     ensures ok { OnOk result (threads.new.entries ≡ insert_entry nat_eq threads.old.entries thread (Called call.now)) }
     ensures err { OnErr result (threads.new.entries ≡ threads.old.entries) }
@@ -134,7 +136,7 @@ pub(crate) fn begin(
 
 /// A thread's call ends. An error is the first rule that is broken, or that memory ran out; nothing is changed then.
 pub(crate) fn finish(
-    threads: &mut IndexMap<u32, Turn>,
+    threads: &mut Table<Turn>,
     thread: u32,
     answer: &Answer,
 ) -> Result<(), StepFault>
@@ -151,7 +153,7 @@ pub(crate) fn finish(
 /// A thread's call has its effect, with this answer. Where memory runs out nothing is changed; a thread that called before
 /// takes none.
 pub(crate) fn answered(
-    threads: &mut IndexMap<u32, Turn>,
+    threads: &mut Table<Turn>,
     thread: u32,
     answer: Answer,
 ) -> Result<(), OutOfMemory>
@@ -162,16 +164,16 @@ pub(crate) fn answered(
     put(threads, thread, Place::Answered(answer))
 }
 
-fn place_in(threads: &IndexMap<u32, Turn>, thread: u32) -> Option<&Place>
+fn place_in(threads: &Table<Turn>, thread: u32) -> Option<&Place>
     ensures { option_map (λ place. turn_shown place.now) result ≡ lookup (nat_eq thread) threads.now.entries }
 {
-    match threads.get(&thread) {
+    match threads.get(thread) {
         Some(turn) => Some(turn.place()),
         None => None,
     }
 }
 
-fn put(threads: &mut IndexMap<u32, Turn>, thread: u32, place: Place) -> Result<(), OutOfMemory>
+fn put(threads: &mut Table<Turn>, thread: u32, place: Place) -> Result<(), OutOfMemory>
     ensures ok { OnOk result (threads.new.entries ≡ insert_entry nat_eq threads.old.entries thread (turn_shown place)) }
     ensures err { OnErr result (threads.new.entries ≡ threads.old.entries) }
     ensures absent { OnErr result (is_some (lookup (nat_eq thread) threads.old.entries) ≡ false) }

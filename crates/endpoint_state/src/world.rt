@@ -6,7 +6,7 @@ ghost use Rattle.std.specs.Option.{option_copied};
 ghost use Rattle.std.specs.Result.{result_err};
 ghost use Rattle.verdict.specs.Rules.{first_broken};
 ghost use Rattle.hosts.specs.Tables.{pick};
-ghost use Rattle.hosts.specs.Hosts.{At, Begin, Finish, Answers, Does, Drops, Gets, Makes, Sends, Takes, turn_of};
+ghost use Rattle.hosts.specs.Hosts.{At, Begin, Finish, Answers, Does, Drops, Gets, Hears, Makes, Sends, Takes, turn_of};
 ghost use Rattle.hosts.specs.HostRules.{step_rules};
 ghost use Rattle.machine.specs.Bounds.{greatest_position, most_steps, IsSmallEmission};
 ghost use Rattle.machine.specs.Machine.{tcp};
@@ -26,11 +26,12 @@ use crate::threads::{Turn, admits_begin, admits_end, begin, finish, pending_call
 use case_forms::{
     Answer, Call, Expired, Header, Host, Ports, Recovery, SegmentPlan, TakeChoice, Wire,
 };
-use indexmap::IndexMap;
+use endpoint::heard;
 use machine::Emission;
 use segment::OutOfMemory;
 use std::alloc::Global;
 use std::marker::Model;
+use tables::Table;
 use verdict::Rule;
 
 /// What a case has come to. Contracts see it as the record `Progress` of the definitions.
@@ -42,7 +43,7 @@ pub struct World {
     /// What the hosts have.
     pub(crate) hosts: Hosts,
     /// Each thread that called, with where it is. None is ever taken out.
-    pub(crate) threads: IndexMap<u32, Turn>,
+    pub(crate) threads: Table<Turn>,
     /// How many segments were made: the next has this number and one.
     count: u32,
     /// How many steps were done.
@@ -70,7 +71,7 @@ impl World {
             alloc,
             header: *header,
             hosts: Hosts::new(alloc, header),
-            threads: IndexMap::new(alloc),
+            threads: Table::new(alloc),
             count: 0,
             steps: 0,
         }
@@ -183,6 +184,18 @@ impl World {
             .far(host)
             .admitted_arrival(&self.header, moment, copied, wire)?;
         Ok(())
+    }
+
+    /// Whether a segment of the other host may come in that is no copy of a line: that host is not recorded. An error is the rule
+    /// that is broken.
+    pub fn admits_hearing(&self, host: Host, wire: &Wire) -> Result<(), Rule>
+        ensures { result_err result ≡ first_broken (step_rules (tcp self.now.header) 0 self.now.world (At host (Hears 0 wire.now))) }
+    {
+        if self.header.version.is_half() {
+            Ok(())
+        } else {
+            Err(Rule::NoEmission)
+        }
     }
 
     /// Whether a host may make a segment, at a position up to the greatest. An error is the first rule that is broken.
@@ -336,6 +349,21 @@ impl World {
             .admitted_arrival(&self.header, moment, copied, wire)?
             .copy()?;
         host::arrive(self.hosts.side(host), line, copy)?;
+        self.steps += 1;
+        Ok(())
+    }
+
+    /// A segment of the host that is not recorded comes in with this line, at a moment in microseconds, and waits in the inbox. An
+    /// error is the rule that is broken, or that memory ran out; the world is then as it was.
+    pub fn hear(&mut self, host: Host, line: u64, wire: &Wire, moment: u64) -> Result<(), StepFault>
+        requires { self.old.steps < most_steps }
+        ensures fault { fault_rule result ≡ first_broken (step_rules (tcp self.old.header) moment self.old.world (At host (Hears line wire.now))) }
+        ensures ok { OnOk result (self.new ≡ after self.old moment (At host (Hears line wire.now))) }
+        ensures err { OnErr result (self.new ≡ self.old) }
+    {
+        self.admits_hearing(host, wire)?;
+        let heard = heard(self.alloc, moment, wire)?;
+        host::arrive(self.hosts.side(host), line, heard)?;
         self.steps += 1;
         Ok(())
     }

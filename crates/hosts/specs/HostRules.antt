@@ -7,7 +7,9 @@ use Rattle.verdict.specs.declared.rule.Rule.{Rule}
 use Rattle.verdict.specs.declared.rule.Rule.TheVariants as rules
 use Rattle.verdict.specs.Rules.{first_broken}
 use Rattle.hosts.specs.Tables.{Both, Made, pick, other, on, waiting}
-use Rattle.hosts.specs.Hosts.{Aim, ThatHost, ThatSocket, Shape, Kernel, HostState, Turn, Idle, Called, Answered, World, Deed, Does, Expires, Makes, Sends, Gets, Takes, Drops, Answers, Step, Begin, Finish, Effect, At, turn_of}
+use Rattle.hosts.specs.Hosts.{Aim, ThatHost, ThatSocket, Shape, Kernel, HostState, Turn, Idle, Called, Answered, World, Deed}
+use Rattle.hosts.specs.Hosts.{Does, Expires, Makes, Sends, Gets, Hears, Takes, Drops, Answers, Step, Begin, Finish, Effect, At}
+use Rattle.hosts.specs.Hosts.{turn_of}
 
 -- one rule alone
 abbrev pub just : Rule → Bool → List (Rule × Bool)
@@ -31,6 +33,7 @@ deed_rules k me moment far h (Expires line x growth) = k.act_rules me moment h.b
 deed_rules k me moment far h (Makes x) = k.act_rules me moment h.body (k.making x)
 deed_rules k me moment far h (Sends line number wire) = sending_rules k.out_rules h.made number wire
 deed_rules k me moment far h (Gets line copied wire) = arrival_rules (k.in_rules moment) far copied wire
+deed_rules k me moment far h (Hears line wire) = just rules.NoEmission (not k.half)
 deed_rules k me moment far h (Takes line how) = on (waiting line h.inbox) (just rules.Inbox true) (λ e. k.act_rules me moment h.body (k.takes how e))
 deed_rules k me moment far h (Drops line) = on (waiting line h.inbox) (just rules.Inbox true) (λ e. [])
 deed_rules k me moment far h (Answers line) = on (waiting line h.inbox) (just rules.Inbox true) (λ e. k.act_rules me moment h.body (k.answers e))
@@ -48,7 +51,8 @@ fresh_rules k hosts (Some n) = (rules.Socket, k.given hosts.zero.body n) ∷ jus
 -- the rules of a call's effect, at the host that the call means
 abbrev pub call_rules : (k : Kernel) → ℕ → Both (HostState k.shape) → k.shape.Call → k.shape.Answer → Option Host → List (Rule × Bool)
 call_rules k moment hosts call answer None = fresh_rules k hosts (k.gives call answer) ++ just rules.CallAnswer (not (k.stray call answer))
-call_rules k moment hosts call answer (Some host) = fresh_rules k hosts (k.gives call answer) ++ k.act_rules host moment (pick hosts host).body (k.calls call answer)
+call_rules k moment hosts call answer (Some host) =
+    fresh_rules k hosts (k.gives call answer) ++ k.act_rules host moment (pick hosts host).body (k.calls call answer)
 
 -- the thread is in no call
 abbrev pub is_idle : {s : Shape} → Turn s → Bool

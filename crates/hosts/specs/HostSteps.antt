@@ -4,7 +4,8 @@ use Rattle.std.specs.Map.{lookup}
 use Rattle.indexmap.specs.IndexMap.{insert_entry}
 use Rattle.case_forms.specs.declared.calls.Host.{Host}
 use Rattle.hosts.specs.Tables.{Both, pick, other, with_host, on, Made, unsent, gone_out, waiting, settled}
-use Rattle.hosts.specs.Hosts.{Kernel, HostState, Turn, Idle, Called, Answered, World, Deed, Does, Expires, Makes, Sends, Gets, Takes, Drops, Answers, Step, Begin, Finish, Effect, At, Stamped, turn_of}
+use Rattle.hosts.specs.Hosts.{Kernel, HostState, Turn, Idle, Called, Answered, World, Deed, Does, Expires, Makes, Sends, Gets}
+use Rattle.hosts.specs.Hosts.{Hears, Takes, Drops, Answers, Step, Begin, Finish, Effect, At, Stamped, turn_of}
 use Rattle.hosts.specs.HostRules.{aim_of, Permitted}
 
 -- the made segments after an act, with the one that it makes under the fresh number
@@ -27,14 +28,22 @@ inbox_after far line copied inbox = on (lookup (nat_eq copied) far) inbox (λ e.
 abbrev pub inbox_settled : {E : Type 0} → ℕ → List (ℕ × Option E) → List (ℕ × Option E)
 inbox_settled line inbox = on (waiting line inbox) inbox (λ e. settled line inbox)
 
--- what a host has after what it does: a line that goes out marks its segment and puts it on the wire, a line that comes in joins the inbox, and what is taken, dropped or answered waits there no longer
+-- what a host has after what it does: a line that goes out marks its segment and puts it on the wire, a line that comes in
+-- joins the inbox, and what is taken, dropped or answered waits there no longer
 abbrev pub deed_after : (k : Kernel) → Host → ℕ → ℕ → List (ℕ × k.shape.Emission) → HostState k.shape → Deed k.shape → HostState k.shape
 deed_after k me moment fresh far h (Does x) = record h { body = k.act_after me moment h.body (k.does x) }
 deed_after k me moment fresh far h (Expires line x growth) = record h { body = k.act_after me moment h.body (k.expires x growth) }
 deed_after k me moment fresh far h (Makes x) = record h { body = k.act_after me moment h.body (k.making x); made = act_made k me moment fresh h (k.making x) }
-deed_after k me moment fresh far h (Sends line number wire) = record h { made = made_gone_out number h.made; wire = wire_after k.sent h.made line number wire moment h.wire }
+deed_after k me moment fresh far h (Sends line number wire) =
+    record h { made = made_gone_out number h.made; wire = wire_after k.sent h.made line number wire moment h.wire }
 deed_after k me moment fresh far h (Gets line copied wire) = record h { inbox = inbox_after far line copied h.inbox }
-deed_after k me moment fresh far h (Takes line how) = record h { body = on (waiting line h.inbox) h.body (λ e. k.act_after me moment h.body (k.takes how e)); inbox = inbox_settled line h.inbox }
+deed_after k me moment fresh far h (Hears line wire) = record h { inbox = insert_entry nat_eq h.inbox line (Some (k.heard moment wire)) }
+deed_after k me moment fresh far h (Takes line how) =
+    record h {
+      body = on (waiting line h.inbox) h.body (λ e. k.act_after me moment h.body (k.takes how e));
+      inbox =
+          inbox_settled line h.inbox;
+    }
 deed_after k me moment fresh far h (Drops line) = record h { inbox = inbox_settled line h.inbox }
 deed_after k me moment fresh far h (Answers line) = record h {
   body = on (waiting line h.inbox) h.body (λ e. k.act_after me moment h.body (k.answers e));

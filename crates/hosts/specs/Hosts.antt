@@ -46,6 +46,9 @@ pub record Kernel : Type 1 where
   pub out_rules : shape.Wire → shape.Emission → List (Rule × Bool)
   pub sent : ℕ → shape.Wire → shape.Emission → shape.Emission
   pub in_rules : ℕ → shape.Wire → shape.Emission → List (Rule × Bool)
+  -- whether one host alone is recorded, and what stands in its inbox for a segment that is heard of the other
+  pub half : Bool
+  pub heard : ℕ → shape.Wire → shape.Emission
   -- whom a call means; what it may answer where no host gave its socket number
   pub aim : shape.Call → Aim
   pub stray : shape.Call → shape.Answer → Bool
@@ -75,14 +78,15 @@ pub record World (s : Shape) : Type 0 where
   pub count : ℕ
 
 -- what one host does: a step that looks nothing up; a timer's line; making a segment; the line of one that goes out, made
--- under that number; the line of one that comes in, a copy of the other host's line; and taking, dropping or answering what
--- came in with that line
+-- under that number; the line of one that comes in, a copy of the other host's line; the line of one that is heard of a
+-- host that isn't recorded; and taking, dropping or answering what came in with that line
 pub data Deed (s : Shape) : Type 0 where
   Does : (plain : s.Plain) → Deed s
   Expires : (line : ℕ) (expiry : s.Expiry) (growth : s.Growth) → Deed s
   Makes : (making : s.Making) → Deed s
   Sends : (line number : ℕ) (wire : s.Wire) → Deed s
   Gets : (line copied : ℕ) (wire : s.Wire) → Deed s
+  Hears : (line : ℕ) (wire : s.Wire) → Deed s
   Takes : (line : ℕ) (how : s.How) → Deed s
   Drops : (line : ℕ) → Deed s
   Answers : (line : ℕ) → Deed s

@@ -1,5 +1,5 @@
 -- Lines that come behind those that were offered: they matter to no step before their moment that doesn't take them.
-use Rattle.std.proofs.Common.{◌≡◌, ℕ, ◌+◌, ◌<◌, ◌≤◌, suc, if◌then◌else◌, Bool, true, false, cond, not, ◌&&◌, ◌||◌, ◌==◌, nat_lt, nat_le, List, [], ◌∷◌, ◌++◌, length, refl, ap, ◌∙◌, arith, Option, Some, None, length-append}
+use Rattle.std.proofs.Common.{◌≡◌, ℕ, ◌+◌, ◌<◌, ◌≤◌, suc, if◌then◌else◌, Bool, true, false, cond, not, ◌&&◌, ◌||◌, ◌==◌, nat_lt, nat_le, List, [], ◌∷◌, ◌++◌, length, refl, ap, sym, ◌∙◌, arith, Option, Some, None, length-append}
 use Rattle.std.proofs.lemmas.Bool.Decides.{nat_tests}
 use Rattle.std.proofs.lemmas.List.Folds.{list_any-append}
 use Rattle.std.proofs.lemmas.List.Elements.{filter-append}
@@ -7,10 +7,11 @@ use Rattle.std.specs.Prelude.{nat_eq, filter, is_none, is_some, count_by, All}
 use Rattle.std.specs.Option.{option_and_then}
 use Rattle.std.specs.Map.{keys_of}
 use Rattle.std.proofs.lemmas.List.Sums.{sum_by-cons}
-use Rattle.std.proofs.lemmas.List.Elements.{recursion_from_All}
+use Rattle.std.proofs.lemmas.List.Elements.{recursion_from_All, All-from_recursion}
 use Rattle.interval_order.specs.declared.window.Waiting.{Waiting}
 use Rattle.interval_order.specs.Waits.{lines_of, waiting_at, IsSound}
 use Rattle.interval_order.proofs.EarlierLemmas.{earlier_is}
+use Rattle.interval_order.proofs.EntryLemmas.{any_is_found}
 use Rattle.std.specs.Map.{lookup}
 use Rattle.std.specs.Option.{option_map_or}
 use Rattle.std.specs.List.{AllByRecursion, enumerate_from, list_any}
@@ -21,8 +22,8 @@ use Rattle.verdict.specs.declared.rule.Rule.{Rule}
 use Rattle.verdict.specs.declared.rule.Rule.TheVariants as rules
 use Rattle.verdict.specs.Rules.{first_broken}
 use Rattle.interval_order.specs.Orders.{Move, Order, taking, passing, is_placed, unplaced, last_moment, order_of, held_line, is_offered}
-use Rattle.interval_order.specs.OrderRules.{order_rules, moment_falls, has_earlier, is_overdue, has_overdue, extras_of}
-use Rattle.interval_order.specs.Later.{TakesBelow, AreLater, with_lines, waits, is_among, late_rule, is_current}
+use Rattle.interval_order.specs.OrderRules.{order_rules, moment_falls, has_earlier, is_overdue, has_overdue, first_overdue, extras_of}
+use Rattle.interval_order.specs.Later.{TakesBelow, AreLater, with_lines, waits, is_among, late_rule, is_current, IsTimed}
 
 -- ---- the entries of lines behind others
 
@@ -153,7 +154,7 @@ passing_same o more moment later = rw (overdue_same o moment more later) refl
 pub taking_same : (o : Order) (more : List Line) (moment n extras : ℕ) → AreLater moment more → n < o.next → order_rules (with_lines o more) (taking moment n extras) ≡ order_rules o (taking moment n extras)
 taking_same o more moment n extras later lt =
     let le : n ≤ o.next = omega arith in
-    λ i. (rules.LineRange, not (offered_same o more n lt i) || option_map_or (λ line. not (extras == extras_of line.event)) (held_same o more n lt i) false)
+    λ i. (rules.LineRange, not (offered_same o more n lt i) || option_map_or (λ line. not (extras == extras_of o.header.version line.event)) (held_same o more n lt i) false)
     ∷ (rules.LineAgain, offered_same o more n lt i && is_none (held_same o more n lt i))
     ∷ (rules.ThreadOrder, option_map_or (λ line. earlier_same o more n line.thread le i) (held_same o more n lt i) false)
     ∷ (rules.MomentFalls, moment_falls o moment)
@@ -211,21 +212,21 @@ least false false false d = refl
 pub late_is : (o : Order) (between after : List Line) (line : Line) (moment extras : ℕ) → KeysBelow o.next o.held → first_event_line o.header ≤ o.next → moment < line.moment
     → first_broken (order_rules (with_lines o (between ++ line ∷ after)) (taking moment (o.next + length between) extras)) ≡ Some (late_rule o between line extras moment)
 late_is o between after line moment extras below first late =
-    (λ i. first_broken ((rules.LineRange, not (offered i) || option_map_or (λ line. not (extras == extras_of line.event)) (held i) false)
+    (λ i. first_broken ((rules.LineRange, not (offered i) || option_map_or (λ line. not (extras == extras_of o.header.version line.event)) (held i) false)
     ∷ (rules.LineAgain, offered i && is_none (held i))
     ∷ (rules.ThreadOrder, option_map_or (λ line. earlier_late o between after (line_here) line.thread below i) (held i) false)
     ∷ (rules.MomentFalls, moment_falls o moment)
     ∷ (rules.MomentOff, option_map_or (λ line. nat_lt moment line.moment || nat_lt (line.moment + o.header.skew) moment) (held i) false)
     ∷ (rules.Overdue, has_overdue (with_lines o (between ++ line_here ∷ after)) moment)
     ∷ []))
-    ∙ (λ i. first_broken ((rules.LineRange, not (extras == extras_of line.event))
+    ∙ (λ i. first_broken ((rules.LineRange, not (extras == extras_of o.header.version line.event))
     ∷ (rules.LineAgain, false)
     ∷ (rules.ThreadOrder, waits o line.thread || is_among line.thread between)
     ∷ (rules.MomentFalls, moment_falls o moment)
     ∷ (rules.MomentOff, not_reached i || nat_lt (line.moment + o.header.skew) moment)
     ∷ (rules.Overdue, has_overdue (with_lines o (between ++ line_here ∷ after)) moment)
     ∷ []))
-    ∙ least (not (extras == extras_of line.event)) (waits o line.thread || is_among line.thread between) (moment_falls o moment) (has_overdue (with_lines o (between ++ line_here ∷ after)) moment)
+    ∙ least (not (extras == extras_of o.header.version line.event)) (waits o line.thread || is_among line.thread between) (moment_falls o moment) (has_overdue (with_lines o (between ++ line_here ∷ after)) moment)
   where
     line_here : Line
     line_here = line
@@ -322,6 +323,32 @@ all_current o moment (e ∷ es) none h =
     either : (a b : Bool) → (a || b) ≡ false → (a ≡ false) × (b ≡ false)
     either false b is = (refl, is)
     either true b is = absurd cc
+
+timed : (o : Order) (moment : ℕ) (es : List (ℕ × Line)) → list_any (is_overdue o moment) es ≡ false → AllByRecursion (λ e. e.1.moment ≤ moment) es → AllByRecursion (λ e. IsTimed o.header moment e.1) es
+timed o moment [] none h = tt
+timed o moment (e ∷ es) none h =
+    let parts = either (nat_lt (e.1.moment + o.header.skew) moment) (list_any (is_overdue o moment) es) none in
+    let first = parts.0 in
+    ((h.0, grind (arith, nat_tests, first)), timed o moment es parts.1 h.1)
+  where
+    either : (a b : Bool) → (a || b) ≡ false → (a ≡ false) × (b ≡ false)
+    either false b is = (refl, is)
+    either true b is = absurd cc
+
+-- where none of the lines that wait is overdue or later, the moment of each is at most the skew earlier
+pub all_timed : (o : Order) (moment : ℕ) → first_overdue o moment ≡ None → All (λ e. e.1.moment ≤ moment) o.held → All (λ e. IsTimed o.header moment e.1) o.held
+all_timed o moment none below =
+    let no : list_any (is_overdue o moment) o.held ≡ false = sym (any_is_found (λ e. e.0) (is_overdue o moment) o.held) ∙ ap is_some none in
+    All-from_recursion (λ e. IsTimed o.header moment e.1) o.held (timed o moment o.held no (recursion_from_All (λ e. e.1.moment ≤ moment) o.held below))
+
+-- what was placed is not found
+pub gone_line : (n : ℕ) (es : List (ℕ × Line)) → lookup (nat_eq n) (filter (λ e. not (n == e.0)) es) ≡ None
+gone_line n [] = refl
+gone_line n (e ∷ es) = by_test (n == e.0) refl (gone_line n es)
+  where
+    by_test : (b : Bool) → (n == e.0) ≡ b → lookup (nat_eq n) (filter (λ x. not (n == x.0)) es) ≡ None → lookup (nat_eq n) (filter (λ x. not (n == x.0)) (e ∷ es)) ≡ None
+    by_test true is rest = rw is rest
+    by_test false is rest = let away : nat_eq n e.0 ≡ false = is in rw (is, away) rest
 
 -- where none of the lines that wait is overdue or later, they are at most as many as the trace has of that time
 pub held_few : (header : Header) (lines : List Line) (earlier : List Move) (moment : ℕ) → has_overdue (order_of header lines earlier) moment ≡ false → All (λ e. e.1.moment ≤ moment) (unplaced header lines earlier)

@@ -78,11 +78,11 @@ held o moment n extras ok = by_held (held_line o n) refl
     by_held : (h : Option Line) → held_line o n ≡ h → Held o moment n extras
     by_held None is = absurd (never (is_offered o n) (rw is at ok.in_range) (rw is at ok.not_again))
     by_held (Some line) is =
-        let range : (not (is_offered o n) || not (nat_eq extras (extras_of line.event))) ≡ false = rw is at ok.in_range in
+        let range : (not (is_offered o n) || not (nat_eq extras (extras_of o.header.version line.event))) ≡ false = rw is at ok.in_range in
         let time : (nat_lt moment line.moment || nat_lt (line.moment + o.header.skew) moment) ≡ false = rw is at ok.on_time in
         let low : nat_lt moment line.moment ≡ false = left (nat_lt moment line.moment) (nat_lt (line.moment + o.header.skew) moment) time in
         let high : nat_lt (line.moment + o.header.skew) moment ≡ false = right (nat_lt moment line.moment) (nat_lt (line.moment + o.header.skew) moment) time in
-        let count : nat_eq extras (extras_of line.event) ≡ true = not_not (nat_eq extras (extras_of line.event)) (right (not (is_offered o n)) (not (nat_eq extras (extras_of line.event))) range) in
+        let count : nat_eq extras (extras_of o.header.version line.event) ≡ true = not_not (nat_eq extras (extras_of o.header.version line.event)) (right (not (is_offered o n)) (not (nat_eq extras (extras_of o.header.version line.event))) range) in
         record {
           line = line;
           here = is;

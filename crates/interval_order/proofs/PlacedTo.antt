@@ -89,10 +89,10 @@ take_ok : (o : Order) (moment n extras : ℕ) (line : Line)
     → moment_falls o moment ≡ false → has_overdue o moment ≡ false
     → first_broken (order_rules o (taking moment n extras)) ≡ None
 take_ok o moment n extras line offered is timely front falls late =
-    let counted : extras ≡ extras_of line.event = timely.count in
+    let counted : extras ≡ extras_of o.header.version line.event = timely.count in
     let low : line.moment ≤ moment = timely.since in
     let high : moment ≤ line.moment + o.header.skew = timely.until in
-    let count : nat_eq extras (extras_of line.event) ≡ true = grind (arith, nat_tests, counted) in
+    let count : nat_eq extras (extras_of o.header.version line.event) ≡ true = grind (arith, nat_tests, counted) in
     let below : nat_lt moment line.moment ≡ false = grind (arith, nat_tests, low) in
     let above : nat_lt (line.moment + o.header.skew) moment ≡ false = grind (arith, nat_tests, high) in
     all_none (order_rules o (taking moment n extras))

@@ -28,10 +28,11 @@ waits o thread = list_any (λ e. e.1.thread == thread) o.held
 abbrev pub is_among : ℕ → List Line → Bool
 is_among thread lines = list_any (λ line. line.thread == thread) lines
 
--- the least rule that a step breaks which takes a line whose moment is not reached, told whether a line of its thread stands before it that is not offered either
+-- the least rule that a step breaks which takes a line whose moment is not reached, told whether a line of its thread stands
+-- before it that is not offered either
 abbrev pub late_by : Order → Bool → Line → ℕ → ℕ → Rule
 late_by o behind line extras moment =
-    if not (extras == extras_of line.event) then LineRange
+    if not (extras == extras_of o.header.version line.event) then LineRange
     else if waits o line.thread || behind then ThreadOrder
     else if moment_falls o moment then MomentFalls
     else MomentOff
@@ -39,6 +40,10 @@ late_by o behind line extras moment =
 -- the same, where these lines stand between those that were offered and that line
 abbrev pub late_rule : Order → List Line → Line → ℕ → ℕ → Rule
 late_rule o between line extras moment = late_by o (is_among line.thread between) line extras moment
+
+-- the line's moment is not later than that one, nor earlier by more than the skew
+abbrev pub IsTimed : Header → ℕ → Line → Type 0
+IsTimed header moment line = (line.moment ≤ moment) × (moment ≤ line.moment + header.skew)
 
 -- the line may be taken at that moment, or in time before it
 abbrev pub is_current : Header → ℕ → Line → Bool

@@ -1,28 +1,33 @@
 -- When a step breaks a rule of the order of lines.
-use Rattle.std.specs.Prelude.{ℕ, ◌+◌, Bool, false, not, ◌&&◌, ◌||◌, ◌==◌, nat_lt, List, [], ◌∷◌, Option, None, Some, is_none}
+use Rattle.std.specs.Prelude.{ℕ, ◌+◌, Bool, false, not, ◌&&◌, ◌||◌, ◌==◌, nat_lt, if◌then◌else◌, List, [], ◌∷◌, Option, None, Some, is_none}
 use Rattle.std.specs.List.{list_any, find}
 use Rattle.std.specs.Option.{option_map, option_map_or}
 use Rattle.case_forms.specs.declared.trace.Event.{Event}
 use Rattle.case_forms.specs.declared.trace.Event.TheVariants.{CallBegin, CallEnd, Sent, Came, Expired}
 use Rattle.case_forms.specs.declared.trace.Line.{Line}
+use Rattle.case_forms.specs.declared.version.Version.{Version}
 use Rattle.case_forms.specs.declared.timer.Timer.TheVariants.{Rto}
+use Rattle.case_forms.specs.Versions.{is_half}
 use Rattle.verdict.specs.declared.rule.Rule.{Rule}
 use Rattle.verdict.specs.declared.rule.Rule.TheVariants.{LineRange, LineAgain, ThreadOrder, MomentFalls, MomentOff, Overdue}
 use Rattle.interval_order.specs.Orders.{Take, Move, Order, held_line, is_offered}
 
--- how many extra numbers follow the number of a line of this kind: a segment's with one number, that of the segment made or of its O line, and a retransmission timeout with two
-abbrev pub extras_of : Event → ℕ
-extras_of (CallBegin call) = 0
-extras_of (CallEnd answer) = 0
-extras_of (Sent host wire) = 1
-extras_of (Came host wire) = 1
-extras_of (Expired host local remote Rto) = 2
-extras_of (Expired host local remote _) = 0
+-- how many extra numbers follow the number of a line of this kind: one for a segment that goes out, that of the segment made;
+-- one for a segment that comes in, that of its O line, which a half case doesn't have; two for a retransmission timeout
+abbrev pub extras_of : Version → Event → ℕ
+extras_of v (CallBegin call) = 0
+extras_of v (CallEnd answer) = 0
+extras_of v (Sent host wire) = 1
+extras_of v (Came host wire) = if is_half v then 0 else 1
+extras_of v (Expired host local remote Rto) = 2
+extras_of v (Expired host local remote _) = 0
 
 -- it names no event line, or one that is not placed with another count of extra numbers than its kind has
 abbrev pub line_range : Order → Option Take → Bool
 line_range o None = false
-line_range o (Some t) = not (is_offered o t.number) || option_map_or (λ line. not (t.extras == extras_of line.event)) (held_line o t.number) false
+line_range o (Some t) =
+    not (is_offered o t.number)
+    || option_map_or (λ line. not (t.extras == extras_of o.header.version line.event)) (held_line o t.number) false
 
 -- that line was placed
 abbrev pub line_again : Order → Option Take → Bool

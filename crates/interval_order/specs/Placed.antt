@@ -12,13 +12,14 @@ pub record TakesAt (moves : List Move) (place n : ℕ) : Type 0 where
   pub extras : ℕ
   pub here : slice_get moves place ≡ Some (taking moment n extras)
 
--- the interval order: line m precedes line n where both are of one thread and m is the smaller number, or where n's moment is later than m's by more than the skew
+-- the interval order: line m precedes line n where both are of one thread and m is the smaller number, or where n's moment is
+-- later than m's by more than the skew
 abbrev pub Precedes : Header → ℕ → Line → ℕ → Line → Type 0
 Precedes header m a n b = ((a.thread ≡ b.thread) × (m < n)) ⊎ (a.moment + header.skew < b.moment)
 
 -- a step in time for a line: with as many extra numbers as its kind has, between its moment and that with the skew
 pub record IsTimely (header : Header) (line : Line) (moment extras : ℕ) : Type 0 where
-  pub count : extras ≡ extras_of line.event
+  pub count : extras ≡ extras_of header.version line.event
   pub since : line.moment ≤ moment
   pub until : moment ≤ line.moment + header.skew
 
@@ -33,4 +34,5 @@ pub record Placed (header : Header) (lines : List Line) (moves : List Move) : Ty
   -- steps take event lines alone, each in time
   pub timely : (n i : ℕ) (t : TakesAt moves i n) → (line : Line) × (line_at header lines n ≡ Some line) × IsTimely header line t.moment t.extras
   -- the lines of one thread are taken in their order
-  pub threads : (m n i j : ℕ) (a b : Line) → line_at header lines m ≡ Some a → line_at header lines n ≡ Some b → a.thread ≡ b.thread → m < n → TakesAt moves i m → TakesAt moves j n → i < j
+  pub threads : (m n i j : ℕ) (a b : Line) → line_at header lines m ≡ Some a → line_at header lines n ≡ Some b →
+      a.thread ≡ b.thread → m < n → TakesAt moves i m → TakesAt moves j n → i < j

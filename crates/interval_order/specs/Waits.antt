@@ -4,6 +4,7 @@ use Rattle.std.specs.List.Sorted.{IsStrictlySortedBy, IsNonDecreasingBy}
 use Rattle.std.specs.Ordering.{nat_cmp}
 use Rattle.std.specs.Map.{keys_of, lookup}
 use Rattle.std.specs.BTreeMap.{is_at}
+use Rattle.std.specs.Option.{option_flatten}
 use Rattle.case_forms.specs.declared.trace.Line.{Line}
 use Rattle.interval_order.specs.declared.window.Waiting.{Waiting}
 
@@ -15,6 +16,10 @@ lines_of entries = map (λ e. (e.0, e.1.line)) entries
 abbrev pub waiting_at : List (ℕ × Waiting) → ℕ → Option Waiting
 waiting_at entries n = lookup (is_at (nat_cmp n)) entries
 
+-- the number of the last line of a thread, where a table has one
+abbrev pub latest_in : List (ℕ × Option ℕ) → ℕ → Option ℕ
+latest_in entries thread = option_flatten (lookup (is_at (nat_cmp thread)) entries)
+
 -- of the lines of a thread that wait and stand before the number, the link names the last
 pub record Leads (waiting : ℕ → Option Waiting) (thread number : ℕ) (link : Option ℕ) : Type 0 where
   -- it names an earlier line
@@ -22,7 +27,8 @@ pub record Leads (waiting : ℕ → Option Waiting) (thread number : ℕ) (link 
   -- which is of the thread, if it waits
   pub own : (p : ℕ) (w : Waiting) → link ≡ Some p → waiting p ≡ Some w → w.line.thread ≡ thread
   -- and where any such line waits, it does, and is not before that one
-  pub last : (m : ℕ) (w : Waiting) → waiting m ≡ Some w → w.line.thread ≡ thread → m < number → (p : ℕ) × (v : Waiting) × (link ≡ Some p) × (m ≤ p) × (waiting p ≡ Some v)
+  pub last : (m : ℕ) (w : Waiting) → waiting m ≡ Some w → w.line.thread ≡ thread → m < number → (p : ℕ) × (v : Waiting) ×
+      (link ≡ Some p) × (m ≤ p) × (waiting p ≡ Some v)
 
 -- the lines of each thread are linked
 pub record AreLinked (next : ℕ) (waiting : ℕ → Option Waiting) (latest : ℕ → Option ℕ) : Type 0 where

@@ -1,7 +1,7 @@
 //! The lines that no step has taken yet.
 //!
-//! A line that is offered, or a step, costs the logarithm of the number of lines that wait, and one look-up in a table
-//! of threads. Nothing is scanned:
+//! A line that is offered, or a step, costs the logarithm of the number of lines that wait and of the number of threads,
+//! whatever numbers a text gives them. Nothing is scanned:
 //!
 //! - Lines wait in a map by their numbers.
 //! - Each line that waits names the line of its thread that was offered before it. The lines of a thread are placed in
@@ -9,17 +9,20 @@
 //!   names does not wait.
 //! - Moments don't fall along the lines, so some line is overdue exactly where the first that waits is.
 
-ghost use Rattle.std.specs.Prelude.{◌≡◌, ◌+◌, ◌<◌, ◌≤◌, ◌^◌, [], length, All, IsSome, IfOk, OnOk, OnErr, Some, false, nat_lt, slice_get};
+ghost use Rattle.std.specs.Prelude.{◌≡◌, ℕ, ◌+◌, ◌<◌, ◌≤◌, ◌^◌, [], length, All, IsSome, IfOk, OnOk, OnErr, None, Some, false};
+ghost use Rattle.std.specs.Prelude.{true, cond, is_some, nat_eq, nat_lt, slice_get};
+ghost use Rattle.std.specs.Ordering.{nat_cmp};
+ghost use Rattle.std.specs.BTreeMap.{get};
 ghost use Rattle.std.specs.Option.{option_copied, option_map, option_map_or};
 ghost use Rattle.std.specs.Result.{result_err};
 ghost use Rattle.case_forms.specs.Traces.{first_event_line};
 ghost use Rattle.verdict.specs.Rules.{first_broken};
 ghost use Rattle.interval_order.specs.Orders.{taking, passing, held_line, is_offered, with_line, order_after};
-ghost use Rattle.interval_order.specs.Later.{waits, late_by};
+ghost use Rattle.interval_order.specs.Later.{waits, late_by, IsTimed};
+ghost use Rattle.interval_order.specs.Waits.{latest_in};
 ghost use Rattle.interval_order.specs.OrderRules.{extras_of, has_earlier, thread_order, order_rules, has_overdue, first_overdue};
 
-use case_forms::{Event, Header, Line, OutOfMemory, Timer};
-use indexmap::IndexMap;
+use case_forms::{Event, Header, Line, OutOfMemory, Timer, Version};
 use std::alloc::Global;
 use std::collections::BTreeMap;
 use std::marker::Model;
@@ -41,23 +44,21 @@ pub struct Window {
     next: u64,
     /// The lines that wait, by their numbers.
     waiting: BTreeMap<u64, Waiting>,
-    /// The number of the last line of each thread that was offered.
-    latest: IndexMap<u32, u64>,
+    /// The number of the last line of each thread that was offered, or none where a thread has its place but no line yet.
+    latest: BTreeMap<u32, Option<u64>>,
     /// The moment of the last step.
     last: u64,
 }
 
 impl Model for Window {
-    ghost use Rattle.std.specs.Prelude.{nat_eq};
-    ghost use Rattle.indexmap.specs.IndexMap.{get};
     ghost use Rattle.interval_order.specs.Orders.{Order};
-    ghost use Rattle.interval_order.specs.Waits.{lines_of, IsSound};
+    ghost use Rattle.interval_order.specs.Waits.{lines_of, latest_in, IsSound};
 
     ghost Value = { Order };
 
     ghost view = { λ a. record { header = a.header; next = a.next; held = lines_of a.waiting.entries; last = a.last } };
 
-    ghost invariant = { λ a. IsSound a.next a.waiting.entries (get nat_eq a.latest) };
+    ghost invariant = { λ a. IsSound a.next a.waiting.entries (latest_in a.latest.entries) };
 }
 
 impl Window {
@@ -69,7 +70,7 @@ impl Window {
             header: *header,
             next: header.first_event_line(),
             waiting: BTreeMap::new(alloc),
-            latest: IndexMap::new(alloc),
+            latest: BTreeMap::new(alloc),
             last: 0,
         }
     }
@@ -86,20 +87,21 @@ impl Window {
     {
         let number = line.number;
         let thread = line.thread;
-        let previous = self.latest.get(&thread).copied();
-        self.latest.reserve(1)?;
+        let previous = latest_of(&self.latest, thread);
+        make_place(&mut self.latest, thread)?;
         self.waiting.insert(number, Waiting { line, previous })?;
-        self.latest.insert(thread, number)?;
+        note(&mut self.latest, thread, number);
         self.next = number + 1;
         Ok(())
     }
 
-    /// Takes a line for a step at this moment, which is followed by that many extra numbers. Where the step breaks a
-    /// rule of order, the least of them is the error, and the window is as it was.
+    /// Takes a line for a step at this moment, which is followed by that many extra numbers. The window no longer holds it. Where
+    /// the step breaks a rule of order, the least of them is the error, and the window is as it was.
     pub fn place(&mut self, line: u64, extras: u8, moment: u64) -> Result<Line, Rule>
         ensures rule { result_err result ≡ first_broken (order_rules self.old (taking moment line extras)) }
         ensures line { IfOk result (λ taken. held_line self.old line ≡ Some taken) }
         ensures ok { OnOk result (self.new ≡ order_after self.old (taking moment line extras)) }
+        ensures gone { OnOk result (held_line self.new line ≡ None) }
         ensures err { OnErr result (self.new ≡ self.old) }
     {
         self.admit(line, extras, moment)?;
@@ -136,20 +138,21 @@ impl Window {
         self.waiting.len()
     }
 
-    /// The number of the first line that may not wait until this moment, if there is one.
+    /// The number of the first line that may not wait until this moment, if there is one. Where there is none, and no line that
+    /// waits has a later moment, each has one that is at most the skew earlier.
     pub fn overdue(&self, moment: u64) -> Option<u64>
-        ensures { result ≡ first_overdue self.now moment }
+        ensures first { result ≡ first_overdue self.now moment }
+        ensures current { result ≡ None → All (λ e. e.1.moment ≤ moment) self.now.held → All (λ e. IsTimed self.now.header moment e.1) self.now.held }
     {
-        let (number, waiting) = self.waiting.first_key_value()?;
-        is_past(waiting.line.moment, self.header.skew, moment).then_some(*number)
+        self.first_late(moment)
     }
 
     /// Whether a line of this thread waits.
     pub fn waits(&self, thread: u32) -> bool
         ensures { result ≡ waits self.now thread }
     {
-        match self.latest.get(&thread) {
-            Some(last) => self.waiting.contains_key(last),
+        match latest_of(&self.latest, thread) {
+            Some(last) => self.waiting.contains_key(&last),
             None => false,
         }
     }
@@ -159,7 +162,7 @@ impl Window {
     pub fn late_rule(&self, line: &Line, is_behind: bool, extras: u8, moment: u64) -> Rule
         ensures { result ≡ late_by self.now is_behind line.now extras moment }
     {
-        if extras != extras_of(&line.event) {
+        if extras != extras_of(self.header.version, &line.event) {
             return Rule::LineRange;
         }
         if self.waits(line.thread) || is_behind {
@@ -199,7 +202,7 @@ impl Window {
         let Some(line) = self.line(number) else {
             return Err(Rule::LineAgain);
         };
-        if extras != extras_of(&line.event) {
+        if extras != extras_of(self.header.version, &line.event) {
             return Err(Rule::LineRange);
         }
         if self.has_earlier(number) {
@@ -246,6 +249,14 @@ impl Window {
         }
     }
 
+    // The number of the first line that may not wait until this moment.
+    fn first_late(&self, moment: u64) -> Option<u64>
+        ensures { result ≡ first_overdue self.now moment }
+    {
+        let (number, waiting) = self.waiting.first_key_value()?;
+        is_past(waiting.line.moment, self.header.skew, moment).then_some(*number)
+    }
+
     fn has_overdue(&self, moment: u64) -> bool
         ensures { result ≡ has_overdue self.now moment }
     {
@@ -253,14 +264,47 @@ impl Window {
     }
 }
 
+// The number of the last line of a thread.
+fn latest_of(latest: &BTreeMap<u32, Option<u64>>, thread: u32) -> Option<u64>
+    ensures { result ≡ latest_in latest.now.entries thread }
+{
+    match latest.get(&thread) {
+        Some(number) => *number,
+        None => None,
+    }
+}
+
+// A thread has its place in the table then. Its last line stays what it was.
+fn make_place(latest: &mut BTreeMap<u32, Option<u64>>, thread: u32) -> Result<(), OutOfMemory>
+    ensures same { (t : ℕ) → latest_in latest.new.entries t ≡ latest_in latest.old.entries t }
+    ensures there { OnOk result (is_some (get nat_cmp latest.new thread) ≡ true) }
+{
+    if !latest.contains_key(&thread) {
+        latest.insert(thread, None)?;
+    }
+    Ok(())
+}
+
+// A line of a thread that has its place is the last one.
+fn note(latest: &mut BTreeMap<u32, Option<u64>>, thread: u32, number: u64)
+    requires { is_some (get nat_cmp latest.old thread) ≡ true }
+    ensures { (t : ℕ) → latest_in latest.new.entries t ≡ cond (nat_eq thread t) (Some number) (latest_in latest.old.entries t) }
+{
+    match latest.insert(thread, Some(number)) {
+        Ok(_) => {}
+        Err(_) => unreachable!(),
+    }
+}
+
 // How many extra numbers follow the number of a line of this kind.
-fn extras_of(event: &Event) -> u8
-    ensures { result ≡ extras_of event.now }
+fn extras_of(version: Version, event: &Event) -> u8
+    ensures { result ≡ extras_of version event.now }
 {
     match event {
         Event::CallBegin(_) => 0,
         Event::CallEnd(_) => 0,
         Event::Sent(..) => 1,
+        Event::Came(..) if version.is_half() => 0,
         Event::Came(..) => 1,
         Event::Expired(_, _, _, Timer::Rto) => 2,
         Event::Expired(_, _, _, Timer::Persist | Timer::Msl2 | Timer::Giveup) => 0,

@@ -17,5 +17,7 @@ pub mod HostLaw
 pub mod RowLemmas
 pub mod LeftLemmas
 pub mod ReadsLemmas
+pub mod FieldFaults
+pub mod AnswerFaults
 pub mod Printable
 pub mod ShortAnswers

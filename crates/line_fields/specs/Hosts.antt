@@ -1,7 +1,9 @@
 -- Hosts as numbers.
-use Rattle.std.specs.Prelude.{ℕ, ◌==◌, if◌then◌else◌, Result, Ok}
+use Rattle.std.specs.Prelude.{◌≤◌, ℕ, ◌==◌, if◌then◌else◌, Result, Ok}
 use Rattle.case_forms.specs.declared.calls.Host.{Host}
 use Rattle.case_forms.specs.declared.calls.Host.TheVariants.{Zero, One}
+use Rattle.case_forms.specs.declared.version.Version.{Version}
+use Rattle.case_forms.specs.Versions.{is_half}
 use Rattle.line_fields.specs.declared.fault.TextFault.{TextFault}
 use Rattle.line_fields.specs.Word.{Rest}
 use Rattle.line_fields.specs.Reading.{◌>>=◌, number_field}
@@ -15,8 +17,16 @@ host_number One = 1
 abbrev pub host_of : ℕ → Host
 host_of n = if n == 0 then Zero else One
 
--- the next field, which is a host
-unfoldable pub host_field : Rest → Result (Host × Rest) TextFault
-host_field r = do
-  n ← number_field 0 1 r
+-- the greatest number of a host that the texts of this version name: those of a half case name host 0 alone
+abbrev pub greatest_host : Version → ℕ
+greatest_host v = if is_half v then 0 else 1
+
+-- the texts of this version name this host
+abbrev pub IsHost : Version → Host → Type 0
+IsHost v host = host_number host ≤ greatest_host v
+
+-- the next field, which is such a host
+unfoldable pub host_field : Version → Rest → Result (Host × Rest) TextFault
+host_field v r = do
+  n ← number_field 0 (greatest_host v) r
   Ok (host_of n.0, n.1)

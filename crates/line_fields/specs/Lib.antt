@@ -15,3 +15,5 @@ pub mod States
 pub mod Timers
 pub mod Answers
 pub mod AnswerFields
+pub mod Forms
+pub mod AnswerForms

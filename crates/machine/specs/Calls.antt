@@ -73,8 +73,16 @@ change b n f = option_map_or (change_thing b f) (thing_of b n) b
 
 -- what the host has then; every other answer changes nothing
 abbrev pub after_call : Body → Call → Answer → Body
-after_call b (calls.Listen host port backlog) (answers.Given n) = with_socket (record b { listeners = b.listeners ++ record { port = port; backlog = backlog; is_open = true; queue = [] } ∷ [] }) n (Listens (length b.listeners))
-after_call b (calls.Connect host lport rport) (answers.Given n) = with_socket (record b { endpoints = b.endpoints ++ new_endpoint lport rport None states.SynSent ∷ [] }) n (Ends (length b.endpoints))
+after_call b (calls.Listen host port backlog) (answers.Given n) =
+    with_socket (record b {
+      listeners = b.listeners ++ record { port = port; backlog = backlog; is_open = true; queue = [] }
+          ∷ [];
+    }) n (Listens (length b.listeners))
+after_call b (calls.Connect host lport rport) (answers.Given n) =
+    with_socket (record b {
+      endpoints = b.endpoints ++ new_endpoint lport rport None states.SynSent
+          ∷ [];
+    }) n (Ends (length b.endpoints))
 after_call b (calls.Accept h) (answers.Given n) = option_map_or (after_accept b n) (thing_of b h) b
 after_call b (calls.Send h bytes) (answers.Given n) = change b h (after_send bytes n)
 after_call b (calls.Recv h most) (answers.Bytes bytes) = change b h (after_recv bytes)

@@ -8,6 +8,7 @@ pub mod Timeouts
 pub mod Recovery
 pub mod Reset
 pub mod Wire
+pub mod Heard
 pub mod Machine
 pub mod Steps
 pub mod Forgetting

@@ -1,6 +1,7 @@
 -- The machine of two TCP hosts: what a host does, and all of it as a kernel of two hosts.
 use Rattle.std.specs.Prelude.{ℕ, Bool, true, not, List, [], ◌∷◌, slice_get, Option, None, Some}
 use Rattle.std.specs.Option.{option_map, option_map_or}
+use Rattle.case_forms.specs.Versions.{is_half}
 use Rattle.case_forms.specs.declared.calls.Answer.{Answer}
 use Rattle.case_forms.specs.declared.calls.Answer.TheVariants as answers
 use Rattle.case_forms.specs.declared.calls.Call.{Call}
@@ -26,6 +27,7 @@ use Rattle.machine.specs.Timeouts.{expiry_rules, after_expiry}
 use Rattle.machine.specs.Recovery.{recovery_rules, after_recovery}
 use Rattle.machine.specs.Reset.{reset_rules, reset_of}
 use Rattle.machine.specs.Wire.{out_rules, sent, in_rules}
+use Rattle.machine.specs.Heard.{heard}
 
 -- what a host does
 pub data Act : Type 0 where
@@ -121,6 +123,8 @@ tcp h = record {
   out_rules = out_rules h;
   sent = sent;
   in_rules = in_rules h;
+  half = is_half h.version;
+  heard = heard;
   aim = aim;
   stray = λ call answer. is_bad_socket answer;
   gives = gives;

@@ -13,7 +13,9 @@ use Rattle.machine.specs.Arrives.{Taker, Nobody, AtListener, AtEndpoint, taker}
 
 -- before the connection stands, an acknowledgment of another number than the own SYN's
 abbrev pub is_stray_ack : Endpoint → Emission → Bool
-is_stray_ack e m = (is_syn_sent e.state || is_syn_received e.state) && m.flags.ack && option_map_or (λ iss. not (same_word m.ack_seq (number_of iss 1))) e.iss false
+is_stray_ack e m =
+    (is_syn_sent e.state || is_syn_received e.state) && m.flags.ack
+    && option_map_or (λ iss. not (same_word m.ack_seq (number_of iss 1))) e.iss false
 
 -- nobody is there for the segment; or a listener, for an acknowledgment
 abbrev pub finds_nothing : Emission → Taker → Bool

@@ -21,7 +21,7 @@ use Rattle.verdict.specs.Rules.{first_broken}
 use Rattle.verdict.specs.declared.rule.Rule.{Rule}
 use Rattle.hosts.specs.HostRules.{step_rules}
 use Rattle.hosts.specs.HostSteps.{after, start}
-use Rattle.hosts.specs.Hosts.{Answers, At, Begin, Does, Drops, Effect, Expires, Finish, Gets, Makes, Sends, Step, Takes, World}
+use Rattle.hosts.specs.Hosts.{Answers, At, Begin, Does, Drops, Effect, Expires, Finish, Gets, Hears, Makes, Sends, Step, Takes, World}
 use Rattle.machine.specs.Machine.{tcp_shape, tcp}
 
 -- the timer that expired
@@ -42,6 +42,7 @@ line_step (taken.CallBegin line thread call) = Begin line thread call
 line_step (taken.CallEnd line thread answer) = Finish line thread answer
 line_step (taken.Sent line host made wire) = At host (Sends line made wire)
 line_step (taken.Came line host copied wire) = At host (Gets line copied wire)
+line_step (taken.Heard line host wire) = At host (Hears line wire)
 line_step (taken.Expired line host ports e) = At host (Expires line (record { lport = ports.lport; rport = ports.rport; timer = timer_of e }) (growth_of e))
 
 -- a label's step
@@ -77,7 +78,8 @@ world_after h all w s = option_map_or (λ step. after (tcp h) s.moment w step) (
 -- the line of the witness at which the first rule of the machine is broken, with the rule; the first step stands in line 2
 abbrev pub broken_from : Header → List lines.Line → World tcp_shape → ℕ → List witness.Step → Option (ℕ × Rule)
 broken_from h all w place [] = None
-broken_from h all w place (s ∷ steps) = option_map_or (λ rule. Some (place, rule)) (rule_broken h all w s) (broken_from h all (world_after h all w s) (suc place) steps)
+broken_from h all w place (s ∷ steps) =
+    option_map_or (λ rule. Some (place, rule)) (rule_broken h all w s) (broken_from h all (world_after h all w s) (suc place) steps)
 
 abbrev pub first_broken_step : Header → List lines.Line → List witness.Step → Option (ℕ × Rule)
 first_broken_step h all steps = broken_from h all (start (tcp h)) 2 steps

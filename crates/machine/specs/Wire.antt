@@ -15,7 +15,9 @@ use Rattle.machine.specs.Same.{same_bool, same_word, same_bytes}
 
 -- the flags ACK, RST, SYN and FIN are those of the made segment; the others are read and ignored
 abbrev pub same_flags : Segment → Flags → Bool
-same_flags s f = same_bool (has_flag s.flags Ack) f.ack && same_bool (has_flag s.flags Rst) f.rst && same_bool (has_flag s.flags Syn) f.syn && same_bool (has_flag s.flags Fin) f.fin
+same_flags s f =
+    same_bool (has_flag s.flags Ack) f.ack && same_bool (has_flag s.flags Rst) f.rst && same_bool (has_flag s.flags Syn) f.syn
+    && same_bool (has_flag s.flags Fin) f.fin
 
 -- the fields are those of the made segment: the acknowledgment number where there is one, the window of all but a reset that answers
 abbrev pub shows : Segment → Emission → Bool

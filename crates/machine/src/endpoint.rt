@@ -3,6 +3,7 @@
 ghost use Rattle.std.specs.Prelude.{◌≡◌, ◌<◌, ◌^◌, IfOk};
 ghost use Rattle.machine.specs.Endpoints.{flight, is_scaling, is_up, max_made, new_endpoint, next, peer_window, receive_window, segment_length, window_in};
 
+use crate::arrived::Arrived;
 use crate::queue::Queue;
 use case_forms::{Flags, Host, State};
 use segment::{Bytes, OutOfMemory};
@@ -188,11 +189,16 @@ impl Endpoint {
     }
 
     /// The window that a segment of the peer's offers here, in bytes.
-    pub fn peer_window(&self, m: &Emission) -> u32
+    pub fn peer_window(&self, m: &Arrived<'_>) -> u32
         ensures value { result ≡ peer_window self.now m.now }
         ensures small { result < 2 ^ 30 }
     {
-        window_in(self.is_scaling(), m.flags.syn, self.peer_shift, m.window)
+        window_in(
+            self.is_scaling(),
+            m.flags().syn,
+            self.peer_shift,
+            m.window(),
+        )
     }
 }
 

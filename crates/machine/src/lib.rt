@@ -13,9 +13,11 @@
 //! - `specs/Forgetting`: what may be discarded; `specs/Bounds`: what holds of all that is kept after so many steps
 #![tactic(auto)]
 
+mod arrived;
 mod endpoint;
 mod queue;
 
+pub use arrived::Arrived;
 pub use endpoint::{
     Emission, Endpoint, Fault, Listener, Name, Socket, Stream, Thing, Window, window_in,
 };

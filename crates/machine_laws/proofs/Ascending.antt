@@ -14,7 +14,7 @@ use Rattle.verdict.specs.declared.rule.Rule.{Rule}
 use Rattle.verdict.specs.declared.rule.Rule.TheVariants as rules
 use Rattle.verdict.specs.Rules.{first_broken}
 use Rattle.hosts.specs.Tables.{Both, pick, other, on, waiting}
-use Rattle.hosts.specs.Hosts.{HostState, Turn, Idle, Called, Answered, Deed, Does, Expires, Makes, Sends, Gets, Takes, Drops, Answers, Begin, Finish, Effect, At, turn_of}
+use Rattle.hosts.specs.Hosts.{HostState, Turn, Idle, Called, Answered, Deed, Does, Expires, Makes, Sends, Gets, Hears, Takes, Drops, Answers, Begin, Finish, Effect, At, turn_of}
 use Rattle.hosts.specs.HostRules.{deed_rules, call_rules, effect_rules, fresh_rules, aim_of, just}
 use Rattle.machine.specs.declared.endpoint.Emission.{Emission}
 use Rattle.machine.specs.Bodies.{Body, endpoint_of}
@@ -23,6 +23,7 @@ use Rattle.case_forms.specs.declared.steps.TakeChoice.{TakeChoice}
 use Rattle.machine.specs.Arrives.{Taker, Nobody, AtListener, AtEndpoint, taker, taker_rules}
 use Rattle.machine.specs.Arrives.Otherwise.{connected_rules}
 use Rattle.machine.specs.Arrives.SynSent.{syn_sent_rules}
+use Rattle.machine.specs.Heard.{as_read}
 use Rattle.machine.specs.Calls.{is_bad_socket}
 use Rattle.machine.specs.Makes.{making_rules}
 use Rattle.machine.specs.Timeouts.{expiry_rules}
@@ -45,11 +46,11 @@ ascend_on f none (Some x) a b = b x
 ascend_taker : (h : Header) (host : Host) (b : Body) (how : TakeChoice) (m : Emission) (t : Taker) → ascend 6 (taker_rules h host b how m t) ≡ true
 ascend_taker h host b how m Nobody = refl
 ascend_taker h host b how m (AtListener l) = refl
-ascend_taker h host b how m (AtEndpoint i e) = go (is_syn_sent e.state)
+ascend_taker h host b how m (AtEndpoint i e) = go (as_read h.version e m) (is_syn_sent e.state)
   where
-    go : (s : Bool) → ascend 6 (if s then syn_sent_rules h.initial e how m else connected_rules h b (record { host = host; number = i }) e how m) ≡ true
-    go true = refl
-    go false = refl
+    go : (m : Emission) (s : Bool) → ascend 6 (if s then syn_sent_rules h.initial e how m else connected_rules h b (record { host = host; number = i }) e how m) ≡ true
+    go m true = refl
+    go m false = refl
 
 ascend_call : (h : Header) (moment : ℕ) (both : Both (HostState tcp_shape)) (call : Call) (answer : Answer) (o : Option Host)
     → ascend 9 (call_rules (tcp h) moment both call answer o) ≡ true
@@ -79,6 +80,7 @@ ascend_deed h host moment far k (Makes m) =
     ascend_or (λ e. making_rules e m) ((rules.NoEndpoint, true) ∷ []) (endpoint_of k.body m.lport m.rport) refl (λ e. refl)
 ascend_deed h host moment far k (Sends line number wire) = ascend_on _ ((rules.NotMade, true) ∷ []) (lookup (nat_eq number) k.made) refl (λ m. refl)
 ascend_deed h host moment far k (Gets line copied wire) = ascend_on _ ((rules.NoEmission, true) ∷ []) (lookup (nat_eq copied) far) refl (λ m. refl)
+ascend_deed h host moment far k (Hears line wire) = refl
 ascend_deed h host moment far k (Takes line how) =
     ascend_on _ ((rules.Inbox, true) ∷ []) (waiting line k.inbox) refl (λ m. ascend_taker h host k.body how m (taker k.body m))
 ascend_deed h host moment far k (Drops line) = ascend_on _ ((rules.Inbox, true) ∷ []) (waiting line k.inbox) refl (λ m. refl)

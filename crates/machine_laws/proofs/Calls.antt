@@ -1,5 +1,5 @@
 -- A call: what its answer says, and what the endpoints of the host become.
-use Rattle.std.proofs.Common.{◌≡◌, ℕ, zero, suc, Bool, true, false, List, [], ◌∷◌, ◌++◌, length, take, Option, Some, None, refl, ap, sym, subst, ◌∙◌, arith, nat_eq}
+use Rattle.std.proofs.Common.{◌≡◌, ℕ, zero, suc, Bool, true, false, List, [], ◌∷◌, ◌++◌, length, take, Option, Some, None, refl, ap, sym, subst, ◌∙◌, inl, arith, nat_eq}
 use Rattle.std.specs.Prelude.{if◌then◌else◌, ◌==◌, ◌&&◌, ◌||◌, nat_le, slice_get, is_some}
 use Rattle.std.specs.Option.{option_map_or}
 use Rattle.std.specs.Map.{lookup}
@@ -39,10 +39,11 @@ use Rattle.machine.specs.Calls.Receive.{after_recv}
 use Rattle.machine.specs.Calls.Close.{shut_down, ended_state, after_shut, after_close, after_abort, orphaned, without_listener, thing_gone}
 use Rattle.machine_laws.specs.Runs.{endpoint_place, owner, is_socket_of, call_accepted, call_ended}
 use Rattle.machine_laws.proofs.Rules.{map_or_cases, both_true, number_same, number_self, is_not}
-use Rattle.machine_laws.proofs.Later.{Hosts, name, all_cells, Later, GoodStream, GoodEnd}
-use Rattle.machine_laws.proofs.Moves.{Added, nothing, Adds, adds_nothing, UnaIn, una_in, Changes, Fresh, GoodEnds, Moves, moves_not, moves_one, moves_plain, moves_map, moves_push, silent}
-use Rattle.machine_laws.proofs.Makes.{either_stream, either_waits}
-use Rattle.machine_laws.proofs.Reading.{waiting_is, read_fits, read_more}
+use Rattle.machine_laws.proofs.Later.{Hosts, name, all_cells, Later}
+use Rattle.machine_laws.proofs.Moves.{KeepsPeer, Fresh, GoodEnds, Moves, moves_not, moves_keeps, moves_map, moves_push}
+use Rattle.streams.specs.declared.cell.Cell.{Cell}
+use Rattle.machine_laws.proofs.Grows.{Added, nothing, Adds, adds_nothing, silent, plain_keeps, Own, Stays, Gains, Grows, Bare, Plain, plain_same, plain_either, own_sends, waiting_own, Coming, OwnEnds, Grown, grown_not, grown_one, grown_plain, grown_map, grown_push}
+use Rattle.machine_laws.proofs.Reading.{read_fits, read_more}
 
 -- 1. socket numbers
 
@@ -92,21 +93,6 @@ socket_other a host n i j e h = ap (λ (o : Option ℕ). option_map_or (λ k. k 
 pub socket_none : (a : Hosts) (host : Host) (n i : ℕ) → owner (pick a host).body n ≡ None → is_socket_of a n (name host i) ≡ false
 socket_none a host n i e = ap (λ (o : Option ℕ). option_map_or (λ k. k == i) o false) e
 
--- 2. the endpoint of a socket number changes
-
-pub moves_quiet : (a : Hosts) (host : Host) (adds : ℕ → Added) (es fs : List Endpoint) → ((i : ℕ) → adds i ≡ nothing) → Moves a host silent es fs → Moves a host adds es fs
-moves_quiet a host adds es fs quiet m = record {
-  onward = λ i e at. let h = m.onward i e at in (h.0, h.1, subst (λ (x : Added). Changes a (name host i) x e h.0) (sym (quiet i)) h.2);
-  back = m.back;
-}
-
-moves_socket : (a : Hosts) (host : Host) (n i : ℕ) (f : Endpoint → Endpoint) (F : Bool → Added) → F false ≡ nothing → owner (pick a host).body n ≡ Some i → GoodEnds a host (pick a host).body.endpoints
-    → ((e : Endpoint) → slice_get (pick a host).body.endpoints i ≡ Some e → Changes a (name host i) (F true) e (f e))
-    → Moves a host (λ j. F (is_socket_of a n (name host j))) (pick a host).body.endpoints (modify (pick a host).body.endpoints i f)
-moves_socket a host n i f F none own g new = moves_one a host (λ j. F (is_socket_of a n (name host j))) (pick a host).body.endpoints i f g
-    (λ j h. ap F (socket_other a host n i j own h) ∙ none)
-    (λ e at. subst (λ b. Changes a (name host i) (F b) e (f e)) (sym (socket_here a host n i own)) (new e at))
-
 -- a socket number names an endpoint that allows the answer
 pub named : (b : Body) (n : ℕ) (call : Call) (answer : Answer) → socket_allows b n call answer ≡ true → is_bad_socket answer ≡ false → ((queue : List ℕ) → listener_allows queue call answer ≡ false)
     → (i : ℕ) × (thing_of b n ≡ Some (Ends i)) × (e : Endpoint) × (slice_get b.endpoints i ≡ Some e) × (endpoint_allows e call answer ≡ true)
@@ -122,7 +108,7 @@ named b n call answer may good refused = go (thing_of b n) refl may
     go (Some (Listens l)) is may = absurd (let x = refused (queue_of b l) in cc)
     go (Some (Ends i)) is may = let x = there i (slice_get b.endpoints i) refl may in (i, is, x.0, x.1, x.2)
 
--- 3. sending
+-- 2. what a call changes
 
 -- bytes are accepted only where sending was not ended
 send_open : (e : Endpoint) (bytes : List ℕ) (n : ℕ) → send_allows e bytes (answers.Given n) ≡ true → e.stream.ended ≡ false
@@ -136,46 +122,22 @@ send_open e bytes n may = go e.fault e.stream.ended may
     go (Some Timeout) true may = absurd cc
 
 accept_later : (s : Stream) (bytes : List ℕ) → s.ended ≡ false → Later s (record s { accepted = s.accepted ++ bytes })
-accept_later s bytes open' = record { peer = λ q p. p; cells = grown; next = le_refl _; told = ([], append-nil (received s.receive)); ended = λ h. absurd cc }
+accept_later s bytes open' = record { peer = λ q p. p; cells = grown; next = le_refl _; told = ([], append-nil (received s.receive)) }
   where
     grown : Within (all_cells s) (all_cells (record s { accepted = s.accepted ++ bytes }))
     grown zero c e = e
     grown (suc p) c e = body_grows s.accepted bytes s.ended p c (subst (λ b. slice_get (body s.accepted b) p ≡ Some c) open' e)
 
 ended_later : (s : Stream) → Later s (record s { ended = true })
-ended_later s = record { peer = λ q p. p; cells = grown; next = le_refl _; told = ([], append-nil (received s.receive)); ended = λ h. (refl, refl) }
+ended_later s = record { peer = λ q p. p; cells = grown; next = le_refl _; told = ([], append-nil (received s.receive)) }
   where
     grown : Within (all_cells s) (all_cells (record s { ended = true }))
     grown zero c e = e
     grown (suc p) c e = body_ends s.accepted s.ended p c e
 
--- what is sent has no part in what was taken
-sends_good : (c : Hosts) (me : Name) (s : Stream) (accepted : List ℕ) (ended : Bool) → GoodStream c me s → GoodStream c me (record s { accepted = accepted; ended = ended })
-sends_good c me s accepted ended g = record { taken = g.taken; una = g.una; peer = g.peer; begun = g.begun; delivered = g.delivered }
-
-changes_send : (a : Hosts) (me : Name) (e : Endpoint) (bytes : List ℕ) (n : ℕ) → GoodEnd a me e → e.stream.ended ≡ false → Changes a me (record { told = []; accepted = take n bytes; ended = false }) e (after_send bytes n e)
-changes_send a me e bytes n g open' = record {
-  later = accept_later e.stream (take n bytes) open';
-  adds = record { told = append-nil (received e.stream.receive); accepted = refl; ended = (adds_nothing e.stream).ended };
-  una = una_in a me e.stream g.stream;
-  good = λ c later was. record { stream = sends_good c me e.stream (e.stream.accepted ++ take n bytes) e.stream.ended was.stream; waits = was.waits };
-}
-
 or_true : (b : Bool) → (b || true) ≡ true
 or_true true = refl
 or_true false = refl
-
--- sending is ended
-changes_ended : (a : Hosts) (me : Name) (e f : Endpoint) → GoodEnd a me e → f.stream ≡ record e.stream { ended = true } → (is_syn_sent f.state ≡ true → is_syn_sent e.state ≡ true) → Changes a me (record { told = []; accepted = []; ended = true }) e f
-changes_ended a me e f g is waits = record {
-  later = subst (λ (s : Stream). Later e.stream s) (sym is) (ended_later e.stream);
-  adds = subst (λ (s : Stream). Adds (record { told = []; accepted = []; ended = true }) e.stream s) (sym is) (record { told = append-nil (received e.stream.receive); accepted = append-nil e.stream.accepted; ended = or_true e.stream.ended });
-  una = subst (λ (s : Stream). UnaIn a me s) (sym is) (una_in a me e.stream g.stream);
-  good = λ c later was. record {
-    stream = subst (λ (s : Stream). GoodStream c me s) (sym is) (sends_good c me e.stream e.stream.accepted true was.stream);
-    waits = λ w. let h = was.waits (waits w) in (ap (λ (s : Stream). s.peer) is ∙ h.0, ap (λ (s : Stream). s.receive.taken) is ∙ h.1);
-  };
-}
 
 shut_waits : (st : State) → is_syn_sent (ended_state st) ≡ true → is_syn_sent st ≡ true
 shut_waits states.Established x = absurd cc
@@ -190,112 +152,192 @@ shut_waits states.Closing x = x
 shut_waits states.LastAck x = x
 shut_waits states.TimeWait x = x
 
-changes_shut : (a : Hosts) (me : Name) (e : Endpoint) → GoodEnd a me e → Changes a me (record { told = []; accepted = []; ended = true }) e (after_shut e)
-changes_shut a me e g = changes_ended a me e (after_shut e) g refl (shut_waits e.state)
+-- 3. endpoints by themselves
 
-changes_close : (a : Hosts) (me : Name) (e : Endpoint) → GoodEnd a me e → Changes a me (record { told = []; accepted = []; ended = true }) e (after_close e)
-changes_close a me e g = changes_ended a me e (after_close e) g
-    (either_stream (is_syn_sent e.state) (shut_down (record e { stream = record e.stream { ended = true } })) (after_shut e) (record e.stream { ended = true }) refl refl)
-    (either_waits (is_syn_sent e.state) (is_syn_sent e.state) (shut_down (record e { stream = record e.stream { ended = true } })) (after_shut e) (λ x. absurd cc) (shut_waits e.state))
-
--- 4. reading
-
-changes_recv : (a : Hosts) (me : Name) (e : Endpoint) (bytes rest : List ℕ) → GoodEnd a me e → bytes ++ rest ≡ waiting e.stream.receive → Changes a me (record { told = bytes; accepted = []; ended = false }) e (after_recv bytes e)
-changes_recv a me e bytes rest g is =
-    let r = e.stream.receive in
-    let waits = waiting_is a me e.stream g.stream in
-    record {
-      later = record { peer = λ q p. p; cells = λ p c z. z; next = le_refl _; told = (bytes, read_more r bytes rest waits is); ended = λ h. (h, refl) };
-      adds = record { told = read_more r bytes rest waits is; accepted = (adds_nothing e.stream).accepted; ended = (adds_nothing e.stream).ended };
-      una = una_in a me e.stream g.stream;
-      good = λ c later was. record {
-        stream = record { taken = was.stream.taken; una = was.stream.una; peer = was.stream.peer; begun = was.stream.begun; delivered = read_fits r bytes rest waits is was.stream.delivered };
-        waits = was.waits;
-      };
-    }
-
--- 5. closing a listener
-
-orphan_stream : (l : ℕ) (e : Endpoint) → (orphaned l e).stream ≡ e.stream
-orphan_stream l e = either_stream (option_map_or (λ holder. holder == l) e.listener false) (after_abort e) e e.stream refl refl
-
-orphan_waits : (l : ℕ) (e : Endpoint) → is_syn_sent (orphaned l e).state ≡ true → is_syn_sent e.state ≡ true
-orphan_waits l e = either_waits (option_map_or (λ holder. holder == l) e.listener false) (is_syn_sent e.state) (after_abort e) e (λ x. absurd cc) (λ x. x)
-
-moves_listener : (a : Hosts) (host : Host) (b : Body) (l : ℕ) → GoodEnds a host b.endpoints → Moves a host silent b.endpoints (without_listener b l).endpoints
-moves_listener a host b l g = moves_map a host b.endpoints (orphaned l) g (orphan_stream l) (orphan_waits l)
-
--- 6. calls
-
-moves_accept : (a : Hosts) (host : Host) (b : Body) (n : ℕ) (thing : Thing) → GoodEnds a host b.endpoints → Moves a host silent b.endpoints (after_accept b n thing).endpoints
-moves_accept a host b n (Ends i) g = moves_not a host silent b.endpoints (λ i. refl) g
-moves_accept a host b n (Listens l) g = go (queue_of b l)
-  where
-    go : (queue : List ℕ) → Moves a host silent b.endpoints (accepted_from b l n queue).endpoints
-    go [] = moves_not a host silent b.endpoints (λ i. refl) g
-    go (child ∷ queue) = moves_plain a host b.endpoints child (λ e. record e { listener = None }) g (λ e. refl) (λ e x. x)
-
-fresh_endpoint : (a : Hosts) (me : Name) (lport rport : ℕ) → Fresh a me (new_endpoint lport rport None states.SynSent)
-fresh_endpoint a me lport rport = record {
-  untouched = record { told = refl; accepted = refl; ended = refl };
-  una = λ more. absurd (omega arith);
-  good = λ c later. record {
-    stream = record { taken = λ p c e. absurd (none-some _ e); una = λ more. absurd (omega arith); peer = λ q e. absurd (none-some q e); begun = λ q e. absurd (none-some q e); delivered = omega arith };
-    waits = λ x. (refl, refl);
-  };
+grown_quiet : (comes : Coming) (host : Host) (adds : ℕ → Added) (es fs : List Endpoint) → ((i : ℕ) → adds i ≡ nothing) → Grown comes host silent es fs → Grown comes host adds es fs
+grown_quiet comes host adds es fs quiet m = record {
+  onward = λ i e at. let h = m.onward i e at in (h.0, h.1, subst (λ (x : Added). Grows (comes (name host i)) x e h.0) (sym (quiet i)) h.2);
+  back = m.back;
 }
 
-pub moves_call : (a : Hosts) (host : Host) (call : Call) (answer : Answer) → GoodEnds a host (pick a host).body.endpoints → call_allows (pick a host).body call answer ≡ true
-    → Moves a host (λ j. call_adds a call answer (name host j)) (pick a host).body.endpoints (after_call (pick a host).body call answer).endpoints
-moves_call a host (calls.Listen at port backlog) (answers.Given n) g may = moves_not a host silent (pick a host).body.endpoints (λ i. refl) g
-moves_call a host (calls.Connect at lport rport) (answers.Given n) g may = moves_push a host (pick a host).body.endpoints (new_endpoint lport rport None states.SynSent) g (fresh_endpoint a _ lport rport)
-moves_call a host (calls.Accept h) (answers.Given n) g may = let b = (pick a host).body in
-    map_or_cases (λ (x : Body). Moves a host silent b.endpoints x.endpoints) (thing_of b h) b (after_accept b n) (λ e. moves_not a host silent b.endpoints (λ i. refl) g) (λ thing e. moves_accept a host b n thing g)
-moves_call a host (calls.Send h bytes) (answers.Given n) g may =
+grown_socket : (comes : Coming) (a : Hosts) (host : Host) (n i : ℕ) (f : Endpoint → Endpoint) (F : Bool → Added) → F false ≡ nothing → owner (pick a host).body n ≡ Some i → OwnEnds (pick a host).body.endpoints
+    → ((e : Endpoint) → slice_get (pick a host).body.endpoints i ≡ Some e → Grows (comes (name host i)) (F true) e (f e))
+    → Grown comes host (λ j. F (is_socket_of a n (name host j))) (pick a host).body.endpoints (modify (pick a host).body.endpoints i f)
+grown_socket comes a host n i f F none own g new = grown_one comes host (λ j. F (is_socket_of a n (name host j))) (pick a host).body.endpoints i f g
+    (λ j h. ap F (socket_other a host n i j own h) ∙ none)
+    (λ e at. subst (λ b. Grows (comes (name host i)) (F b) e (f e)) (sym (socket_here a host n i own)) (new e at))
+
+grows_send : (comes : ℕ → Cell → Type 0) (e : Endpoint) (bytes : List ℕ) (n : ℕ) → Own e → e.stream.ended ≡ false → Grows comes (record { told = []; accepted = take n bytes; ended = false }) e (after_send bytes n e)
+grows_send comes e bytes n g open' = record {
+  own = own_sends e (after_send bytes n e) (e.stream.accepted ++ take n bytes) e.stream.ended g refl refl (λ x. x);
+  later = accept_later e.stream (take n bytes) open';
+  adds = record { told = append-nil (received e.stream.receive); accepted = refl; ended = (adds_nothing e.stream).ended };
+  stays = λ p c x. x;
+  gains = λ p c x some. inl x;
+}
+
+-- sending is ended
+grows_ended : (comes : ℕ → Cell → Type 0) (e f : Endpoint) → Own e → f.stream ≡ record e.stream { ended = true } → f.irs ≡ e.irs → (is_syn_sent f.state ≡ true → is_syn_sent e.state ≡ true) → Grows comes (record { told = []; accepted = []; ended = true }) e f
+grows_ended comes e f g is irs waits = record {
+  own = own_sends e f e.stream.accepted true g is irs waits;
+  later = subst (λ (s : Stream). Later e.stream s) (sym is) (ended_later e.stream);
+  adds = subst (λ (s : Stream). Adds (record { told = []; accepted = []; ended = true }) e.stream s) (sym is) (record { told = append-nil (received e.stream.receive); accepted = append-nil e.stream.accepted; ended = or_true e.stream.ended });
+  stays = subst (λ (s : Stream). Stays e.stream s) (sym is) (λ p c x. x);
+  gains = subst (λ (s : Stream). Gains comes e.stream s) (sym is) (λ p c x some. inl x);
+}
+
+grows_shut : (comes : ℕ → Cell → Type 0) (e : Endpoint) → Own e → Grows comes (record { told = []; accepted = []; ended = true }) e (after_shut e)
+grows_shut comes e g = grows_ended comes e (after_shut e) g refl refl (shut_waits e.state)
+
+grows_close : (comes : ℕ → Cell → Type 0) (e : Endpoint) → Own e → Grows comes (record { told = []; accepted = []; ended = true }) e (after_close e)
+grows_close comes e g = go (is_syn_sent e.state) refl
+  where
+    go : (b : Bool) → is_syn_sent e.state ≡ b → Grows comes (record { told = []; accepted = []; ended = true }) e (record (if b then shut_down (record e { stream = record e.stream { ended = true } }) else after_shut e) { closed = true })
+    go true is = grows_ended comes e (record (shut_down (record e { stream = record e.stream { ended = true } })) { closed = true }) g refl refl (λ x. is)
+    go false is = grows_ended comes e (record (after_shut e) { closed = true }) g refl refl (shut_waits e.state)
+
+grows_recv : (comes : ℕ → Cell → Type 0) (e : Endpoint) (bytes rest : List ℕ) → Own e → bytes ++ rest ≡ waiting e.stream.receive → Grows comes (record { told = bytes; accepted = []; ended = false }) e (after_recv bytes e)
+grows_recv comes e bytes rest g is =
+    let r = e.stream.receive in
+    let waits = waiting_own e g in
+    record {
+      own = record { waits = g.waits; order = g.order; begun = g.begun; delivered = read_fits r bytes rest waits is g.delivered };
+      later = record { peer = λ q p. p; cells = λ p c z. z; next = le_refl _; told = (bytes, read_more r bytes rest waits is) };
+      adds = record { told = read_more r bytes rest waits is; accepted = (adds_nothing e.stream).accepted; ended = (adds_nothing e.stream).ended };
+      stays = λ p c x. x;
+      gains = λ p c x some. inl x;
+    }
+
+plain_orphan : (l : ℕ) (e : Endpoint) → Plain e (orphaned l e)
+plain_orphan l e = plain_either (option_map_or (λ holder. holder == l) e.listener false) e (after_abort e) e (record { stream = refl; irs = refl; waits = λ x. absurd cc }) (plain_same e)
+
+grown_listener : (comes : Coming) (host : Host) (b : Body) (l : ℕ) → OwnEnds b.endpoints → Grown comes host silent b.endpoints (without_listener b l).endpoints
+grown_listener comes host b l g = grown_map comes host b.endpoints (orphaned l) g (plain_orphan l)
+
+grown_accept : (comes : Coming) (host : Host) (b : Body) (n : ℕ) (thing : Thing) → OwnEnds b.endpoints → Grown comes host silent b.endpoints (after_accept b n thing).endpoints
+grown_accept comes host b n (Ends i) g = grown_not comes host silent b.endpoints (λ i. refl) g
+grown_accept comes host b n (Listens l) g = go (queue_of b l)
+  where
+    go : (queue : List ℕ) → Grown comes host silent b.endpoints (accepted_from b l n queue).endpoints
+    go [] = grown_not comes host silent b.endpoints (λ i. refl) g
+    go (child ∷ queue) = grown_plain comes host b.endpoints child (λ e. record e { listener = None }) g (λ e. record { stream = refl; irs = refl; waits = λ x. x })
+
+bare_endpoint : (lport rport : ℕ) → Bare (new_endpoint lport rport None states.SynSent)
+bare_endpoint lport rport = record {
+  own = record { waits = λ x. (refl, refl); order = inl refl; begun = λ irs is. absurd (none-some irs is); delivered = omega arith };
+  untouched = record { told = refl; accepted = refl; ended = refl };
+  bare = λ p c e. absurd (none-some _ e);
+}
+
+pub grown_call : (comes : Coming) (a : Hosts) (host : Host) (call : Call) (answer : Answer) → OwnEnds (pick a host).body.endpoints → call_allows (pick a host).body call answer ≡ true
+    → Grown comes host (λ j. call_adds a call answer (name host j)) (pick a host).body.endpoints (after_call (pick a host).body call answer).endpoints
+grown_call comes a host (calls.Listen at port backlog) (answers.Given n) g may = grown_not comes host silent (pick a host).body.endpoints (λ i. refl) g
+grown_call comes a host (calls.Connect at lport rport) (answers.Given n) g may = grown_push comes host (pick a host).body.endpoints (new_endpoint lport rport None states.SynSent) g (bare_endpoint lport rport)
+grown_call comes a host (calls.Accept h) (answers.Given n) g may = let b = (pick a host).body in
+    map_or_cases (λ (x : Body). Grown comes host silent b.endpoints x.endpoints) (thing_of b h) b (after_accept b n) (λ e. grown_not comes host silent b.endpoints (λ i. refl) g) (λ thing e. grown_accept comes host b n thing g)
+grown_call comes a host (calls.Send h bytes) (answers.Given n) g may =
     let b = (pick a host).body in
     let x = named b h (calls.Send h bytes) (answers.Given n) may refl (λ queue. refused queue) in
-    subst (λ (o : Option Thing). Moves a host (λ j. call_adds a (calls.Send h bytes) (answers.Given n) (name host j)) b.endpoints (option_map_or (change_thing b (after_send bytes n)) o b).endpoints) (sym x.1)
-    (moves_socket a host h x.0 (after_send bytes n) (λ c. record { told = []; accepted = if c then take n bytes else []; ended = false }) refl (owner_of b h (Ends x.0) x.1).0 g
-    (λ e at. changes_send a (name host x.0) e bytes n (g x.0 e at)
+    subst (λ (o : Option Thing). Grown comes host (λ j. call_adds a (calls.Send h bytes) (answers.Given n) (name host j)) b.endpoints (option_map_or (change_thing b (after_send bytes n)) o b).endpoints) (sym x.1)
+    (grown_socket comes a host h x.0 (after_send bytes n) (λ c. record { told = []; accepted = if c then take n bytes else []; ended = false }) refl (owner_of b h (Ends x.0) x.1).0 g
+    (λ e at. grows_send (comes (name host x.0)) e bytes n (g x.0 e at)
     (subst (λ (y : Endpoint). y.stream.ended ≡ false) (same_Some x.2 e (sym x.3 ∙ at)) (send_open x.2 bytes n x.4))))
   where
     refused : (queue : List ℕ) → listener_allows queue (calls.Send h bytes) (answers.Given n) ≡ false
     refused [] = refl
     refused (c ∷ queue) = refl
-moves_call a host (calls.Recv h most) (answers.Bytes bytes) g may =
+grown_call comes a host (calls.Recv h most) (answers.Bytes bytes) g may =
     let b = (pick a host).body in
     let x = named b h (calls.Recv h most) (answers.Bytes bytes) may refl (λ queue. refused queue) in
     let rest = starts_prefix bytes (waiting x.2.stream.receive) (both_true (nat_le 1 (length bytes) && nat_le (length bytes) most) (starts bytes (waiting x.2.stream.receive)) x.4).1 in
-    subst (λ (o : Option Thing). Moves a host (λ j. call_adds a (calls.Recv h most) (answers.Bytes bytes) (name host j)) b.endpoints (option_map_or (change_thing b (after_recv bytes)) o b).endpoints) (sym x.1)
-    (moves_socket a host h x.0 (after_recv bytes) (λ c. record { told = if c then bytes else []; accepted = []; ended = false }) refl (owner_of b h (Ends x.0) x.1).0 g
-    (λ e at. changes_recv a (name host x.0) e bytes rest.0 (g x.0 e at)
+    subst (λ (o : Option Thing). Grown comes host (λ j. call_adds a (calls.Recv h most) (answers.Bytes bytes) (name host j)) b.endpoints (option_map_or (change_thing b (after_recv bytes)) o b).endpoints) (sym x.1)
+    (grown_socket comes a host h x.0 (after_recv bytes) (λ c. record { told = if c then bytes else []; accepted = []; ended = false }) refl (owner_of b h (Ends x.0) x.1).0 g
+    (λ e at. grows_recv (comes (name host x.0)) e bytes rest.0 (g x.0 e at)
     (subst (λ (y : Endpoint). bytes ++ rest.0 ≡ waiting y.stream.receive) (same_Some x.2 e (sym x.3 ∙ at)) rest.1)))
   where
     refused : (queue : List ℕ) → listener_allows queue (calls.Recv h most) (answers.Bytes bytes) ≡ false
     refused [] = refl
     refused (c ∷ queue) = refl
-moves_call a host (calls.Shut h) answers.Done g may =
+grown_call comes a host (calls.Shut h) answers.Done g may =
     let b = (pick a host).body in
     let x = named b h (calls.Shut h) answers.Done may refl (λ queue. refused queue) in
-    subst (λ (o : Option Thing). Moves a host (λ j. call_adds a (calls.Shut h) answers.Done (name host j)) b.endpoints (option_map_or (change_thing b after_shut) o b).endpoints) (sym x.1)
-    (moves_socket a host h x.0 after_shut (λ c. record { told = []; accepted = []; ended = c }) refl (owner_of b h (Ends x.0) x.1).0 g (λ e at. changes_shut a (name host x.0) e (g x.0 e at)))
+    subst (λ (o : Option Thing). Grown comes host (λ j. call_adds a (calls.Shut h) answers.Done (name host j)) b.endpoints (option_map_or (change_thing b after_shut) o b).endpoints) (sym x.1)
+    (grown_socket comes a host h x.0 after_shut (λ c. record { told = []; accepted = []; ended = c }) refl (owner_of b h (Ends x.0) x.1).0 g (λ e at. grows_shut (comes (name host x.0)) e (g x.0 e at)))
   where
     refused : (queue : List ℕ) → listener_allows queue (calls.Shut h) answers.Done ≡ false
     refused [] = refl
     refused (c ∷ queue) = refl
-moves_call a host (calls.Close h) answers.Done g may = go (thing_of (pick a host).body h) refl may
+grown_call comes a host (calls.Close h) answers.Done g may = go (thing_of (pick a host).body h) refl may
   where
     go : (o : Option Thing) → thing_of (pick a host).body h ≡ o → option_map_or (thing_allows (pick a host).body (calls.Close h) answers.Done) o false ≡ true
-        → Moves a host (λ j. call_adds a (calls.Close h) answers.Done (name host j)) (pick a host).body.endpoints (option_map_or (λ thing. record (thing_gone (pick a host).body thing after_close) { sockets = dead (pick a host).body.sockets h }) o (pick a host).body).endpoints
+        → Grown comes host (λ j. call_adds a (calls.Close h) answers.Done (name host j)) (pick a host).body.endpoints (option_map_or (λ thing. record (thing_gone (pick a host).body thing after_close) { sockets = dead (pick a host).body.sockets h }) o (pick a host).body).endpoints
     go None is may = absurd cc
-    go (Some (Listens l)) is may = moves_quiet a host (λ j. call_adds a (calls.Close h) answers.Done (name host j)) (pick a host).body.endpoints (without_listener (pick a host).body l).endpoints
-        (λ i. ap (λ (c : Bool). record { told = []; accepted = []; ended = c }) (socket_none a host h i (owner_of (pick a host).body h (Listens l) is).0)) (moves_listener a host (pick a host).body l g)
-    go (Some (Ends i)) is may = moves_socket a host h i after_close (λ c. record { told = []; accepted = []; ended = c }) refl (owner_of (pick a host).body h (Ends i) is).0 g (λ e at. changes_close a (name host i) e (g i e at))
-moves_call a host (calls.Abort h) answers.Done g may = let b = (pick a host).body in
-    map_or_cases (λ (x : Body). Moves a host silent b.endpoints x.endpoints) (thing_of b h) b (λ thing. record (thing_gone b thing after_abort) { sockets = dead b.sockets h }) (λ e. moves_not a host silent b.endpoints (λ i. refl) g)
+    go (Some (Listens l)) is may = grown_quiet comes host (λ j. call_adds a (calls.Close h) answers.Done (name host j)) (pick a host).body.endpoints (without_listener (pick a host).body l).endpoints
+        (λ i. ap (λ (c : Bool). record { told = []; accepted = []; ended = c }) (socket_none a host h i (owner_of (pick a host).body h (Listens l) is).0)) (grown_listener comes host (pick a host).body l g)
+    go (Some (Ends i)) is may = grown_socket comes a host h i after_close (λ c. record { told = []; accepted = []; ended = c }) refl (owner_of (pick a host).body h (Ends i) is).0 g (λ e at. grows_close (comes (name host i)) e (g i e at))
+grown_call comes a host (calls.Abort h) answers.Done g may = let b = (pick a host).body in
+    map_or_cases (λ (x : Body). Grown comes host silent b.endpoints x.endpoints) (thing_of b h) b (λ thing. record (thing_gone b thing after_abort) { sockets = dead b.sockets h }) (λ e. grown_not comes host silent b.endpoints (λ i. refl) g)
     (λ thing e. go thing)
   where
-    go : (thing : Thing) → Moves a host silent (pick a host).body.endpoints (thing_gone (pick a host).body thing after_abort).endpoints
-    go (Listens l) = moves_listener a host (pick a host).body l g
-    go (Ends i) = moves_plain a host (pick a host).body.endpoints i after_abort g (λ e. refl) (λ e x. absurd cc)
-moves_call a host call answer g may = moves_not a host silent (pick a host).body.endpoints (λ i. refl) g
+    go : (thing : Thing) → Grown comes host silent (pick a host).body.endpoints (thing_gone (pick a host).body thing after_abort).endpoints
+    go (Listens l) = grown_listener comes host (pick a host).body l g
+    go (Ends i) = grown_plain comes host (pick a host).body.endpoints i after_abort g (λ e. record { stream = refl; irs = refl; waits = λ x. absurd cc })
+grown_call comes a host call answer g may = grown_not comes host silent (pick a host).body.endpoints (λ i. refl) g
+
+-- 4. endpoints and their peers: no call changes what an endpoint has of its peer
+
+keeps_shut : (e : Endpoint) → KeepsPeer e (after_shut e)
+keeps_shut e = record { peer = refl; taken = refl; una = refl; waits = shut_waits e.state }
+
+keeps_close : (e : Endpoint) → KeepsPeer e (after_close e)
+keeps_close e = go (is_syn_sent e.state)
+  where
+    go : (b : Bool) → KeepsPeer e (record (if b then shut_down (record e { stream = record e.stream { ended = true } }) else after_shut e) { closed = true })
+    go true = record { peer = refl; taken = refl; una = refl; waits = λ x. absurd cc }
+    go false = record { peer = refl; taken = refl; una = refl; waits = shut_waits e.state }
+
+keeps_abort : (e : Endpoint) → KeepsPeer e (after_abort e)
+keeps_abort e = record { peer = refl; taken = refl; una = refl; waits = λ x. absurd cc }
+
+moves_change : (a : Hosts) (host : Host) (b : Body) (n : ℕ) (f : Endpoint → Endpoint) → GoodEnds a host b.endpoints → ((e : Endpoint) → KeepsPeer e (f e)) → Moves a host b.endpoints (option_map_or (change_thing b f) (thing_of b n) b).endpoints
+moves_change a host b n f g keeps = map_or_cases (λ (x : Body). Moves a host b.endpoints x.endpoints) (thing_of b n) b (change_thing b f) (λ e. moves_not a host b.endpoints g) (λ thing e. go thing)
+  where
+    go : (thing : Thing) → Moves a host b.endpoints (change_thing b f thing).endpoints
+    go (Listens l) = moves_not a host b.endpoints g
+    go (Ends i) = moves_keeps a host b.endpoints i f g keeps
+
+moves_gone : (a : Hosts) (host : Host) (b : Body) (n : ℕ) (f : Endpoint → Endpoint) → GoodEnds a host b.endpoints → ((e : Endpoint) → KeepsPeer e (f e))
+    → Moves a host b.endpoints (option_map_or (λ thing. record (thing_gone b thing f) { sockets = dead b.sockets n }) (thing_of b n) b).endpoints
+moves_gone a host b n f g keeps = map_or_cases (λ (x : Body). Moves a host b.endpoints x.endpoints) (thing_of b n) b (λ thing. record (thing_gone b thing f) { sockets = dead b.sockets n }) (λ e. moves_not a host b.endpoints g) (λ thing e. go thing)
+  where
+    go : (thing : Thing) → Moves a host b.endpoints (thing_gone b thing f).endpoints
+    go (Listens l) = moves_map a host b.endpoints (orphaned l) g (λ e. plain_keeps e (orphaned l e) (plain_orphan l e))
+    go (Ends i) = moves_keeps a host b.endpoints i f g keeps
+
+moves_accept : (a : Hosts) (host : Host) (b : Body) (n : ℕ) (thing : Thing) → GoodEnds a host b.endpoints → Moves a host b.endpoints (after_accept b n thing).endpoints
+moves_accept a host b n (Ends i) g = moves_not a host b.endpoints g
+moves_accept a host b n (Listens l) g = go (queue_of b l)
+  where
+    go : (queue : List ℕ) → Moves a host b.endpoints (accepted_from b l n queue).endpoints
+    go [] = moves_not a host b.endpoints g
+    go (child ∷ queue) = moves_keeps a host b.endpoints child (λ e. record e { listener = None }) g (λ e. record { peer = refl; taken = refl; una = refl; waits = λ x. x })
+
+fresh_endpoint : (a : Hosts) (me : Name) (lport rport : ℕ) → Fresh a me (new_endpoint lport rport None states.SynSent)
+fresh_endpoint a me lport rport = record {
+  una = λ more. absurd (omega arith);
+  good = λ c later. record {
+    stream = record { taken = λ p c e. absurd (none-some _ e); una = λ more. absurd (omega arith); peer = λ q e. absurd (none-some q e) };
+    waits = λ x. (refl, refl);
+  };
+}
+
+pub moves_call : (a : Hosts) (host : Host) (b : Body) (call : Call) (answer : Answer) → GoodEnds a host b.endpoints → Moves a host b.endpoints (after_call b call answer).endpoints
+moves_call a host b (calls.Listen at port backlog) (answers.Given n) g = moves_not a host b.endpoints g
+moves_call a host b (calls.Connect at lport rport) (answers.Given n) g = moves_push a host b.endpoints (new_endpoint lport rport None states.SynSent) g (fresh_endpoint a _ lport rport)
+moves_call a host b (calls.Accept h) (answers.Given n) g = map_or_cases (λ (x : Body). Moves a host b.endpoints x.endpoints) (thing_of b h) b (after_accept b n) (λ e. moves_not a host b.endpoints g) (λ thing e. moves_accept a host b n thing g)
+moves_call a host b (calls.Send h bytes) (answers.Given n) g = moves_change a host b h (after_send bytes n) g (λ e. record { peer = refl; taken = refl; una = refl; waits = λ x. x })
+moves_call a host b (calls.Recv h most) (answers.Bytes bytes) g = moves_change a host b h (after_recv bytes) g (λ e. record { peer = refl; taken = refl; una = refl; waits = λ x. x })
+moves_call a host b (calls.Shut h) answers.Done g = moves_change a host b h after_shut g keeps_shut
+moves_call a host b (calls.Close h) answers.Done g = moves_gone a host b h after_close g keeps_close
+moves_call a host b (calls.Abort h) answers.Done g = moves_gone a host b h after_abort g keeps_abort
+moves_call a host b call answer g = moves_not a host b.endpoints g

@@ -1,4 +1,4 @@
--- Runs that are computed: what their steps say by themselves, and why nothing is claimed of an acknowledged SYN.
+-- Runs that are computed: what their steps say by themselves, and why nothing is claimed of an acknowledged SYN, nor of a host that is not recorded.
 use Rattle.std.proofs.Common.{◌≡◌, true, List, [], ◌∷◌, take, Option, None, Some, refl, sym}
 use Rattle.std.specs.Option.{option_map_or}
 use Rattle.std.proofs.lemmas.Option.{none-some}
@@ -14,9 +14,11 @@ use Rattle.hosts.specs.HostRules.{step_rules}
 use Rattle.hosts.specs.HostSteps.{after, start, Lawful}
 use Rattle.machine.specs.Steps.{label_step}
 use Rattle.machine.specs.Machine.{tcp, tcp_shape}
+use Rattle.machine.specs.Heard.{far_name}
 use Rattle.machine.proofs.Telling.{header}
 use Rattle.machine.proofs.Handshakes.{segment_for_an_older_endpoint_lines, segment_for_an_older_endpoint_steps}
 use Rattle.machine.proofs.Streams.{one_way_ends_lines, one_way_ends_steps}
+use Rattle.machine.proofs.Versions.{half, hears_lines, hears_steps}
 use Rattle.machine_laws.specs.Runs.{world_at_end, is_socket_of, told_to, was_told_end, accepted_by, was_ended}
 use Rattle.machine_laws.specs.Consequences.{find}
 use Rattle.machine_laws.proofs.Later.{name}
@@ -91,3 +93,20 @@ its_peer_is_the_child = refl
 
 the_childs_peer_is_the_older : option_map_or (λ e. e.stream.peer) (find (world_at_end (header 120000000 0) answered_by_mistake).hosts (name One 0)) None ≡ Some (name Zero 0)
 the_childs_peer_is_the_older = refl
+
+-- where host 0 alone is recorded: its read was told two bytes that were heard
+abbrev one_side : List (Stamped tcp_shape)
+one_side = steps_of half hears_lines (hears_steps true (104 ∷ 105 ∷ []))
+
+one_side_is_a_run : Lawful (tcp half) (start (tcp half)) one_side
+one_side_is_a_run = lawful half (start (tcp half)) one_side refl
+
+six_was_told_what_was_heard : told_to half 6 one_side ≡ 104 ∷ 105 ∷ []
+six_was_told_what_was_heard = refl
+
+-- why nothing is said of the peer there: no endpoint has its name
+its_peer_has_a_name : option_map_or (λ e. e.stream.peer) (find (world_at_end half one_side).hosts (name Zero 0)) None ≡ Some far_name
+its_peer_has_a_name = refl
+
+nobody_has_it : find (world_at_end half one_side).hosts far_name ≡ None
+nobody_has_it = refl

@@ -22,6 +22,7 @@ use Rattle.machine.specs.Makes.{making_rules, emission_of, after_making}
 use Rattle.case_forms.specs.declared.steps.TakeChoice.{TakeChoice}
 use Rattle.machine.specs.Arrives.Otherwise.{connected_rules}
 use Rattle.machine.specs.Arrives.SynSent.{syn_sent_rules}
+use Rattle.machine.specs.Heard.{as_read}
 use Rattle.machine.specs.Arrives.Listen.{child}
 use Rattle.machine.specs.Arrives.{Taker, Nobody, AtListener, AtEndpoint, listener_taker, endpoint_taker, taker, taker_rules, endpoint_taken, after_taking}
 use Rattle.machine.specs.Reset.{finds_nothing}
@@ -68,18 +69,22 @@ taker-forget b m = rw (place-forget b m.rport m.lport) (by (place_of b m.rport m
     by None = listener-forget b m
     by (Some i) = endpoint_taker-forget b m i
 
+-- where positions are read nothing is looked at that may be discarded
+read-forget : (h : Header) (e : Endpoint) (m : Emission) → as_read h.version (forget_endpoint e) m ≡ as_read h.version e m
+read-forget h e m = rw (next-forget e) refl
+
 taker_rules-forget : (h : Header) (me : Host) (b : Body) (how : TakeChoice) (m : Emission) (t : Taker) → taker_rules h me (forget_body b) how m (forget_taker t) ≡ taker_rules h me b how m t
 taker_rules-forget h me b how m Nobody = refl
 taker_rules-forget h me b how m (AtListener l) = refl
-taker_rules-forget h me b how m (AtEndpoint i e) = by (is_syn_sent e.state)
+taker_rules-forget h me b how m (AtEndpoint i e) = rw (read-forget h e m) (by (as_read h.version e m) (is_syn_sent e.state))
   where
     name : Name
     name = record { host = me; number = i }
 
-    by : (sent : Bool) → (if sent then syn_sent_rules h.initial (forget_endpoint e) how m else connected_rules h (forget_body b) name (forget_endpoint e) how m)
+    by : (m : Emission) (sent : Bool) → (if sent then syn_sent_rules h.initial (forget_endpoint e) how m else connected_rules h (forget_body b) name (forget_endpoint e) how m)
         ≡ (if sent then syn_sent_rules h.initial e how m else connected_rules h b name e how m)
-    by true = syn_sent_rules-forget h.initial e how m
-    by false = connected_rules-forget h b name e how m
+    by m true = syn_sent_rules-forget h.initial e how m
+    by m false = connected_rules-forget h b name e how m
 
 nothing-forget : (m : Emission) (t : Taker) → finds_nothing m (forget_taker t) ≡ finds_nothing m t
 nothing-forget m Nobody = refl
@@ -97,7 +102,7 @@ act_rules-forget h me moment b (Recovers x) = rules_at-forget b x.lport x.rport 
 taking-forgets : (h : Header) (b : Body) (how : TakeChoice) (m : Emission) (moment : ℕ) (t : Taker) → forget_body (after_taking h (forget_body b) how m moment (forget_taker t)) ≡ forget_body (after_taking h b how m moment t)
 taking-forgets h b how m moment Nobody = body-forget b
 taking-forgets h b how m moment (AtListener l) = rw (append-forgets b.endpoints (child l how m moment ∷ [])) refl
-taking-forgets h b how m moment (AtEndpoint i e) = rw (modify-forgets b.endpoints i (λ x. endpoint_taken h x how m moment) (endpoint-forgets h how m moment)) refl
+taking-forgets h b how m moment (AtEndpoint i e) = rw (read-forget h e m, modify-forgets b.endpoints i (λ x. endpoint_taken h x how (as_read h.version e m) moment) (endpoint-forgets h how (as_read h.version e m) moment)) refl
 
 pub act-forgets : (h : Header) (me : Host) (moment : ℕ) (b : Body) (act : Act) → forget_body (act_after h me moment (forget_body b) act) ≡ forget_body (act_after h me moment b act)
 act-forgets h me moment b (Calls call answer) = call-forgets b call answer

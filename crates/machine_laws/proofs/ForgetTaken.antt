@@ -1,17 +1,17 @@
 -- What an endpoint has once it took a segment: the same is kept of it, whether or not something was discarded before.
-use Rattle.std.proofs.Common.{◌≡◌, ℕ, suc, ◌-◌, ◌≤◌, Bool, true, false, List, Option, length, max, refl, sym, ap, ◌∙◌, arith}
+use Rattle.std.proofs.Common.{◌≡◌, ℕ, suc, ◌-◌, ◌≤◌, Bool, true, false, length, max, refl, sym, ap, ◌∙◌, arith}
 use Rattle.std.specs.Prelude.{◌==◌, ◌&&◌, if◌then◌else◌}
 use Rattle.std.proofs.lemmas.Bool.Decides.{nat_tests}
 use Rattle.case_forms.specs.declared.trace.Header.{Header}
 use Rattle.case_forms.specs.declared.calls.State.{State}
 use Rattle.case_forms.specs.declared.calls.State.TheVariants as states
-use Rattle.streams.specs.declared.cell.Cell.{Cell}
-use Rattle.streams.specs.Cells.{body, front}
+use Rattle.streams.specs.Cells.{front}
 use Rattle.streams.specs.Received.{Receiving, is_ended}
 use Rattle.streams.specs.Makings.{once}
 use Rattle.streams.specs.Forgetting.{forgotten}
 use Rattle.streams.proofs.Covers.{covered-covered, get-covered}
-use Rattle.streams.proofs.Fades.{fade-put_all, is_fin-fade, length-front-fade}
+use Rattle.streams.proofs.Fades.{is_fin-fade, length-front-fade}
+use Rattle.streams.proofs.Keeping.{kept_forgotten}
 use Rattle.machine.specs.declared.endpoint.Endpoint.{Endpoint}
 use Rattle.machine.specs.declared.endpoint.Emission.{Emission}
 use Rattle.case_forms.specs.States.{is_syn_sent}
@@ -31,9 +31,7 @@ use Rattle.machine_laws.proofs.ForgetEffects.{Forgets, forgets}
 -- what is taken is put behind the same front
 pub receive-forgets : (e : Endpoint) (how : TakeChoice) (m : Emission) → forgotten (receive_after (forget_endpoint e) how m) ≡ forgotten (receive_after e how m)
 receive-forgets e how m =
-    rw (next-forget e)
-    (ap (λ (taken : List (Option Cell)). let r : Receiving = record { taken = taken; delivered = e.stream.receive.delivered } in r)
-    (fade-put_all (suc e.stream.receive.delivered) e.stream.receive.taken (kept_start e m) (body (kept_bytes e how m) (keeps_fin e how m))))
+    rw (next-forget e) (kept_forgotten e.stream.receive (kept_start e m) (kept_bytes e how m) (keeps_fin e how m))
 
 -- whether the peer's FIN was passed is not forgotten
 ended-forgotten : (r : Receiving) → is_ended (forgotten r) ≡ is_ended r

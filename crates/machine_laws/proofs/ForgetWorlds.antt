@@ -1,6 +1,5 @@
 -- Steps of a world, of which something was discarded.
 use Rattle.std.proofs.Common.{◌≡◌, ℕ, suc, true, nat_eq, List, Option, None, Some, refl, ap}
-use Rattle.std.specs.Map.{lookup}
 use Rattle.indexmap.specs.IndexMap.{insert_entry}
 use Rattle.case_forms.specs.declared.calls.Host.{Host}
 use Rattle.case_forms.specs.declared.calls.Host.TheVariants.{Zero, One}
@@ -9,13 +8,14 @@ use Rattle.case_forms.specs.declared.calls.Answer.{Answer}
 use Rattle.case_forms.specs.declared.trace.Header.{Header}
 use Rattle.verdict.specs.declared.rule.Rule.TheVariants as rules
 use Rattle.verdict.specs.Rules.{first_broken}
-use Rattle.hosts.specs.Tables.{Both, pick, on, Made, gone_out, waiting, settled}
-use Rattle.hosts.specs.Hosts.{Aim, ThatHost, ThatSocket, HostState, Turn, Idle, Called, Answered, World, Deed, Does, Expires, Makes, Sends, Gets, Takes, Drops, Answers, Step, Begin, Finish, Effect, At, turn_of}
+use Rattle.hosts.specs.Tables.{Both, pick, on, Made, waiting, settled}
+use Rattle.hosts.specs.Hosts.{Aim, ThatHost, ThatSocket, HostState, Turn, Idle, Called, Answered, World, Deed, Does, Expires, Makes, Sends, Gets, Hears, Takes, Drops, Answers, Step, Begin, Finish, Effect, At, turn_of}
 use Rattle.hosts.specs.HostRules.{just, deed_rules, aim_of, fresh_rules, call_rules, effect_rules, step_rules, Permitted}
 use Rattle.hosts.specs.HostSteps.{act_made, deed_after, call_after, effect_after, after, made_gone_out, wire_after, inbox_after, inbox_settled}
 use Rattle.machine.specs.declared.endpoint.Emission.{Emission}
 use Rattle.machine.specs.Machine.{Act, aim, gives, tcp, tcp_shape}
 use Rattle.machine.specs.Machine as acts
+use Rattle.machine.specs.Heard.{heard}
 use Rattle.machine.specs.Wire as wires
 use Rattle.machine.specs.Forgetting.{forget_body, forget_host, forget}
 use Rattle.machine_laws.specs.ForgettingLaws.{IfMaking, MakesPermitted, SameTables, SameBesides}
@@ -37,6 +37,7 @@ deed_rules-forget h me moment far s (Expires line x growth) = act_rules-forget h
 deed_rules-forget h me moment far s (Makes x) = act_rules-forget h me moment s.body (acts.Makes x)
 deed_rules-forget h me moment far s (Sends line number wire) = refl
 deed_rules-forget h me moment far s (Gets line copied wire) = refl
+deed_rules-forget h me moment far s (Hears line wire) = refl
 deed_rules-forget h me moment far s (Takes line how) =
     on-same (waiting line s.inbox) (just rules.Inbox true) (λ e. acts.act_rules h me moment (forget_body s.body) (acts.Takes how e)) (λ e. acts.act_rules h me moment s.body (acts.Takes how e))
     (λ e. act_rules-forget h me moment s.body (acts.Takes how e))
@@ -93,6 +94,7 @@ deed-forgets h me moment fresh far s (Expires line x growth) ok = rw (act-forget
 deed-forgets h me moment fresh far s (Makes x) ok = rw (act-forgets h me moment s.body (acts.Makes x), makes-forget h me moment s.body x ok) refl
 deed-forgets h me moment fresh far s (Sends line number wire) ok = tables-forgets s (made_gone_out number s.made) (wire_after wires.sent s.made line number wire moment s.wire) s.inbox
 deed-forgets h me moment fresh far s (Gets line copied wire) ok = tables-forgets s s.made s.wire (inbox_after far line copied s.inbox)
+deed-forgets h me moment fresh far s (Hears line wire) ok = tables-forgets s s.made s.wire (insert_entry nat_eq s.inbox line (Some (heard moment wire)))
 deed-forgets h me moment fresh far s (Takes line how) ok = by (waiting line s.inbox)
   where
     after : HostState tcp_shape → Option Emission → HostState tcp_shape
@@ -151,6 +153,7 @@ if_making (Expires line x growth) P p = tt
 if_making (Makes x) P p = p
 if_making (Sends line number wire) P p = tt
 if_making (Gets line copied wire) P p = tt
+if_making (Hears line wire) P p = tt
 if_making (Takes line how) P p = tt
 if_making (Drops line) P p = tt
 if_making (Answers line) P p = tt

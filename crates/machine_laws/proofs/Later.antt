@@ -1,14 +1,14 @@
 -- What holds of every world of a run, and that it stays as streams grow.
-use Rattle.std.proofs.Common.{◌≡◌, ℕ, ◌+◌, ◌<◌, ◌≤◌, true, false, List, [], ◌∷◌, ◌++◌, length, Some, None, refl, ap, sym, ◌∙◌, arith}
+use Rattle.std.proofs.Common.{◌≡◌, ℕ, ◌+◌, ◌<◌, ◌≤◌, true, false, List, [], ◌∷◌, Some, None, arith}
 use Rattle.std.specs.Prelude.{if◌then◌else◌, slice_get}
 use Rattle.std.proofs.Math.Nat.{le_refl}
-use Rattle.std.proofs.lemmas.List.{append-nil, append_assoc}
+use Rattle.std.proofs.lemmas.List.{append-nil}
 use Rattle.case_forms.specs.declared.calls.Host.{Host}
 use Rattle.streams.specs.declared.cell.Cell.{Cell}
 use Rattle.streams.specs.declared.cell.Cell.TheVariants.{Syn}
 use Rattle.streams.specs.Cells.{body, Taken}
 use Rattle.streams.specs.Lists.{IsPrefixOf, Within}
-use Rattle.streams.specs.Received.{next, arrived, received}
+use Rattle.streams.specs.Received.{next, received}
 use Rattle.streams.specs.Sent.{cells}
 use Rattle.hosts.specs.Tables.{Both, pick}
 use Rattle.hosts.specs.Hosts.{HostState}
@@ -41,32 +41,13 @@ pub record Later (s t : Stream) : Type 0 where
   pub cells : Within (all_cells s) (all_cells t)
   pub next : next s.receive ≤ next t.receive
   pub told : IsPrefixOf (received s.receive) (received t.receive)
-  pub ended : s.ended ≡ true → (t.ended ≡ true) × (t.accepted ≡ s.accepted)
 
 pub same : (s : Stream) → Later s s
-same s = record { peer = λ q e. e; cells = λ p c e. e; next = le_refl _; told = ([], append-nil (received s.receive)); ended = λ h. (h, refl) }
-
-prefix_trans : (xs ys zs : List ℕ) → IsPrefixOf xs ys → IsPrefixOf ys zs → IsPrefixOf xs zs
-prefix_trans xs ys zs p q = (p.0 ++ q.0, sym (append_assoc xs p.0 q.0) ∙ (ap (λ (l : List ℕ). l ++ q.0) p.1 ∙ q.1))
-
-pub trans : (s t u : Stream) → Later s t → Later t u → Later s u
-trans s t u a b = record {
-  peer = λ q e. b.peer q (a.peer q e);
-  cells = λ p c e. b.cells p c (a.cells p c e);
-  next = let x = a.next in let y = b.next in omega arith;
-  told = prefix_trans (received s.receive) (received t.receive) (received u.receive) a.told b.told;
-  ended = λ h. let x = a.ended h in let y = b.ended x.0 in (y.0, y.1 ∙ x.1);
-}
+same s = record { peer = λ q e. e; cells = λ p c e. e; next = le_refl _; told = ([], append-nil (received s.receive)) }
 
 -- each endpoint became what it may become
 abbrev pub AllLater : Hosts → Hosts → Type 0
 AllLater a b = (me : Name) (e : Endpoint) → find a me ≡ Some e → HasStream b me (λ t. Later e.stream t)
-
-pub all_trans : (a b c : Hosts) → AllLater a b → AllLater b c → AllLater a c
-all_trans a b c l m me e x =
-    let y = l me e x in
-    let z = m me y.0 y.1 in
-    (z.0, z.1, trans e.stream y.0.stream z.0.stream y.2 z.2)
 
 -- an emission carries what its maker sends, and acknowledges what its maker took
 pub record GoodEmission (hosts : Hosts) (m : Emission) : Type 0 where
@@ -76,13 +57,11 @@ pub record GoodEmission (hosts : Hosts) (m : Emission) : Type 0 where
   pub resets : m.answers ≡ true → m.flags.rst ≡ true
   pub ack : m.flags.ack ≡ true → m.answers ≡ false → ((q : Name) × (m.knew ≡ Some q)) × HasStream hosts m.maker (λ s. m.ack ≤ next s.receive)
 
--- an endpoint took what its peer sends, the SYN first, and is acknowledged what its peer took of it
+-- an endpoint took what its peer sends, and is acknowledged what its peer took of it
 pub record GoodStream (hosts : Hosts) (me : Name) (s : Stream) : Type 0 where
   pub taken : Taken (λ p c. (q : Name) × (s.peer ≡ Some q) × HasStream hosts q (λ t. slice_get (all_cells t) p ≡ Some c)) s.receive.taken
   pub una : 1 < s.una → (q : Name) × (s.peer ≡ Some q) × HasStream hosts q (λ t. (t.peer ≡ Some me) × (s.una ≤ next t.receive))
   pub peer : (q : Name) → s.peer ≡ Some q → HasStream hosts q (λ t. Unit {0})
-  pub begun : (q : Name) → s.peer ≡ Some q → slice_get s.receive.taken 0 ≡ Some (Some Syn)
-  pub delivered : s.receive.delivered ≤ length (arrived s.receive)
 
 -- in SYN-SENT an endpoint has nothing of a peer
 abbrev pub Waits : Endpoint → Type 0
@@ -119,8 +98,6 @@ stream_later a b later n s g = record {
   taken = λ p c e. let h = g.taken p c e in (h.0, h.1, has_later a b (λ t. slice_get (all_cells t) p ≡ Some c) (λ x y l. l.cells p c) later h.0 h.2);
   una = λ more. let h = g.una more in (h.0, h.1, has_later a b (λ t. (t.peer ≡ Some n) × (s.una ≤ next t.receive)) (λ x y l p. (l.peer n p.0, let up = l.next in let was = p.1 in omega arith)) later h.0 h.2);
   peer = λ q e. has_later a b (λ t. Unit {0}) (λ x y l u. u) later q (g.peer q e);
-  begun = g.begun;
-  delivered = g.delivered;
 }
 
 pub end_later : (a b : Hosts) → AllLater a b → (n : Name) (e : Endpoint) → GoodEnd a n e → GoodEnd b n e

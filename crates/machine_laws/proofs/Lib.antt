@@ -1,7 +1,9 @@
 pub mod Rules
 pub mod Tables
+pub mod Ordered
 pub mod Later
 pub mod Moves
+pub mod Grows
 pub mod Makes
 pub mod Takes
 pub mod Reading
@@ -11,6 +13,7 @@ pub mod Sound
 pub mod SoundSteps
 pub mod Ends
 pub mod Runs
+pub mod Carried
 pub mod Windows
 pub mod Computed
 pub mod ForgetReads
@@ -24,3 +27,5 @@ pub mod ForgetWorlds
 pub mod ForgetRuns
 pub mod Ascending
 pub mod Old
+pub mod Transitions
+pub mod HeardNumbers

@@ -20,23 +20,21 @@ use Rattle.machine.specs.declared.endpoint.Endpoint.{Endpoint}
 use Rattle.machine.specs.declared.endpoint.Emission.{Emission}
 use Rattle.machine.specs.Endpoints.{next}
 use Rattle.machine.specs.Bodies.{Body, place_of, at_ports, with_endpoint}
-use Rattle.case_forms.specs.States.{is_syn_sent}
 use Rattle.machine.specs.Calls.Close.{shut_down}
 use Rattle.case_forms.specs.declared.steps.SegmentPlan.{SegmentPlan}
 use Rattle.machine.specs.Makes.Kind.{may_make, may_make_syn, may_make_reset, may_make_other}
 use Rattle.machine.specs.Makes.Payload.{is_bad_payload}
 use Rattle.machine.specs.Makes.Edges.{is_bad_ack, is_beyond_offer, is_congesting}
 use Rattle.machine.specs.Makes.{making_rules, emission_of, after_making, endpoint_made}
-use Rattle.case_forms.specs.declared.timer.Expiry.{Expiry}
 use Rattle.case_forms.specs.declared.timer.Growth.{Growth}
-use Rattle.case_forms.specs.declared.timer.Recovery.{Recovery}
 use Rattle.machine.specs.Timeouts.{after_expiry}
 use Rattle.machine.specs.Recovery.{after_recovery}
 use Rattle.machine.specs.Machine.{made_at, rules_at}
 use Rattle.machine_laws.specs.Consequences.{HasStream}
 use Rattle.machine_laws.proofs.Rules.{map_or_cases, not_false, both_true, neither, and_false, not_true, number_same, zero_from, some_from, at_most_from, less_to}
 use Rattle.machine_laws.proofs.Later.{Hosts, name, GoodEmission, Good}
-use Rattle.machine_laws.proofs.Moves.{GoodEnds, Moves, moves_not, moves_plain, silent}
+use Rattle.machine_laws.proofs.Moves.{GoodEnds, Moves, moves_not, moves_keeps}
+use Rattle.machine_laws.proofs.Grows.{Plain, plain_either, plain_keeps}
 
 -- bytes and flags of a segment fit what its maker sends
 record Fits (acc : List ℕ) (ended : Bool) (pos len : ℕ) (s f : Bool) : Type 0 where
@@ -148,37 +146,21 @@ pub either_stream : (b : Bool) (x y : Endpoint) (s : Stream) → x.stream ≡ s 
 either_stream true x y s p q = p
 either_stream false x y s p q = q
 
-pub either_waits : (b c : Bool) (x y : Endpoint) → (is_syn_sent x.state ≡ true → c ≡ true) → (is_syn_sent y.state ≡ true → c ≡ true) → is_syn_sent (if b then x else y).state ≡ true → c ≡ true
-either_waits true c x y = λ p q. p
-either_waits false c x y = λ p q. q
-
 -- the endpoint of some ports changes, but not in its streams
-pub moves_at_ports : (a : Hosts) (host : Host) (b : Body) (lport rport : ℕ) (f : Endpoint → Endpoint) → GoodEnds a host b.endpoints → ((e : Endpoint) → (f e).stream ≡ e.stream)
-    → ((e : Endpoint) → is_syn_sent (f e).state ≡ true → is_syn_sent e.state ≡ true) → Moves a host silent b.endpoints (at_ports b lport rport f).endpoints
-moves_at_ports a host b lport rport f g streams waits = map_or_cases (λ (x : Body). Moves a host silent b.endpoints x.endpoints) (place_of b lport rport) b (λ i. with_endpoint b i f)
-    (λ e. moves_not a host silent b.endpoints (λ i. refl) g)
-    (λ i e. moves_plain a host b.endpoints i f g streams waits)
+pub moves_at_ports : (a : Hosts) (host : Host) (b : Body) (lport rport : ℕ) (f : Endpoint → Endpoint) → GoodEnds a host b.endpoints → ((e : Endpoint) → Plain e (f e)) → Moves a host b.endpoints (at_ports b lport rport f).endpoints
+moves_at_ports a host b lport rport f g plain = map_or_cases (λ (x : Body). Moves a host b.endpoints x.endpoints) (place_of b lport rport) b (λ i. with_endpoint b i f)
+    (λ e. moves_not a host b.endpoints g) (λ i e. moves_keeps a host b.endpoints i f g (λ x. plain_keeps x (f x) (plain x)))
 
-pub moves_making : (a : Hosts) (host : Host) (b : Body) (m : SegmentPlan) (moment : ℕ) → GoodEnds a host b.endpoints → Moves a host silent b.endpoints (at_ports b m.lport m.rport (λ e. after_making e m moment)).endpoints
-moves_making a host b m moment g = moves_at_ports a host b m.lport m.rport (λ e. after_making e m moment) g
-    (λ e. either_stream m.flags.rst (record (shut_down (endpoint_made e m moment)) { reset_due = false }) (endpoint_made e m moment) e.stream refl refl)
-    (λ e. either_waits m.flags.rst (is_syn_sent e.state) (record (shut_down (endpoint_made e m moment)) { reset_due = false }) (endpoint_made e m moment) (λ x. absurd cc) (λ x. x))
+-- making a segment, a timer's expiry and the beginning of fast recovery change no stream
+pub plain_making : (m : SegmentPlan) (moment : ℕ) (e : Endpoint) → Plain e (after_making e m moment)
+plain_making m moment e = plain_either m.flags.rst e (record (shut_down (endpoint_made e m moment)) { reset_due = false }) (endpoint_made e m moment)
+    (record { stream = refl; irs = refl; waits = λ x. absurd cc }) (record { stream = refl; irs = refl; waits = λ x. x })
 
--- a timer expires, fast recovery begins
-pub moves_expiry : (a : Hosts) (host : Host) (b : Body) (x : Expiry) (growth : Growth) (moment : ℕ) → GoodEnds a host b.endpoints → Moves a host silent b.endpoints (at_ports b x.lport x.rport (λ e. after_expiry e x.timer growth moment)).endpoints
-moves_expiry a host b x growth moment g = moves_at_ports a host b x.lport x.rport (λ e. after_expiry e x.timer growth moment) g (streams x.timer) (waits x.timer)
-  where
-    streams : (timer : Timer) (e : Endpoint) → (after_expiry e timer growth moment).stream ≡ e.stream
-    streams Rto e = refl
-    streams Persist e = refl
-    streams Msl2 e = refl
-    streams Giveup e = refl
+pub plain_expiry : (timer : Timer) (growth : Growth) (moment : ℕ) (e : Endpoint) → Plain e (after_expiry e timer growth moment)
+plain_expiry Rto growth moment e = record { stream = refl; irs = refl; waits = λ x. x }
+plain_expiry Persist growth moment e = record { stream = refl; irs = refl; waits = λ x. x }
+plain_expiry Msl2 growth moment e = record { stream = refl; irs = refl; waits = λ x. absurd cc }
+plain_expiry Giveup growth moment e = record { stream = refl; irs = refl; waits = λ x. absurd cc }
 
-    waits : (timer : Timer) (e : Endpoint) → is_syn_sent (after_expiry e timer growth moment).state ≡ true → is_syn_sent e.state ≡ true
-    waits Rto e y = y
-    waits Persist e y = y
-    waits Msl2 e y = absurd cc
-    waits Giveup e y = absurd cc
-
-pub moves_recovery : (a : Hosts) (host : Host) (b : Body) (x : Recovery) → GoodEnds a host b.endpoints → Moves a host silent b.endpoints (at_ports b x.lport x.rport (λ e. after_recovery e x.cwnd x.ssthresh)).endpoints
-moves_recovery a host b x g = moves_at_ports a host b x.lport x.rport (λ e. after_recovery e x.cwnd x.ssthresh) g (λ e. refl) (λ e y. y)
+pub plain_recovery : (cwnd ssthresh : ℕ) (e : Endpoint) → Plain e (after_recovery e cwnd ssthresh)
+plain_recovery cwnd ssthresh e = record { stream = refl; irs = refl; waits = λ x. x }

@@ -1,15 +1,13 @@
 -- What waits to be read is what came in order and was not delivered.
-use Rattle.std.proofs.Common.{◌≡◌, ℕ, zero, suc, ◌+◌, ◌<◌, ◌≤◌, List, [], ◌∷◌, ◌++◌, length, take, drop, Option, Some, None, refl, ap, sym, subst, ◌∙◌, arith}
+use Rattle.std.proofs.Common.{◌≡◌, ℕ, zero, suc, ◌+◌, ◌≤◌, List, [], ◌∷◌, ◌++◌, length, take, drop, Option, Some, None, refl, ap, sym, subst, ◌∙◌, arith}
 use Rattle.std.specs.Prelude.{slice_get}
 use Rattle.std.proofs.Math.Nat.{le_refl}
 use Rattle.std.proofs.lemmas.Option.{none-some, same_Some}
 use Rattle.std.proofs.lemmas.List.{take_all, take-append-le, length-append}
 use Rattle.streams.specs.declared.cell.Cell.{Cell}
-use Rattle.streams.specs.declared.cell.Cell.TheVariants.{Syn}
-use Rattle.streams.specs.Cells.{Taken, bytes_of, front, leading}
+use Rattle.streams.specs.Cells.{Taken, front}
 use Rattle.streams.specs.Received.{Receiving, arrived, received, waiting, told}
-use Rattle.streams.proofs.Fronts.{front_prefix}
-use Rattle.streams.proofs.ReadLemmas.{waiting_arrived, received_told, told_within}
+use Rattle.streams.proofs.ReadLemmas.{received_told, told_within}
 use Rattle.machine.specs.declared.endpoint.Name.{Name}
 use Rattle.machine.specs.declared.endpoint.Stream.{Stream}
 use Rattle.machine.specs.declared.endpoint.Endpoint.{Endpoint}
@@ -34,41 +32,10 @@ nothing_in_front [] h = refl
 nothing_in_front (None ∷ taken) h = refl
 nothing_in_front (Some c ∷ taken) h = absurd (h 0 c refl)
 
-nothing_leads : (n : ℕ) (taken : List (Option Cell)) → Taken (λ p c. ⊥) taken → leading (drop n taken) ≡ []
-nothing_leads zero [] h = refl
-nothing_leads zero (None ∷ taken) h = refl
-nothing_leads zero (Some c ∷ taken) h = absurd (h 0 c refl)
-nothing_leads (suc n) [] h = refl
-nothing_leads (suc n) (x ∷ taken) h = nothing_leads n taken (λ p c e. h (suc p) c e)
-
 pub take_nothing : (n : ℕ) (xs : List ℕ) → xs ≡ [] → take n xs ≡ []
 take_nothing zero xs h = refl
 take_nothing (suc n) [] h = refl
 take_nothing (suc n) (x ∷ xs) h = absurd cc
-
-drop_nothing : (n : ℕ) (xs : List ℕ) → xs ≡ [] → drop n xs ≡ []
-drop_nothing zero xs h = h
-drop_nothing (suc n) [] h = refl
-drop_nothing (suc n) (x ∷ xs) h = absurd cc
-
--- a cell at the first position is in front
-pub front_some : (taken : List (Option Cell)) (c : Cell) → slice_get taken 0 ≡ Some (Some c) → 0 < length (front taken)
-front_some [] c e = absurd (none-some _ e)
-front_some (None ∷ taken) c e = absurd (none-some c (same_Some None (Some c) e))
-front_some (Some d ∷ taken) c e = omega arith
-
--- what waits is what came in order and was not delivered
-pub waiting_is : (hosts : Hosts) (me : Name) (s : Stream) → GoodStream hosts me s → waiting s.receive ≡ drop s.receive.delivered (arrived s.receive)
-waiting_is hosts me s g = go s.peer refl
-  where
-    go : (peer : Option Name) → s.peer ≡ peer → waiting s.receive ≡ drop s.receive.delivered (arrived s.receive)
-    go None p =
-        let none = taken_none hosts me s g p in
-        nothing_leads (suc s.receive.delivered) s.receive.taken none ∙ sym (drop_nothing s.receive.delivered (arrived s.receive) (ap bytes_of (nothing_in_front s.receive.taken none)))
-    go (Some q) p =
-        let there = g.peer q p in
-        let begin = front_prefix s.receive.taken (all_cells there.0.stream) (taken_of hosts me s q there.0 g p there.1) in
-        waiting_arrived s.receive begin.0 there.0.stream.accepted there.0.stream.ended (front_some s.receive.taken Syn (g.begun q p)) begin.1 g.delivered
 
 -- the bytes that begin others are what is taken of these
 take_begin : (x rest all : List ℕ) → x ++ rest ≡ all → take (length x) all ≡ x

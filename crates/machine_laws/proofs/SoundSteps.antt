@@ -1,8 +1,7 @@
 -- Each step keeps sockets and queues sound.
-use Rattle.std.proofs.Common.{◌≡◌, ℕ, suc, ◌⊎◌, Bool, true, false, List, [], ◌∷◌, ◌++◌, length, Option, Some, None, refl, sym, subst, ◌∙◌, inl, inr, arith, nat_eq}
+use Rattle.std.proofs.Common.{◌≡◌, ℕ, suc, ◌⊎◌, Bool, true, false, List, [], ◌∷◌, ◌++◌, length, Option, Some, None, refl, sym, subst, ◌∙◌, inl, inr, arith}
 use Rattle.std.specs.Prelude.{if◌then◌else◌, ◌==◌, ◌&&◌, not, nat_lt, slice_get}
 use Rattle.std.specs.Option.{option_map_or}
-use Rattle.std.specs.Map.{lookup}
 use Rattle.std.proofs.lemmas.Option.{none-some, same_Some, slice_get_within}
 use Rattle.case_forms.specs.declared.trace.Header.{Header}
 use Rattle.case_forms.specs.declared.calls.Host.{Host}
@@ -20,7 +19,7 @@ use Rattle.verdict.specs.Rules.{first_broken}
 use Rattle.verdict.proofs.RuleLemmas.{none_all}
 use Rattle.streams.specs.Lists.{modify}
 use Rattle.hosts.specs.Tables.{pick, other, with_host, waiting}
-use Rattle.hosts.specs.Hosts.{HostState, Turn, Idle, Called, Answered, World, Deed, Does, Expires, Makes, Sends, Gets, Takes, Drops, Answers, Step, Begin, Finish, Effect, At, turn_of}
+use Rattle.hosts.specs.Hosts.{HostState, Turn, Idle, Called, Answered, World, Deed, Does, Expires, Makes, Sends, Gets, Hears, Takes, Drops, Answers, Step, Begin, Finish, Effect, At, turn_of}
 use Rattle.hosts.specs.HostRules.{aim_of, fresh_rules, effect_rules, Permitted}
 use Rattle.hosts.specs.HostSteps.{deed_after, call_after, effect_after, after}
 use Rattle.machine.specs.declared.endpoint.Endpoint.{Endpoint}
@@ -45,6 +44,7 @@ use Rattle.machine.specs.Arrives.Otherwise.{taken}
 use Rattle.machine.specs.Arrives.Otherwise.Reset.{was_reset}
 use Rattle.machine.specs.Arrives.SynSent.{met_peer}
 use Rattle.machine.specs.Arrives.Listen.{child}
+use Rattle.machine.specs.Heard.{as_read}
 use Rattle.machine.specs.Arrives.{Taker, Nobody, AtListener, AtEndpoint, taker, endpoint_taken, after_taking}
 use Rattle.case_forms.specs.declared.timer.Growth.{Growth}
 use Rattle.machine.specs.Timeouts.{after_expiry}
@@ -177,11 +177,11 @@ keeps_same b o g = record { sound = g; stays = λ n i e. e; given = λ n e. inl 
 keeps_taking : (h : Header) (b : Body) (how : TakeChoice) (m : Emission) (moment : ℕ) → Sound b → Keeps b (after_taking h b how m moment (taker b m)) None
 keeps_taking h b how m moment g = go (taker b m) refl
   where
-    by : (i : ℕ) (e : Endpoint) → slice_get b.endpoints i ≡ Some e → (c : Bool) (o : Option ℕ) → (is_syn_received e.state && acknowledges_syn e m) ≡ c → e.listener ≡ o
+    by : (m : Emission) (i : ℕ) (e : Endpoint) → slice_get b.endpoints i ≡ Some e → (c : Bool) (o : Option ℕ) → (is_syn_received e.state && acknowledges_syn e m) ≡ c → e.listener ≡ o
         → Keeps b (record b { endpoints = modify b.endpoints i (λ x. endpoint_taken h x how m moment); listeners = if c then option_map_or (λ l. modify b.listeners l (λ x. record x { queue = x.queue ++ i ∷ [] })) o b.listeners else b.listeners }) None
-    by i e at false o is his = keeps_endpoints b (modify b.endpoints i (λ x. endpoint_taken h x how m moment)) g (stay_modify (λ x. endpoint_taken h x how m moment) b.endpoints i (λ x there. stays_taken h x how m moment))
-    by i e at true None is his = keeps_endpoints b (modify b.endpoints i (λ x. endpoint_taken h x how m moment)) g (stay_modify (λ x. endpoint_taken h x how m moment) b.endpoints i (λ x there. stays_taken h x how m moment))
-    by i e at true (Some l) is his =
+    by m i e at false o is his = keeps_endpoints b (modify b.endpoints i (λ x. endpoint_taken h x how m moment)) g (stay_modify (λ x. endpoint_taken h x how m moment) b.endpoints i (λ x there. stays_taken h x how m moment))
+    by m i e at true None is his = keeps_endpoints b (modify b.endpoints i (λ x. endpoint_taken h x how m moment)) g (stay_modify (λ x. endpoint_taken h x how m moment) b.endpoints i (λ x there. stays_taken h x how m moment))
+    by m i e at true (Some l) is his =
         let first = keeps_endpoints b (modify b.endpoints i (λ x. endpoint_taken h x how m moment)) g (stay_modify (λ x. endpoint_taken h x how m moment) b.endpoints i (λ x there. stays_taken h x how m moment)) in
         record {
           sound = sound_joined (record b { endpoints = modify b.endpoints i (λ x. endpoint_taken h x how m moment) }) i l (endpoint_taken h e how m moment) first.sound
@@ -198,7 +198,7 @@ keeps_taking h b how m moment g = go (taker b m) refl
     go : (t : Taker) → taker b m ≡ t → Keeps b (after_taking h b how m moment t) None
     go Nobody is = keeps_not b g
     go (AtListener l) is = keeps_endpoints b (b.endpoints ++ child l how m moment ∷ []) g (stay_push b.endpoints (child l how m moment))
-    go (AtEndpoint i e) is = by i e (taker_there b m i e is) (is_syn_received e.state && acknowledges_syn e m) e.listener refl refl
+    go (AtEndpoint i e) is = let k : Emission = as_read h.version e m in by k i e (taker_there b m i e is) (is_syn_received e.state && acknowledges_syn e k) e.listener refl refl
 
 keeps_dead : (b c : Body) (n : ℕ) → Sound b → AllStay b.endpoints c.endpoints → ((l : ℕ) → queue_of c l ≡ queue_of b l) → Keeps b (record c { sockets = dead b.sockets n }) None
 keeps_dead b c n g stay queues = record {
@@ -262,6 +262,7 @@ keeps_deed h s w host (Expires line x growth) g = keeps_at_ports (pick w.hosts h
 keeps_deed h s w host (Makes m) g = keeps_at_ports (pick w.hosts host).body m.lport m.rport (λ e. after_making e m s) g (λ e. stays_making e m s)
 keeps_deed h s w host (Sends line number wire) g = keeps_not (pick w.hosts host).body g
 keeps_deed h s w host (Gets line copied wire) g = keeps_not (pick w.hosts host).body g
+keeps_deed h s w host (Hears line wire) g = keeps_not (pick w.hosts host).body g
 keeps_deed h s w host (Takes line how) g = let k = pick w.hosts host in on_cases (λ (b : Body). Keeps k.body b None) (waiting line k.inbox) k.body _ (keeps_not k.body g) (λ m e. keeps_taking h k.body how m s g)
 keeps_deed h s w host (Drops line) g = keeps_not (pick w.hosts host).body g
 keeps_deed h s w host (Answers line) g = let k = pick w.hosts host in on_cases (λ (b : Body). Keeps k.body b None) (waiting line k.inbox) k.body _ (keeps_not k.body g) (λ m e. keeps_not k.body g)

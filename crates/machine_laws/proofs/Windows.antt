@@ -1,8 +1,7 @@
 -- What each step makes of the windows of endpoints.
-use Rattle.std.proofs.Common.{◌≡◌, ℕ, suc, ◌≤◌, ◌⊎◌, Bool, true, false, List, [], ◌∷◌, ◌++◌, map, Option, Some, None, refl, ap, sym, subst, ◌∙◌, inl, inr, arith, nat_eq}
+use Rattle.std.proofs.Common.{◌≡◌, ℕ, suc, ◌≤◌, ◌⊎◌, Bool, true, false, List, [], ◌∷◌, ◌++◌, map, Option, Some, None, refl, ap, sym, subst, ◌∙◌, inl, inr, arith}
 use Rattle.std.specs.Prelude.{if◌then◌else◌, ◌==◌, ◌||◌, nat_lt, slice_get}
 use Rattle.std.specs.Option.{option_map_or}
-use Rattle.std.specs.Map.{lookup}
 use Rattle.std.proofs.lemmas.Option.{none-some, same_Some}
 use Rattle.case_forms.specs.declared.trace.Header.{Header}
 use Rattle.case_forms.specs.declared.calls.Host.{Host}
@@ -22,8 +21,8 @@ use Rattle.window_rules.specs.Windows.{greatest_window as greatest_value}
 use Rattle.window_rules.specs.Losses.{halved, recovery_window}
 use Rattle.streams.specs.Lists.{modify}
 use Rattle.streams.proofs.Places.{get_append, all_push, all_modify}
-use Rattle.hosts.specs.Tables.{pick, other, with_host, waiting, on, settled}
-use Rattle.hosts.specs.Hosts.{HostState, Turn, Idle, Called, Answered, World, Deed, Does, Expires, Makes, Sends, Gets, Takes, Drops, Answers, Step, Begin, Finish, Effect, At, turn_of}
+use Rattle.hosts.specs.Tables.{pick, other, with_host, waiting, on}
+use Rattle.hosts.specs.Hosts.{HostState, Turn, Idle, Called, Answered, World, Deed, Does, Expires, Makes, Sends, Gets, Hears, Takes, Drops, Answers, Step, Begin, Finish, Effect, At, turn_of}
 use Rattle.hosts.specs.HostRules.{aim_of, Permitted}
 use Rattle.hosts.specs.HostSteps.{deed_after, call_after, effect_after, after}
 use Rattle.machine.specs.declared.endpoint.Name.{Name}
@@ -50,11 +49,12 @@ use Rattle.machine.specs.Arrives.{Taker, Nobody, AtListener, AtEndpoint, taker, 
 use Rattle.case_forms.specs.declared.timer.Expiry.{Expiry}
 use Rattle.case_forms.specs.declared.timer.Growth.{Growth}
 use Rattle.case_forms.specs.declared.timer.Recovery.{Recovery}
+use Rattle.machine.specs.Heard.{as_read}
 use Rattle.machine.specs.Timeouts.{greatest_values, expiry_rules, after_expiry}
 use Rattle.machine.specs.Recovery.{recovery_rules, after_recovery}
 use Rattle.machine.specs.Machine.{Calls, rules_at, tcp, tcp_shape, aim}
 use Rattle.machine_laws.specs.Consequences.{find}
-use Rattle.machine_laws.specs.Bounds.{greatest_taking, TakesThere, TimesOut, Recovers, Leaves, WindowsFollow}
+use Rattle.machine_laws.specs.Bounds.{greatest_reading, greatest_taking, TakesThere, TimesOut, Recovers, Leaves, WindowsFollow}
 use Rattle.machine_laws.proofs.Rules.{on_passes, on_cases, map_or_cases, neither, at_most_from}
 use Rattle.machine_laws.proofs.Later.{Hosts, name}
 use Rattle.machine_laws.proofs.Moves.{with_cases, modify_each, map_onward, map_back}
@@ -140,7 +140,7 @@ chosen h e how m moment = go m.flags.rst (is_syn_sent e.state)
     go false true = (refl, refl)
     go false false = (refl, refl)
 
-allowed : (h : Header) (b : Body) (me : Name) (e : Endpoint) (how : TakeChoice) (m : Emission) → first_broken (if is_syn_sent e.state then syn_sent_rules h.initial e how m else connected_rules h b me e how m) ≡ None → how.cwnd ≤ greatest_taking h.initial e m
+allowed : (h : Header) (b : Body) (me : Name) (e : Endpoint) (how : TakeChoice) (m : Emission) → first_broken (if is_syn_sent e.state then syn_sent_rules h.initial e how m else connected_rules h b me e how m) ≡ None → how.cwnd ≤ greatest_reading h.initial e m
 allowed h b me e how m may = go (is_syn_sent e.state) may
   where
     go : (s : Bool) → first_broken (if s then syn_sent_rules h.initial e how m else connected_rules h b me e how m) ≡ None → how.cwnd ≤ (if s then greatest_at_syn h.initial e m else greatest_window h.initial e m)
@@ -159,7 +159,7 @@ follows_taking h s w host line how m waits may = go (taker (pick w.hosts host).b
     go (AtListener l) is may =
         let none = at_most_from 0 how.cwnd (none_all (listener_rules how m) may).1.0 in
         follows_push w (At host (Takes line how)) host b.endpoints (child l how m s) ((let zero' : how.cwnd ≡ 0 = omega arith in zero'), refl)
-    go (AtEndpoint i e) is may = follows_one w (At host (Takes line how)) host b.endpoints i (λ x. endpoint_taken h x how m s)
+    go (AtEndpoint i e) is may = follows_one w (At host (Takes line how)) host b.endpoints i (λ x. endpoint_taken h x how (as_read h.version e m) s)
         (λ x there.
         let one : e ≡ x = same_Some e x (sym (taker_there b m i e is) ∙ there) in
         taken m (line, how, refl, waits, is ∙ ap (λ (y : Endpoint). AtEndpoint i y) one))
@@ -177,6 +177,7 @@ follows_deed h s w host (Makes m) may = let b = (pick w.hosts host).body in
     (λ i e at there. unmoved w (At host (Makes m)) (name host i) e (after_making e m s) (either_windows m.flags.rst (record (shut_down (endpoint_made e m s)) { reset_due = false }) (endpoint_made e m s) e refl refl))
 follows_deed h s w host (Sends line number wire) may = follows_not w (At host (Sends line number wire)) host (pick w.hosts host).body.endpoints
 follows_deed h s w host (Gets line copied wire) may = follows_not w (At host (Gets line copied wire)) host (pick w.hosts host).body.endpoints
+follows_deed h s w host (Hears line wire) may = follows_not w (At host (Hears line wire)) host (pick w.hosts host).body.endpoints
 follows_deed h s w host (Takes line how) may = let k = pick w.hosts host in let step : Step tcp_shape = At host (Takes line how) in
     on_cases (λ (b : Body). Follows w step host k.body.endpoints b.endpoints) (waiting line k.inbox) k.body _ (follows_not w step host k.body.endpoints)
     (λ m e.
@@ -294,17 +295,20 @@ timeout_leaves h s w host line x growth i e may is at there = subst Bound (sym i
 taking_leaves : (h : Header) (s : ℕ) (w : World tcp_shape) (host : Host) (line : ℕ) (how : TakeChoice) (m : Emission) (i : ℕ) (e : Endpoint)
     → Permitted (tcp h) s w (At host (Takes line how))
     → waiting line (pick w.hosts host).inbox ≡ Some m → taker (pick w.hosts host).body m ≡ AtEndpoint i e
-    → Leaves h s w (At host (Takes line how)) (name host i) (λ c. (c.cwnd ≤ greatest_taking h.initial e m) × (c.ssthresh ≡ e.congestion.ssthresh))
-taking_leaves h s w host line how m i e may waits is = (endpoint_taken h e how m s, left, (subst (λ k. k ≤ greatest_taking h.initial e m) (sym value.0) (allowed h b (name host i) e how m mine), value.1))
+    → Leaves h s w (At host (Takes line how)) (name host i) (λ c. (c.cwnd ≤ greatest_taking h e m) × (c.ssthresh ≡ e.congestion.ssthresh))
+taking_leaves h s w host line how m i e may waits is = (endpoint_taken h e how r s, left, (subst (λ k. k ≤ greatest_taking h e m) (sym value.0) (allowed h b (name host i) e how r mine), value.1))
   where
+    r : Emission
+    r = as_read h.version e m
+
     k : HostState tcp_shape
     k = pick w.hosts host
 
     b : Body
     b = k.body
 
-    value : ((endpoint_taken h e how m s).congestion.cwnd ≡ how.cwnd) × ((endpoint_taken h e how m s).congestion.ssthresh ≡ e.congestion.ssthresh)
-    value = chosen h e how m s
+    value : ((endpoint_taken h e how r s).congestion.cwnd ≡ how.cwnd) × ((endpoint_taken h e how r s).congestion.ssthresh ≡ e.congestion.ssthresh)
+    value = chosen h e how r s
 
     passed : first_broken (taker_rules h host b how m (taker b m)) ≡ None
     passed =
@@ -312,14 +316,14 @@ taking_leaves h s w host line how m i e may waits is = (endpoint_taken h e how m
         let one : t.0 ≡ m = same_Some t.0 m (sym t.1 ∙ waits) in
         subst (λ (x : Emission). first_broken (taker_rules h host b how x (taker b x)) ≡ None) one t.2
 
-    mine : first_broken (if is_syn_sent e.state then syn_sent_rules h.initial e how m else connected_rules h b (name host i) e how m) ≡ None
+    mine : first_broken (if is_syn_sent e.state then syn_sent_rules h.initial e how r else connected_rules h b (name host i) e how r) ≡ None
     mine = subst (λ (t : Taker). first_broken (taker_rules h host b how m t) ≡ None) is passed
 
-    here : slice_get (after_taking h b how m s (taker b m)).endpoints i ≡ Some (endpoint_taken h e how m s)
+    here : slice_get (after_taking h b how m s (taker b m)).endpoints i ≡ Some (endpoint_taken h e how r s)
     here = ap (λ (t : Taker). slice_get (after_taking h b how m s t).endpoints i) is
-        ∙ modify_here (λ x. endpoint_taken h x how m s) b.endpoints i e (taker_there b m i e is)
+        ∙ modify_here (λ x. endpoint_taken h x how r s) b.endpoints i e (taker_there b m i e is)
 
-    left : find (after (tcp h) s w (At host (Takes line how))).hosts (name host i) ≡ Some (endpoint_taken h e how m s)
+    left : find (after (tcp h) s w (At host (Takes line how))).hosts (name host i) ≡ Some (endpoint_taken h e how r s)
     left = ap (λ (x : HostState tcp_shape). slice_get x.body.endpoints i) (pick_with w.hosts host (deed_after (tcp h) host s (suc w.count) (pick w.hosts (other host)).wire k (Takes line how)))
         ∙ (ap (λ (o : Option Emission). slice_get (on o b (λ y. after_taking h b how y s (taker b y))).endpoints i) waits ∙ here)
 
@@ -352,7 +356,7 @@ others_stay h s w step me e x no_taking no_timeout no_recovery = (x.0, x.1, go x
 pub follow : (h : Header) (s : ℕ) (w : World tcp_shape) (step : Step tcp_shape) → Permitted (tcp h) s w step → WindowsFollow h s w step
 follow h s w step may = record {
   takes =
-      λ me e m there a. subst (λ (y : Step tcp_shape). Leaves h s w y me (λ c. (c.cwnd ≤ greatest_taking h.initial e m) × (c.ssthresh ≡ e.congestion.ssthresh))) (sym a.2)
+      λ me e m there a. subst (λ (y : Step tcp_shape). Leaves h s w y me (λ c. (c.cwnd ≤ greatest_taking h e m) × (c.ssthresh ≡ e.congestion.ssthresh))) (sym a.2)
       (taking_leaves h s w me.host a.0 a.1 m me.number e (subst (λ (y : Step tcp_shape). Permitted (tcp h) s w y) a.2 may) a.3 a.4);
   times_out =
       λ me e there a. subst (λ (y : Step tcp_shape). Leaves h s w y me (λ c. (c.cwnd ≤ (greatest_values e).0) × (c.ssthresh ≤ (greatest_values e).1))) (sym a.3)

@@ -18,6 +18,7 @@ use Rattle.machine.specs.Bodies.{place_of, endpoint_of}
 use Rattle.case_forms.specs.declared.steps.SegmentPlan.{SegmentPlan}
 use Rattle.case_forms.specs.declared.steps.TakeChoice.{TakeChoice}
 use Rattle.machine.specs.Arrives.Otherwise.Congestion.{greatest_window}
+use Rattle.machine.specs.Heard.{as_read}
 use Rattle.machine.specs.Arrives.SynSent.{greatest_at_syn}
 use Rattle.machine.specs.Arrives.{taker, AtEndpoint}
 use Rattle.case_forms.specs.declared.timer.Expiry.{Expiry}
@@ -37,11 +38,16 @@ pub record InBothWindows (e : Endpoint) (end : ℕ) : Type 0 where
 -- the endpoint of the ports is there, and where bytes of the segment stand at or above all that it made before, they end in both windows
 abbrev pub NewDataFits : World tcp_shape → Host → SegmentPlan → Type 0
 NewDataFits w host m = (e : Endpoint) × (endpoint_of (pick w.hosts host).body m.lport m.rport ≡ Some e)
-    × ((x : Emission) → act_makes host (pick w.hosts host).body (acts.Makes m) ≡ Some x → 0 < length x.payload → max_made e < x.pos + length x.payload → InBothWindows e (x.pos + length x.payload))
+    × ((x : Emission) → act_makes host (pick w.hosts host).body (acts.Makes m) ≡ Some x → 0 < length x.payload →
+    max_made e < x.pos + length x.payload → InBothWindows e (x.pos + length x.payload))
+
+-- the greatest congestion window that a segment allows, as the endpoint has read it
+abbrev pub greatest_reading : Initial → Endpoint → Emission → ℕ
+greatest_reading initial e m = if is_syn_sent e.state then greatest_at_syn initial e m else greatest_window initial e m
 
 -- the greatest congestion window that taking a segment allows
-abbrev pub greatest_taking : Initial → Endpoint → Emission → ℕ
-greatest_taking initial e m = if is_syn_sent e.state then greatest_at_syn initial e m else greatest_window initial e m
+abbrev pub greatest_taking : Header → Endpoint → Emission → ℕ
+greatest_taking h e m = greatest_reading h.initial e (as_read h.version e m)
 
 -- the step takes this segment, which waits for it, at the endpoint
 abbrev pub TakesThere : World tcp_shape → Step tcp_shape → Name → Endpoint → Emission → Type 0
@@ -65,7 +71,7 @@ Leaves h moment w step me P = (f : Endpoint) × (find (after (tcp h) moment w st
 pub record WindowsFollow (h : Header) (moment : ℕ) (w : World tcp_shape) (step : Step tcp_shape) : Type 0 where
   -- where a segment is taken, cwnd is at most the greatest that this allows, and ssthresh stays
   pub takes : (me : Name) (e : Endpoint) (m : Emission) → find w.hosts me ≡ Some e → TakesThere w step me e m
-      → Leaves h moment w step me (λ c. (c.cwnd ≤ greatest_taking h.initial e m) × (c.ssthresh ≡ e.congestion.ssthresh))
+      → Leaves h moment w step me (λ c. (c.cwnd ≤ greatest_taking h e m) × (c.ssthresh ≡ e.congestion.ssthresh))
   -- where the retransmission timer expires, both are at most the greatest that a timeout allows
   pub times_out : (me : Name) (e : Endpoint) → find w.hosts me ≡ Some e → TimesOut w step me
       → Leaves h moment w step me (λ c. (c.cwnd ≤ (greatest_values e).0) × (c.ssthresh ≤ (greatest_values e).1))

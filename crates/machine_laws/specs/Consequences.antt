@@ -52,9 +52,11 @@ EndIsWhole h steps = (socket : ℕ) → was_told_end h socket steps ≡ true
 -- the endpoint of this name has a peer, whose peer it is, and which took at this position what the endpoint sends there
 abbrev pub TookFrom : Both (HostState tcp_shape) → Name → Stream → ℕ → Type 0
 TookFrom hosts me s position = (q : Name) × (s.peer ≡ Some q)
-    × HasStream hosts q (λ t. (t.peer ≡ Some me) × (cell : Cell) × (slice_get t.receive.taken position ≡ Some (Some cell)) × (slice_get (cells s.accepted s.ended) position ≡ Some cell))
+    × HasStream hosts q (λ t. (t.peer ≡ Some me) × (cell : Cell) × (slice_get t.receive.taken position ≡ Some (Some cell)) ×
+    (slice_get (cells s.accepted s.ended) position ≡ Some cell))
 
--- each position below the oldest that is not acknowledged after a step, but for the SYN's, was taken by the peer before it; of the SYN nothing is said, since a segment of an older connection may acknowledge it
+-- each position below the oldest that is not acknowledged after a step, but for the SYN's, was taken by the peer before it; of
+-- the SYN nothing is said, since a segment of an older connection may acknowledge it
 abbrev pub AcknowledgedWasTaken : Header → List (Stamped tcp_shape) → Stamped tcp_shape → Type 0
 AcknowledgedWasTaken h steps x = (me : Name) (f : Endpoint) → find (after (tcp h) x.moment (world_at_end h steps) x.step).hosts me ≡ Some f
     → (position : ℕ) → 0 < position → position < f.stream.una → TookFrom (world_at_end h steps).hosts me f.stream position

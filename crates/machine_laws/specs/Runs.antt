@@ -75,17 +75,23 @@ told_from h socket w (x ∷ xs) = of_effect h w x.step [] (λ call answer. call_
 -- one of them told those reads the end
 abbrev pub told_end_from : Header → ℕ → World tcp_shape → List (Stamped tcp_shape) → Bool
 told_end_from h socket w [] = false
-told_end_from h socket w (x ∷ xs) = of_effect h w x.step false (λ call answer. call_told_end call answer socket) || told_end_from h socket (after (tcp h) x.moment w x.step) xs
+told_end_from h socket w (x ∷ xs) =
+    of_effect h w x.step false (λ call answer. call_told_end call answer socket)
+    || told_end_from h socket (after (tcp h) x.moment w x.step) xs
 
 -- the bytes that they accepted of the sends on socket numbers of an endpoint, in their order
 abbrev pub accepted_from : Header → Name → World tcp_shape → List (Stamped tcp_shape) → List ℕ
 accepted_from h me w [] = []
-accepted_from h me w (x ∷ xs) = of_effect h w x.step [] (λ call answer. call_accepted w.hosts call answer me) ++ accepted_from h me (after (tcp h) x.moment w x.step) xs
+accepted_from h me w (x ∷ xs) =
+    of_effect h w x.step [] (λ call answer. call_accepted w.hosts call answer me)
+    ++ accepted_from h me (after (tcp h) x.moment w x.step) xs
 
 -- one of them ended its sending
 abbrev pub ended_from : Header → Name → World tcp_shape → List (Stamped tcp_shape) → Bool
 ended_from h me w [] = false
-ended_from h me w (x ∷ xs) = of_effect h w x.step false (λ call answer. call_ended w.hosts call answer me) || ended_from h me (after (tcp h) x.moment w x.step) xs
+ended_from h me w (x ∷ xs) =
+    of_effect h w x.step false (λ call answer. call_ended w.hosts call answer me)
+    || ended_from h me (after (tcp h) x.moment w x.step) xs
 
 -- over a whole run: what the reads on a socket number were told
 abbrev pub told_to : Header → ℕ → List (Stamped tcp_shape) → List ℕ

@@ -52,6 +52,8 @@ sums = record {
   out_rules = λ wire n. just rules.BytesDiffer (not (wire == n));
   sent = λ moment wire n. n;
   in_rules = λ moment wire n. just rules.CopyDiffers (not (wire == n));
+  half = false;
+  heard = λ moment wire. wire;
   aim = λ call. ThatHost Zero;
   stray = λ call answer. true;
   gives = λ call answer. None;

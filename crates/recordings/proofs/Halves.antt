@@ -7,7 +7,7 @@ use Rattle.std.proofs.lemmas.Bool.Decides.{nat_tests}
 use Rattle.case_forms.specs.declared.calls.Host.{Host}
 use Rattle.case_forms.specs.declared.calls.Host.TheVariants.{One, Zero}
 use Rattle.hosts.specs.Tables.{Both, Made, gone_out, host_is, lane, on, other, pick, settled, waiting, with_host}
-use Rattle.hosts.specs.Hosts.{Answers, Deed, Does, Drops, Expires, Gets, HostState, Kernel, Makes, Sends, Takes}
+use Rattle.hosts.specs.Hosts.{Answers, Deed, Does, Drops, Expires, Gets, Hears, HostState, Kernel, Makes, Sends, Takes}
 use Rattle.hosts.specs.HostSteps.{act_made, deed_after}
 use Rattle.recordings.specs.Books.{Flying, deed_line}
 use Rattle.recordings.specs.Merging.{Names}
@@ -115,6 +115,7 @@ deed_wire k h s fresh far x (Sends line number wire) = go (lookup (nat_eq number
     go None = inl refl
     go (Some m) = inr (line, k.sent s wire m.emission, refl, refl)
 deed_wire k h s fresh far x (Gets line copied wire) = inl refl
+deed_wire k h s fresh far x (Hears line wire) = inl refl
 deed_wire k h s fresh far x (Takes line how) = inl refl
 deed_wire k h s fresh far x (Drops line) = inl refl
 deed_wire k h s fresh far x (Answers line) = inl refl

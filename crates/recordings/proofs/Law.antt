@@ -4,7 +4,7 @@ use Rattle.std.proofs.lemmas.Option.{none-some}
 use Rattle.case_forms.specs.declared.calls.Host.{Host}
 use Rattle.case_forms.specs.declared.calls.Host.TheVariants.{One, Zero}
 use Rattle.hosts.specs.Tables.{Both, lane, on, other, pick, with_host}
-use Rattle.hosts.specs.Hosts.{Answers, At, Begin, Deed, Does, Drops, Effect, Expires, Finish, Gets, Kernel, Makes, Sends, Step, Takes, World}
+use Rattle.hosts.specs.Hosts.{Answers, At, Begin, Deed, Does, Drops, Effect, Expires, Finish, Gets, Hears, Kernel, Makes, Sends, Step, Takes, World}
 use Rattle.hosts.specs.HostSteps.{Lawful, after, start}
 use Rattle.recordings.specs.Books.{Bring, Do, Entry, Item, Key, deed_line, next, step_line}
 use Rattle.recordings.specs.Merging.{Names, heads, line_turns, make_turns, names_of, redeed, restep, steps_of, with_step}
@@ -37,6 +37,7 @@ redeed_line k names h (Expires line v growth) = refl
 redeed_line k names h (Makes v) = refl
 redeed_line k names h (Sends line number wire) = refl
 redeed_line k names h (Gets line copied wire) = refl
+redeed_line k names h (Hears line wire) = refl
 redeed_line k names h (Takes line how) = refl
 redeed_line k names h (Drops line) = refl
 redeed_line k names h (Answers line) = refl

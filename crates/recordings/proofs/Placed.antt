@@ -7,7 +7,7 @@ use Rattle.std.proofs.lemmas.Bool.{cases_order}
 use Rattle.std.proofs.lemmas.Option.{none-some, same_Some}
 use Rattle.case_forms.specs.declared.calls.Host.TheVariants.{One, Zero}
 use Rattle.hosts.specs.Tables.{on}
-use Rattle.hosts.specs.Hosts.{Answers, At, Begin, Deed, Does, Drops, Effect, Expires, Finish, Gets, Kernel, Makes, Sends, Stamped, Step, Takes}
+use Rattle.hosts.specs.Hosts.{Answers, At, Begin, Deed, Does, Drops, Effect, Expires, Finish, Gets, Hears, Kernel, Makes, Sends, Stamped, Step, Takes}
 use Rattle.hosts.specs.HostSteps.{Lawful, start}
 use Rattle.recordings.specs.Books.{Bring, Do, Entry, Item, Key, deed_line, step_line}
 use Rattle.recordings.specs.Merging.{Names, steps_of, with_step}
@@ -31,6 +31,7 @@ both_or_none k (At side d) = go d
     go (Makes v) = inl (refl, refl)
     go (Sends line number wire) = inr (line, _, refl, refl)
     go (Gets line copied wire) = inr (line, _, refl, refl)
+    go (Hears line wire) = inr (line, _, refl, refl)
     go (Takes line how) = inl (refl, refl)
     go (Drops line) = inl (refl, refl)
     go (Answers line) = inl (refl, refl)

@@ -9,7 +9,7 @@ use Rattle.verdict.specs.declared.rule.Rule.{Rule}
 use Rattle.verdict.specs.declared.rule.Rule.TheVariants as rules
 use Rattle.verdict.specs.Rules.{first_broken}
 use Rattle.hosts.specs.Tables.{Made, gone_out, on, other, settled, unsent, waiting}
-use Rattle.hosts.specs.Hosts.{Answers, Deed, Does, Drops, Expires, Gets, HostState, Kernel, Makes, Sends, Takes}
+use Rattle.hosts.specs.Hosts.{Answers, Deed, Does, Drops, Expires, Gets, Hears, HostState, Kernel, Makes, Sends, Takes}
 use Rattle.hosts.specs.HostRules.{deed_rules, just}
 use Rattle.hosts.specs.HostSteps.{act_made, deed_after, makes}
 use Rattle.recordings.specs.Merging.{Names, redeed}
@@ -43,6 +43,7 @@ deed_may k names h apt s far gar same x (Sends line number wire) p = subst (λ (
 deed_may k names h apt s far gar same x (Gets line copied wire) p =
     let got = on_passes (lookup (nat_eq copied) far) rules.NoEmission (λ e. k.in_rules s wire e) p in
     subst (λ (o : Option k.shape.Emission). first_broken (on o (just rules.NoEmission true) (λ e. k.in_rules s wire e)) ≡ None) (sym (same copied got.0 got.1)) got.2
+deed_may k names h apt s far gar same x (Hears line wire) p = p
 deed_may k names h apt s far gar same x (Takes line how) p = subst (λ (o : Option k.shape.Emission). first_broken (on o (just rules.Inbox true) (λ e. k.act_rules h s x.body (k.takes how e))) ≡ None) (sym (waiting_retag (names.line h) (apt.line h) line x.inbox)) p
 deed_may k names h apt s far gar same x (Drops line) p = subst (λ (o : Option k.shape.Emission). first_broken (on o (just rules.Inbox true) (λ e. [])) ≡ None) (sym (waiting_retag (names.line h) (apt.line h) line x.inbox)) p
 deed_may k names h apt s far gar same x (Answers line) p = subst (λ (o : Option k.shape.Emission). first_broken (on o (just rules.Inbox true) (λ e. k.act_rules h s x.body (k.answers e))) ≡ None) (sym (waiting_retag (names.line h) (apt.line h) line x.inbox)) p
@@ -79,6 +80,7 @@ deed_does k names h apt s far gar same fresh gresh x (Gets line copied wire) is 
     let here = ap (λ (o : Option k.shape.Emission). record (rehost k names h x) { inbox = on o (retag (names.line h) x.inbox) (λ e. insert_entry nat_eq (retag (names.line h) x.inbox) (names.line h line) (Some e)) }) (same copied got.0 got.1) in
     let there = ap (λ (o : Option k.shape.Emission). rehost k names h (record x { inbox = on o x.inbox (λ e. insert_entry nat_eq x.inbox line (Some e)) })) got.1 in
     here ∙ (boxed k names h apt line (Some got.0) x ∙ sym there)
+deed_does k names h apt s far gar same fresh gresh x (Hears line wire) is p = boxed k names h apt line (Some (k.heard s wire)) x
 deed_does k names h apt s far gar same fresh gresh x (Takes line how) is p = ap takes (waiting_retag (names.line h) (apt.line h) line x.inbox) ∙ go (waiting line x.inbox)
   where
     takes : Option k.shape.Emission → HostState k.shape

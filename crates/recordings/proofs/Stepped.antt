@@ -11,7 +11,7 @@ use Rattle.verdict.specs.declared.rule.Rule.{Rule}
 use Rattle.verdict.specs.declared.rule.Rule.TheVariants as rules
 use Rattle.verdict.specs.Rules.{first_broken}
 use Rattle.hosts.specs.Tables.{Both, lane, on, other, pick}
-use Rattle.hosts.specs.Hosts.{Aim, Answered, Answers, At, Begin, Called, Deed, Does, Drops, Effect, Expires, Finish, Gets, HostState, Idle, Kernel, Makes, Sends, Step, Takes, ThatHost, ThatSocket, Turn, World, turn_of}
+use Rattle.hosts.specs.Hosts.{Aim, Answered, Answers, At, Begin, Called, Deed, Does, Drops, Effect, Expires, Finish, Gets, Hears, HostState, Idle, Kernel, Makes, Sends, Step, Takes, ThatHost, ThatSocket, Turn, World, turn_of}
 use Rattle.hosts.specs.HostRules.{Permitted, aim_of, begin_rules, call_rules, deed_rules, effect_rules, end_rules, fresh_rules, just}
 use Rattle.hosts.specs.HostSteps.{after, call_after, deed_after, effect_after, makes}
 use Rattle.recordings.specs.Books.{Aims, InLane, OwnStep, deed_line, step_line}
@@ -93,6 +93,7 @@ redeed_makes k names h (Expires line v growth) = refl
 redeed_makes k names h (Makes v) = refl
 redeed_makes k names h (Sends line number wire) = refl
 redeed_makes k names h (Gets line copied wire) = refl
+redeed_makes k names h (Hears line wire) = refl
 redeed_makes k names h (Takes line how) = refl
 redeed_makes k names h (Drops line) = refl
 redeed_makes k names h (Answers line) = refl

@@ -3,7 +3,8 @@ use Rattle.std.specs.Prelude.{◌≡◌, ℕ, nat_eq, true, List, [], ◌∷◌,
 use Rattle.indexmap.specs.IndexMap.{insert_entry}
 use Rattle.case_forms.specs.declared.calls.Host.{Host}
 use Rattle.hosts.specs.Tables.{pick, other, with_host, lane}
-use Rattle.hosts.specs.Hosts.{Aim, ThatHost, ThatSocket, Shape, Kernel, World, Deed, Expires, Sends, Gets, Step, Begin, Finish, Effect, At, Called, turn_of}
+use Rattle.hosts.specs.Hosts.{Aim, ThatHost, ThatSocket, Shape, Kernel, World, Deed, Expires, Sends, Gets, Hears, Step, Begin}
+use Rattle.hosts.specs.Hosts.{Finish, Effect, At, Called, turn_of}
 use Rattle.hosts.specs.HostRules.{Permitted}
 use Rattle.hosts.specs.HostSteps.{after}
 
@@ -31,7 +32,14 @@ pub record Entry (s : Shape) : Type 0 where
 
 -- the segment stands on that host's wire under its line
 abbrev pub bring : (k : Kernel) → Host → Flying k.shape → World k.shape → World k.shape
-bring k host f w = record w { hosts = with_host w.hosts host (record (pick w.hosts host) { wire = insert_entry nat_eq (pick w.hosts host).wire f.line f.emission }) }
+bring k host f w =
+    record w {
+      hosts =
+          with_host w.hosts host (record (pick w.hosts host) {
+            wire =
+                insert_entry nat_eq (pick w.hosts host).wire f.line f.emission;
+          });
+    }
 
 -- the world of host h alone after an item
 abbrev pub next_item : (k : Kernel) → Host → ℕ → World k.shape → Item k.shape → World k.shape
@@ -56,7 +64,8 @@ Aims h (ThatSocket n) = lane n ≡ h
 abbrev pub OwnStep : (k : Kernel) → Host → World k.shape → Step k.shape → Type 0
 OwnStep k h w (Begin line t call) = (lane t ≡ h) × Aims h (k.aim call)
 OwnStep k h w (Finish line t answer) = lane t ≡ h
-OwnStep k h w (Effect t answer) = (lane t ≡ h) × ((call : k.shape.Call) → turn_of t w.threads ≡ Called call → (n : ℕ) → k.gives call answer ≡ Some n → lane n ≡ h)
+OwnStep k h w (Effect t answer) =
+    (lane t ≡ h) × ((call : k.shape.Call) → turn_of t w.threads ≡ Called call → (n : ℕ) → k.gives call answer ≡ Some n → lane n ≡ h)
 OwnStep k h w (At host d) = host ≡ h
 
 -- a step is permitted and this host's own; any segment may be brought
@@ -78,6 +87,7 @@ abbrev pub deed_line : (k : Kernel) → Deed k.shape → Option ℕ
 deed_line k (Expires line x growth) = Some line
 deed_line k (Sends line number wire) = Some line
 deed_line k (Gets line copied wire) = Some line
+deed_line k (Hears line wire) = Some line
 deed_line k d = None
 
 -- the line that a step takes

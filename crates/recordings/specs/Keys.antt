@@ -51,10 +51,13 @@ abbrev pub KeysRise : (k : Kernel) → Host → List (Entry k.shape) → Type 0
 KeysRise k h [] = Unit {0}
 KeysRise k h (x ∷ xs) = (x.key.host ≡ h) × EachEntry k (λ y. before y.key x.key ≡ false) xs × KeysRise k h xs
 
--- a segment that is brought has a key above that of its line, and is the one that stands on host o's last wire under that line; each entry of host o's book with that line has that key
+-- a segment that is brought has a key above that of its line, and is the one that stands on host o's last wire under that line;
+-- each entry of host o's book with that line has that key
 abbrev pub NamesOne : (k : Kernel) → Host → World k.shape → List (Entry k.shape) → Key → Item k.shape → Type 0
 NamesOne k o last ys key (Do step) = Unit {0}
-NamesOne k o last ys key (Bring f) = (before f.key key ≡ true) × (lookup (nat_eq f.line) (pick last.hosts o).wire ≡ Some f.emission) × EachEntry k (λ y. item_line k y.item ≡ Some f.line → y.key ≡ f.key) ys
+NamesOne k o last ys key (Bring f) =
+    (before f.key key ≡ true) × (lookup (nat_eq f.line) (pick last.hosts o).wire ≡ Some f.emission) ×
+    EachEntry k (λ y. item_line k y.item ≡ Some f.line → y.key ≡ f.key) ys
 
 -- entries of host h are a book, from this world and line number on, beside what is left of host o's book, which ends in the world `last`
 pub record Book (k : Kernel) (h o : Host) (w : World k.shape) (n : ℕ) (xs : List (Entry k.shape)) (last : World k.shape) (ys : List (Entry k.shape)) : Type 0 where

@@ -2,7 +2,7 @@
 use Rattle.std.specs.Prelude.{ℕ, zero, suc, Bool, true, false, if◌then◌else◌, List, [], ◌∷◌, Option, None, Some}
 use Rattle.case_forms.specs.declared.calls.Host.{Host}
 use Rattle.hosts.specs.Tables.{other, host_is, on}
-use Rattle.hosts.specs.Hosts.{Kernel, Deed, Does, Expires, Makes, Sends, Gets, Takes, Drops, Answers, Step, Begin, Finish, Effect, At, Stamped}
+use Rattle.hosts.specs.Hosts.{Kernel, Deed, Does, Expires, Makes, Sends, Gets, Hears, Takes, Drops, Answers, Step, Begin, Finish, Effect, At, Stamped}
 use Rattle.hosts.specs.HostSteps.{makes}
 use Rattle.recordings.specs.Books.{Key, Item, Do, Bring, Entry, item_line}
 
@@ -65,6 +65,7 @@ redeed k names h (Expires line x growth) = Expires (names.line h line) x growth
 redeed k names h (Makes x) = Makes x
 redeed k names h (Sends line number wire) = Sends (names.line h line) (names.made h number) wire
 redeed k names h (Gets line copied wire) = Gets (names.line h line) (names.line (other h) copied) wire
+redeed k names h (Hears line wire) = Hears (names.line h line) wire
 redeed k names h (Takes line how) = Takes (names.line h line) how
 redeed k names h (Drops line) = Drops (names.line h line)
 redeed k names h (Answers line) = Answers (names.line h line)

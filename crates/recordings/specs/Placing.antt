@@ -3,7 +3,7 @@ use Rattle.std.specs.Prelude.{◌≡◌, ℕ, ◌+◌, ◌<◌, ◌≤◌, List,
 use Rattle.std.specs.List.{slice_get}
 use Rattle.case_forms.specs.declared.calls.Host.{Host}
 use Rattle.hosts.specs.Tables.{on}
-use Rattle.hosts.specs.Hosts.{Shape, Kernel, Idle, Deed, Expires, Sends, Gets, Step, Begin, Finish, Effect, At, Stamped}
+use Rattle.hosts.specs.Hosts.{Shape, Kernel, Idle, Deed, Expires, Sends, Gets, Hears, Step, Begin, Finish, Effect, At, Stamped}
 use Rattle.hosts.specs.HostSteps.{start, Lawful}
 use Rattle.hosts.specs.Turns.{Turns}
 use Rattle.recordings.specs.Books.{Entry, step_line}
@@ -28,6 +28,7 @@ abbrev pub deed_event : (k : Kernel) → Host → Deed k.shape → Option (Event
 deed_event k host (Expires line x growth) = Some (Expired host x)
 deed_event k host (Sends line number wire) = Some (Sent host wire)
 deed_event k host (Gets line copied wire) = Some (Came host wire)
+deed_event k host (Hears line wire) = Some (Came host wire)
 deed_event k host d = None
 
 -- what the line says that a step takes
@@ -49,13 +50,16 @@ MomentsRise k m (x ∷ xs) = (m ≤ x.moment) × MomentsRise k x.moment xs
 
 -- the step at this place takes this line, at its moment or later by the skew at most
 abbrev pub TakesLine : (k : Kernel) → ℕ → ℕ → Line k.shape → List (Stamped k.shape) → ℕ → Type 0
-TakesLine k skew number line steps p = (x : Stamped k.shape) × (slice_get steps p ≡ Some x) × (step_line k x.step ≡ Some number) × (event_of k x.step ≡ Some line.event) × (line.moment ≤ x.moment) × (x.moment ≤ line.moment + skew)
+TakesLine k skew number line steps p =
+    (x : Stamped k.shape) × (slice_get steps p ≡ Some x) × (step_line k x.step ≡ Some number) ×
+    (event_of k x.step ≡ Some line.event) × (line.moment ≤ x.moment) × (x.moment ≤ line.moment + skew)
 
 -- the step at this place takes the line of that number
 abbrev pub NamesAt : (k : Kernel) → List (Stamped k.shape) → ℕ → ℕ → Type 0
 NamesAt k steps p number = (x : Stamped k.shape) × (slice_get steps p ≡ Some x) × (step_line k x.step ≡ Some number)
 
--- steps are a placement of lines that are numbered from the first on: moments don't fall, each line is taken in time, once, no other line is, the lines in their order, and in each thread calls take turns
+-- steps are a placement of lines that are numbered from the first on: moments don't fall, each line is taken in time, once, no
+-- other line is, the lines in their order, and in each thread calls take turns
 pub record Placement (k : Kernel) (skew first : ℕ) (lines : List (Line k.shape)) (steps : List (Stamped k.shape)) : Type 0 where
   pub moments : MomentsRise k 0 steps
   pub taken : (i : ℕ) (line : Line k.shape) → slice_get lines i ≡ Some line → (p : ℕ) × TakesLine k skew (first + i) line steps p

@@ -3,7 +3,7 @@
 //! Nothing here runs: what is said of recordings is the contract of a call that does nothing, proved on the definitions
 //! alone. A recording is a book: a run of one host, with the segments that the other host brought.
 //!
-//! - `laws`: two books merged are one run and have what follows of every run, and how a book grows
+//! - `laws`: two books merged are one run and have what follows from every run, and how a book grows
 //! - `specs/Books`: what one host's recorder keeps
 //! - `specs/Merging`, `specs/Keys`: two books told in the order of their keys, with lines and made segments counted anew
 //! - `specs/Placing`: the lines that merged steps take, and when steps are a placement of lines and a run

@@ -3,6 +3,7 @@
 //! - `ends`: the reader and the writer that fail
 //! - `counted_calls`: each call of a `Counted` makes one call of its end, and fails where that fails
 //! - `texts`: traces and witnesses that are read in pieces, and up to the call that fails
+//! - `two_texts`: a case in two texts, judged in pieces, up to a call that fails, and with no more of it read than a step needs
 //! - `runs`: what the program answers, and that it flushes
 //! - `workers`: cases under gates that hold them, by several numbers of workers
 
@@ -13,4 +14,5 @@ mod line_order;
 mod runs;
 mod segments;
 mod texts;
+mod two_texts;
 mod workers;

@@ -37,6 +37,7 @@ pub fn apply_line(world: &mut World, moment: u64, line: &TakenLine) -> Result<()
             copied,
             wire,
         } => world.arrive(*host, *line, *copied, wire, moment),
+        TakenLine::Heard { line, host, wire } => world.hear(*host, *line, wire, moment),
         TakenLine::Expired {
             host,
             ports,
@@ -68,6 +69,7 @@ pub(crate) fn admits_line(world: &World, moment: u64, line: &TakenLine) -> Resul
             wire,
             ..
         } => world.admits_arrival(*host, moment, *copied, wire),
+        TakenLine::Heard { host, wire, .. } => world.admits_hearing(*host, wire),
         TakenLine::Expired {
             host,
             ports,

@@ -10,7 +10,7 @@ use Rattle.case_forms.specs.declared.version.Version.{Version}
 use Rattle.case_forms.specs.declared.version.Version.TheVariants as versions
 use Rattle.case_forms.specs.Versions.{first_line_of}
 use Rattle.hosts.specs.Tables.{on, other, pick}
-use Rattle.hosts.specs.Hosts.{World, Step, Begin, Finish, Effect, At, Does, Expires, Makes, Sends, Gets, Takes, Drops, Answers}
+use Rattle.hosts.specs.Hosts.{World, Step, Begin, Finish, Effect, At, Does, Expires, Makes, Sends, Gets, Hears, Takes, Drops, Answers}
 use Rattle.hosts.specs.HostSteps.{after, start}
 use Rattle.machine.specs.Machine.{tcp, tcp_shape}
 use Rattle.recordings.specs.Books.{Bring, Do, FitsItem, Flying, Item, Key, bring, step_line}
@@ -75,6 +75,7 @@ one_line h n (At host (Expires line x growth)) = omega arith
 one_line h n (At host (Makes plan)) = omega arith
 one_line h n (At host (Sends line number wire)) = omega arith
 one_line h n (At host (Gets line copied wire)) = omega arith
+one_line h n (At host (Hears line wire)) = omega arith
 one_line h n (At host (Takes line choice)) = omega arith
 one_line h n (At host (Drops line)) = omega arith
 one_line h n (At host (Answers line)) = omega arith
@@ -88,6 +89,7 @@ few_lines_taken (At host (Expires line x growth)) = omega arith
 few_lines_taken (At host (Makes plan)) = omega arith
 few_lines_taken (At host (Sends line number wire)) = omega arith
 few_lines_taken (At host (Gets line copied wire)) = omega arith
+few_lines_taken (At host (Hears line wire)) = omega arith
 few_lines_taken (At host (Takes line choice)) = omega arith
 few_lines_taken (At host (Drops line)) = omega arith
 few_lines_taken (At host (Answers line)) = omega arith
@@ -101,6 +103,7 @@ nothing_own h One = record { own = λ n is. absurd cc; below = λ n is. absurd c
 few_first : (v : Version) → first_line_of v ≤ 16
 few_first versions.One = omega arith
 few_first versions.Two = omega arith
+few_first versions.Three = omega arith
 
 few_none : (h : Header) (me : Host) → length (pick (start (tcp h)).hosts me).body.sockets ≤ 0
 few_none h Zero = omega arith

@@ -13,7 +13,7 @@ use Rattle.case_forms.specs.declared.calls.Host.TheVariants.{Zero, One}
 use Rattle.case_forms.specs.declared.trace.Header.{Header}
 use Rattle.case_forms.specs.declared.trace.Wire.{Wire}
 use Rattle.hosts.specs.Tables.{Both, Made, on, other, pick, with_host}
-use Rattle.hosts.specs.Hosts.{Deed, Does, Expires, Makes, Sends, Gets, Takes, Drops, Answers, HostState, Turn, Idle, Called, Answered, World, Step, Begin, Finish, Effect, At, turn_of}
+use Rattle.hosts.specs.Hosts.{Deed, Does, Expires, Makes, Sends, Gets, Hears, Takes, Drops, Answers, HostState, Turn, Idle, Called, Answered, World, Step, Begin, Finish, Effect, At, turn_of}
 use Rattle.hosts.specs.HostRules.{aim_of}
 use Rattle.hosts.specs.HostSteps.{after, call_after, deed_after, effect_after, start}
 use Rattle.hosts.proofs.Entries.{lookup_insert}
@@ -132,6 +132,7 @@ deed_kept h me moment fresh far s (Expires l x growth) line n e at below is = is
 deed_kept h me moment fresh far s (Makes plan) line n e at below is = is
 deed_kept h me moment fresh far s (Sends l number wire) line n e at below is = wire_kept line l moment number wire s.made s.wire e (subst (λ (m : ℕ). line < m) (sym at) below) is
 deed_kept h me moment fresh far s (Gets l copied wire) line n e at below is = is
+deed_kept h me moment fresh far s (Hears l wire) line n e at below is = is
 deed_kept h me moment fresh far s (Takes l choice) line n e at below is = is
 deed_kept h me moment fresh far s (Drops l) line n e at below is = is
 deed_kept h me moment fresh far s (Answers l) line n e at below is = is

@@ -9,6 +9,7 @@ pub mod Shown
 pub mod OutgoingLemmas
 pub mod ResetLemmas
 pub mod FlightLemmas
+pub mod WaitLemmas
 pub mod MadeLemmas
 pub mod TimerLemmas
 pub mod ArriveLemmas

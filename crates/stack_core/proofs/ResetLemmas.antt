@@ -12,7 +12,7 @@ use Rattle.case_forms.specs.declared.calls.Host.TheVariants.{Zero, One}
 use Rattle.case_forms.specs.declared.steps.SegmentPlan.{SegmentPlan}
 use Rattle.case_forms.specs.declared.trace.Header.{Header}
 use Rattle.hosts.specs.Tables.{Both, Made, gone_out, on, other, pick, unsent, waiting, with_host}
-use Rattle.hosts.specs.Hosts.{Deed, Does, Expires, Makes, Sends, Gets, Takes, Drops, Answers, HostState, Turn, Idle, Called, Answered, World, Step, Begin, Finish, Effect, At, turn_of}
+use Rattle.hosts.specs.Hosts.{Deed, Does, Expires, Makes, Sends, Gets, Hears, Takes, Drops, Answers, HostState, Turn, Idle, Called, Answered, World, Step, Begin, Finish, Effect, At, turn_of}
 use Rattle.hosts.specs.HostRules.{aim_of}
 use Rattle.hosts.specs.HostSteps.{after, call_after, deed_after, effect_after, made_gone_out, start}
 use Rattle.hosts.proofs.Entries.{lookup_insert}
@@ -115,6 +115,7 @@ deed_awaited h me moment fresh far s xs (Expires line x growth) are = are
 deed_awaited h me moment fresh far s xs (Makes plan) are = making_joins me s.body plan s.made xs fresh are
 deed_awaited h me moment fresh far s xs (Sends line number wire) are = gone s.made xs number are
 deed_awaited h me moment fresh far s xs (Gets line copied wire) are = are
+deed_awaited h me moment fresh far s xs (Hears line wire) are = are
 deed_awaited h me moment fresh far s xs (Takes line choice) are = are
 deed_awaited h me moment fresh far s xs (Drops line) are = are
 deed_awaited h me moment fresh far s xs (Answers line) are = answering_joins me s.body (waiting line s.inbox) s.made xs fresh are
@@ -167,6 +168,7 @@ tried_awaited made xs (At host (Expires line x growth)) n are = are
 tried_awaited made xs (At host (Makes plan)) n are = are
 tried_awaited made xs (At host (Sends line number wire)) n are = are
 tried_awaited made xs (At host (Gets line copied wire)) n are = are
+tried_awaited made xs (At host (Hears line wire)) n are = are
 tried_awaited made xs (At host (Takes line choice)) n are = are
 tried_awaited made xs (At host (Drops line)) n are = are
 tried_awaited made xs (At host (Answers line)) n are = more_awaited made xs (n ∷ []) are

@@ -12,7 +12,7 @@ use Rattle.case_forms.specs.declared.calls.Call.TheVariants as calls
 use Rattle.case_forms.specs.declared.steps.TakeChoice.{TakeChoice}
 use Rattle.case_forms.specs.declared.trace.Header.{Header}
 use Rattle.hosts.specs.Tables.{waiting}
-use Rattle.hosts.specs.Hosts.{HostState, Deed, Does, Expires, Makes, Sends, Gets, Takes, Drops, Answers}
+use Rattle.hosts.specs.Hosts.{HostState, Deed, Does, Expires, Makes, Sends, Gets, Hears, Takes, Drops, Answers}
 use Rattle.hosts.specs.HostSteps.{deed_after}
 use Rattle.machine.specs.declared.endpoint.Emission.{Emission}
 use Rattle.machine.specs.declared.endpoint.Endpoint.{Endpoint}
@@ -48,6 +48,7 @@ deed_sockets h me moment fresh far s (Expires line x growth) = at_sockets s.body
 deed_sockets h me moment fresh far s (Makes plan) = at_sockets s.body plan.lport plan.rport _
 deed_sockets h me moment fresh far s (Sends line number wire) = refl
 deed_sockets h me moment fresh far s (Gets line copied wire) = refl
+deed_sockets h me moment fresh far s (Hears line wire) = refl
 deed_sockets h me moment fresh far s (Takes line how) = on_cases (λ (b : Body). b.sockets ≡ s.body.sockets) (waiting line s.inbox) s.body _ refl (λ m e. taking_sockets h s.body how m moment (taker s.body m))
 deed_sockets h me moment fresh far s (Drops line) = refl
 deed_sockets h me moment fresh far s (Answers line) = on_cases (λ (b : Body). b.sockets ≡ s.body.sockets) (waiting line s.inbox) s.body _ refl (λ m e. refl)

@@ -1,6 +1,7 @@
 -- When a call has no answer yet.
 use Rattle.std.specs.Prelude.{◌≡◌, ◌≤◌, ◌⊎◌, ◌-◌, ℕ, max, Bool, true, false, Option, None, Some, slice_get}
 use Rattle.std.specs.Option.{IsSomeAnd, option_map_or}
+use Rattle.case_forms.specs.declared.calls.Answer.{Answer}
 use Rattle.case_forms.specs.declared.calls.Answer.TheVariants as answers
 use Rattle.case_forms.specs.declared.calls.Call.{Call}
 use Rattle.case_forms.specs.declared.calls.Call.TheVariants as calls
@@ -12,6 +13,11 @@ use Rattle.machine.specs.Calls.{call_allows}
 use Rattle.machine.specs.declared.endpoint.Endpoint.{Endpoint}
 use Rattle.machine.specs.declared.endpoint.Thing.{Thing}
 use Rattle.machine.specs.declared.endpoint.Thing.TheVariants.{Listens, Ends}
+
+-- the answer says that the call has to be made again
+abbrev pub is_again : Answer → Bool
+is_again answers.Again = true
+is_again answer = false
 
 -- a call on a socket number
 abbrev pub IsOnSocket : Call → Type 0

@@ -21,7 +21,9 @@ came c tick f wire = with_step (brought c tick f) (At c.recorded.me (Gets (line_
 
 -- in an event that began: it is brought, and comes in
 abbrev pub IsCameIn : Core → Flying tcp_shape → Core → Type 0
-IsCameIn c f d = (wire : Wire) × (wire.bytes ≡ f.emission.bytes) × (d ≡ with_step (with_item c (Bring f)) (At c.recorded.me (Gets (line_to_come c) f.line wire)))
+IsCameIn c f d =
+    (wire : Wire) × (wire.bytes ≡ f.emission.bytes) ×
+    (d ≡ with_step (with_item c (Bring f)) (At c.recorded.me (Gets (line_to_come c) f.line wire)))
 
 -- what waits under a line may be dropped: it is there
 abbrev pub MayDrop : Core → ℕ → Type 0
@@ -31,13 +33,19 @@ MayDrop c n = MayDo c (At c.recorded.me (Drops n))
 abbrev pub MayTake : Core → ℕ → Type 0
 MayTake c n = MayDo c (At c.recorded.me (Takes n (record { cwnd = 0; keep = true; sample = false })))
 
+-- it may be taken so, with its bytes
+abbrev pub IsChoice : Core → ℕ → TakeChoice → Type 0
+IsChoice c n choice = (choice.keep ≡ true) × MayTake c n × MayDo c (At c.recorded.me (Takes n choice))
+
 -- it may be answered by a reset
 abbrev pub MayReset : Core → ℕ → Type 0
 MayReset c n = MayDo c (At c.recorded.me (Answers n))
 
 -- fast recovery may begin at the endpoint of these ports
 abbrev pub MayRecover : Core → Ports → Type 0
-MayRecover c ports = (cwnd : ℕ) × (ssthresh : ℕ) × MayDo c (At c.recorded.me (Does (record { lport = ports.lport; rport = ports.rport; cwnd = cwnd; ssthresh = ssthresh })))
+MayRecover c ports =
+    (cwnd : ℕ) × (ssthresh : ℕ) ×
+    MayDo c (At c.recorded.me (Does (record { lport = ports.lport; rport = ports.rport; cwnd = cwnd; ssthresh = ssthresh })))
 
 -- so it may begin there
 abbrev pub IsRecoveryAt : Core → Ports → Recovery → Type 0
@@ -45,15 +53,20 @@ IsRecoveryAt c ports x = (x.lport ≡ ports.lport) × (x.rport ≡ ports.rport) 
 
 -- with these values it may not
 abbrev pub IsRefusedRecovery : Core → Ports → (cwnd ssthresh : ℕ) → Type 0
-IsRefusedRecovery c ports cwnd ssthresh = MayDo c (At c.recorded.me (Does (record { lport = ports.lport; rport = ports.rport; cwnd = cwnd; ssthresh = ssthresh }))) → ⊥
+IsRefusedRecovery c ports cwnd ssthresh =
+    MayDo c (At c.recorded.me (Does (record { lport = ports.lport; rport = ports.rport; cwnd = cwnd; ssthresh = ssthresh }))) →
+    ⊥
 
 -- it began, exactly where it may
 abbrev pub IsRecovered : Core → Ports → Core → Type 0
-IsRecovered c ports d = ((x : Recovery) × (x.lport ≡ ports.lport) × (x.rport ≡ ports.rport) × (d ≡ with_step c (At c.recorded.me (Does x)))) ⊎ ((d ≡ c) × (MayRecover c ports → ⊥))
+IsRecovered c ports d =
+    ((x : Recovery) × (x.lport ≡ ports.lport) × (x.rport ≡ ports.rport) ×
+    (d ≡ with_step c (At c.recorded.me (Does x)))) ⊎ ((d ≡ c) × (MayRecover c ports → ⊥))
 
 -- what waits was taken with its bytes, and fast recovery began where it may; else it was answered by a reset; else it was dropped
 pub data IsSettled (c : Core) (n : ℕ) (ports : Ports) (d : Core) : Type 0 where
-  Taken : (choice : TakeChoice) (keep : choice.keep ≡ true) (may : MayTake c n) (recovered : IsRecovered (with_step c (At c.recorded.me (Takes n choice))) ports d) → IsSettled c n ports d
+  Taken : (choice : TakeChoice) (keep : choice.keep ≡ true) (may : MayTake c n)
+      (recovered : IsRecovered (with_step c (At c.recorded.me (Takes n choice))) ports d) → IsSettled c n ports d
   Reset : (not_taken : MayTake c n → ⊥) (may : MayReset c n) (row : d ≡ with_step c (At c.recorded.me (Answers n))) → IsSettled c n ports d
   Dropped : (not_taken : MayTake c n → ⊥) (no_reset : MayReset c n → ⊥) (row : d ≡ with_step c (At c.recorded.me (Drops n))) → IsSettled c n ports d
 
@@ -84,7 +97,8 @@ pub data IsArrivedShort (c : Core) (tick : Tick) (f : Flying tcp_shape) (d : Cor
   Ticked : (row : d ≡ opened c tick) → IsArrivedShort c tick f d
   Brought : (row : d ≡ brought c tick f) → IsArrivedShort c tick f d
   Came : (wire : Wire) (row : d ≡ came c tick f wire) → IsArrivedShort c tick f d
-  Took : (wire : Wire) (choice : TakeChoice) (row : d ≡ with_step (came c tick f wire) (At c.recorded.me (Takes (line_to_come c) choice))) → IsArrivedShort c tick f d
+  Took : (wire : Wire) (choice : TakeChoice)
+      (row : d ≡ with_step (came c tick f wire) (At c.recorded.me (Takes (line_to_come c) choice))) → IsArrivedShort c tick f d
 
 abbrev pub IsArrival : Core → Tick → Flying tcp_shape → Bool → Core → Type 0
 IsArrival c tick f true d = IsArrived c tick f d

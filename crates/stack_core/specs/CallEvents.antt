@@ -35,6 +35,10 @@ IsAttempted c tick thread a d = (a.thread ≡ thread) × (d ≡ answered c tick 
 abbrev pub IsAttemptShort : Core → Tick → ℕ → Core → Type 0
 IsAttemptShort c tick thread d = (d ≡ opened c tick) ⊎ ((answer : Answer) × (d ≡ effected c tick thread answer))
 
--- no call of the thread is open without effect, or it waits; what a host may discard matters to neither
+-- no call of the thread is open without effect, or it waits
 abbrev pub NoAnswer : Core → ℕ → Type 0
-NoAnswer c thread = (call : Call) → turn_of thread (world c).threads ≡ Called call → Waits c.ring (forget_body (own_body c)) call
+NoAnswer c thread = (call : Call) → turn_of thread (world c).threads ≡ Called call → Waits c.ring (own_body c) call
+
+-- the same, looked at in what is kept
+abbrev pub KeptNoAnswer : Core → ℕ → Type 0
+KeptNoAnswer c thread = (call : Call) → turn_of thread (world c).threads ≡ Called call → Waits c.ring (forget_body (own_body c)) call

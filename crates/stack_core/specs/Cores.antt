@@ -9,7 +9,8 @@ use Rattle.case_forms.specs.declared.calls.Call.TheVariants as calls
 use Rattle.case_forms.specs.declared.trace.Header.{Header}
 use Rattle.hosts.specs.HostRules.{Permitted}
 use Rattle.hosts.specs.Tables.{lane, other, pick}
-use Rattle.hosts.specs.Hosts.{Deed, Does, Drops, Expires, Gets, Makes, Sends, Takes, Answers, At, Begin, Called, Effect, Finish, Idle, Answered, Step, Turn, World, turn_of}
+use Rattle.hosts.specs.Hosts.{Deed, Does, Drops, Expires, Gets, Hears, Makes, Sends, Takes, Answers, At, Begin, Called, Effect}
+use Rattle.hosts.specs.Hosts.{Finish, Idle, Answered, Step, Turn, World, turn_of}
 use Rattle.recordings.specs.Books.{Aims, Do, FitsItem, Item, Key, step_line}
 use Rattle.recordings.specs.Keys.{EachEntry, If}
 use Rattle.recordings.specs.Recordings.{IsKept, next_line}
@@ -49,7 +50,14 @@ MayDo c step = Permitted (tcp c.recorded.header) c.last.moment (world c) step
 
 -- a core that recorded nothing yet
 abbrev pub new_core : Header → Host → ℕ → Core
-new_core header me ring = record { recorded = record { header = header; me = me; entries = [] }; ring = ring; last = record { moment = 0; counter = 0 }; events = 0 }
+new_core header me ring =
+    record {
+      recorded = record { header = header; me = me; entries = [] };
+      ring = ring;
+      last =
+          record { moment = 0; counter = 0 };
+      events = 0;
+    }
 
 -- an event began, with this tick
 abbrev pub opened : Core → Tick → Core
@@ -82,6 +90,7 @@ deed_lines (Expires line x growth) = 1
 deed_lines (Makes plan) = 0
 deed_lines (Sends line number wire) = 1
 deed_lines (Gets line copied wire) = 1
+deed_lines (Hears line wire) = 1
 deed_lines (Takes line choice) = 0
 deed_lines (Drops line) = 0
 deed_lines (Answers line) = 0

@@ -30,11 +30,33 @@ syn_of e opening window = record {
 
 -- so many new bytes
 abbrev pub bytes_of : Endpoint → ℕ → ℕ → SegmentPlan
-bytes_of e len window = record { lport = e.lport; rport = e.rport; pos = max_made e; len = len; flags = record { ack = nat_le 1 (next e); rst = false; syn = false; fin = false }; window = window; iss = None; shift = None }
+bytes_of e len window =
+    record {
+      lport = e.lport;
+      rport = e.rport;
+      pos = max_made e;
+      len = len;
+      flags =
+          record { ack = nat_le 1 (next e); rst = false; syn = false; fin = false };
+      window = window;
+      iss = None;
+      shift = None;
+    }
 
 -- the FIN alone
 abbrev pub fin_of : Endpoint → ℕ → SegmentPlan
-fin_of e window = record { lport = e.lport; rport = e.rport; pos = max_made e; len = 0; flags = record { ack = nat_le 1 (next e); rst = false; syn = false; fin = true }; window = window; iss = None; shift = None }
+fin_of e window =
+    record {
+      lport = e.lport;
+      rport = e.rport;
+      pos = max_made e;
+      len = 0;
+      flags =
+          record { ack = nat_le 1 (next e); rst = false; syn = false; fin = true };
+      window = window;
+      iss = None;
+      shift = None;
+    }
 
 -- it may be made, at a position that a step may name, with a payload that may go out
 abbrev pub IsMakeable : Header → Host → World tcp_shape → SegmentPlan → Type 0
@@ -58,4 +80,6 @@ pub record IsTried (h : Header) (me : Host) (w : World tcp_shape) (e : Endpoint)
 
 -- nothing without RST may be made that takes new positions
 abbrev pub NothingToMake : Header → Host → World tcp_shape → Type 0
-NothingToMake h me w = (m : SegmentPlan) (e : Endpoint) → m.flags.rst ≡ false → endpoint_of (pick w.hosts me).body m.lport m.rport ≡ Some e → max_made e < m.pos + making_length m → Refuses h me w m
+NothingToMake h me w =
+    (m : SegmentPlan) (e : Endpoint) → m.flags.rst ≡ false → endpoint_of (pick w.hosts me).body m.lport m.rport ≡ Some e →
+    max_made e < m.pos + making_length m → Refuses h me w m

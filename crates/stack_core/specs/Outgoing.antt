@@ -23,7 +23,20 @@ told_shift m = if m.flags.syn then m.shift else None
 
 -- a made segment as it goes out, with this MSS option if there is one
 abbrev pub segment_of : Emission → Option ℕ → Segment
-segment_of m mss = record { src = m.lport; dst = m.rport; seq = m.seq; ack = m.ack_seq; flags = flag_bits m.flags; window = m.window; mss = mss; scale = told_shift m; options = []; payload = m.payload }
+segment_of m mss =
+    record {
+      src = m.lport;
+      dst = m.rport;
+      seq = m.seq;
+      ack = m.ack_seq;
+      flags = flag_bits m.flags;
+      window = m.window;
+      mss =
+          mss;
+      scale = told_shift m;
+      options = [];
+      payload = m.payload;
+    }
 
 -- the greatest payload that a core lets out: with a header and the options that are written it fits into a segment
 abbrev pub greatest_payload : ℕ

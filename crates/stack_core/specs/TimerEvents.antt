@@ -1,14 +1,20 @@
 -- What an event adds that looks for a timer.
-use Rattle.std.specs.Prelude.{◌≡◌, ℕ, Bool, true, false}
+use Rattle.std.specs.Prelude.{◌≡◌, ◌≤◌, ℕ, Bool, true, false, Some}
 use Rattle.case_forms.specs.declared.calls.Host.{Host}
 use Rattle.case_forms.specs.declared.calls.Ports.{Ports}
 use Rattle.case_forms.specs.declared.taken_line.Expired.{Expired}
+use Rattle.case_forms.specs.declared.taken_line.Expired.TheVariants as expireds
+use Rattle.case_forms.specs.States.{is_fin_wait_2}
 use Rattle.case_forms.specs.declared.timer.Expiry.{Expiry}
 use Rattle.case_forms.specs.declared.timer.Growth.{Growth}
 use Rattle.case_forms.specs.declared.timer.Timer.{Timer}
 use Rattle.case_forms.specs.declared.timer.Timer.TheVariants.{Giveup, Msl2, Persist, Rto}
 use Rattle.hosts.specs.Hosts.{At, Expires, Step}
 use Rattle.hosts.specs.HostRules.{Permitted}
+use Rattle.hosts.specs.Tables.{pick}
+use Rattle.machine.specs.Bodies.{endpoint_of}
+use Rattle.machine.specs.declared.endpoint.Endpoint.{Endpoint}
+use Rattle.machine.specs.Forgetting.{forget_body}
 use Rattle.machine.specs.Machine.{tcp, tcp_shape}
 use Rattle.machine.specs.Steps.{growth_of, timer_of}
 use Rattle.stack_core.specs.declared.tick.Tick.{Tick}
@@ -23,8 +29,24 @@ expiry_step me line ports expired = At me (Expires line (record { lport = ports.
 abbrev pub IsDueAt : Recorded → ℕ → Ports → Expired → Type 0
 IsDueAt r moment ports e = (n : ℕ) → Permitted (tcp r.header) moment (world_left r) (expiry_step r.me n ports e)
 
+-- it may not, with line 0
+abbrev pub IsNotDueAt : Recorded → ℕ → Ports → Expired → Type 0
+IsNotDueAt r moment ports e = Permitted (tcp r.header) moment (world_left r) (expiry_step r.me 0 ports e) → ⊥
+
 abbrev pub expired : Core → Tick → Ports → Expired → Core
 expired c tick ports e = with_step (opened c tick) (expiry_step c.recorded.me (line_to_come c) ports e)
+
+-- twelve timers of an endpoint expired since it took a segment, and it is not in FIN-WAIT-2
+pub record HasTried (r : Recorded) (ports : Ports) : Type 0 where
+  pub endpoint : Endpoint
+  pub found : endpoint_of (forget_body (pick (world_left r).hosts r.me).body) ports.lport ports.rport ≡ Some endpoint
+  pub tries : 12 ≤ endpoint.tries
+  pub state : is_fin_wait_2 endpoint.state ≡ false
+
+-- where an endpoint gives up, it has tried so often
+abbrev pub IfGivesUp : Recorded → Ports → Expired → Type 0
+IfGivesUp r ports expireds.Giveup = HasTried r ports
+IfGivesUp r ports e = Unit {0}
 
 -- no line of a retransmission timer, a persist timer or a wait in TIME-WAIT is permitted at this moment
 abbrev pub NoneDueAt : Recorded → ℕ → Type 0
@@ -35,7 +57,13 @@ NoneDue c moment = NoneDueAt c.recorded moment
 
 -- none of the three is at the endpoint of these ports, with the least values
 abbrev pub RefusesAt : Recorded → ℕ → Ports → Timer → Type 0
-RefusesAt r moment ports timer = Permitted (tcp r.header) moment (world_left r) (At r.me (Expires 0 (record { lport = ports.lport; rport = ports.rport; timer = timer }) (record { cwnd = 0; ssthresh = 0 }))) → ⊥
+RefusesAt r moment ports timer =
+    Permitted (tcp r.header) moment (world_left r) (At r.me (Expires 0 (record {
+      lport = ports.lport;
+      rport = ports.rport;
+      timer =
+          timer;
+    }) (record { cwnd = 0; ssthresh = 0 }))) → ⊥
 
 pub record IsRefused (r : Recorded) (moment : ℕ) (ports : Ports) : Type 0 where
   pub rto : RefusesAt r moment ports Rto
@@ -44,5 +72,5 @@ pub record IsRefused (r : Recorded) (moment : ℕ) (ports : Ports) : Type 0 wher
 
 -- an event found a timer that expired, or none due
 abbrev pub IsTimed : Core → Tick → Bool → Core → Type 0
-IsTimed c tick true d = (ports : Ports) × (e : Expired) × (d ≡ expired c tick ports e)
+IsTimed c tick true d = (ports : Ports) × (e : Expired) × (d ≡ expired c tick ports e) × IfGivesUp c.recorded ports e
 IsTimed c tick false d = (d ≡ c) × NoneDue c tick.moment

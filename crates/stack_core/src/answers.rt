@@ -1,13 +1,13 @@
 //! The answer that a call has now, if it has one: never `again`.
 
-ghost use Rattle.std.specs.Prelude.{◌≡◌, ℕ, true, is_some, slice_get, Some, IfNone, IfOk};
+ghost use Rattle.std.specs.Prelude.{◌≡◌, ℕ, true, false, is_some, slice_get, Some, IfNone, IfOk};
 ghost use Rattle.std.specs.Option.{IfSome};
 ghost use Rattle.case_forms.specs.declared.calls.Answer.TheVariants as answers;
 ghost use Rattle.machine.specs.Bodies.{queue_of};
 ghost use Rattle.machine.specs.Calls.{call_allows, socket_allows};
 ghost use Rattle.machine.specs.Calls.Accept.{listener_allows};
 ghost use Rattle.machine.specs.Machine.{gives};
-ghost use Rattle.stack_core.specs.Answers.{IsNamed, IsOnSocket, Waits, WaitsAt};
+ghost use Rattle.stack_core.specs.Answers.{IsNamed, IsOnSocket, Waits, WaitsAt, is_again};
 ghost use Rattle.stack_core.specs.Cores.{IsCallWithin};
 
 mod connected;
@@ -30,6 +30,7 @@ pub(crate) fn choose(
     requires named { IsNamed body.now }
     requires within { IsCallWithin call.now }
     ensures some { IfOk result (λ o. IfSome o (λ a. call_allows body.now call.now a ≡ true)) }
+    ensures once { IfOk result (λ o. IfSome o (λ a. is_again a ≡ false)) }
     ensures gives { IfOk result (λ o. IfSome o (λ a. (n : ℕ) → gives call.now a ≡ Some n → n ≡ next)) }
     ensures none { IfOk result (λ o. IfNone o (Waits ring body.now call.now)) }
 {
@@ -68,6 +69,7 @@ fn on_socket(
     requires within { IsCallWithin call.now }
     requires socket { IsOnSocket call.now }
     ensures some { IfOk result (λ o. IfSome o (λ a. socket_allows body.now number call.now a ≡ true)) }
+    ensures once { IfOk result (λ o. IfSome o (λ a. is_again a ≡ false)) }
     ensures gives { IfOk result (λ o. IfSome o (λ a. (n : ℕ) → gives call.now a ≡ Some n → n ≡ next)) }
     ensures none { IfOk result (λ o. IfNone o ((socket_allows body.now number call.now answers.Again ≡ true) × WaitsAt ring body.now number call.now)) }
 {
@@ -86,6 +88,7 @@ fn on_socket(
 fn at_listener(body: &Body, place: u32, call: &Call, next: u32) -> Option<Answer>
     requires socket { IsOnSocket call.now }
     ensures some { IfSome result (λ a. listener_allows (queue_of body.now place) call.now a ≡ true) }
+    ensures once { IfSome result (λ a. is_again a ≡ false) }
     ensures gives { IfSome result (λ a. (n : ℕ) → gives call.now a ≡ Some n → n ≡ next) }
     ensures none { IfNone result (listener_allows (queue_of body.now place) call.now answers.Again ≡ true) }
 {

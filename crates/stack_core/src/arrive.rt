@@ -3,15 +3,13 @@
 ghost use Rattle.std.specs.Prelude.{◌≡◌, ◌≤◌, ◌<◌, ◌+◌, ◌*◌, ◌⊎◌, suc, true, false, nat_lt, IfOk, IfNone, OnOk, OnErr};
 ghost use Rattle.std.specs.Option.{IfSome};
 ghost use Rattle.case_forms.specs.Witnesses.{IsWithinLimits};
-ghost use Rattle.hosts.specs.Hosts.{At, Does, Takes};
-ghost use Rattle.hosts.specs.HostRules.{Permitted};
+ghost use Rattle.hosts.specs.Hosts.{At, Takes};
 ghost use Rattle.machine.specs.Bounds.{most_steps};
-ghost use Rattle.machine.specs.Machine.{tcp};
 ghost use Rattle.machine.specs.Steps.{step_of};
 ghost use Rattle.recordings.specs.Books.{Bring};
-ghost use Rattle.stack_core.specs.ArrivalEvents.{IsArrival, IsArrivedShort, IsCameIn, IsRecovered, IsRecoveryAt};
+ghost use Rattle.stack_core.specs.ArrivalEvents.{IsArrival, IsArrivedShort, IsCameIn, IsChoice, IsRecovered, IsRecoveryAt};
 ghost use Rattle.stack_core.specs.ArrivalEvents.{IsRefusedRecovery, IsSettled, IsSettledShort, IsYoung, MayDrop, MayRecover, MayTake, ports_of};
-ghost use Rattle.stack_core.specs.Cores.{IsAfter, IsRecorded, MayDo, line_to_come, with_item, world};
+ghost use Rattle.stack_core.specs.Cores.{IsAfter, IsRecorded, MayDo, line_to_come, with_item};
 ghost use Rattle.stack_core.specs.Entries.{steps_in};
 
 use crate::duties::{Before, Seen};
@@ -178,7 +176,7 @@ impl HostCore {
     // How it may be taken with its bytes: with this window if it may, and a sample. None: it may not.
     fn choice(&self, line: u64, window: u32) -> Option<TakeChoice>
         requires steps { steps_in self.now.recorded.entries < most_steps }
-        ensures some { IfSome result (λ choice. (choice.keep ≡ true) × MayTake self.now line × MayDo self.now (At self.now.recorded.me (Takes line choice))) }
+        ensures some { IfSome result (λ choice. IsChoice self.now line choice) }
         ensures none { IfNone result (MayTake self.now line → ⊥) }
     {
         let least = self.take_with(line, 0, false)?;

@@ -1,15 +1,13 @@
 //! The open call of a thread has its effect, and ends.
 
-ghost use Rattle.std.specs.Prelude.{◌≡◌, ◌<◌, ◌≤◌, ℕ, length, IfNone, IfOk, OnErr};
+ghost use Rattle.std.specs.Prelude.{◌≡◌, ◌<◌, ◌≤◌, false, length, IfNone, IfOk, OnErr};
 ghost use Rattle.std.specs.Option.{IfSome};
-ghost use Rattle.hosts.specs.Hosts.{Effect};
-ghost use Rattle.hosts.specs.HostRules.{Permitted};
 ghost use Rattle.hosts.specs.Tables.{lane};
 ghost use Rattle.hosts.specs.Hosts.{turn_of};
-ghost use Rattle.machine.specs.Machine.{tcp};
 ghost use Rattle.stack_core.specs.Cores.{GivesNext, IsAfter, IsRecorded, next_socket, own_body, world};
 ghost use Rattle.stack_core.specs.Entries.{steps_in};
-ghost use Rattle.stack_core.specs.CallEvents.{IsAttempted, IsAttemptShort, MayAnswer, NoAnswer};
+ghost use Rattle.stack_core.specs.Answers.{is_again};
+ghost use Rattle.stack_core.specs.CallEvents.{IsAttempted, IsAttemptShort, KeptNoAnswer, MayAnswer, NoAnswer};
 
 use crate::answered::Answered;
 use crate::answers::choose;
@@ -41,6 +39,7 @@ impl HostCore {
         requires events { self.old.events < 10000000 }
         requires lane { lane thread ≡ self.old.recorded.me }
         ensures some { IfOk result (λ o. IfSome o (λ a. IsAttempted self.old tick thread a self.new)) }
+        ensures once { IfOk result (λ o. IfSome o (λ a. is_again a.answer ≡ false)) }
         ensures none { IfOk result (λ o. IfNone o ((self.new ≡ self.old) × NoAnswer self.old thread)) }
         ensures err { OnErr result (IsAttemptShort self.old tick thread self.new) }
         ensures kept { IsRecorded self.new }
@@ -56,6 +55,7 @@ impl HostCore {
         requires events { self.old.events < 10000000 }
         requires lane { lane thread ≡ self.old.recorded.me }
         ensures some { IfOk result (λ o. IfSome o (λ a. IsAttempted self.old tick thread a self.new)) }
+        ensures once { IfOk result (λ o. IfSome o (λ a. is_again a.answer ≡ false)) }
         ensures none { IfOk result (λ o. IfNone o ((self.new ≡ self.old) × NoAnswer self.old thread)) }
         ensures err { OnErr result (IsAttemptShort self.old tick thread self.new) }
     {
@@ -133,8 +133,9 @@ impl HostCore {
     fn answer(&self, thread: u32) -> Result<Option<Answer>, OutOfMemory>
         requires few { steps_in self.now.recorded.entries < 1000000000 }
         ensures permitted { IfOk result (λ o. IfSome o (λ a. MayAnswer self.now thread a)) }
+        ensures once { IfOk result (λ o. IfSome o (λ a. is_again a ≡ false)) }
         ensures gives { IfOk result (λ o. IfSome o (λ a. GivesNext self.now.recorded.me (own_body self.now) (turn_of thread (world self.now).threads) a)) }
-        ensures none { IfOk result (λ o. IfNone o (NoAnswer self.now thread)) }
+        ensures none { IfOk result (λ o. IfNone o (KeptNoAnswer self.now thread)) }
     {
         forgetting_is_free();
         self.bounds();

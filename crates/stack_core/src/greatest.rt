@@ -2,7 +2,7 @@
 
 use case_forms::{Growth, Initial};
 use endpoint_state::Endpoint;
-use machine::Emission;
+use machine::{Emission, window_in};
 use window_rules::{
     initial_window, initial_window_6928, may_grow, on_duplicate, on_fast, on_timeout,
 };
@@ -69,7 +69,17 @@ fn is_duplicate(endpoint: &Endpoint, m: &Emission) -> bool {
     endpoint.stream.una < endpoint.max_made()
         && m.length() == 0
         && m.ack == endpoint.stream.una
-        && endpoint.peer_window(m) == endpoint.window.wnd
+        && window_of(endpoint, m) == endpoint.window.wnd
+}
+
+// The window that a segment of the peer's offers, in bytes.
+fn window_of(endpoint: &Endpoint, m: &Emission) -> u32 {
+    window_in(
+        endpoint.is_scaling(),
+        m.flags.syn,
+        endpoint.peer_shift,
+        m.window,
+    )
 }
 
 fn narrowed(value: u64) -> u32 {

@@ -1,6 +1,6 @@
 //! The core of one host: what it recorded, and what each event asks of it.
 
-ghost use Rattle.std.specs.Prelude.{◌≡◌, ◌≤◌, ◌<◌, ◌+◌, ◌*◌, suc, [], OnOk, OnErr};
+ghost use Rattle.std.specs.Prelude.{◌≡◌, ◌≤◌, ◌<◌, ◌+◌, ◌*◌, suc, OnOk, OnErr};
 ghost use Rattle.case_forms.specs.Witnesses.{IsWithinLimits};
 ghost use Rattle.hosts.specs.HostSteps.{after};
 ghost use Rattle.machine.specs.Machine.{tcp};

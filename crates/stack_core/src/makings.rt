@@ -1,6 +1,6 @@
 //! What a core makes next.
 
-ghost use Rattle.std.specs.Prelude.{◌≡◌, ◌<◌, ◌≤◌, IfNone};
+ghost use Rattle.std.specs.Prelude.{◌<◌, ◌≤◌, IfNone};
 ghost use Rattle.std.specs.List.{All};
 ghost use Rattle.std.specs.Option.{IfSome};
 ghost use Rattle.hosts.specs.Tables.{pick};
@@ -8,7 +8,7 @@ ghost use Rattle.streams.specs.Sent.{end_of};
 ghost use Rattle.machine.specs.Bounds.{greatest_position, most_steps};
 ghost use Rattle.machine.specs.Endpoints.{max_made};
 ghost use Rattle.stack_core.specs.Outgoing.{greatest_payload};
-ghost use Rattle.stack_core.specs.Makings.{IsMakeable, IsSynRefused, IsTried, NothingToMake, Refuses, bytes_of, fin_of, syn_of};
+ghost use Rattle.stack_core.specs.Makings.{IsMakeable, IsSynRefused, IsTried, NothingToMake, Refuses, fin_of, syn_of};
 
 use crate::duties::Duties;
 use crate::plans::{

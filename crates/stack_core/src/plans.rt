@@ -1,6 +1,6 @@
 //! The segments that a core would make at an endpoint. Positions and windows count bytes.
 
-ghost use Rattle.std.specs.Prelude.{◌≡◌, ◌≤◌};
+ghost use Rattle.std.specs.Prelude.{◌≡◌};
 ghost use Rattle.stack_core.specs.Makings.{bytes_of, fin_of, syn_of};
 
 use crate::duties::{Again, Duty};

@@ -1,14 +1,11 @@
 //! A timer expires.
 
-ghost use Rattle.std.specs.Prelude.{◌≡◌, ◌<◌, ℕ, IfNone, IfOk, OnErr};
+ghost use Rattle.std.specs.Prelude.{◌≡◌, ◌<◌, true, IfNone, IfOk, OnErr};
 ghost use Rattle.std.specs.Option.{IfSome};
-ghost use Rattle.hosts.specs.HostRules.{Permitted};
 ghost use Rattle.machine.specs.Bounds.{most_steps};
-ghost use Rattle.machine.specs.Machine.{tcp};
-ghost use Rattle.stack_core.specs.Cores.{IsAfter, IsRecorded, opened, world};
+ghost use Rattle.stack_core.specs.Cores.{IsAfter, IsRecorded, opened};
 ghost use Rattle.stack_core.specs.Entries.{steps_in};
-ghost use Rattle.stack_core.specs.Recordings.{world_left};
-ghost use Rattle.stack_core.specs.TimerEvents.{IsDueAt, IsRefused, IsTimed, NoneDue, NoneDueAt, expiry_step};
+ghost use Rattle.stack_core.specs.TimerEvents.{HasTried, IfGivesUp, IsDueAt, IsNotDueAt, IsRefused, IsTimed, NoneDue, NoneDueAt};
 
 use crate::greatest::at_timeout;
 use crate::host_core::HostCore;
@@ -84,6 +81,7 @@ impl HostCore {
     fn due(&self, moment: u64) -> Option<Due>
         requires steps { steps_in self.now.recorded.entries < most_steps }
         ensures some { IfSome result (λ due. IsDueAt self.now.recorded moment due.ports due.expired) }
+        ensures tried { IfSome result (λ due. IfGivesUp self.now.recorded due.ports due.expired) }
         ensures none { IfNone result (NoneDue self.now moment) }
     {
         find_due(&self.recording, moment)
@@ -94,6 +92,7 @@ impl HostCore {
 fn find_due(recording: &Recording, moment: u64) -> Option<Due>
     requires steps { steps_in recording.now.entries < most_steps }
     ensures some { IfSome result (λ due. IsDueAt recording.now moment due.ports due.expired) }
+    ensures tried { IfSome result (λ due. IfGivesUp recording.now due.ports due.expired) }
     ensures none { IfNone result (NoneDueAt recording.now moment) }
 {
     recording.few_endpoints();
@@ -112,14 +111,14 @@ fn find_due(recording: &Recording, moment: u64) -> Option<Due>
 fn due_at(recording: &Recording, moment: u64, endpoint: &Endpoint) -> Option<Due>
     requires steps { steps_in recording.now.entries < most_steps }
     ensures some { IfSome result (λ due. IsDueAt recording.now moment due.ports due.expired) }
+    ensures tried { IfSome result (λ due. IfGivesUp recording.now due.ports due.expired) }
     ensures none { IfNone result (IsRefused recording.now moment (record { lport = endpoint.now.lport; rport = endpoint.now.rport })) }
 {
     let ports = Ports {
         lport: endpoint.lport,
         rport: endpoint.rport,
     };
-    let state = endpoint.state;
-    if TRIES <= endpoint.tries && !state.is_fin_wait_2() && !state.is_closed() {
+    if has_tried(recording, ports) {
         if let Some(due) = ask(recording, moment, ports, Expired::Giveup) {
             return Some(due);
         }
@@ -140,11 +139,22 @@ fn due_at(recording: &Recording, moment: u64, endpoint: &Endpoint) -> Option<Due
     ask(recording, moment, ports, Expired::Msl2)
 }
 
+// Whether so many timers of the endpoint of these ports expired that it gives up.
+fn has_tried(recording: &Recording, ports: Ports) -> bool
+    ensures { result ≡ true → HasTried recording.now ports }
+{
+    match recording.body().endpoint_of(ports.lport, ports.rport) {
+        Some(endpoint) => TRIES <= endpoint.tries && !endpoint.state.is_fin_wait_2(),
+        None => false,
+    }
+}
+
 // The timer, if it may expire.
 fn ask(recording: &Recording, moment: u64, ports: Ports, expired: Expired) -> Option<Due>
     requires steps { steps_in recording.now.entries < most_steps }
     ensures some { IfSome result (λ due. IsDueAt recording.now moment due.ports due.expired) }
-    ensures none { IfNone result (Permitted (tcp recording.now.header) moment (world_left recording.now) (expiry_step recording.now.me 0 ports expired) → ⊥) }
+    ensures same { IfSome result (λ due. due ≡ record { ports = ports; expired = expired }) }
+    ensures none { IfNone result (IsNotDueAt recording.now moment ports expired) }
 {
     let line = TakenLine::Expired {
         line: 0,

@@ -23,6 +23,11 @@ length-front-fade (suc n) (Some Syn ∷ xs) = ap (λ k. suc k) (length-front-fad
 length-front-fade (suc n) (Some (Byte v) ∷ xs) = ap (λ k. suc k) (length-front-fade n xs)
 length-front-fade (suc n) (Some Fin ∷ xs) = ap (λ k. suc k) (length-front-fade n xs)
 
+pub length-fade : (n : ℕ) (xs : List (Option Cell)) → length (fade n xs) ≡ length xs
+length-fade zero xs = refl
+length-fade (suc n) [] = refl
+length-fade (suc n) (x ∷ xs) = ap (λ k. suc k) (length-fade n xs)
+
 pub is_fin-fade : (n : ℕ) (xs : List (Option Cell)) (i : ℕ) → is_fin (slice_get (fade n xs) i) ≡ is_fin (slice_get xs i)
 is_fin-fade zero xs i = refl
 is_fin-fade (suc n) [] i = refl
@@ -46,7 +51,10 @@ fade-fade (suc m) (suc n) (x ∷ xs) h = let rest = fade-fade m n xs (omega arit
 pub fade-put : (n : ℕ) (xs : List (Option Cell)) (p : ℕ) (c : Cell) → fade n (put (fade n xs) p c) ≡ fade n (put xs p c)
 fade-put zero xs p c = refl
 fade-put (suc n) [] p c = refl
-fade-put (suc n) (x ∷ xs) zero c = ap (λ (ys : List (Option Cell)). faded (Some c) ∷ ys) (fade-fade n n xs (omega arith))
+fade-put (suc n) (None ∷ xs) zero c = ap (λ (ys : List (Option Cell)). faded (Some c) ∷ ys) (fade-fade n n xs (omega arith))
+fade-put (suc n) (Some Syn ∷ xs) zero c = fade-fade (suc n) (suc n) (Some Syn ∷ xs) (omega arith)
+fade-put (suc n) (Some (Byte v) ∷ xs) zero c = fade-fade (suc n) (suc n) (Some (Byte v) ∷ xs) (omega arith)
+fade-put (suc n) (Some Fin ∷ xs) zero c = fade-fade (suc n) (suc n) (Some Fin ∷ xs) (omega arith)
 fade-put (suc n) (x ∷ xs) (suc p) c = let rest = fade-put n xs p c in let here = faded-faded x in cc
 
 pub fade-put_all : (n : ℕ) (xs : List (Option Cell)) (p : ℕ) (cs : List Cell) → fade n (put_all (fade n xs) p cs) ≡ fade n (put_all xs p cs)

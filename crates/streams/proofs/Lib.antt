@@ -5,6 +5,9 @@ pub mod Covers
 pub mod Fades
 pub mod Writes
 pub mod Gone
+pub mod Keeping
 pub mod Waiting
 pub mod RunLemmas
+pub mod MarkLemmas
+pub mod MadeLemmas
 pub mod ReadLemmas

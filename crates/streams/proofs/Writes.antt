@@ -1,15 +1,23 @@
 -- Writing cells by position, and how far they reach without a gap.
-use Rattle.std.proofs.Common.{ℕ, ◌+◌, ◌<◌, ◌≤◌, List, [], ◌∷◌, ◌++◌, length, drop, set, get_or, Option, None, Some, Bool, true, false, ◌≡◌, refl, ap, arith, zero, suc}
+use Rattle.std.proofs.Common.{ℕ, ◌+◌, ◌<◌, ◌≤◌, List, [], ◌∷◌, ◌++◌, length, drop, set, get_or, Option, None, Some, Bool, true, false, ◌≡◌, refl, sym, ap, ◌∙◌, arith, zero, suc}
 use Rattle.std.specs.Option.{is_some}
 use Rattle.std.proofs.lemmas.List.{drop_more}
 use Rattle.streams.specs.declared.cell.Cell.{Cell}
 use Rattle.streams.specs.declared.cell.Cell.TheVariants.{Syn, Byte, Fin}
 use Rattle.streams.specs.Cells.{body, cells_of, front, leading, put, put_all}
 
-pub put-set : (xs : List (Option Cell)) (p : ℕ) (c : Cell) → p < length xs → put xs p c ≡ set xs p (Some c)
-put-set [] p c h = absurd (omega arith)
-put-set (x ∷ xs) zero c h = refl
-put-set (x ∷ xs) (suc p) c h = let l : p < length xs = omega arith in ap (λ (ys : List (Option Cell)). x ∷ ys) (put-set xs p c l)
+pub put-set : (xs : List (Option Cell)) (p : ℕ) (c : Cell) (v : Option Cell) → p < length xs → v ≡ get_or xs p v → is_some v ≡ false → put xs p c ≡ set xs p (Some c)
+put-set [] p c v h e n = absurd (omega arith)
+put-set (None ∷ xs) zero c v h e n = refl
+put-set (Some x ∷ xs) zero c v h e n = absurd (let k : true ≡ false = sym (ap is_some e) ∙ n in cc)
+put-set (x ∷ xs) (suc p) c v h e n = let l : p < length xs = omega arith in ap (λ (ys : List (Option Cell)). x ∷ ys) (put-set xs p c v l e n)
+
+-- what stood there stays
+pub put-stays : (xs : List (Option Cell)) (p : ℕ) (c : Cell) (v : Option Cell) → p < length xs → v ≡ get_or xs p v → is_some v ≡ true → put xs p c ≡ xs
+put-stays [] p c v h e n = absurd (omega arith)
+put-stays (None ∷ xs) zero c v h e n = absurd (let k : false ≡ true = sym (ap is_some e) ∙ n in cc)
+put-stays (Some x ∷ xs) zero c v h e n = refl
+put-stays (x ∷ xs) (suc p) c v h e n = let l : p < length xs = omega arith in ap (λ (ys : List (Option Cell)). x ∷ ys) (put-stays xs p c v l e n)
 
 pub put-end : (xs : List (Option Cell)) (p : ℕ) (c : Cell) → length xs ≡ p → put xs p c ≡ xs ++ Some c ∷ []
 put-end [] zero c h = refl
@@ -41,7 +49,8 @@ pub length_put : (xs : List (Option Cell)) (p : ℕ) (c : Cell) (n : ℕ) → le
 length_put [] zero c n h k = omega arith
 length_put [] (suc p) c zero h k = absurd (omega arith)
 length_put [] (suc p) c (suc n) h k = let more = length_put [] p c n (omega arith) (omega arith) in omega arith
-length_put (x ∷ xs) zero c n h k = h
+length_put (None ∷ xs) zero c n h k = h
+length_put (Some x ∷ xs) zero c n h k = h
 length_put (x ∷ xs) (suc p) c zero h k = absurd (omega arith)
 length_put (x ∷ xs) (suc p) c (suc n) h k = let more = length_put xs p c n (omega arith) (omega arith) in omega arith
 

@@ -43,7 +43,8 @@ pub record ForgettingStreams : Type 0 where
   pub counts : (r : Receiving) → next (forgotten r) ≡ next r
   pub ends : (r : Receiving) → is_ended (forgotten r) ≡ is_ended r
   pub reads : (r : Receiving) → waiting (forgotten r) ≡ waiting r
-  pub takes : (r : Receiving) (position : ℕ) (bytes : List ℕ) (fin : Bool) → forgotten (kept (forgotten r) position bytes fin) ≡ forgotten (kept r position bytes fin)
+  pub takes : (r : Receiving) (position : ℕ) (bytes : List ℕ) (fin : Bool) → forgotten (kept (forgotten r) position bytes fin)
+      ≡ forgotten (kept r position bytes fin)
   pub tells : (r : Receiving) (count : ℕ) → forgotten (told (forgotten r) count) ≡ forgotten (told r count)
   pub measures : (una : ℕ) (accepted : List ℕ) → end_of (below una accepted) ≡ end_of accepted
   pub sends : (una : ℕ) (accepted bytes : List ℕ) → below una (below una accepted ++ bytes) ≡ below una (accepted ++ bytes)
@@ -53,7 +54,8 @@ pub record ForgettingStreams : Type 0 where
 -- the same of makings
 pub record ForgettingMakings : Type 0 where
   pub measures : (una : ℕ) (all : List Made) → length (made_below una all) ≡ length all
-  pub makes : (una : ℕ) (all : List Made) (position count moment : ℕ) → made_below una (made (made_below una all) position count moment) ≡ made_below una (made all position count moment)
+  pub makes : (una : ℕ) (all : List Made) (position count moment : ℕ) →
+      made_below una (made (made_below una all) position count moment) ≡ made_below una (made all position count moment)
   pub asks : (una : ℕ) (all : List Made) (from upto : ℕ) → una ≤ from → made_again (made_below una all) from upto ≡ made_again all from upto
   pub times : (una : ℕ) (all : List Made) (position : ℕ) → una ≤ position → made_moment (made_below una all) position ≡ made_moment all position
   pub acks : (una higher : ℕ) (all : List Made) → una ≤ higher → made_below higher (made_below una all) ≡ made_below higher all

@@ -12,7 +12,9 @@ IsOf r accepted ended = Taken (λ position cell. slice_get (cells accepted ended
 
 -- these cells stand in what the peer sends, from this position on
 abbrev pub StandsAt : List Cell → ℕ → List ℕ → Bool → Type 0
-StandsAt some position accepted ended = (place : ℕ) (cell : Cell) → slice_get some place ≡ Some cell → slice_get (cells accepted ended) (position + place) ≡ Some cell
+StandsAt some position accepted ended =
+    (place : ℕ) (cell : Cell) → slice_get some place ≡ Some cell → slice_get (cells accepted ended) (position + place)
+    ≡ Some cell
 
 -- what came is how the peer's bytes begin; what waits follows what was received; the end is told when all came
 pub record InOrder (r : Receiving) (accepted : List ℕ) (ended : Bool) : Type 0 where
@@ -23,9 +25,14 @@ pub record InOrder (r : Receiving) (accepted : List ℕ) (ended : Bool) : Type 0
 -- the laws of one stream from its sender to its reader
 pub record StreamsInOrder : Type 0 where
   pub reads : (r : Receiving) (accepted : List ℕ) (ended : Bool) → IsOf r accepted ended → InOrder r accepted ended
-  pub takes : (r : Receiving) (accepted : List ℕ) (ended : Bool) (position : ℕ) (bytes : List ℕ) (fin : Bool) → IsOf r accepted ended → StandsAt (body bytes fin) position accepted ended → IsOf (kept r position bytes fin) accepted ended
+  pub takes : (r : Receiving) (accepted : List ℕ) (ended : Bool) (position : ℕ) (bytes : List ℕ) (fin : Bool) →
+      IsOf r accepted ended → StandsAt (body bytes fin) position accepted ended →
+      IsOf (kept r position bytes fin) accepted ended
   pub advances : (r : Receiving) (position : ℕ) (bytes : List ℕ) (fin : Bool) → next r ≤ next (kept r position bytes fin)
-  pub makes : (accepted : List ℕ) (ended : Bool) (position count : ℕ) (fin : Bool) → (0 < count → (0 < position) × (position + count ≤ end_of accepted)) → (fin ≡ true → (position + count ≡ end_of accepted) × (ended ≡ true)) → StandsAt (body (piece accepted position count) fin) position accepted ended
+  pub makes : (accepted : List ℕ) (ended : Bool) (position count : ℕ) (fin : Bool) →
+      (0 < count → (0 < position) × (position + count ≤ end_of accepted)) →
+      (fin ≡ true → (position + count ≡ end_of accepted) × (ended ≡ true)) →
+      StandsAt (body (piece accepted position count) fin) position accepted ended
   pub sends : (accepted bytes : List ℕ) → Within (cells accepted false) (cells (accepted ++ bytes) false)
   pub finishes : (accepted : List ℕ) (ended : Bool) → Within (cells accepted ended) (cells accepted true)
 

@@ -3,6 +3,7 @@ pub mod Cells
 pub mod Received
 pub mod Sent
 pub mod Makings
+pub mod Marks
 pub mod Forgetting
 pub mod InOrder
 pub mod Views

@@ -1,5 +1,6 @@
 -- What an endpoint took of its peer, by position, and what of it was delivered to reads (RFC 9293, 3.10.7.4 and 3.10.4).
-use Rattle.std.specs.Prelude.{ℕ, ◌+◌, ◌-◌, ◌==◌, suc, Bool, true, false, ◌&&◌, List, [], ◌∷◌, Option, Some, length, take, drop, slice_get}
+use Rattle.std.specs.Prelude.{ℕ, ◌+◌, ◌-◌, ◌==◌, nat_le, suc, Bool, true, false, not, ◌&&◌, if◌then◌else◌, List, [], ◌∷◌}
+use Rattle.std.specs.Prelude.{Option, Some, length, take, drop, slice_get}
 use Rattle.streams.specs.declared.cell.Cell.{Cell}
 use Rattle.streams.specs.declared.cell.Cell.TheVariants.{Syn}
 use Rattle.streams.specs.Cells.{body, bytes_of, front, is_fin, leading, put_all}
@@ -31,9 +32,25 @@ starts [] all = true
 starts (value ∷ bytes) [] = false
 starts (value ∷ bytes) (first ∷ all) = value == first && starts bytes all
 
--- these bytes are taken from this position on, and a FIN behind them where there is one
+-- the peer's FIN was taken: nothing is taken behind it, so it is the last
+abbrev pub has_end : List (Option Cell) → Bool
+has_end taken = is_fin (slice_get taken (length taken - 1))
+
+-- of these bytes, from this position on, those in front of a FIN that was taken
+abbrev pub part_kept : List (Option Cell) → (position : ℕ) → List ℕ → List ℕ
+part_kept taken position bytes = if has_end taken then take (length taken - 1 - position) bytes else bytes
+
+-- a FIN behind them is kept where none was taken yet, and nothing at its position or behind it
+abbrev pub end_kept : List (Option Cell) → (position : ℕ) → List ℕ → (fin : Bool) → Bool
+end_kept taken position bytes fin = fin && not (has_end taken) && nat_le (length taken) (position + length bytes)
+
+-- what is kept of these bytes, and of a FIN behind them where there is one
+abbrev pub body_kept : List (Option Cell) → (position : ℕ) → List ℕ → (fin : Bool) → List Cell
+body_kept taken position bytes fin = body (part_kept taken position bytes) (end_kept taken position bytes fin)
+
+-- it is taken, from this position on; what was taken at a position before stays
 abbrev pub kept : Receiving → (position : ℕ) → (bytes : List ℕ) → (fin : Bool) → Receiving
-kept r position bytes fin = record r { taken = put_all r.taken position (body bytes fin) }
+kept r position bytes fin = record r { taken = put_all r.taken position (body_kept r.taken position bytes fin) }
 
 -- the last position before the next that is expected is a FIN's
 abbrev pub is_ended : Receiving → Bool

@@ -4,6 +4,7 @@ use Rattle.streams.specs.declared.cell.Cell.{Cell}
 use Rattle.streams.specs.declared.cell.Cell.TheVariants.{Syn, Byte}
 use Rattle.streams.specs.declared.making.Made.{Made}
 use Rattle.streams.specs.declared.runs.Run.{Run}
+use Rattle.streams.specs.Makings.{once}
 
 -- so many positions that were taken, from the SYN on
 abbrev pub gone_cells : ℕ → List (Option Cell)
@@ -13,4 +14,4 @@ gone_cells (suc n) = Some Syn ∷ replicate n (Some (Byte 0))
 -- runs, position by position
 abbrev pub expand : List Run → List Made
 expand [] = []
-expand (run ∷ runs) = replicate run.count run.made ++ expand runs
+expand (run ∷ runs) = replicate run.count (once run.moment) ++ expand runs

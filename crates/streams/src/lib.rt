@@ -7,7 +7,8 @@
 //! - `cell`: what stands at one position
 //! - `receive`: what was taken of the peer, until it is delivered; `leading` reads the bytes in front
 //! - `send`: what sends accepted, until it is acknowledged
-//! - `making`, `makings`: when a position was made, and whether it was made again; `runs` keeps that by segments
+//! - `making`, `makings`: when a position was made, and whether it was made again; `runs` keeps the first by segments, `marks`
+//!   the second by ranges
 //! - `laws`: that nothing reads what is forgotten, and that reads are given what the peer sent, in order
 //!
 //! Each buffer shows the whole list from position 0 on, with something fixed in the places of what it discarded. What must
@@ -21,6 +22,7 @@ mod laws;
 mod leading;
 mod making;
 mod makings;
+mod marks;
 mod receive;
 mod runs;
 mod send;

@@ -1,13 +1,15 @@
 //! When each position of a stream was made, and whether it was made again (RFC 6298, 3).
 //!
-//! Positions that one segment made are kept as one run, and those that were acknowledged are discarded: they show as made
-//! once at the moment 0. `specs/Makings` says what each call does.
+//! Positions that one segment made are kept as one run, those that were made again as ranges beside them, so that a segment
+//! walks over none that stands before it. Those that were acknowledged are discarded: they show as made once at the moment 0.
+//! `specs/Makings` says what each call does.
 
 ghost use Rattle.std.specs.Prelude.{◌≡◌, ◌+◌, ◌<◌, ◌^◌, [], OnOk, OnErr, length};
 ghost use Rattle.streams.specs.Makings.{made, made_again, made_moment};
 ghost use Rattle.streams.specs.Forgetting.{made_below};
 
-use super::runs::{Run, any_again, forget, grow, moment_at, remake, reopen};
+use super::marks::Marks;
+use super::runs::{Run, forget, grow, moment_at};
 use std::alloc::{AllocError, Global};
 use std::collections::VecDeque;
 use std::marker::Model;
@@ -21,19 +23,22 @@ pub struct Makings {
     gone: u64,
     /// The position behind the last that was made.
     end: u64,
+    /// Those that were made again.
+    marks: Marks,
 }
 
 impl Model for Makings {
     ghost use Rattle.std.specs.Prelude.{◌≡◌, ◌++◌, ◌+◌, ◌<◌, ◌^◌, List, length, replicate};
     ghost use Rattle.streams.specs.declared.making.Made.{Made};
     ghost use Rattle.streams.specs.Makings.{once};
+    ghost use Rattle.streams.specs.Marks.{IsBelow, is_marked, marked};
     ghost use Rattle.streams.specs.Views.{expand};
 
     ghost Value = { List Made };
 
-    ghost view = { λ a. replicate a.gone (once 0) ++ expand a.runs.items };
+    ghost view = { λ a. marked (is_marked a.marks) 0 (replicate a.gone (once 0) ++ expand a.runs.items) };
 
-    ghost invariant = { λ a. (a.end ≡ a.gone + length (expand a.runs.items)) × (a.end < 2 ^ 63) };
+    ghost invariant = { λ a. (a.end ≡ a.gone + length (expand a.runs.items)) × (a.end < 2 ^ 63) × IsBelow a.end a.marks };
 }
 
 impl Makings {
@@ -45,6 +50,7 @@ impl Makings {
             runs: VecDeque::new(alloc),
             gone: 0,
             end: 0,
+            marks: Marks::new(alloc),
         }
     }
 
@@ -62,10 +68,8 @@ impl Makings {
         ensures ok { OnOk result (self.new ≡ made self.old position count moment) }
         ensures err { OnErr result (self.new ≡ self.old) }
     {
-        self.runs.reserve(4)?;
-        self.gone = reopen(&mut self.runs, self.gone, position);
-        let known = self.end - self.gone;
-        remake(&mut self.runs, position - self.gone, count, known);
+        self.runs.reserve(1)?;
+        self.marks.add(position, self.end.min(position + count))?;
         let fresh = (position + count).saturating_sub(self.end);
         grow(&mut self.runs, fresh, moment);
         self.end += fresh;
@@ -76,8 +80,7 @@ impl Makings {
     pub fn is_made_again(&self, from: u64, upto: u64) -> bool
         ensures { result ≡ made_again self.now from upto }
     {
-        let first = from.max(self.gone);
-        any_again(&self.runs, first - self.gone, upto.saturating_sub(first))
+        from < upto && self.marks.meets(from, upto)
     }
 
     /// The moment at which this position was made first (in microseconds); `None` if it was not made.
@@ -97,5 +100,6 @@ impl Makings {
         let count = una.saturating_sub(self.gone).min(self.end - self.gone);
         forget(&mut self.runs, count);
         self.gone += count;
+        self.marks.forget_below(una);
     }
 }

@@ -7,7 +7,7 @@
 ghost use Rattle.std.specs.Prelude.{◌≡◌, ℕ, ◌+◌, ◌-◌, ◌≤◌, ◌<◌, ◌^◌, nat_lt, OnOk, OnErr, IfOk, Some, length, take, drop};
 ghost use Rattle.std.specs.VecDeque.{deque_len, deque_capacity};
 ghost use Rattle.streams.specs.Cells.{body, cells_of, front, is_fin, put, put_all};
-ghost use Rattle.streams.specs.Received.{empty, is_ended, kept, met, next, starts, told, waiting};
+ghost use Rattle.streams.specs.Received.{body_kept, empty, end_kept, has_end, is_ended, kept, met, next, part_kept, starts, told, waiting};
 ghost use Rattle.streams.specs.Forgetting.{forgotten};
 
 use super::cell::Cell;
@@ -104,7 +104,8 @@ impl ReceiveBuffer {
     }
 
     /// Takes these bytes from this position on, which is not below the next, and a FIN behind them where there is one.
-    /// The new bytes replace those that were taken at the same positions.
+    /// What was taken at a position before stays; nothing is taken at or behind a FIN that was taken, and no FIN at or
+    /// below a position that was.
     pub fn keep(&mut self, position: u64, bytes: &[u8], fin: bool) -> Result<(), AllocError>
         requires met { 1 ≤ next self.old }
         requires next { next self.old ≤ position }
@@ -141,6 +142,35 @@ fn is_fin(place: Option<Cell>) -> bool
     matches!(place, Some(Cell::Fin))
 }
 
+// Whether the last cell is a FIN.
+fn has_end(cells: &VecDeque<Option<Cell>>) -> bool
+    ensures { result ≡ has_end cells.now.items }
+{
+    if cells.is_empty() {
+        return false;
+    }
+    is_fin(cells[cells.len() - 1])
+}
+
+// Of these bytes, from this place on, those in front of a FIN that was taken.
+fn part_kept<'a>(cells: &VecDeque<Option<Cell>>, at: usize, bytes: &'a [u8]) -> &'a [u8]
+    ensures { result.now ≡ part_kept cells.now.items at bytes.now }
+{
+    if !has_end(cells) {
+        return bytes;
+    }
+    let most = (cells.len() - 1).saturating_sub(at);
+    &bytes[..most.min(bytes.len())]
+}
+
+// Whether a FIN behind these bytes is kept.
+fn end_kept(cells: &VecDeque<Option<Cell>>, at: usize, bytes: &[u8], fin: bool) -> bool
+    requires { at + length bytes.now < deque_capacity cells.now }
+    ensures { result ≡ end_kept cells.now.items at bytes.now fin }
+{
+    fin && !has_end(cells) && cells.len() <= at + bytes.len()
+}
+
 // Writes one cell, where there is room; places before it that have none yet stay missing.
 fn write_cell(cells: &mut VecDeque<Option<Cell>>, at: usize, cell: Cell)
     requires { at < deque_capacity cells.old }
@@ -148,7 +178,9 @@ fn write_cell(cells: &mut VecDeque<Option<Cell>>, at: usize, cell: Cell)
     ensures capacity { deque_capacity cells.new ≡ deque_capacity cells.old }
 {
     if at < cells.len() {
-        cells[at] = Some(cell);
+        if cells[at].is_none() {
+            cells[at] = Some(cell);
+        }
         return;
     }
     for _ in cells.len()..at {
@@ -168,8 +200,18 @@ fn place_bytes(cells: &mut VecDeque<Option<Cell>>, at: usize, bytes: &[u8])
     }
 }
 
-// Writes these bytes, and a FIN behind them where there is one.
+// Writes what is kept of these bytes, and of a FIN behind them where there is one.
 fn place(cells: &mut VecDeque<Option<Cell>>, at: usize, bytes: &[u8], fin: bool)
+    requires { at + length bytes.now < deque_capacity cells.old }
+    ensures items { cells.new.items ≡ put_all cells.old.items at (body_kept cells.old.items at bytes.now fin) }
+{
+    let fin = end_kept(cells, at, bytes, fin);
+    let bytes = part_kept(cells, at, bytes);
+    place_body(cells, at, bytes, fin);
+}
+
+// Writes these bytes, and a FIN behind them where there is one.
+fn place_body(cells: &mut VecDeque<Option<Cell>>, at: usize, bytes: &[u8], fin: bool)
     requires { at + length bytes.now < deque_capacity cells.old }
     ensures items { cells.new.items ≡ put_all cells.old.items at (body bytes.now fin) }
 {

@@ -15,11 +15,14 @@ IsPart parts value whole = (parts * value ≤ whole) × (whole < parts * (value 
 -- SRTT and RTTVAR after a sample, as the RFC has them, without division (RFC 6298, 2.2 and 2.3)
 pub data IsSampled (old : Timers) (r srtt rttvar : ℕ) : Type 0 where
   first : old.srtt ≡ None → srtt ≡ r → IsPart 2 rttvar r → IsSampled old r srtt rttvar
-  later : (smoothed : ℕ) → old.srtt ≡ Some smoothed → IsPart 8 srtt (7 * smoothed + r) → IsPart 4 rttvar (3 * old.rttvar + distance smoothed r) → IsSampled old r srtt rttvar
+  later : (smoothed : ℕ) → old.srtt ≡ Some smoothed → IsPart 8 srtt (7 * smoothed + r) →
+      IsPart 4 rttvar (3 * old.rttvar + distance smoothed r) → IsSampled old r srtt rttvar
 
 -- a sample gives these values and no others
 abbrev pub SamplesAreExact : Type 0
-SamplesAreExact = (t : Timers) (r : ℕ) (h : Header) (srtt rttvar : ℕ) → IsSampled t r srtt rttvar ↔ (((sampled t r h).srtt ≡ Some srtt) × ((sampled t r h).rttvar ≡ rttvar))
+SamplesAreExact =
+    (t : Timers) (r : ℕ) (h : Header) (srtt rttvar : ℕ) → IsSampled t r srtt rttvar
+    ↔ (((sampled t r h).srtt ≡ Some srtt) × ((sampled t r h).rttvar ≡ rttvar))
 
 -- SRTT lies between the old one and the sample; RTTVAR is at most the old one or the distance of both
 pub record SamplesAreSmooth : Type 0 where
@@ -67,4 +70,6 @@ pub record ExpiryIsExact : Type 0 where
 
 -- between two expiries of the retransmission timer in a row lies twice the timeout of the first, at most a minute, but for a clock tick (RFC 6298, 5.5 and 5.6)
 abbrev pub ExpiriesAreApart : Type 0
-ExpiriesAreApart = (t : Timers) (moment next : ℕ) (h : Header) → refusal (expired t Rto moment) Rto next h ≡ None → moment + min longest_rto (2 * t.rto) ≤ next + h.grain
+ExpiriesAreApart =
+    (t : Timers) (moment next : ℕ) (h : Header) → refusal (expired t Rto moment) Rto next h ≡ None →
+    moment + min longest_rto (2 * t.rto) ≤ next + h.grain

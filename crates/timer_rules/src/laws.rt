@@ -1,7 +1,8 @@
 //! What samples, back-off and expiries mean in the words of RFC 6298, and what follows, for callers that prove more:
 //! each law is the contract of a call that does nothing.
 
-ghost use Rattle.timer_rules.specs.Laws.{SamplesAreExact, SamplesAreSmooth, TimeoutIsBounded, NeverPassesAMinute, BackOffIsExponential, ExpiryIsExact, ExpiriesAreApart};
+ghost use Rattle.timer_rules.specs.Laws.{SamplesAreExact, SamplesAreSmooth, TimeoutIsBounded, NeverPassesAMinute};
+ghost use Rattle.timer_rules.specs.Laws.{BackOffIsExponential, ExpiryIsExact, ExpiriesAreApart};
 
 /// A sample gives the values of the RFC's equations, rounded down (RFC 6298, 2.2 and 2.3).
 pub fn samples_are_exact()

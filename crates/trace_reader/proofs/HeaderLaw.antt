@@ -6,17 +6,17 @@ use Rattle.std.specs.Str.{bytes_eq}
 use Rattle.std.specs.List.{AllByRecursion, concat}
 use Rattle.std.proofs.lemmas.Bool.{eqb-true}
 use Rattle.std.proofs.lemmas.Slice.Eq.{bytes_eq-Decides}
-use Rattle.bstr.specs.Text.{lines_of}
+use Rattle.bstr.specs.Text.{lines_of, without_terminator}
 use Rattle.case_forms.specs.declared.trace.Header.{Header}
 use Rattle.case_forms.specs.declared.version.Version.{Version}
-use Rattle.case_forms.specs.declared.version.Version.TheVariants.{One, Two}
+use Rattle.case_forms.specs.declared.version.Version.TheVariants.{One, Two, Three}
 use Rattle.case_forms.specs.declared.version.Initial.{Initial}
 use Rattle.case_forms.specs.declared.version.Initial.TheVariants.{Rfc5681, Rfc6928}
 use Rattle.line_fields.specs.declared.fault.FaultKind.TheVariants as kinds
 use Rattle.line_fields.specs.declared.fault.TextFault.{TextFault}
 use Rattle.line_fields.specs.Word.{Word, Rest, rest_of}
 use Rattle.line_fields.specs.Reading.{◌>>=◌, fault_at, missing, next_field, number_value, number_field}
-use Rattle.line_fields.specs.Lines.{IsRaw, IsLine, whole_line, line_text, line_rest, next_raw}
+use Rattle.line_fields.specs.Lines.{IsRaw, IsLine, is_ended, whole_line, line_text, line_rest, next_raw}
 use Rattle.line_fields.specs.Reader.{texts, IsReader}
 use Rattle.line_fields.specs.Spelling.{IsClean, joined}
 use Rattle.line_fields.proofs.Readers.{IsValue, IsNumber, bind_ok, ok_is, first_takes, first_again, is_number_value, reads_field, no_words}
@@ -25,7 +25,7 @@ use Rattle.line_fields.proofs.Clean.{clean_by, joined_no_return}
 use Rattle.line_fields.proofs.Endings.{ending_again}
 use Rattle.line_fields.proofs.Texts.{lines_of-raw}
 use Rattle.line_fields.proofs.LineRests.{fields_taken, fields_again, is_raw, text_takes, text_again}
-use Rattle.trace_reader.specs.Headers.{first_words, initial_number, initial_words, header_words, IsHeader, AreLines, header_fault, some_left, named_rest, alone, value_line, next_value, version_in, first_version, version_named, first_line, initial_of, initial_value, initial_field, initial_line, header_of}
+use Rattle.trace_reader.specs.Headers.{first_words, initial_number, initial_words, half_words, late_words, header_words, IsHeader, AreLines, header_fault, some_left, named_rest, alone, value_line, next_value, version_in, first_version, version_named, first_line, initial_of, initial_value, initial_field, initial_line, half_line, late_lines, header_of}
 
 abbrev pub Raws : Type 0
 Raws = List (List ℕ)
@@ -215,24 +215,51 @@ reads_initial = reads_field initial_value IsInitial is_initial
 initial_clean : (i : Initial) → IsClean (decimal (initial_number i))
 initial_clean i = let within = initial_within i in IsClean-decimal (initial_number i) (let h = within.1 in omega (arith, h))
 
--- what was read where version 2 names the RFC, and version 1 doesn't
-record IsNamedInitial (v : Version) (raws : Raws) (x : Initial × Raws) : Type 0 where
-  heads : Raws
-  front : raws ≡ heads ++ x.1
-  limit : v ≡ One → x.0 ≡ Rfc5681
-  lines : AreLines 7 (initial_words v x.0) heads
+-- what was read of the line that names the RFC
+record IsNamedInitial (raws : Raws) (x : Initial × Raws) : Type 0 where
+  raw : List ℕ
+  first : raws ≡ raw ∷ x.1
+  line : IsLine 7 (joined (initial_words x.0)) raw
 
-initial_takes : (v : Version) (raws : Raws) (x : Initial × Raws) → initial_line v raws ≡ Ok x → IsNamedInitial v raws x
-initial_takes One raws x e = subst (λ (y : Initial × Raws). IsNamedInitial One raws y) (ok_is (Rfc5681, raws) x e) (record { heads = []; front = refl; limit = λ one. refl; lines = tt })
-initial_takes Two raws x e =
+initial_takes : (raws : Raws) (x : Initial × Raws) → initial_line raws ≡ Ok x → IsNamedInitial raws x
+initial_takes raws x e =
     let n = next_takes 7 (codes "initial") initial_field IsInitial reads_initial raws x e in
     let v = n.valued in
     record {
-      heads = n.raw ∷ [];
-      front = n.first;
-      limit = λ one. absurd cc;
-      lines = (subst (λ (t : List ℕ). IsLine 7 (joined (codes "initial" ∷ t ∷ [])) n.raw) v.value v.line, tt);
+      raw = n.raw;
+      first = n.first;
+      line = subst (λ (t : List ℕ). IsLine 7 (joined (codes "initial" ∷ t ∷ [])) n.raw) v.value v.line;
     }
+
+initial_again : (i : Initial) (raw : List ℕ) (rest : Raws) → IsLine 7 (joined (initial_words i)) raw → initial_line (raw ∷ rest) ≡ Ok (i, rest)
+initial_again i raw rest line = next_again 7 (codes "initial") initial_field IsInitial reads_initial raw (decimal (initial_number i)) rest i (clean_by (codes "initial") refl) (initial_clean i) line refl
+
+-- what was read of the lines that version 1 doesn't have
+record IsLate (v : Version) (raws : Raws) (x : Initial × Raws) : Type 0 where
+  heads : Raws
+  front : raws ≡ heads ++ x.1
+  limit : v ≡ One → x.0 ≡ Rfc5681
+  lines : AreLines 7 (late_words v x.0) heads
+
+late_takes : (v : Version) (raws : Raws) (x : Initial × Raws) → late_lines v raws ≡ Ok x → IsLate v raws x
+late_takes One raws x e = subst (λ (y : Initial × Raws). IsLate One raws y) (ok_is (Rfc5681, raws) x e) (record { heads = []; front = refl; limit = λ one. refl; lines = tt })
+late_takes Two raws x e =
+    let n = initial_takes raws x e in
+    record { heads = n.raw ∷ []; front = n.first; limit = λ one. absurd cc; lines = (n.line, tt) }
+late_takes Three raws x e =
+    let a = bind_ok (initial_line raws) (λ i. half_line i.1 >>= λ h. Ok (i.0, h.1)) x e in
+    let b = bind_ok (half_line a.0.1) (λ h. Ok (a.0.0, h.1)) x a.2 in
+    let n = initial_takes raws a.0 a.1 in
+    let h = number_takes 8 (codes "half") 0 0 (omega arith) a.0.1 b.0 b.1 in
+    let most = h.high in
+    let zero : b.0.0 ≡ 0 = omega (arith, most) in
+    let half : IsLine 8 (joined half_words) h.raw = subst (λ (k : ℕ). IsLine 8 (joined (codes "half" ∷ decimal k ∷ [])) h.raw) zero h.line in
+    subst (λ (y : Initial × Raws). IsLate Three raws y) (ok_is (a.0.0, b.0.1) x b.2) (record {
+      heads = n.raw ∷ h.raw ∷ [];
+      front = n.first ∙ ap (λ (us : Raws). n.raw ∷ us) h.first;
+      limit = λ one. absurd cc;
+      lines = (n.line, (half, tt));
+    })
 
 -- ---- the first line
 
@@ -244,23 +271,28 @@ record IsFirst (raws : Raws) (x : Version × Raws) : Type 0 where
 first_clean : (v : Version) → AllByRecursion IsClean (first_words v)
 first_clean One = (clean_by (codes "trace") refl, (clean_by (codes "1") refl, tt))
 first_clean Two = (clean_by (codes "trace") refl, (clean_by (codes "2") refl, tt))
+first_clean Three = (clean_by (codes "trace") refl, (clean_by (codes "3") refl, tt))
 
-guard_version : (a b : Bool) (fault : TextFault) (v : Version) → cond a (Ok One) (cond b (Ok Two) (Err fault)) ≡ Ok v → ((a ≡ true) × (v ≡ One)) ⊎ ((b ≡ true) × (v ≡ Two))
-guard_version true b fault v e = inl (refl, sym (ok_is One v e))
-guard_version false true fault v e = inr (refl, sym (ok_is Two v e))
-guard_version false false fault v e = absurd cc
+-- the text is that of the first line
+abbrev is_first : List ℕ → Version → Bool
+is_first text v = bytes_eq text (joined (first_words v))
+
+version_by : (text : List ℕ) (fault : TextFault) (v : Version) (a b c : Bool) → is_first text One ≡ a → is_first text Two ≡ b → is_first text Three ≡ c
+    → cond a (Ok One) (cond b (Ok Two) (cond c (Ok Three) (Err fault))) ≡ Ok v → is_first text v ≡ true
+version_by text fault v true b c one two three e = ap (is_first text) (sym (ok_is One v e)) ∙ one
+version_by text fault v false true c one two three e = ap (is_first text) (sym (ok_is Two v e)) ∙ two
+version_by text fault v false false true one two three e = ap (is_first text) (sym (ok_is Three v e)) ∙ three
+version_by text fault v false false false one two three e = absurd cc
 
 version_taken : (text : List ℕ) (v : Version) → version_in text ≡ Ok v → text ≡ joined (first_words v)
 version_taken text v e =
-    let same : (u : Version) → bytes_eq text (joined (first_words u)) ≡ true → text ≡ joined (first_words u) = λ u h. (bytes_eq-Decides text (joined (first_words u))).0 h in
-    elim (guard_version (bytes_eq text (joined (first_words One))) (bytes_eq text (joined (first_words Two))) (record { kind = kinds.Header; span = whole_line 1 text }) v e) [
-      | inl a ↦ same One a.0 ∙ ap (λ (u : Version). joined (first_words u)) (sym a.1)
-      | inr b ↦ same Two b.0 ∙ ap (λ (u : Version). joined (first_words u)) (sym b.1)
-    ]
+    let found = version_by text (record { kind = kinds.Header; span = whole_line 1 text }) v (is_first text One) (is_first text Two) (is_first text Three) refl refl refl e in
+    (bytes_eq-Decides text (joined (first_words v))).0 found
 
 version_given : (v : Version) → version_in (joined (first_words v)) ≡ Ok v
 version_given One = refl
 version_given Two = refl
+version_given Three = refl
 
 version_takes : (raw : List ℕ) (v : Version) → first_version raw ≡ Ok v → IsLine 1 (joined (first_words v)) raw
 unfolding first_version
@@ -274,17 +306,15 @@ version_again v raw line =
     ap (λ (x : Result (List ℕ) TextFault). x >>= version_in) (text_again 1 raw (joined (first_words v)) (joined_no_return (first_words v) (first_clean v)) line) ∙ version_given v
 
 -- it is known from the first line alone
+named_text : (v : Version) (raw : List ℕ) (raws : Raws) → without_terminator raw ≡ joined (first_words v) → is_ended raw ≡ true → version_named (raw ∷ raws) ≡ v
+named_text One raw raws text ended = rw (text, ended) refl
+named_text Two raw raws text ended = rw (text, ended) refl
+named_text Three raw raws text ended = rw (text, ended) refl
+
 named_by : (v : Version) (raw : List ℕ) (raws : Raws) → IsLine 1 (joined (first_words v)) raw → version_named (raw ∷ raws) ≡ v
-named_by One raw raws line =
-    let own = ending_again raw (joined (first_words One)) (joined_no_return (first_words One) (first_clean One)) line.ends in
-    let text = own.0 in
-    let ended = own.1 in
-    rw (text, ended) refl
-named_by Two raw raws line =
-    let own = ending_again raw (joined (first_words Two)) (joined_no_return (first_words Two) (first_clean Two)) line.ends in
-    let text = own.0 in
-    let ended = own.1 in
-    rw (text, ended) refl
+named_by v raw raws line =
+    let own = ending_again raw (joined (first_words v)) (joined_no_return (first_words v) (first_clean v)) line.ends in
+    named_text v raw raws own.0 own.1
 
 first_taken : (raws : Raws) (x : Version × Raws) → first_line raws ≡ Ok x → IsFirst raws x
 unfolding first_line
@@ -327,7 +357,7 @@ abbrev pub with_initial : Version → ℕ → ℕ → ℕ → ℕ → ℕ → In
 with_initial v s m g i x n = Ok (header_with v s m g i x n.0, n.1)
 
 abbrev pub with_extra : Version → ℕ → ℕ → ℕ → ℕ → Numbered → Result Headed TextFault
-with_extra v s m g i x = initial_line v x.1 >>= with_initial v s m g i x.0
+with_extra v s m g i x = late_lines v x.1 >>= with_initial v s m g i x.0
 
 abbrev pub with_minrto : Version → ℕ → ℕ → ℕ → Numbered → Result Headed TextFault
 with_minrto v s m g i = extra_line i.1 >>= with_extra v s m g i.0
@@ -361,14 +391,14 @@ header_takes raws x e =
     let d = bind_ok (grain_line c.0.1) (with_grain v b.0.0 c.0.0) x c.2 in
     let f = bind_ok (minrto_line d.0.1) (with_minrto v b.0.0 c.0.0 d.0.0) x d.2 in
     let g = bind_ok (extra_line f.0.1) (with_extra v b.0.0 c.0.0 d.0.0 f.0.0) x f.2 in
-    let k = bind_ok (initial_line v g.0.1) (with_initial v b.0.0 c.0.0 d.0.0 f.0.0 g.0.0) x g.2 in
+    let k = bind_ok (late_lines v g.0.1) (with_initial v b.0.0 c.0.0 d.0.0 f.0.0 g.0.0) x g.2 in
     let h = first_taken raws a.0 a.1 in
     let s = number_takes 2 (codes "skew") 0 1000000000 (omega arith) a.0.1 b.0 b.1 in
     let m = number_takes 3 (codes "msl") 1 3600000000 (omega arith) b.0.1 c.0 c.1 in
     let n = number_takes 4 (codes "grain") 0 60000000 (omega arith) c.0.1 d.0 d.1 in
     let i = number_takes 5 (codes "minrto") 0 60000000 (omega arith) d.0.1 f.0 f.1 in
     let t = number_takes 6 (codes "extra") 0 65535 (omega arith) f.0.1 g.0 g.1 in
-    let l = initial_takes v g.0.1 k.0 k.1 in
+    let l = late_takes v g.0.1 k.0 k.1 in
     let made : Header = header_with v b.0.0 c.0.0 d.0.0 f.0.0 g.0.0 k.0.0 in
     subst (λ (y : Headed). IsHeaded raws y) (ok_is (made, k.0.1) x k.2) (record {
       heads = h.raw ∷ s.raw ∷ m.raw ∷ n.raw ∷ i.raw ∷ t.raw ∷ l.heads;
@@ -393,21 +423,27 @@ no_line : (number : ℕ) (raws : Raws) → AreLines number [] raws → raws ≡ 
 no_line number [] h = refl
 no_line number (raw ∷ raws) h = absurd h
 
-initial_again : (v : Version) (i : Initial) (heads rest : Raws) → (v ≡ One → i ≡ Rfc5681) → AreLines 7 (initial_words v i) heads → initial_line v (heads ++ rest) ≡ Ok (i, rest)
-initial_again One i heads rest limit lines =
-    ap (λ (us : Raws). initial_line One (us ++ rest)) (no_line 7 heads lines) ∙ ap (λ (j : Initial). Ok (j, rest)) (sym (limit refl))
-initial_again Two i heads rest limit lines =
-    let a = has_line 7 (codes "initial" ∷ decimal (initial_number i) ∷ []) [] heads lines in
+late_again : (v : Version) (i : Initial) (heads rest : Raws) → (v ≡ One → i ≡ Rfc5681) → AreLines 7 (late_words v i) heads → late_lines v (heads ++ rest) ≡ Ok (i, rest)
+late_again One i heads rest limit lines =
+    ap (λ (us : Raws). late_lines One (us ++ rest)) (no_line 7 heads lines) ∙ ap (λ (j : Initial). Ok (j, rest)) (sym (limit refl))
+late_again Two i heads rest limit lines =
+    let a = has_line 7 (initial_words i) [] heads lines in
     let all : heads ≡ a.raw ∷ [] = a.first ∙ ap (λ (us : Raws). a.raw ∷ us) (no_line 8 a.rest a.others) in
-    ap (λ (us : Raws). initial_line Two (us ++ rest)) all
-    ∙ next_again 7 (codes "initial") initial_field IsInitial reads_initial a.raw (decimal (initial_number i)) rest i (clean_by (codes "initial") refl) (initial_clean i) a.line refl
+    ap (λ (us : Raws). late_lines Two (us ++ rest)) all ∙ initial_again i a.raw rest a.line
+late_again Three i heads rest limit lines =
+    let a = has_line 7 (initial_words i) (half_words ∷ []) heads lines in
+    let b = has_line 8 half_words [] a.rest a.others in
+    let all : heads ≡ a.raw ∷ b.raw ∷ [] = a.first ∙ ap (λ (us : Raws). a.raw ∷ us) (b.first ∙ ap (λ (us : Raws). b.raw ∷ us) (no_line 9 b.rest b.others)) in
+    let first = initial_again i a.raw (b.raw ∷ rest) a.line in
+    let half = number_again 8 (codes "half") 0 0 (omega arith) (clean_by (codes "half") refl) b.raw rest 0 b.line (omega arith) (omega arith) in
+    ap (λ (us : Raws). late_lines Three (us ++ rest)) all ∙ rw (first, half) refl
 
 -- the fields of the header's lines from one line on
-abbrev from_initial : Header → List (List (List ℕ))
-from_initial h = initial_words h.version h.initial
+abbrev late_of : Header → List (List (List ℕ))
+late_of h = late_words h.version h.initial
 
 abbrev from_extra : Header → List (List (List ℕ))
-from_extra h = (codes "extra" ∷ decimal h.extra ∷ []) ∷ from_initial h
+from_extra h = (codes "extra" ∷ decimal h.extra ∷ []) ∷ late_of h
 
 abbrev from_minrto : Header → List (List (List ℕ))
 from_minrto h = (codes "minrto" ∷ decimal h.minrto ∷ []) ∷ from_extra h
@@ -429,7 +465,7 @@ header_again h heads rest limits lines =
     let c = has_line 3 (codes "msl" ∷ decimal h.msl ∷ []) (from_grain h) b.rest b.others in
     let d = has_line 4 (codes "grain" ∷ decimal h.grain ∷ []) (from_minrto h) c.rest c.others in
     let f = has_line 5 (codes "minrto" ∷ decimal h.minrto ∷ []) (from_extra h) d.rest d.others in
-    let g = has_line 6 (codes "extra" ∷ decimal h.extra ∷ []) (from_initial h) f.rest f.others in
+    let g = has_line 6 (codes "extra" ∷ decimal h.extra ∷ []) (late_of h) f.rest f.others in
     let last = g.rest in
     let all : heads ≡ a.raw ∷ b.raw ∷ c.raw ∷ d.raw ∷ f.raw ∷ g.raw ∷ last =
     a.first ∙ ap (λ (us : Raws). a.raw ∷ us) (b.first ∙ ap (λ (us : Raws). b.raw ∷ us) (c.first ∙ ap (λ (us : Raws). c.raw ∷ us) (d.first ∙ ap (λ (us : Raws). d.raw ∷ us) (f.first ∙ ap (λ (us : Raws). f.raw ∷ us) g.first)))) in
@@ -439,12 +475,13 @@ header_again h heads rest limits lines =
     let grain = number_again 4 (codes "grain") 0 60000000 (omega arith) (clean_by (codes "grain") refl) d.raw (f.raw ∷ g.raw ∷ (last ++ rest)) h.grain d.line (omega arith) limits.grain in
     let minrto = number_again 5 (codes "minrto") 0 60000000 (omega arith) (clean_by (codes "minrto") refl) f.raw (g.raw ∷ (last ++ rest)) h.minrto f.line (omega arith) limits.minrto in
     let extra = number_again 6 (codes "extra") 0 65535 (omega arith) (clean_by (codes "extra") refl) g.raw (last ++ rest) h.extra g.line (omega arith) limits.extra in
-    let initial = initial_again h.version h.initial last rest limits.initial g.others in
+    let initial = late_again h.version h.initial last rest limits.initial g.others in
     ap (λ (us : Raws). first_line (us ++ rest) >>= with_first) all ∙ rw (first, skew, msl, grain, minrto, extra, initial) refl
 
-words_clean : (v : Version) (i : Initial) → AllByRecursion (AllByRecursion IsClean) (initial_words v i)
+words_clean : (v : Version) (i : Initial) → AllByRecursion (AllByRecursion IsClean) (late_words v i)
 words_clean One i = tt
 words_clean Two i = ((clean_by (codes "initial") refl, (initial_clean i, tt)), tt)
+words_clean Three i = ((clean_by (codes "initial") refl, (initial_clean i, tt)), ((clean_by (codes "half") refl, (IsClean-decimal 0 (omega arith), tt)), tt))
 
 -- no field of a header holds a space, a CR or a LF
 pub header_clean : (h : Header) → IsHeader h → AllByRecursion (AllByRecursion IsClean) (header_words h)

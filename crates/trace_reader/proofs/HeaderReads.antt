@@ -1,39 +1,51 @@
 -- The header of a text whose lines are read as they are asked for: each line behind those before it.
-use Rattle.std.proofs.Common.{◌≡◌, Option, None, Some, Result, Ok, Err}
+use Rattle.std.proofs.Common.{◌≡◌, ℕ, Option, None, Some, Result, Ok, Err}
 use Rattle.case_forms.specs.declared.trace.Header.{Header}
+use Rattle.case_forms.specs.declared.version.Initial.{Initial}
 use Rattle.line_fields.specs.declared.fault.TextFault.{TextFault}
 use Rattle.line_fields.specs.declared.fault.ReadFault.{ReadFault}
 use Rattle.line_fields.specs.Reading.{◌>>=◌}
 use Rattle.line_fields.specs.Rows.{with_rest, Reads}
 use Rattle.line_fields.proofs.ReadsLemmas.{reads_then, reads_not}
-use Rattle.trace_reader.specs.Headers.{first_line, header_of}
-use Rattle.trace_reader.proofs.HeaderLaw.{Raws, Headed, with_first}
+use Rattle.trace_reader.specs.Headers.{first_line, half_line, header_of}
+use Rattle.trace_reader.proofs.HeaderLaw.{Raws, with_first}
 
 abbrev Known : Type 0
 Known = Option Raws
 
--- the header is read so from here on
-abbrev Heads : (Raws → Result Headed TextFault) → Known → Known → Result Header ReadFault → Type 0
+-- a part of the header is read so from here on
+abbrev Heads : {B : Type 0} → (Raws → Result (B × Raws) TextFault) → Known → Known → Result B ReadFault → Type 0
 Heads read a c r = Reads with_rest read a c r
 
 -- a value, and what is read behind it
-module _ {A : Type 0} (value : Raws → Result (A × Raws) TextFault) (next : A × Raws → Result Headed TextFault) where
-  abbrev pub both : Raws → Result Headed TextFault
+module _ {A B : Type 0} (value : Raws → Result (A × Raws) TextFault) (next : A × Raws → Result (B × Raws) TextFault) where
+  abbrev pub both : Raws → Result (B × Raws) TextFault
   both raws = value raws >>= next
 
-  pub value_then : (a b c : Known) (x : A) (r : Result Header ReadFault) → Reads with_rest value a b (Ok x) → Heads (λ rest. next (x, rest)) b c r → Heads both a c r
+  pub value_then : (a b c : Known) (x : A) (r : Result B ReadFault) → Reads with_rest value a b (Ok x) → Heads (λ rest. next (x, rest)) b c r → Heads both a c r
   value_then a b c x r p q = reads_then with_rest value with_rest next a b c x r p q
 
   pub value_not : (a b : Known) (f : ReadFault) → Reads with_rest value a b (Err f) → Heads both a b (Err f)
   value_not a b f p = reads_not with_rest value with_rest next a b b f p
 
   -- it is the last
-  pub value_last : (a b : Known) (x : A) (h : Header) → ((rest : Raws) → next (x, rest) ≡ Ok (h, rest)) → Reads with_rest value a b (Ok x) → Heads both a b (Ok h)
-  value_last None b x h made p = tt
-  value_last (Some raws) None x h made p = absurd p
-  value_last (Some raws) (Some rest) x h made p = rw p (made rest)
+  pub value_last : (a b : Known) (x : A) (y : B) → ((rest : Raws) → next (x, rest) ≡ Ok (y, rest)) → Reads with_rest value a b (Ok x) → Heads both a b (Ok y)
+  value_last None b x y made p = tt
+  value_last (Some raws) None x y made p = absurd p
+  value_last (Some raws) (Some rest) x y made p = rw p (made rest)
 
 -- the header is its first line and what is behind it
 pub is_header : (a c : Known) (r : Result Header ReadFault) → Heads (both first_line with_first) a c r → Heads header_of a c r
 unfolding header_of
 is_header a c r p = p
+
+-- ---- the lines of version 3 that name the RFC and the one host that is recorded
+
+abbrev pub Told : Type 0
+Told = Initial × Raws
+
+abbrev pub with_host : Initial → ℕ × Raws → Result Told TextFault
+with_host i h = Ok (i, h.1)
+
+abbrev pub with_half : Told → Result Told TextFault
+with_half i = half_line i.1 >>= with_host i.0

@@ -7,5 +7,7 @@ pub mod TraceLaw
 pub mod LinesText
 pub mod StreamLaw
 pub mod HeaderReads
+pub mod EventFaults
+pub mod TextFaults
 pub mod ShortLines
 pub mod PrintableLaw

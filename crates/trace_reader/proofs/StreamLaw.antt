@@ -5,6 +5,7 @@ use Rattle.bstr.specs.Text.{lines_of}
 use Rattle.case_forms.specs.declared.trace.Header.{Header}
 use Rattle.case_forms.specs.declared.trace.Line.{Line}
 use Rattle.case_forms.specs.declared.trace.Trace.{Trace}
+use Rattle.case_forms.specs.declared.version.Version.{Version}
 use Rattle.line_fields.specs.declared.fault.TextFault.{TextFault}
 use Rattle.line_fields.specs.declared.fault.ReadFault.TheVariants as reads
 use Rattle.line_fields.specs.Word.{Rest}
@@ -20,24 +21,25 @@ use Rattle.trace_reader.specs.TraceText.{events_of, trace_of}
 use Rattle.trace_reader.specs.TraceLeft.{with_header, Begins, StandsAt}
 use Rattle.trace_reader.proofs.EventLineLaw.{reads_line}
 
-begins : (place : Place) (raw : List ℕ) (e : TextFault) → line_text place.1 raw ≡ Err e → line_of place raw ≡ Err e
-unfolding line_of line_rest
-begins place raw e is = rw is refl
+module _ (version : Version) where
+  begins : (place : Place) (raw : List ℕ) (e : TextFault) → line_text place.1 raw ≡ Err e → line_of version place raw ≡ Err e
+  unfolding line_of line_rest
+  begins place raw e is = rw is refl
 
-pub next_fails : (place : Place) (a : Option (List (List ℕ))) (e : TextFault) → FailsAt (next_text place.1) e a → FailsLeft e (left_in line_of behind place a)
-next_fails place a e fails = fails_text line_of behind place.1 place (begins place) a e fails
+  pub next_fails : (place : Place) (a : Option (List (List ℕ))) (e : TextFault) → FailsAt (next_text place.1) e a → FailsLeft e (left_in (line_of version) behind place a)
+  next_fails place a e fails = fails_text (line_of version) behind place.1 place (begins place) a e fails
 
-pub line_fails : (place : Place) (a b : Option (List (List ℕ))) (raw : List ℕ) (e : TextFault) → TakesRow a b raw → Fails e.kind e (line_of place raw) → FailsLeft e (left_in line_of behind place a)
-line_fails place a b raw e took fails = fails_line line_of behind place a b raw e took fails
+  pub line_fails : (place : Place) (a b : Option (List (List ℕ))) (raw : List ℕ) (e : TextFault) → TakesRow a b raw → Fails e.kind e (line_of version place raw) → FailsLeft e (left_in (line_of version) behind place a)
+  line_fails place a b raw e took fails = fails_line (line_of version) behind place a b raw e took fails
 
-pub line_read : (place : Place) (a b : Option (List (List ℕ))) (raw : List ℕ) (line : Line) → TakesRow a b raw → line_of place raw ≡ Ok line → Yields (left_in line_of behind place a) (left_in line_of behind (behind place line) b) (Some line)
-line_read place a b raw line took is = yields_item line_of behind place a b raw line took is
+  pub line_read : (place : Place) (a b : Option (List (List ℕ))) (raw : List ℕ) (line : Line) → TakesRow a b raw → line_of version place raw ≡ Ok line → Yields (left_in (line_of version) behind place a) (left_in (line_of version) behind (behind place line) b) (Some line)
+  line_read place a b raw line took is = yields_item (line_of version) behind place a b raw line took is
 
-pub all_read : (place : Place) (a b : Option (List (List ℕ))) → HasNoRow a b → Yields (left_in line_of behind place a) (left_in line_of behind place b) None
-all_read place a b none = yields_none line_of behind place a b none
+  pub all_read : (place : Place) (a b : Option (List (List ℕ))) → HasNoRow a b → Yields (left_in (line_of version) behind place a) (left_in (line_of version) behind place b) None
+  all_read place a b none = yields_none (line_of version) behind place a b none
 
-pub stands : (place : Place) (raw : List ℕ) (line : Line) → line_of place raw ≡ Ok line → StandsAt place line
-stands place raw line is = let l = reads_line.takes place raw line is in record { number = l.number; rises = l.rises; few = l.text.count }
+  pub stands : (place : Place) (raw : List ℕ) (line : Line) → line_of version place raw ≡ Ok line → StandsAt place line
+  stands place raw line is = let l = (reads_line version).takes place raw line is in record { number = l.number; rises = l.rises; few = l.text.count }
 
 -- ---- the header
 

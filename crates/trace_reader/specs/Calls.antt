@@ -2,7 +2,8 @@
 use Rattle.std.specs.Prelude.{◌≤◌, ℕ, List, [], ◌∷◌, length, codes}
 use Rattle.case_forms.specs.declared.calls.Call.{Call}
 use Rattle.case_forms.specs.declared.calls.Call.TheVariants as calls
-use Rattle.line_fields.specs.Hosts.{host_number}
+use Rattle.case_forms.specs.declared.version.Version.{Version}
+use Rattle.line_fields.specs.Hosts.{host_number, IsHost}
 use Rattle.line_fields.specs.Spelling.{Piece, plain, hex, number, AreWritten}
 use Rattle.trace_reader.specs.declared.calls.CallWord.{CallWord}
 use Rattle.trace_reader.specs.declared.calls.CallWord.TheVariants as words
@@ -56,19 +57,19 @@ call_tail (calls.Status socket) = number socket ∷ []
 abbrev pub call_pieces : Call → List Piece
 call_pieces call = plain (call_name (call_word call)) ∷ call_tail call
 
--- the limits of a call
-abbrev pub IsCall : Call → Type 0
-IsCall (calls.Listen host port backlog) = (1 ≤ port) × (port ≤ 65535) × (backlog ≤ 65535)
-IsCall (calls.Connect host local remote) = (1 ≤ local) × (local ≤ 65535) × (1 ≤ remote) × (remote ≤ 65535)
-IsCall (calls.Await socket) = socket ≤ 4294967295
-IsCall (calls.Accept socket) = socket ≤ 4294967295
-IsCall (calls.Send socket bytes) = (socket ≤ 4294967295) × (1 ≤ length bytes) × (length bytes ≤ 65535)
-IsCall (calls.Recv socket max) = (socket ≤ 4294967295) × (1 ≤ max) × (max ≤ 65535)
-IsCall (calls.Shut socket) = socket ≤ 4294967295
-IsCall (calls.Close socket) = socket ≤ 4294967295
-IsCall (calls.Abort socket) = socket ≤ 4294967295
-IsCall (calls.Status socket) = socket ≤ 4294967295
+-- the limits of a call in a text of this version
+abbrev pub IsCall : Version → Call → Type 0
+IsCall v (calls.Listen host port backlog) = IsHost v host × (1 ≤ port) × (port ≤ 65535) × (backlog ≤ 65535)
+IsCall v (calls.Connect host local remote) = IsHost v host × (1 ≤ local) × (local ≤ 65535) × (1 ≤ remote) × (remote ≤ 65535)
+IsCall v (calls.Await socket) = socket ≤ 4294967295
+IsCall v (calls.Accept socket) = socket ≤ 4294967295
+IsCall v (calls.Send socket bytes) = (socket ≤ 4294967295) × (1 ≤ length bytes) × (length bytes ≤ 65535)
+IsCall v (calls.Recv socket max) = (socket ≤ 4294967295) × (1 ≤ max) × (max ≤ 65535)
+IsCall v (calls.Shut socket) = socket ≤ 4294967295
+IsCall v (calls.Close socket) = socket ≤ 4294967295
+IsCall v (calls.Abort socket) = socket ≤ 4294967295
+IsCall v (calls.Status socket) = socket ≤ 4294967295
 
 -- these fields spell the call
-abbrev pub IsSpelledCall : Call → List (List ℕ) → Type 0
-IsSpelledCall call ws = IsCall call × AreWritten (call_pieces call) ws
+abbrev pub IsSpelledCall : Version → Call → List (List ℕ) → Type 0
+IsSpelledCall v call ws = IsCall v call × AreWritten (call_pieces call) ws

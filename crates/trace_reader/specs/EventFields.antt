@@ -4,6 +4,7 @@ use Rattle.case_forms.specs.declared.calls.Host.{Host}
 use Rattle.case_forms.specs.declared.trace.Wire.{Wire}
 use Rattle.case_forms.specs.declared.trace.Event.{Event}
 use Rattle.case_forms.specs.declared.trace.Event.TheVariants as events
+use Rattle.case_forms.specs.declared.version.Version.{Version}
 use Rattle.line_fields.specs.declared.fault.TextFault.{TextFault}
 use Rattle.line_fields.specs.Word.{Rest}
 use Rattle.line_fields.specs.Reading.{◌>>=◌, number_field}
@@ -18,29 +19,29 @@ use Rattle.trace_reader.specs.Wires.{wire_field}
 use Rattle.trace_reader.specs.Events.{letter_name, all_letters}
 
 -- a host and a segment
-unfoldable pub host_wire : Rest → Result ((Host × Wire) × Rest) TextFault
-host_wire r = do
-  host ← host_field r
+unfoldable pub host_wire : Version → Rest → Result ((Host × Wire) × Rest) TextFault
+host_wire v r = do
+  host ← host_field v r
   wire ← wire_field host.1
   Ok ((host.0, wire.0), wire.1)
 
 -- host, local port, remote port and timer
-unfoldable pub expired_fields : Rest → Result (Event × Rest) TextFault
-expired_fields r = do
-  host ← host_field r
+unfoldable pub expired_fields : Version → Rest → Result (Event × Rest) TextFault
+expired_fields v r = do
+  host ← host_field v r
   local ← number_field 1 65535 host.1
   remote ← number_field 1 65535 local.1
   timer ← kind_field timer_name all_timers remote.1
   Ok (events.Expired host.0 local.0 remote.0 timer.0, timer.1)
 
 -- what follows the letter
-abbrev pub event_behind : Letter → Rest → Result (Event × Rest) TextFault
-event_behind letters.B r = call_field r >>= λ call. Ok (events.CallBegin call.0, call.1)
-event_behind letters.E r = answer_field r >>= λ answer. Ok (events.CallEnd answer.0, answer.1)
-event_behind letters.O r = host_wire r >>= λ seen. Ok (events.Sent seen.0.0 seen.0.1, seen.1)
-event_behind letters.I r = host_wire r >>= λ seen. Ok (events.Came seen.0.0 seen.0.1, seen.1)
-event_behind letters.T r = expired_fields r
+abbrev pub event_behind : Version → Letter → Rest → Result (Event × Rest) TextFault
+event_behind v letters.B r = call_field v r >>= λ call. Ok (events.CallBegin call.0, call.1)
+event_behind v letters.E r = answer_field r >>= λ answer. Ok (events.CallEnd answer.0, answer.1)
+event_behind v letters.O r = host_wire v r >>= λ seen. Ok (events.Sent seen.0.0 seen.0.1, seen.1)
+event_behind v letters.I r = host_wire v r >>= λ seen. Ok (events.Came seen.0.0 seen.0.1, seen.1)
+event_behind v letters.T r = expired_fields v r
 
 -- an event
-unfoldable pub event_field : Rest → Result (Event × Rest) TextFault
-event_field r = kind_field letter_name all_letters r >>= λ letter. event_behind letter.0 letter.1
+unfoldable pub event_field : Version → Rest → Result (Event × Rest) TextFault
+event_field v r = kind_field letter_name all_letters r >>= λ letter. event_behind v letter.0 letter.1

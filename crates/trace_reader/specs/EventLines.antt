@@ -2,6 +2,7 @@
 use Rattle.std.specs.Prelude.{◌≡◌, ◌≤◌, ℕ, ◌+◌, nat_lt, if◌then◌else◌, List, ◌∷◌, Result, Ok, Err}
 use Rattle.case_forms.specs.declared.trace.Event.{Event}
 use Rattle.case_forms.specs.declared.trace.Line.{Line}
+use Rattle.case_forms.specs.declared.version.Version.{Version}
 use Rattle.line_fields.specs.declared.fault.FaultKind.TheVariants.{MomentFalls}
 use Rattle.line_fields.specs.declared.fault.TextFault.{TextFault}
 use Rattle.line_fields.specs.Word.{Word, Rest}
@@ -23,15 +24,15 @@ behind place line = (line.moment, place.1 + 1)
 abbrev pub line_pieces : Line → List Piece
 line_pieces line = number line.moment ∷ number line.thread ∷ event_pieces line.event
 
--- the bytes spell the line at its place
-pub record IsEventLine (place : Place) (line : Line) (raw : List ℕ) : Type 0 where
+-- the bytes spell the line of a text of this version, at its place
+pub record IsEventLine (v : Version) (place : Place) (line : Line) (raw : List ℕ) : Type 0 where
   pub texts : List (List ℕ)
   pub written : AreWritten (line_pieces line) texts
   pub text : IsLine place.1 (joined texts) raw
   pub rises : place.0 ≤ line.moment
   pub moment : line.moment ≤ 1000000000000000000
   pub thread : line.thread ≤ 4294967295
-  pub event : IsEvent line.event
+  pub event : IsEvent v line.event
   pub number : line.number ≡ place.1
   pub span : line.span ≡ whole_line place.1 (joined texts)
 
@@ -47,17 +48,17 @@ moment_field before r = do
   Ok (m, w.1)
 
 -- moment, thread and event, and no field more
-abbrev pub event_fields : ℕ → Rest → Result (ℕ × ℕ × Event) TextFault
-event_fields before r = do
+abbrev pub event_fields : Version → ℕ → Rest → Result (ℕ × ℕ × Event) TextFault
+event_fields v before r = do
   moment ← moment_field before r
   thread ← number_field 0 4294967295 moment.1
-  event ← event_field thread.1
+  event ← event_field v thread.1
   end ← no_more event.1
   Ok (moment.0, thread.0, event.0)
 
--- an event line, given with its end
-unfoldable pub line_of : Place → List ℕ → Result Line TextFault
-line_of place raw = do
+-- an event line of a text of this version, given with its end
+unfoldable pub line_of : Version → Place → List ℕ → Result Line TextFault
+line_of v place raw = do
   r ← line_rest place.1 raw
-  f ← event_fields place.0 r
+  f ← event_fields v place.0 r
   Ok (record { number = place.1; moment = f.0; thread = f.1; event = f.2; span = record { line = place.1; start = 0; stop = r.stop } })

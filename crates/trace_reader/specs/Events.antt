@@ -3,7 +3,8 @@ use Rattle.std.specs.Prelude.{◌≤◌, ℕ, List, [], ◌∷◌, codes}
 use Rattle.segment.specs.Layout.{IsSegment}
 use Rattle.case_forms.specs.declared.trace.Event.{Event}
 use Rattle.case_forms.specs.declared.trace.Event.TheVariants as events
-use Rattle.line_fields.specs.Hosts.{host_number}
+use Rattle.case_forms.specs.declared.version.Version.{Version}
+use Rattle.line_fields.specs.Hosts.{host_number, IsHost}
 use Rattle.line_fields.specs.Spelling.{Piece, plain, hex, number, AreWritten}
 use Rattle.line_fields.specs.Timers.{timer_name}
 use Rattle.line_fields.specs.Answers.{answer_pieces, IsAnswer}
@@ -43,14 +44,14 @@ event_tail (events.Expired host local remote timer) = number (host_number host) 
 abbrev pub event_pieces : Event → List Piece
 event_pieces event = plain (letter_name (event_letter event)) ∷ event_tail event
 
--- the limits of an event; the bytes of a segment stand for it
-abbrev pub IsEvent : Event → Type 0
-IsEvent (events.CallBegin call) = IsCall call
-IsEvent (events.CallEnd answer) = IsAnswer answer
-IsEvent (events.Sent host wire) = IsSegment wire.bytes wire.seg
-IsEvent (events.Came host wire) = IsSegment wire.bytes wire.seg
-IsEvent (events.Expired host local remote timer) = (1 ≤ local) × (local ≤ 65535) × (1 ≤ remote) × (remote ≤ 65535)
+-- the limits of an event in a text of this version; the bytes of a segment stand for it
+abbrev pub IsEvent : Version → Event → Type 0
+IsEvent v (events.CallBegin call) = IsCall v call
+IsEvent v (events.CallEnd answer) = IsAnswer answer
+IsEvent v (events.Sent host wire) = IsHost v host × IsSegment wire.bytes wire.seg
+IsEvent v (events.Came host wire) = IsHost v host × IsSegment wire.bytes wire.seg
+IsEvent v (events.Expired host local remote timer) = IsHost v host × (1 ≤ local) × (local ≤ 65535) × (1 ≤ remote) × (remote ≤ 65535)
 
 -- these fields spell the event
-abbrev pub IsSpelledEvent : Event → List (List ℕ) → Type 0
-IsSpelledEvent event ws = IsEvent event × AreWritten (event_pieces event) ws
+abbrev pub IsSpelledEvent : Version → Event → List (List ℕ) → Type 0
+IsSpelledEvent v event ws = IsEvent v event × AreWritten (event_pieces event) ws

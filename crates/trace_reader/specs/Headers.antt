@@ -1,11 +1,11 @@
--- The header's lines: six, and a seventh in version 2.
+-- The header's lines: six, a seventh in version 2, and an eighth in version 3.
 use Rattle.std.specs.Prelude.{◌≡◌, ◌≤◌, ℕ, ◌+◌, ◌==◌, ◌&&◌, Bool, if◌then◌else◌, List, [], ◌∷◌, Result, Ok, Err, codes}
 use Rattle.std.specs.Fmt.{decimal}
 use Rattle.std.specs.Str.{bytes_eq}
 use Rattle.bstr.specs.Text.{without_terminator}
 use Rattle.case_forms.specs.declared.trace.Header.{Header}
 use Rattle.case_forms.specs.declared.version.Version.{Version}
-use Rattle.case_forms.specs.declared.version.Version.TheVariants.{One, Two}
+use Rattle.case_forms.specs.declared.version.Version.TheVariants.{One, Two, Three}
 use Rattle.case_forms.specs.declared.version.Initial.{Initial}
 use Rattle.case_forms.specs.declared.version.Initial.TheVariants.{Rfc5681, Rfc6928}
 use Rattle.line_fields.specs.declared.fault.FaultKind.TheVariants as kinds
@@ -19,6 +19,7 @@ use Rattle.line_fields.specs.Spelling.{joined}
 abbrev pub version_text : Version → List ℕ
 version_text One = codes "1"
 version_text Two = codes "2"
+version_text Three = codes "3"
 
 -- the fields of the first line
 abbrev pub first_words : Version → List (List ℕ)
@@ -31,17 +32,26 @@ begins_trace v raw = is_ended raw && bytes_eq (without_terminator raw) (joined (
 -- the version that the first of these lines names, 1 where it names none
 abbrev pub version_named : List (List ℕ) → Version
 version_named [] = One
-version_named (raw ∷ raws) = if begins_trace Two raw then Two else One
+version_named (raw ∷ raws) = if begins_trace Two raw then Two else if begins_trace Three raw then Three else One
 
 -- the number of the RFC that gives the first congestion window
 abbrev pub initial_number : Initial → ℕ
 initial_number Rfc5681 = 5681
 initial_number Rfc6928 = 6928
 
--- the fields of the line that names it, which version 1 doesn't have
-abbrev pub initial_words : Version → Initial → List (List (List ℕ))
-initial_words One initial = []
-initial_words Two initial = (codes "initial" ∷ decimal (initial_number initial) ∷ []) ∷ []
+-- the fields of the line that names it
+abbrev pub initial_words : Initial → List (List ℕ)
+initial_words initial = codes "initial" ∷ decimal (initial_number initial) ∷ []
+
+-- the fields of the line that names the one host that is recorded
+abbrev pub half_words : List (List ℕ)
+half_words = codes "half" ∷ decimal 0 ∷ []
+
+-- the fields of the lines that version 1 doesn't have
+abbrev pub late_words : Version → Initial → List (List (List ℕ))
+late_words One initial = []
+late_words Two initial = initial_words initial ∷ []
+late_words Three initial = initial_words initial ∷ half_words ∷ []
 
 -- the fields of the header's lines
 abbrev pub header_words : Header → List (List (List ℕ))
@@ -52,7 +62,7 @@ header_words h =
     ∷ (codes "grain" ∷ decimal h.grain ∷ [])
     ∷ (codes "minrto" ∷ decimal h.minrto ∷ [])
     ∷ (codes "extra" ∷ decimal h.extra ∷ [])
-    ∷ initial_words h.version h.initial
+    ∷ late_words h.version h.initial
 
 -- the limits of the header
 pub record IsHeader (h : Header) : Type 0 where
@@ -112,6 +122,7 @@ abbrev pub version_in : List ℕ → Result Version TextFault
 version_in text =
     if bytes_eq text (joined (first_words One)) then Ok One
     else if bytes_eq text (joined (first_words Two)) then Ok Two
+    else if bytes_eq text (joined (first_words Three)) then Ok Three
     else Err (record { kind = kinds.Header; span = whole_line 1 text })
 
 -- the version of a first line, given with its end
@@ -140,10 +151,22 @@ initial_field r = do
   i ← initial_value w.0
   Ok (i, w.1)
 
--- the RFC that gives the first congestion window: in version 1 always the same
-abbrev pub initial_line : Version → List (List ℕ) → Result (Initial × List (List ℕ)) TextFault
-initial_line One raws = Ok (Rfc5681, raws)
-initial_line Two raws = next_value 7 (codes "initial") initial_field raws
+-- the next line, which names it
+abbrev pub initial_line : List (List ℕ) → Result (Initial × List (List ℕ)) TextFault
+initial_line raws = next_value 7 (codes "initial") initial_field raws
+
+-- the next line, which names the one host that is recorded: host 0
+abbrev pub half_line : List (List ℕ) → Result (ℕ × List (List ℕ)) TextFault
+half_line raws = next_value 8 (codes "half") (number_field 0 0) raws
+
+-- the RFC that gives the first congestion window, by the lines that version 1 doesn't have; there it is always the same
+abbrev pub late_lines : Version → List (List ℕ) → Result (Initial × List (List ℕ)) TextFault
+late_lines One raws = Ok (Rfc5681, raws)
+late_lines Two raws = initial_line raws
+late_lines Three raws = do
+  initial ← initial_line raws
+  half ← half_line initial.1
+  Ok (initial.0, half.1)
 
 -- the header, and the lines behind it
 unfoldable pub header_of : List (List ℕ) → Result (Header × List (List ℕ)) TextFault
@@ -154,5 +177,5 @@ header_of raws = do
   grain ← next_value 4 (codes "grain") (number_field 0 60000000) msl.1
   minrto ← next_value 5 (codes "minrto") (number_field 0 60000000) grain.1
   extra ← next_value 6 (codes "extra") (number_field 0 65535) minrto.1
-  initial ← initial_line version.0 extra.1
+  initial ← late_lines version.0 extra.1
   Ok (record { version = version.0; skew = skew.0; msl = msl.0; grain = grain.0; minrto = minrto.0; extra = extra.0; initial = initial.0 }, initial.1)

@@ -15,4 +15,5 @@ pub mod EventLines
 pub mod TraceText
 pub mod TraceLeft
 pub mod Printed
+pub mod EventForms
 pub mod Printable

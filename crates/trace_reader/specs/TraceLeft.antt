@@ -4,6 +4,7 @@ use Rattle.std.specs.Option.{option_map}
 use Rattle.case_forms.specs.declared.trace.Header.{Header}
 use Rattle.case_forms.specs.declared.trace.Line.{Line}
 use Rattle.case_forms.specs.declared.trace.Trace.{Trace}
+use Rattle.case_forms.specs.declared.version.Version.{Version}
 use Rattle.counted.specs.declared.ends.Counted.{Counted}
 use Rattle.counted.specs.Counting.{left_of, failures_of}
 use Rattle.line_fields.specs.declared.fault.TextFault.{TextFault}
@@ -27,6 +28,10 @@ reader_failures r = failures_of r.source
 abbrev pub place_of : {A : Type 0} → TraceReader A → Place
 place_of r = (r.before, r.number)
 
+-- the version of the text, once the header was read
+abbrev pub version_of : {A : Type 0} → TraceReader A → Version
+version_of r = r.version
+
 -- the fault that was met, if one was
 abbrev pub fault_of : {A : Type 0} → TraceReader A → Option ReadFault
 fault_of r = r.fault
@@ -45,7 +50,7 @@ trace_left known r = option_map trace_of (left_of known r.source)
 
 -- the event lines that are left, or the first fault among them, where the bytes are known
 abbrev pub lines_left : {A : Type 0} → (A → Option (List ℕ)) → TraceReader A → Option (Result (List Line) TextFault)
-lines_left known r = option_map (read_lines line_of behind (place_of r)) (rows_of (left_of known r.source))
+lines_left known r = option_map (read_lines (line_of (version_of r)) behind (place_of r)) (rows_of (left_of known r.source))
 
 -- the trace of this header and of these lines, or their first fault
 abbrev pub with_header : Header → Result (List Line) TextFault → Result Trace TextFault

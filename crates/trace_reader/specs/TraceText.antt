@@ -22,12 +22,12 @@ pub record IsTraceText (t : Trace) (text : List ℕ) : Type 0 where
   pub events : List (List ℕ)
   pub limits : IsHeader t.header
   pub are_headers : AreLines 1 (header_words t.header) headers
-  pub are_events : AreSpelled IsEventLine behind (first_place t.header) t.lines events
+  pub are_events : AreSpelled (IsEventLine t.header.version) behind (first_place t.header) t.lines events
   pub joined : text ≡ concat (headers ++ events)
 
 -- the event lines behind a header
 abbrev pub events_of : Header → List (List ℕ) → Result (List Line) TextFault
-events_of h raws = read_lines line_of behind (first_place h) raws
+events_of h raws = read_lines (line_of h.version) behind (first_place h) raws
 
 -- the trace that a text is read as, or its first fault
 unfoldable pub trace_of : List ℕ → Result Trace TextFault

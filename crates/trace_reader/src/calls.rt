@@ -6,7 +6,7 @@ ghost use Rattle.line_fields.specs.Choice.{kind_field};
 ghost use Rattle.trace_reader.specs.Calls.{call_name, all_call_words};
 ghost use Rattle.trace_reader.specs.CallFields.{listen_fields, open_fields, send_fields, recv_fields, call_field};
 
-use case_forms::Call;
+use case_forms::{Call, Version};
 use line_fields::{FaultKind, Fields, TextFault};
 use std::alloc::Global;
 
@@ -65,10 +65,10 @@ fn call_word(fields: &mut Fields) -> Result<CallWord, TextFault>
 
 // What follows `listen`.
 #[tactic(auto, unfolding(crate::specs::CallFields::listen_fields))]
-fn listen(fields: &mut Fields) -> Result<Call, TextFault>
-    ensures { Gives (λ call. (call, fields.new)) result (listen_fields fields.old) }
+fn listen(version: Version, fields: &mut Fields) -> Result<Call, TextFault>
+    ensures { Gives (λ call. (call, fields.new)) result (listen_fields version fields.old) }
 {
-    let host = fields.host()?;
+    let host = fields.host(version)?;
     let port = fields.port()?;
     let backlog = fields.number(0, MAX_BACKLOG)? as u16;
     Ok(Call::Listen(host, port, backlog))
@@ -76,10 +76,10 @@ fn listen(fields: &mut Fields) -> Result<Call, TextFault>
 
 // What follows `open`.
 #[tactic(auto, unfolding(crate::specs::CallFields::open_fields))]
-fn open(fields: &mut Fields) -> Result<Call, TextFault>
-    ensures { Gives (λ call. (call, fields.new)) result (open_fields fields.old) }
+fn open(version: Version, fields: &mut Fields) -> Result<Call, TextFault>
+    ensures { Gives (λ call. (call, fields.new)) result (open_fields version fields.old) }
 {
-    let host = fields.host()?;
+    let host = fields.host(version)?;
     let local = fields.port()?;
     let remote = fields.port()?;
     Ok(Call::Connect(host, local, remote))
@@ -105,14 +105,14 @@ fn recv(fields: &mut Fields) -> Result<Call, TextFault>
     Ok(Call::Recv(socket, max))
 }
 
-/// A call.
+/// A call, in a text of this version.
 #[tactic(auto, unfolding(crate::specs::CallFields::call_field))]
-pub(crate) fn call(alloc: Global, fields: &mut Fields) -> Result<Call, TextFault>
-    ensures { Gives (λ call. (call, fields.new)) result (call_field fields.old) }
+pub(crate) fn call(alloc: Global, version: Version, fields: &mut Fields) -> Result<Call, TextFault>
+    ensures { Gives (λ call. (call, fields.new)) result (call_field version fields.old) }
 {
     match call_word(fields)? {
-        CallWord::Listen => listen(fields),
-        CallWord::Open => open(fields),
+        CallWord::Listen => listen(version, fields),
+        CallWord::Open => open(version, fields),
         CallWord::Send => send(alloc, fields),
         CallWord::Recv => recv(fields),
         CallWord::Await => Ok(Call::Await(fields.number32()?)),

@@ -9,7 +9,7 @@ ghost use Rattle.trace_reader.specs.EventLines.{line_of};
 
 use crate::calls::call;
 use crate::wires::wire;
-use case_forms::{Event, Host, Line, Wire};
+use case_forms::{Event, Host, Line, Version, Wire};
 use line_fields::{FaultKind, Fields, Span, TextFault, answer, fields_of, timer};
 use std::alloc::Global;
 
@@ -47,20 +47,24 @@ fn event_letter(fields: &mut Fields) -> Result<Letter, TextFault>
 
 // A host, and a segment that was seen there.
 #[tactic(auto, unfolding(crate::specs::EventFields::host_wire))]
-fn host_wire(alloc: Global, fields: &mut Fields) -> Result<(Host, Wire), TextFault>
-    ensures { Gives (λ seen. (seen, fields.new)) result (host_wire fields.old) }
+fn host_wire(
+    alloc: Global,
+    version: Version,
+    fields: &mut Fields,
+) -> Result<(Host, Wire), TextFault>
+    ensures { Gives (λ seen. (seen, fields.new)) result (host_wire version fields.old) }
 {
-    let host = fields.host()?;
+    let host = fields.host(version)?;
     let wire = wire(alloc, fields)?;
     Ok((host, wire))
 }
 
 // What follows `T`: the host, the local and the remote port, and the timer.
 #[tactic(auto, unfolding(crate::specs::EventFields::expired_fields))]
-fn expired(fields: &mut Fields) -> Result<Event, TextFault>
-    ensures { Gives (λ event. (event, fields.new)) result (expired_fields fields.old) }
+fn expired(version: Version, fields: &mut Fields) -> Result<Event, TextFault>
+    ensures { Gives (λ event. (event, fields.new)) result (expired_fields version fields.old) }
 {
-    let host = fields.host()?;
+    let host = fields.host(version)?;
     let local = fields.port()?;
     let remote = fields.port()?;
     let timer = timer(fields)?;
@@ -69,30 +73,36 @@ fn expired(fields: &mut Fields) -> Result<Event, TextFault>
 
 // An event, the last of its line.
 #[tactic(auto, unfolding(crate::specs::EventFields::event_field))]
-fn event(alloc: Global, fields: &mut Fields) -> Result<Event, TextFault>
-    ensures { Gives (λ event. (event, fields.new)) result (event_field fields.old) }
+fn event(alloc: Global, version: Version, fields: &mut Fields) -> Result<Event, TextFault>
+    ensures { Gives (λ event. (event, fields.new)) result (event_field version fields.old) }
 {
     match event_letter(fields)? {
-        Letter::B => Ok(Event::CallBegin(call(alloc, fields)?)),
+        Letter::B => Ok(Event::CallBegin(call(alloc, version, fields)?)),
         Letter::E => Ok(Event::CallEnd(answer(alloc, fields)?)),
         Letter::O => {
-            let (host, wire) = host_wire(alloc, fields)?;
+            let (host, wire) = host_wire(alloc, version, fields)?;
             Ok(Event::Sent(host, wire))
         }
         Letter::I => {
-            let (host, wire) = host_wire(alloc, fields)?;
+            let (host, wire) = host_wire(alloc, version, fields)?;
             Ok(Event::Came(host, wire))
         }
-        Letter::T => expired(fields),
+        Letter::T => expired(version, fields),
     }
 }
 
-/// The event line of that number, whose bytes are given with the line's end. `before` is the moment of the event line
+/// The event line of that number in a text of this version, whose bytes are given with the line's end. `before` is the moment of the event line
 /// before it, in microseconds, or 0 where there is none; a moment below it is MomentFalls at its field. Fields are
 /// looked at from left to right, and a field too many last.
 #[tactic(auto, unfolding(crate::specs::EventLines::line_of))]
-pub fn event_line(alloc: Global, before: u64, number: u64, raw: &[u8]) -> Result<Line, TextFault>
-    ensures { Gives (λ line. line) result (line_of (before, number) raw.now) }
+pub fn event_line(
+    alloc: Global,
+    version: Version,
+    before: u64,
+    number: u64,
+    raw: &[u8],
+) -> Result<Line, TextFault>
+    ensures { Gives (λ line. line) result (line_of version (before, number) raw.now) }
 {
     let mut fields = fields_of(number, raw)?;
     let stop = fields.stop();
@@ -102,7 +112,7 @@ pub fn event_line(alloc: Global, before: u64, number: u64, raw: &[u8]) -> Result
         return Err(word.fault(FaultKind::MomentFalls));
     }
     let thread = fields.number32()?;
-    let event = event(alloc, &mut fields)?;
+    let event = event(alloc, version, &mut fields)?;
     fields.end()?;
     let span = Span {
         line: number,

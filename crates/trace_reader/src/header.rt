@@ -6,7 +6,8 @@ ghost use Rattle.counted.specs.Counting.{left_of, failures_of, one_more};
 ghost use Rattle.line_fields.specs.Reading.{Gives, number_field};
 ghost use Rattle.line_fields.specs.Rows.{rows_of, with_rest, Reads};
 ghost use Rattle.line_fields.specs.Spelling.{joined};
-ghost use Rattle.trace_reader.specs.Headers.{first_words, begins_trace, version_named, named_rest, value_line, next_value, first_version, first_line, initial_field, initial_line, header_of};
+ghost use Rattle.trace_reader.specs.Headers.{first_words, begins_trace, version_named, named_rest, value_line, next_value};
+ghost use Rattle.trace_reader.specs.Headers.{first_version, first_line, initial_field, initial_line, late_lines, header_of};
 
 use bstr::ByteSlice;
 use case_forms::{Header, Initial, Version};
@@ -30,6 +31,9 @@ const MAX_EXTRA: u64 = 65_535;
 // The number of the line that names the RFC of the first congestion window.
 const INITIAL_LINE: u64 = 7;
 
+// The number of the line that names the one host that is recorded.
+const HALF_LINE: u64 = 8;
+
 /// The first line, which names the version of the text.
 pub(crate) fn first_text(version: Version) -> &'static str
     ensures { result.now ≡ joined (first_words version) }
@@ -37,6 +41,7 @@ pub(crate) fn first_text(version: Version) -> &'static str
     match version {
         Version::One => "trace 1",
         Version::Two => "trace 2",
+        Version::Three => "trace 3",
     }
 }
 
@@ -54,6 +59,7 @@ pub fn version_named(text: &[u8]) -> Version
 {
     match text.lines_with_terminator().next() {
         Some(raw) if begins_trace(Version::Two, raw) => Version::Two,
+        Some(raw) if begins_trace(Version::Three, raw) => Version::Three,
         _ => Version::One,
     }
 }
@@ -155,7 +161,7 @@ fn next_initial<A: BufRead>(
     source: &mut Counted<A>,
     line: &mut Vec<u8>,
 ) -> Result<Initial, ReadFault>
-    ensures value { Reads with_rest (next_value 7 (codes "initial") initial_field)
+    ensures value { Reads with_rest initial_line
         (rows_of (left_of A.remaining source.old)) (rows_of (left_of A.remaining source.new)) result }
     ensures read { result ≡ Err ReadFault.Read → failures_of source.new ≡ one_more (failures_of source.old) }
     ensures same { result ≢ Err ReadFault.Read → failures_of source.new ≡ failures_of source.old }
@@ -165,13 +171,28 @@ fn next_initial<A: BufRead>(
     Ok(initial)
 }
 
-// The RFC that gives the first congestion window, by the next line where the version has one for it.
-fn initial_line<A: BufRead>(
+// The RFC of the first congestion window, and behind it the line `half 0`, which says that host 0 alone is recorded.
+fn half_initial<A: BufRead>(
+    source: &mut Counted<A>,
+    line: &mut Vec<u8>,
+) -> Result<Initial, ReadFault>
+    ensures value { Reads with_rest (late_lines Version.Three)
+        (rows_of (left_of A.remaining source.old)) (rows_of (left_of A.remaining source.new)) result }
+    ensures read { result ≡ Err ReadFault.Read → failures_of source.new ≡ one_more (failures_of source.old) }
+    ensures same { result ≢ Err ReadFault.Read → failures_of source.new ≡ failures_of source.old }
+{
+    let initial = next_initial(source, line)?;
+    next_number(source, line, HALF_LINE, "half", 0, 0)?;
+    Ok(initial)
+}
+
+// The RFC that gives the first congestion window, by the next lines where the version has some.
+fn late_lines<A: BufRead>(
     source: &mut Counted<A>,
     line: &mut Vec<u8>,
     version: Version,
 ) -> Result<Initial, ReadFault>
-    ensures value { Reads with_rest (initial_line version)
+    ensures value { Reads with_rest (late_lines version)
         (rows_of (left_of A.remaining source.old)) (rows_of (left_of A.remaining source.new)) result }
     ensures read { result ≡ Err ReadFault.Read → failures_of source.new ≡ one_more (failures_of source.old) }
     ensures same { result ≢ Err ReadFault.Read → failures_of source.new ≡ failures_of source.old }
@@ -179,6 +200,7 @@ fn initial_line<A: BufRead>(
     match version {
         Version::One => Ok(Initial::Rfc5681),
         Version::Two => next_initial(source, line),
+        Version::Three => half_initial(source, line),
     }
 }
 
@@ -193,6 +215,9 @@ fn first_version(raw: &[u8]) -> Result<Version, TextFault>
     }
     if is_text(text, first_text(Version::Two)) {
         return Ok(Version::Two);
+    }
+    if is_text(text, first_text(Version::Three)) {
+        return Ok(Version::Three);
     }
     let span = Span {
         line: 1,
@@ -231,7 +256,7 @@ pub(crate) fn header<A: BufRead>(
     let grain = next_number(source, line, 4, "grain", 0, MAX_GRAIN)?;
     let minrto = next_number(source, line, 5, "minrto", 0, MAX_MINRTO)?;
     let extra = next_number(source, line, 6, "extra", 0, MAX_EXTRA)? as u16;
-    let initial = initial_line(source, line, version)?;
+    let initial = late_lines(source, line, version)?;
     Ok(Header {
         version,
         skew,

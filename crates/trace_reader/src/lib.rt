@@ -1,7 +1,8 @@
 //! The text of a trace: what stands in it is read, with the first fault and its place, and printed again.
 //!
-//! A text is six lines of a header, seven in version 2, and behind them event lines. specs/TraceText.antt says which text stands for which
-//! trace, and is the file to read first; the forms of the lines stand in specs/Headers.antt, specs/EventLines.antt, specs/Events.antt and specs/Calls.antt.
+//! A text is six lines of a header, seven in version 2 and eight in version 3, and behind them event lines. specs/TraceText.antt
+//! says which text stands for which trace, and is the file to read first; the forms of the lines stand in specs/Headers.antt,
+//! specs/EventLines.antt, specs/Events.antt and specs/Calls.antt.
 //! Whether the trace can be explained is `checker`'s; here a line is only what it says.
 //!
 //! - `header`: the header's lines
@@ -11,11 +12,14 @@
 //! - `stream`: the reader of a text whose lines are read as they are asked for
 //! - `reading`: the reader of a whole text, by the same reader
 //! - `printing`: the printer of a trace
+//! - `laws`: the fault of event lines that is answered is the first one, by a table of what each field has to be
+//!   (`specs/EventForms`); of the header that is not said
 #![tactic(auto)]
 
 mod calls;
 mod events;
 mod header;
+mod laws;
 mod printing;
 mod reading;
 mod stream;
@@ -27,6 +31,7 @@ pub use case_forms::{
 pub use counted::Counted;
 pub use events::event_line;
 pub use header::version_named;
+pub use laws::{event_line_faults, first_event_fault};
 pub use line_fields::{FaultKind, ReadFault, SegFault, Span, TextFault, Token};
 pub use printing::{event_bytes, print_law, print_trace, printable_law};
 pub use reading::read_trace;

@@ -6,7 +6,7 @@ ghost use Rattle.std.specs.Fmt.{decimal};
 ghost use Rattle.case_forms.specs.declared.trace.Trace.{Trace};
 ghost use Rattle.line_fields.specs.Hosts.{host_number};
 ghost use Rattle.line_fields.specs.Spelling.{IsBytePiece, plain, hex, number, printed, printed_line, printed_behind};
-ghost use Rattle.trace_reader.specs.Headers.{initial_words};
+ghost use Rattle.trace_reader.specs.Headers.{late_words};
 ghost use Rattle.trace_reader.specs.Calls.{call_pieces};
 ghost use Rattle.trace_reader.specs.Events.{event_pieces};
 ghost use Rattle.trace_reader.specs.EventLines.{line_pieces};
@@ -33,9 +33,9 @@ fn push_number_line(out: &mut Vec<u8>, name: &str, number: u64) -> Result<(), Ou
     push_end(out)
 }
 
-// Writes the line that names the RFC of the first congestion window, which version 1 doesn't have.
-fn push_initial(out: &mut Vec<u8>, version: Version, initial: Initial) -> Result<(), OutOfMemory>
-    ensures { OnOk result (out.new.items ≡ out.old.items ++ concat (map printed (initial_words version initial))) }
+// Writes the lines that version 1 doesn't have: the RFC of the first congestion window, and the one host that is recorded.
+fn push_late(out: &mut Vec<u8>, version: Version, initial: Initial) -> Result<(), OutOfMemory>
+    ensures { OnOk result (out.new.items ≡ out.old.items ++ concat (map printed (late_words version initial))) }
 {
     let number = match initial {
         Initial::Rfc5681 => 5681,
@@ -44,6 +44,10 @@ fn push_initial(out: &mut Vec<u8>, version: Version, initial: Initial) -> Result
     match version {
         Version::One => Ok(()),
         Version::Two => push_number_line(out, "initial", number),
+        Version::Three => {
+            push_number_line(out, "initial", number)?;
+            push_number_line(out, "half", 0)
+        }
     }
 }
 
@@ -58,7 +62,7 @@ fn push_header(out: &mut Vec<u8>, header: &Header) -> Result<(), OutOfMemory>
     push_number_line(out, "grain", header.grain)?;
     push_number_line(out, "minrto", header.minrto)?;
     push_number_line(out, "extra", u64::from(header.extra))?;
-    push_initial(out, header.version, header.initial)?;
+    push_late(out, header.version, header.initial)?;
     Ok(())
 }
 

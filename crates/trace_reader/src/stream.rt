@@ -7,11 +7,12 @@ ghost use Rattle.line_fields.specs.declared.fault.ReadFault.{ReadFault};
 ghost use Rattle.line_fields.specs.Left.{Yields, FailsLeft};
 ghost use Rattle.trace_reader.specs.EventLines.{behind};
 ghost use Rattle.trace_reader.specs.TraceText.{first_place};
-ghost use Rattle.trace_reader.specs.TraceLeft.{source_of, place_of, fault_of, IsFresh, IsBegun, trace_left, lines_left, Begins, reader_failures, StandsAt};
+ghost use Rattle.trace_reader.specs.TraceLeft.{source_of, place_of, version_of, fault_of, IsFresh, IsBegun, trace_left};
+ghost use Rattle.trace_reader.specs.TraceLeft.{lines_left, Begins, reader_failures, StandsAt};
 
 use crate::events::event_line;
 use crate::header::header;
-use case_forms::{Header, Line};
+use case_forms::{Header, Line, Version};
 use counted::Counted;
 use line_fields::{ReadFault, next_line};
 use std::alloc::Global;
@@ -23,6 +24,8 @@ use std::io::BufRead;
 pub struct TraceReader<A> {
     alloc: Global,
     source: Counted<A>,
+    // The version that the header names, 1 before it is read.
+    version: Version,
     // The bytes of the line that was read last.
     line: Vec<u8>,
     // The moment of the event line before, 0 before the first.
@@ -42,6 +45,7 @@ impl<A> TraceReader<A> {
         TraceReader {
             alloc,
             source,
+            version: Version::One,
             line: Vec::new(alloc),
             before: 0,
             number: 1,
@@ -62,6 +66,7 @@ impl<A> TraceReader<A> {
         ensures read { result ≡ read }
         ensures source { source_of self.new ≡ source_of self.old }
         ensures place { place_of self.new ≡ place_of self.old }
+        ensures version { version_of self.new ≡ version_of self.old }
         ensures open { IfOk result (λ x. fault_of self.new ≡ None) }
         ensures kept { (f : ReadFault) → result ≡ Err f → fault_of self.new ≡ Some f }
     {
@@ -78,6 +83,7 @@ impl<A: BufRead> TraceReader<A> {
         requires { IsFresh self.old }
         ensures header { fault_of self.old ≡ None → IfOk result (Begins (trace_left A.remaining self.old) (lines_left A.remaining self.new)) }
         ensures place { IfOk result (λ header. place_of self.new ≡ first_place header) }
+        ensures version { IfOk result (λ header. version_of self.new ≡ header.version) }
         ensures fault { (e : TextFault) → fault_of self.old ≡ None → result ≡ Err (ReadFault.Text e) → FailsLeft e (trace_left A.remaining self.old) }
         ensures again { (f : ReadFault) → fault_of self.old ≡ Some f → result ≡ Err f }
         ensures kept { (f : ReadFault) → result ≡ Err f → fault_of self.new ≡ Some f }
@@ -91,6 +97,7 @@ impl<A: BufRead> TraceReader<A> {
         }
         let read = header(&mut self.source, &mut self.line);
         let header = self.keep_fault(read)?;
+        self.version = header.version;
         self.number = header.first_event_line();
         Ok(header)
     }
@@ -105,6 +112,7 @@ impl<A: BufRead> TraceReader<A> {
         ensures kept { (f : ReadFault) → result ≡ Err f → fault_of self.new ≡ Some f }
         ensures open { IfOk result (λ item. fault_of self.new ≡ None) }
         ensures begun { IsBegun self.new }
+        ensures version { version_of self.new ≡ version_of self.old }
         ensures read { fault_of self.old ≡ None → result ≡ Err ReadFault.Read → reader_failures self.new ≡ one_more (reader_failures self.old) }
         ensures same { result ≢ Err ReadFault.Read → reader_failures self.new ≡ reader_failures self.old }
     {
@@ -122,13 +130,20 @@ impl<A: BufRead> TraceReader<A> {
         ensures end { result ≡ Ok None → place_of self.new ≡ place_of self.old }
         ensures fault { (e : TextFault) → result ≡ Err (ReadFault.Text e) → FailsLeft e (lines_left A.remaining self.old) }
         ensures open { fault_of self.new ≡ fault_of self.old }
+        ensures version { version_of self.new ≡ version_of self.old }
         ensures read { result ≡ Err ReadFault.Read → reader_failures self.new ≡ one_more (reader_failures self.old) }
         ensures same { result ≢ Err ReadFault.Read → reader_failures self.new ≡ reader_failures self.old }
     {
         if !next_line(&mut self.source, self.number, &mut self.line)? {
             return Ok(None);
         }
-        let line = event_line(self.alloc, self.before, self.number, self.line.as_slice())?;
+        let line = event_line(
+            self.alloc,
+            self.version,
+            self.before,
+            self.number,
+            self.line.as_slice(),
+        )?;
         self.before = line.moment;
         self.number += 1;
         Ok(Some(line))

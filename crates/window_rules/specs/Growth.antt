@@ -21,7 +21,9 @@ avoidance c acked = c.cwnd + (if fills_window c acked then c.smss else increment
 
 -- outside fast recovery: slow start below ssthresh, congestion avoidance above, at equality the greater of both (RFC 5681, 3.1)
 abbrev pub growth : Congestion → ℕ → ℕ
-growth c acked = if nat_lt c.cwnd c.ssthresh then slow_start c acked else (if nat_lt c.ssthresh c.cwnd then avoidance c acked else max (slow_start c acked) (avoidance c acked))
+growth c acked =
+    if nat_lt c.cwnd c.ssthresh then slow_start c acked
+    else (if nat_lt c.ssthresh c.cwnd then avoidance c acked else max (slow_start c acked) (avoidance c acked))
 
 -- the greatest cwnd after a new acknowledgment; ssthresh where it ends fast recovery (RFC 5681, 3.1 and 3.2, step 6)
 abbrev pub may_grow : Congestion → ℕ → ℕ

@@ -1,7 +1,8 @@
 //! How far new data may reach, and the first congestion window. Positions and windows count bytes.
 
 ghost use Rattle.std.specs.Prelude.{◌≡◌, ◌≤◌, ◌<◌, ◌^◌};
-ghost use Rattle.window_rules.specs.Windows.{greatest_window, capped, offered_edge, limited_transmit, congestion_edge, initial_window, initial_window_6928, scaled_window};
+ghost use Rattle.window_rules.specs.Windows.{greatest_window, capped, offered_edge, limited_transmit, congestion_edge};
+ghost use Rattle.window_rules.specs.Windows.{initial_window, initial_window_6928, scaled_window};
 
 use crate::congestion::Congestion;
 

@@ -34,7 +34,7 @@ use Rattle.witness.specs.Labels.{label_name, all_label_words, bit_number, extras
 use Rattle.witness.specs.LabelFields.{line_label, effect_label, segment_label, taking_label, dropping_label, refusing_label, recovery_label, label_behind, label_field}
 use Rattle.witness.proofs.Made.{IsMade, reads_made, reads_part}
 use Rattle.witness.proofs.FlagsLaw.{flags_piece, reads_flags, flags_clean}
-use Rattle.witness.proofs.PartLaw.{IsWithin, one_piece, reads_within, bit_piece, reads_bit, IsEndpoint, pieces_at, reads_endpoint, IsEntry, pieces_in, reads_entry, reads_extras, FitsStart, start_pieces, reads_start}
+use Rattle.witness.proofs.PartLaw.{IsWithin, one_piece, reads_within, bit_piece, reads_bit, FitsEndpoint, pieces_at, reads_endpoint, FitsEntry, pieces_in, reads_entry, reads_extras, FitsStart, start_pieces, reads_start}
 
 -- ---- a line
 
@@ -70,7 +70,7 @@ abbrev make_segment : At × (ℕ × (ℕ × (Flags × (ℕ × Start)))) → Labe
 make_segment y = M y.0.0 (record { lport = y.0.1; rport = y.0.2; pos = y.1.0; len = y.1.1.0; flags = y.1.1.1.0; window = y.1.1.1.1.0; iss = y.1.1.1.1.1.0; shift = y.1.1.1.1.1.1 })
 
 abbrev FitsSegment : Version → At × (ℕ × (ℕ × (Flags × (ℕ × Start)))) → Type 0
-FitsSegment v y = IsEndpoint y.0 × (IsWithin 0 1000000000000000000 y.1.0 × (IsWithin 0 65515 y.1.1.0 × (Unit {0} × (IsWithin 0 65535 y.1.1.1.1.0 × FitsStart v y.1.1.1.1.1))))
+FitsSegment v y = FitsEndpoint v y.0 × (IsWithin 0 1000000000000000000 y.1.0 × (IsWithin 0 65515 y.1.1.0 × (Unit {0} × (IsWithin 0 65535 y.1.1.1.1.0 × FitsStart v y.1.1.1.1.1))))
 
 abbrev window_pieces : ℕ × Start → List Piece
 window_pieces y = one_piece y.0 ++ start_pieces y.1
@@ -90,7 +90,7 @@ all_pieces y = pieces_at y.0 ++ position_pieces y.1
 reads_segment : (v : Version) → IsLastReader (segment_label v) (IsMade make_segment (FitsSegment v) all_pieces)
 unfolding segment_label
 reads_segment v =
-    reads_part Nothing endpoint_field IsEndpoint pieces_at _ make_segment _ position_pieces reads_endpoint
+    reads_part Nothing (endpoint_field v) (FitsEndpoint v) pieces_at _ make_segment _ position_pieces (reads_endpoint v)
     (λ at. reads_part Nothing (number_field 0 1000000000000000000) (IsWithin 0 1000000000000000000) one_piece _ (λ x. make_segment (at, x)) _ len_pieces (reads_within 0 1000000000000000000 (omega arith))
     (λ position. reads_part Nothing (number_field 0 65515) (IsWithin 0 65515) one_piece _ (λ x. make_segment (at, (position, x))) _ flags_pieces (reads_within 0 65515 (omega arith))
     (λ len. reads_part Nothing flags_field (λ f. Unit {0}) flags_piece _ (λ x. make_segment (at, (position, (len, x)))) _ window_pieces reads_flags
@@ -102,8 +102,8 @@ reads_segment v =
 abbrev make_taking : (Host × ℕ) × (ℕ × (Bool × Bool)) → Label NamedLine
 make_taking y = T y.0.0 y.0.1 (record { cwnd = y.1.0; keep = y.1.1.0; sample = y.1.1.1 })
 
-abbrev FitsTaking : (Host × ℕ) × (ℕ × (Bool × Bool)) → Type 0
-FitsTaking y = IsEntry y.0 × (IsWithin 0 4294967295 y.1.0 × (Unit {0} × Unit {0}))
+abbrev FitsTaking : Version → (Host × ℕ) × (ℕ × (Bool × Bool)) → Type 0
+FitsTaking v y = FitsEntry v y.0 × (IsWithin 0 4294967295 y.1.0 × (Unit {0} × Unit {0}))
 
 abbrev bits_pieces : Bool × Bool → List Piece
 bits_pieces y = bit_piece y.0 ++ bit_piece y.1
@@ -111,10 +111,10 @@ bits_pieces y = bit_piece y.0 ++ bit_piece y.1
 abbrev cwnd_pieces : ℕ × (Bool × Bool) → List Piece
 cwnd_pieces y = one_piece y.0 ++ bits_pieces y.1
 
-reads_taking : IsReader taking_label (IsMade make_taking FitsTaking (λ y. pieces_in y.0 ++ cwnd_pieces y.1))
+reads_taking : (v : Version) → IsReader (taking_label v) (IsMade make_taking (FitsTaking v) (λ y. pieces_in y.0 ++ cwnd_pieces y.1))
 unfolding taking_label
-reads_taking =
-    reads_part Any entry_field IsEntry pieces_in _ make_taking _ cwnd_pieces reads_entry
+reads_taking v =
+    reads_part Any (entry_field v) (FitsEntry v) pieces_in _ make_taking _ cwnd_pieces (reads_entry v)
     (λ entry. reads_part Any (number_field 0 4294967295) (IsWithin 0 4294967295) one_piece _ (λ x. make_taking (entry, x)) _ bits_pieces (reads_within 0 4294967295 (omega arith))
     (λ cwnd. reads_part Any bit_field (λ b. Unit {0}) bit_piece _ (λ x. make_taking (entry, (cwnd, x))) _ bit_piece reads_bit
     (λ keep. reads_made Any bit_field (λ sample. make_taking (entry, (cwnd, (keep, sample)))) (λ b. Unit {0}) bit_piece reads_bit)))
@@ -122,30 +122,30 @@ reads_taking =
 abbrev make_dropping : Host × ℕ → Label NamedLine
 make_dropping y = K y.0 y.1
 
-reads_dropping : IsReader dropping_label (IsMade make_dropping IsEntry pieces_in)
-reads_dropping = reads_made Any entry_field make_dropping IsEntry pieces_in reads_entry
+reads_dropping : (v : Version) → IsReader (dropping_label v) (IsMade make_dropping (FitsEntry v) pieces_in)
+reads_dropping v = reads_made Any (entry_field v) make_dropping (FitsEntry v) pieces_in (reads_entry v)
 
 abbrev make_refusing : Host × ℕ → Label NamedLine
 make_refusing y = R y.0 y.1
 
-reads_refusing : IsReader refusing_label (IsMade make_refusing IsEntry pieces_in)
-reads_refusing = reads_made Any entry_field make_refusing IsEntry pieces_in reads_entry
+reads_refusing : (v : Version) → IsReader (refusing_label v) (IsMade make_refusing (FitsEntry v) pieces_in)
+reads_refusing v = reads_made Any (entry_field v) make_refusing (FitsEntry v) pieces_in (reads_entry v)
 
 -- ---- fast recovery
 
 abbrev make_recovery : At × (ℕ × ℕ) → Label NamedLine
 make_recovery y = F y.0.0 (record { lport = y.0.1; rport = y.0.2; cwnd = y.1.0; ssthresh = y.1.1 })
 
-abbrev FitsRecovery : At × (ℕ × ℕ) → Type 0
-FitsRecovery y = IsEndpoint y.0 × (IsWithin 0 4294967295 y.1.0 × IsWithin 0 4294967295 y.1.1)
+abbrev FitsRecovery : Version → At × (ℕ × ℕ) → Type 0
+FitsRecovery v y = FitsEndpoint v y.0 × (IsWithin 0 4294967295 y.1.0 × IsWithin 0 4294967295 y.1.1)
 
 abbrev windows_pieces : ℕ × ℕ → List Piece
 windows_pieces y = one_piece y.0 ++ one_piece y.1
 
-reads_recovery : IsReader recovery_label (IsMade make_recovery FitsRecovery (λ y. pieces_at y.0 ++ windows_pieces y.1))
+reads_recovery : (v : Version) → IsReader (recovery_label v) (IsMade make_recovery (FitsRecovery v) (λ y. pieces_at y.0 ++ windows_pieces y.1))
 unfolding recovery_label
-reads_recovery =
-    reads_part Any endpoint_field IsEndpoint pieces_at _ make_recovery _ windows_pieces reads_endpoint
+reads_recovery v =
+    reads_part Any (endpoint_field v) (FitsEndpoint v) pieces_at _ make_recovery _ windows_pieces (reads_endpoint v)
     (λ at. reads_part Any (number_field 0 4294967295) (IsWithin 0 4294967295) one_piece _ (λ x. make_recovery (at, x)) _ one_piece (reads_within 0 4294967295 (omega arith))
     (λ cwnd. reads_made Any (number_field 0 4294967295) (λ ssthresh. make_recovery (at, (cwnd, ssthresh))) (IsWithin 0 4294967295) one_piece (reads_within 0 4294967295 (omega arith))))
 
@@ -179,10 +179,10 @@ module _ (v : Version) where
   behind_takes words.Effect r x e = takes_made words.Effect make_effect _ _ r x (reads_effect.takes r x e) (λ y fits. ((fits.0.1, fits.1), refl, refl))
   behind_takes words.Making r x e =
       takes_made words.Making make_segment (FitsSegment v) all_pieces r x ((reads_segment v).takes r x e) (λ y fits. ((fits.0, fits.1.0.1, fits.1.1.0.1, fits.1.1.1.1.0.1, fits.1.1.1.1.1), refl, refl))
-  behind_takes words.Taking r x e = takes_made words.Taking make_taking FitsTaking _ r x (reads_taking.takes r x e) (λ y fits. ((fits.0, fits.1.0.1), refl, refl))
-  behind_takes words.Dropping r x e = takes_made words.Dropping make_dropping IsEntry pieces_in r x (reads_dropping.takes r x e) (λ y fits. (fits, refl, refl))
-  behind_takes words.Refusing r x e = takes_made words.Refusing make_refusing IsEntry pieces_in r x (reads_refusing.takes r x e) (λ y fits. (fits, refl, refl))
-  behind_takes words.Recovery r x e = takes_made words.Recovery make_recovery FitsRecovery _ r x (reads_recovery.takes r x e) (λ y fits. ((fits.0, fits.1.0.1, fits.1.1.1), refl, refl))
+  behind_takes words.Taking r x e = takes_made words.Taking make_taking (FitsTaking v) _ r x ((reads_taking v).takes r x e) (λ y fits. ((fits.0, fits.1.0.1), refl, refl))
+  behind_takes words.Dropping r x e = takes_made words.Dropping make_dropping (FitsEntry v) pieces_in r x ((reads_dropping v).takes r x e) (λ y fits. (fits, refl, refl))
+  behind_takes words.Refusing r x e = takes_made words.Refusing make_refusing (FitsEntry v) pieces_in r x ((reads_refusing v).takes r x e) (λ y fits. (fits, refl, refl))
+  behind_takes words.Recovery r x e = takes_made words.Recovery make_recovery (FitsRecovery v) _ r x ((reads_recovery v).takes r x e) (λ y fits. ((fits.0, fits.1.0.1, fits.1.1.1), refl, refl))
 
   abbrev Gets : Label NamedLine → Rest → List (List ℕ) → Type 0
   Gets label r more = (rest : Rest) × (label_behind v (label_word label) r ≡ Ok (label, rest)) × (texts rest ≡ more)
@@ -194,11 +194,11 @@ module _ (v : Version) where
       (reads_segment v).again r (M host plan) us more last
       (((host, plan.lport, plan.rport), (plan.pos, (plan.len, (plan.flags, (plan.window, (plan.iss, plan.shift)))))), refl, (fits.0, ((omega arith, fits.1), ((omega arith, fits.2), (tt, ((omega arith, fits.3), fits.4))))), w) e
   behind_again (T host line choice) r us more last fits w e =
-      reads_taking.again r (T host line choice) us more tt (((host, line), (choice.cwnd, (choice.keep, choice.sample))), refl, (fits.0, ((omega arith, fits.1), (tt, tt))), w) e
-  behind_again (K host line) r us more last fits w e = reads_dropping.again r (K host line) us more tt ((host, line), refl, fits, w) e
-  behind_again (R host line) r us more last fits w e = reads_refusing.again r (R host line) us more tt ((host, line), refl, fits, w) e
+      (reads_taking v).again r (T host line choice) us more tt (((host, line), (choice.cwnd, (choice.keep, choice.sample))), refl, (fits.0, ((omega arith, fits.1), (tt, tt))), w) e
+  behind_again (K host line) r us more last fits w e = (reads_dropping v).again r (K host line) us more tt ((host, line), refl, fits, w) e
+  behind_again (R host line) r us more last fits w e = (reads_refusing v).again r (R host line) us more tt ((host, line), refl, fits, w) e
   behind_again (F host recovery) r us more last fits w e =
-      reads_recovery.again r (F host recovery) us more tt (((host, recovery.lport, recovery.rport), (recovery.cwnd, recovery.ssthresh)), refl, (fits.0, ((omega arith, fits.1), (omega arith, fits.2))), w) e
+      (reads_recovery v).again r (F host recovery) us more tt (((host, recovery.lport, recovery.rport), (recovery.cwnd, recovery.ssthresh)), refl, (fits.0, ((omega arith, fits.1), (omega arith, fits.2))), w) e
 
   -- what is read is spelled so, and what is spelled so is read
   pub reads_label : IsLastReader (label_field v) (IsSpelledLabel v)
@@ -237,8 +237,8 @@ label_clean v (L line) fits = (clean_by (codes "L") refl, (number_clean line.num
 label_clean v (D thread answer) fits = (clean_by (codes "D") refl, (number_clean thread (let h = fits.0 in omega arith), answer_clean answer fits.1))
 label_clean v (M host plan) fits =
     let ports = fits.0 in
-    let from = ports.1 in
-    let to = ports.3 in
+    let from = ports.2 in
+    let to = ports.4 in
     let short = fits.2 in
     let small = fits.3 in (
       clean_by (codes "M") refl,
@@ -251,13 +251,13 @@ label_clean v (M host plan) fits =
       ),
     )
 label_clean v (T host line choice) fits =
-    (clean_by (codes "T") refl, (host_clean host, (number_clean line (let h = fits.0 in omega arith), (number_clean choice.cwnd (let h = fits.1 in omega arith), (bit_clean choice.keep, (bit_clean choice.sample, tt))))))
-label_clean v (K host line) fits = (clean_by (codes "K") refl, (host_clean host, (number_clean line (omega arith), tt)))
-label_clean v (R host line) fits = (clean_by (codes "R") refl, (host_clean host, (number_clean line (omega arith), tt)))
+    (clean_by (codes "T") refl, (host_clean host, (number_clean line (let h = fits.0.1 in omega arith), (number_clean choice.cwnd (let h = fits.1 in omega arith), (bit_clean choice.keep, (bit_clean choice.sample, tt))))))
+label_clean v (K host line) fits = (clean_by (codes "K") refl, (host_clean host, (number_clean line (let h = fits.1 in omega arith), tt)))
+label_clean v (R host line) fits = (clean_by (codes "R") refl, (host_clean host, (number_clean line (let h = fits.1 in omega arith), tt)))
 label_clean v (F host recovery) fits =
     let ports = fits.0 in
-    let from = ports.1 in
-    let to = ports.3 in
+    let from = ports.2 in
+    let to = ports.4 in
     let low = fits.1 in
     let high = fits.2 in
     (clean_by (codes "F") refl, (host_clean host, (number_clean recovery.lport (omega arith), (number_clean recovery.rport (omega arith), (number_clean recovery.cwnd (omega arith), (number_clean recovery.ssthresh (omega arith), tt))))))

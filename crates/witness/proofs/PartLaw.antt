@@ -13,13 +13,13 @@ use Rattle.line_fields.specs.declared.fault.TextFault.{TextFault}
 use Rattle.line_fields.specs.Word.{Rest}
 use Rattle.line_fields.specs.Reading.{◌>>=◌, number_field, or_end}
 use Rattle.line_fields.specs.Reader.{Any, Nothing, IsReader, IsLastReader}
-use Rattle.line_fields.specs.Hosts.{host_number, host_field}
+use Rattle.line_fields.specs.Hosts.{host_number, IsHost, host_field}
 use Rattle.line_fields.specs.Spelling.{Piece, number, AreWritten}
 use Rattle.line_fields.proofs.Readers.{IsNumberField, reads_as, reads_done, reads_last, reads_or_end, reads_number}
-use Rattle.line_fields.proofs.HostLaw.{reads_host}
+use Rattle.line_fields.proofs.HostLaw.{IsHostField, reads_host}
 use Rattle.line_fields.proofs.Written.{plains_are, none_written}
-use Rattle.witness.specs.Parts.{endpoint_field, entry_field, bit_field, first_field, extras_field, Start, shift_field, given_start, start_field}
-use Rattle.witness.specs.Labels.{bit_number, extras_pieces, AreExtras, iss_pieces, shift_pieces, IsStart, ArePorts, endpoint_pieces, entry_pieces}
+use Rattle.witness.specs.Parts.{endpoint_field, entry_field, bit_field, first_field, extras_field, Start, given_shift, shift_field, given_start, start_field}
+use Rattle.witness.specs.Labels.{bit_number, extras_pieces, AreExtras, iss_pieces, shift_pieces, IsStart, IsEndpoint, IsEntry, endpoint_pieces, entry_pieces}
 use Rattle.witness.proofs.Made.{IsBy, IsMade, reads_made, reads_part}
 
 -- ---- a number, a host, and yes or no
@@ -42,11 +42,11 @@ reads_within least most fits =
 abbrev pub host_piece : Host → List Piece
 host_piece h = number (host_number h) ∷ []
 
-pub reads_host_piece : IsReader host_field (IsBy (λ h. Unit {0}) host_piece)
-reads_host_piece =
-    reads_as Any host_field (λ h ws. ws ≡ decimal (host_number h) ∷ []) (IsBy (λ h. Unit {0}) host_piece) reads_host
-    (λ h ws s. (tt, is_written (host_number h) ws s))
-    (λ h ws s. plains_are (decimal (host_number h) ∷ []) ws s.1)
+pub reads_host_piece : (v : Version) → IsReader (host_field v) (IsBy (IsHost v) host_piece)
+reads_host_piece v =
+    reads_as Any (host_field v) (IsHostField v) (IsBy (IsHost v) host_piece) (reads_host v)
+    (λ h ws s. (s.0, is_written (host_number h) ws s.1))
+    (λ h ws s. (s.0, plains_are (decimal (host_number h) ∷ []) ws s.1))
 
 number_back : (n : ℕ) → n ≤ 1 → bit_number (eqb n 1) ≡ n
 number_back zero le = refl
@@ -82,36 +82,36 @@ ArePortsIn ports = IsWithin 1 65535 ports.0 × IsWithin 1 65535 ports.1
 abbrev port_pieces : ℕ × ℕ → List Piece
 port_pieces ports = one_piece ports.0 ++ one_piece ports.1
 
-abbrev pub IsEndpoint : Host × ℕ × ℕ → Type 0
-IsEndpoint at = ArePorts at.1 at.2
+abbrev pub FitsEndpoint : Version → Host × ℕ × ℕ → Type 0
+FitsEndpoint v at = IsEndpoint v at.0 at.1 at.2
 
 abbrev pub pieces_at : Host × ℕ × ℕ → List Piece
 pieces_at at = endpoint_pieces at.0 at.1 at.2
 
-pub reads_endpoint : IsReader endpoint_field (IsBy IsEndpoint pieces_at)
+pub reads_endpoint : (v : Version) → IsReader (endpoint_field v) (IsBy (FitsEndpoint v) pieces_at)
 unfolding endpoint_field
-reads_endpoint =
-    reads_as Any endpoint_field _ (IsBy IsEndpoint pieces_at)
-    (reads_part Any host_field (λ h. Unit {0}) host_piece _ made_endpoint ArePortsIn port_pieces reads_host_piece
+reads_endpoint v =
+    reads_as Any (endpoint_field v) _ (IsBy (FitsEndpoint v) pieces_at)
+    (reads_part Any (host_field v) (IsHost v) host_piece _ made_endpoint ArePortsIn port_pieces (reads_host_piece v)
     (λ h. reads_part Any (number_field 1 65535) (IsWithin 1 65535) one_piece _ (λ x. made_endpoint (h, x)) (IsWithin 1 65535) one_piece (reads_within 1 65535 (omega arith))
     (λ l. reads_made Any (number_field 1 65535) (λ p. made_endpoint (h, (l, p))) (IsWithin 1 65535) one_piece (reads_within 1 65535 (omega arith)))))
-    (λ at ws s. let fits = s.2.1 in (subst IsEndpoint (sym s.1) (fits.0.0, fits.0.1, fits.1.0, fits.1.1), subst (λ (a : Host × ℕ × ℕ). AreWritten (pieces_at a) ws) (sym s.1) s.3))
-    (λ at ws s. let fits = s.0 in ((at.0, (at.1, at.2)), refl, (tt, ((fits.0, fits.1), (fits.2, fits.3))), s.1))
+    (λ at ws s. let fits = s.2.1 in (subst (FitsEndpoint v) (sym s.1) (s.2.0, fits.0.0, fits.0.1, fits.1.0, fits.1.1), subst (λ (a : Host × ℕ × ℕ). AreWritten (pieces_at a) ws) (sym s.1) s.3))
+    (λ at ws s. let fits = s.0 in ((at.0, (at.1, at.2)), refl, (fits.0, ((fits.1, fits.2), (fits.3, fits.4))), s.1))
 
-abbrev pub IsEntry : Host × ℕ → Type 0
-IsEntry entry = entry.1 ≤ 4294967295
+abbrev pub FitsEntry : Version → Host × ℕ → Type 0
+FitsEntry v entry = IsEntry v entry.0 entry.1
 
 abbrev pub pieces_in : Host × ℕ → List Piece
 pieces_in entry = entry_pieces entry.0 entry.1
 
-pub reads_entry : IsReader entry_field (IsBy IsEntry pieces_in)
+pub reads_entry : (v : Version) → IsReader (entry_field v) (IsBy (FitsEntry v) pieces_in)
 unfolding entry_field
-reads_entry =
-    reads_as Any entry_field _ (IsBy IsEntry pieces_in)
-    (reads_part Any host_field (λ h. Unit {0}) host_piece _ (λ y. y) (IsWithin 0 4294967295) one_piece reads_host_piece
+reads_entry v =
+    reads_as Any (entry_field v) _ (IsBy (FitsEntry v) pieces_in)
+    (reads_part Any (host_field v) (IsHost v) host_piece _ (λ y. y) (IsWithin 0 4294967295) one_piece (reads_host_piece v)
     (λ h. reads_made Any (number_field 0 4294967295) (λ n. (h, n)) (IsWithin 0 4294967295) one_piece (reads_within 0 4294967295 (omega arith))))
-    (λ entry ws s. (subst IsEntry (sym s.1) s.2.1.1, subst (λ (y : Host × ℕ). AreWritten (pieces_in y) ws) (sym s.1) s.3))
-    (λ entry ws s. (entry, refl, (tt, (omega arith, s.0)), s.1))
+    (λ entry ws s. (subst (FitsEntry v) (sym s.1) (s.2.0, s.2.1.1), subst (λ (y : Host × ℕ). AreWritten (pieces_in y) ws) (sym s.1) s.3))
+    (λ entry ws s. (entry, refl, (s.0.0, (omega arith, s.0.1)), s.1))
 
 -- ---- a number that may be missing
 
@@ -166,27 +166,32 @@ maybe_shift : (iss : Word) (o : Option ℕ) → maybe (Some iss, None) (λ s. (S
 maybe_shift iss None = refl
 maybe_shift iss (Some s) = refl
 
-shift_there : (o : Option ℕ) → IsMaybe 14 o → FitsShift versions.Two o
-shift_there None fits = tt
-shift_there (Some s) fits = (refl, fits)
+shift_there : (v : Version) (o : Option ℕ) → scales v ≡ true → IsMaybe 14 o → FitsShift v o
+shift_there v None scaled fits = tt
+shift_there v (Some s) scaled fits = (scaled, fits)
 
-shift_back : (o : Option ℕ) → FitsShift versions.Two o → IsMaybe 14 o
-shift_back None fits = tt
-shift_back (Some s) fits = fits.1
+shift_back : (v : Version) (o : Option ℕ) → FitsShift v o → IsMaybe 14 o
+shift_back v None fits = tt
+shift_back v (Some s) fits = fits.1
 
 no_shift : (iss : Word) (o : Option ℕ) (b : Start) (ws : List (List ℕ)) → b ≡ with_shift iss o → FitsShift versions.One o → AreWritten (maybe_pieces o) ws → (b ≡ (Some iss, None)) × (ws ≡ [])
 no_shift iss None b ws same fits h = (same, none_written ws h)
 no_shift iss (Some s) b ws same fits h = let never = fits.0 in absurd cc
+
+-- where windows may be scaled
+reads_scaled : (v : Version) (iss : Word) → scales v ≡ true → IsLastReader (λ r. or_end (Some iss, None) (given_shift iss) r.words r) (IsMade (with_shift iss) (FitsShift v) maybe_pieces)
+reads_scaled v iss scaled =
+    reads_as Nothing (λ r. or_end (Some iss, None) (given_shift iss) r.words r) _ (IsMade (with_shift iss) (FitsShift v) maybe_pieces) (reads_maybe 14 (omega arith) (Some iss, None) (λ s. (Some iss, Some s)))
+    (λ b ws s. (s.0, s.1 ∙ maybe_shift iss s.0, shift_there v s.0 scaled s.2, s.3))
+    (λ b ws s. (s.0, s.1 ∙ sym (maybe_shift iss s.0), shift_back v s.0 s.2, s.3))
 
 reads_shift : (v : Version) (iss : Word) → IsLastReader (shift_field v iss) (IsMade (with_shift iss) (FitsShift v) maybe_pieces)
 reads_shift versions.One iss =
     reads_as Nothing (shift_field versions.One iss) _ (IsMade (with_shift iss) (FitsShift versions.One) maybe_pieces) (reads_done Nothing (Some iss, None))
     (λ b ws s. (None, s.0, tt, subst (λ (us : List (List ℕ)). AreWritten [] us) (sym s.1) tt))
     (λ b ws s. no_shift iss s.0 b ws s.1 s.2 s.3)
-reads_shift versions.Two iss =
-    reads_as Nothing (shift_field versions.Two iss) _ (IsMade (with_shift iss) (FitsShift versions.Two) maybe_pieces) (reads_maybe 14 (omega arith) (Some iss, None) (λ s. (Some iss, Some s)))
-    (λ b ws s. (s.0, s.1 ∙ maybe_shift iss s.0, shift_there s.0 s.2, s.3))
-    (λ b ws s. (s.0, s.1 ∙ sym (maybe_shift iss s.0), shift_back s.0 s.2, s.3))
+reads_shift versions.Two iss = reads_scaled versions.Two iss refl
+reads_shift versions.Three iss = reads_scaled versions.Three iss refl
 
 abbrev make_start : ℕ × Option ℕ → Start
 make_start y = with_shift (word y.0) y.1

@@ -69,14 +69,17 @@ is_some v text (Err e) given = tt
 abbrev first_words : Version → List (List ℕ)
 first_words versions.One = codes "witness" ∷ codes "1" ∷ []
 first_words versions.Two = codes "witness" ∷ codes "2" ∷ []
+first_words versions.Three = codes "witness" ∷ codes "3" ∷ []
 
 words_joined : (v : Version) → joined (first_words v) ≡ first_text v
 words_joined versions.One = refl
 words_joined versions.Two = refl
+words_joined versions.Three = refl
 
 words_clean : (v : Version) → AllByRecursion IsClean (first_words v)
 words_clean versions.One = (clean_by (codes "witness") refl, (clean_by (codes "1") refl, tt))
 words_clean versions.Two = (clean_by (codes "witness") refl, (clean_by (codes "2") refl, tt))
+words_clean versions.Three = (clean_by (codes "witness") refl, (clean_by (codes "3") refl, tt))
 
 pub first_ends : (v : Version) → NoReturn (first_text v)
 first_ends v = subst NoReturn (words_joined v) (joined_no_return (first_words v) (words_clean v))
@@ -98,17 +101,15 @@ text_again w text t =
     ap (witness_in w.version) (text_lines w text t) ∙ rw (begun, steps) refl
 
 -- the version that a first line names
+named_text : (v : Version) (raw : List ℕ) (raws : List (List ℕ)) → without_terminator raw ≡ first_text v → is_ended raw ≡ true → version_named (raw ∷ raws) ≡ v
+named_text versions.One raw raws text ended = rw (text, ended) refl
+named_text versions.Two raw raws text ended = rw (text, ended) refl
+named_text versions.Three raw raws text ended = rw (text, ended) refl
+
 named_by : (v : Version) (raw : List ℕ) (raws : List (List ℕ)) → IsLine 1 (first_text v) raw → version_named (raw ∷ raws) ≡ v
-named_by versions.One raw raws line =
-    let own = ending_again raw (first_text versions.One) (first_ends versions.One) line.ends in
-    let text = own.0 in
-    let ended = own.1 in
-    rw (text, ended) refl
-named_by versions.Two raw raws line =
-    let own = ending_again raw (first_text versions.Two) (first_ends versions.Two) line.ends in
-    let text = own.0 in
-    let ended = own.1 in
-    rw (text, ended) refl
+named_by v raw raws line =
+    let own = ending_again raw (first_text v) (first_ends v) line.ends in
+    named_text v raw raws own.0 own.1
 
 -- it is read whichever version it is of
 pub some_again : (w : Witness) (text : List ℕ) → IsWitnessText w text → witness_of text ≡ Ok w

@@ -32,39 +32,52 @@ effect_label r = do
 -- an endpoint, and what the segment is that it makes
 unfoldable pub segment_label : Version → Rest → Result (Label NamedLine × Rest) TextFault
 segment_label v r = do
-  at ← endpoint_field r
+  at ← endpoint_field v r
   position ← number_field 0 1000000000000000000 at.1
   len ← number_field 0 65515 position.1
   flags ← flags_field len.1
   window ← number_field 0 65535 flags.1
   start ← start_field v window.1
-  Ok (M at.0.0 (record { lport = at.0.1; rport = at.0.2; pos = position.0; len = len.0; flags = flags.0; window = window.0; iss = start.0.0; shift = start.0.1 }), start.1)
+  Ok (
+    M at.0.0 (record {
+      lport = at.0.1;
+      rport = at.0.2;
+      pos = position.0;
+      len = len.0;
+      flags = flags.0;
+      window = window.0;
+      iss =
+          start.0.0;
+      shift = start.0.1;
+    }),
+    start.1,
+  )
 
 -- an inbox entry, the congestion window, whether data are kept, and whether the time is sampled
-unfoldable pub taking_label : Rest → Result (Label NamedLine × Rest) TextFault
-taking_label r = do
-  entry ← entry_field r
+unfoldable pub taking_label : Version → Rest → Result (Label NamedLine × Rest) TextFault
+taking_label v r = do
+  entry ← entry_field v r
   cwnd ← number_field 0 4294967295 entry.1
   keep ← bit_field cwnd.1
   sample ← bit_field keep.1
   Ok (T entry.0.0 entry.0.1 (record { cwnd = cwnd.0; keep = keep.0; sample = sample.0 }), sample.1)
 
 -- an inbox entry that is dropped
-abbrev pub dropping_label : Rest → Result (Label NamedLine × Rest) TextFault
-dropping_label r = do
-  entry ← entry_field r
+abbrev pub dropping_label : Version → Rest → Result (Label NamedLine × Rest) TextFault
+dropping_label v r = do
+  entry ← entry_field v r
   Ok (K entry.0.0 entry.0.1, entry.1)
 
 -- an inbox entry that is answered by a reset
-abbrev pub refusing_label : Rest → Result (Label NamedLine × Rest) TextFault
-refusing_label r = do
-  entry ← entry_field r
+abbrev pub refusing_label : Version → Rest → Result (Label NamedLine × Rest) TextFault
+refusing_label v r = do
+  entry ← entry_field v r
   Ok (R entry.0.0 entry.0.1, entry.1)
 
 -- an endpoint, its congestion window and its slow start threshold
-unfoldable pub recovery_label : Rest → Result (Label NamedLine × Rest) TextFault
-recovery_label r = do
-  at ← endpoint_field r
+unfoldable pub recovery_label : Version → Rest → Result (Label NamedLine × Rest) TextFault
+recovery_label v r = do
+  at ← endpoint_field v r
   cwnd ← number_field 0 4294967295 at.1
   ssthresh ← number_field 0 4294967295 cwnd.1
   Ok (F at.0.0 (record { lport = at.0.1; rport = at.0.2; cwnd = cwnd.0; ssthresh = ssthresh.0 }), ssthresh.1)
@@ -74,10 +87,10 @@ abbrev pub label_behind : Version → LabelWord → Rest → Result (Label Named
 label_behind v words.Line r = line_label r
 label_behind v words.Effect r = effect_label r
 label_behind v words.Making r = segment_label v r
-label_behind v words.Taking r = taking_label r
-label_behind v words.Dropping r = dropping_label r
-label_behind v words.Refusing r = refusing_label r
-label_behind v words.Recovery r = recovery_label r
+label_behind v words.Taking r = taking_label v r
+label_behind v words.Dropping r = dropping_label v r
+label_behind v words.Refusing r = refusing_label v r
+label_behind v words.Recovery r = recovery_label v r
 
 -- a label
 unfoldable pub label_field : Version → Rest → Result (Label NamedLine × Rest) TextFault

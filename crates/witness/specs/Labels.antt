@@ -10,7 +10,7 @@ use Rattle.case_forms.specs.declared.steps.Label.TheVariants.{L, D, M, T, K, R, 
 use Rattle.case_forms.specs.declared.steps.SegmentPlan.{SegmentPlan}
 use Rattle.case_forms.specs.declared.version.Version.{Version}
 use Rattle.case_forms.specs.Witnesses.{IsShift}
-use Rattle.line_fields.specs.Hosts.{host_number}
+use Rattle.line_fields.specs.Hosts.{host_number, IsHost}
 use Rattle.line_fields.specs.Spelling.{Piece, plain, number, AreWritten}
 use Rattle.line_fields.specs.Answers.{answer_pieces, IsAnswer}
 use Rattle.witness.specs.declared.labels.LabelWord.{LabelWord}
@@ -67,9 +67,13 @@ shift_pieces (Some shift) = number shift ∷ []
 abbrev pub IsStart : Version → Option Word → Option ℕ → Type 0
 IsStart v iss shift = IsIss iss × IfSome shift (IsShift v iss)
 
--- the ports of an endpoint
-abbrev pub ArePorts : ℕ → ℕ → Type 0
-ArePorts local remote = (1 ≤ local) × (local ≤ 65535) × (1 ≤ remote) × (remote ≤ 65535)
+-- the limits of a host and its ports
+abbrev pub IsEndpoint : Version → Host → ℕ → ℕ → Type 0
+IsEndpoint v host local remote = IsHost v host × (1 ≤ local) × (local ≤ 65535) × (1 ≤ remote) × (remote ≤ 65535)
+
+-- the limits of a host and a line
+abbrev pub IsEntry : Version → Host → ℕ → Type 0
+IsEntry v host line = IsHost v host × (line ≤ 4294967295)
 
 -- the fields of a host and its ports
 abbrev pub endpoint_pieces : Host → ℕ → ℕ → List Piece
@@ -111,11 +115,13 @@ label_pieces label = plain (label_name (label_word label)) ∷ label_tail label
 abbrev pub IsLabel : Version → Label NamedLine → Type 0
 IsLabel v (L line) = (line.number ≤ 4294967295) × AreExtras line.extras
 IsLabel v (D thread answer) = (thread ≤ 4294967295) × IsAnswer answer
-IsLabel v (M host plan) = ArePorts plan.lport plan.rport × (plan.pos ≤ 1000000000000000000) × (plan.len ≤ 65515) × (plan.window ≤ 65535) × IsStart v plan.iss plan.shift
-IsLabel v (T host line choice) = (line ≤ 4294967295) × (choice.cwnd ≤ 4294967295)
-IsLabel v (K host line) = line ≤ 4294967295
-IsLabel v (R host line) = line ≤ 4294967295
-IsLabel v (F host recovery) = ArePorts recovery.lport recovery.rport × (recovery.cwnd ≤ 4294967295) × (recovery.ssthresh ≤ 4294967295)
+IsLabel v (M host plan) =
+    IsEndpoint v host plan.lport plan.rport × (plan.pos ≤ 1000000000000000000) × (plan.len ≤ 65515) × (plan.window ≤ 65535) ×
+    IsStart v plan.iss plan.shift
+IsLabel v (T host line choice) = IsEntry v host line × (choice.cwnd ≤ 4294967295)
+IsLabel v (K host line) = IsEntry v host line
+IsLabel v (R host line) = IsEntry v host line
+IsLabel v (F host recovery) = IsEndpoint v host recovery.lport recovery.rport × (recovery.cwnd ≤ 4294967295) × (recovery.ssthresh ≤ 4294967295)
 
 -- these fields spell the label
 abbrev pub IsSpelledLabel : Version → Label NamedLine → List (List ℕ) → Type 0

@@ -1,28 +1,28 @@
 -- The parts of labels, read from left to right.
-use Rattle.std.specs.Prelude.{ℕ, Bool, ◌==◌, Option, Some, None, Result, Ok}
+use Rattle.std.specs.Prelude.{ℕ, Bool, ◌==◌, if◌then◌else◌, Option, Some, None, Result, Ok}
 use Rattle.seqno.specs.declared.word.Word.{Word}
 use Rattle.case_forms.specs.declared.calls.Host.{Host}
 use Rattle.case_forms.specs.declared.named_line.Extras.{Extras}
 use Rattle.case_forms.specs.declared.named_line.Extras.TheVariants.{Bare, One, Two}
 use Rattle.case_forms.specs.declared.version.Version.{Version}
-use Rattle.case_forms.specs.declared.version.Version.TheVariants as versions
+use Rattle.case_forms.specs.Versions.{scales}
 use Rattle.line_fields.specs.declared.fault.TextFault.{TextFault}
 use Rattle.line_fields.specs.Word.{Rest}
 use Rattle.line_fields.specs.Reading.{◌>>=◌, number_field, or_end}
 use Rattle.line_fields.specs.Hosts.{host_field}
 
 -- a host, its port, and the other host's
-unfoldable pub endpoint_field : Rest → Result ((Host × ℕ × ℕ) × Rest) TextFault
-endpoint_field r = do
-  host ← host_field r
+unfoldable pub endpoint_field : Version → Rest → Result ((Host × ℕ × ℕ) × Rest) TextFault
+endpoint_field v r = do
+  host ← host_field v r
   local ← number_field 1 65535 host.1
   remote ← number_field 1 65535 local.1
   Ok ((host.0, local.0, remote.0), remote.1)
 
 -- a host, and the line by which a segment came to its inbox
-unfoldable pub entry_field : Rest → Result ((Host × ℕ) × Rest) TextFault
-entry_field r = do
-  host ← host_field r
+unfoldable pub entry_field : Version → Rest → Result ((Host × ℕ) × Rest) TextFault
+entry_field v r = do
+  host ← host_field v r
   line ← number_field 0 4294967295 host.1
   Ok ((host.0, line.0), line.1)
 
@@ -58,10 +58,9 @@ given_shift iss r = do
   shift ← number_field 0 14 r
   Ok ((Some iss, Some shift.0), shift.1)
 
--- the shift behind an initial send sequence number: none where nothing is left, and none in version 1
+-- the shift behind an initial send sequence number: none where nothing is left, and none where windows are not scaled
 abbrev pub shift_field : Version → Word → Rest → Result (Start × Rest) TextFault
-shift_field versions.One iss r = Ok ((Some iss, None), r)
-shift_field versions.Two iss r = or_end (Some iss, None) (given_shift iss) r.words r
+shift_field v iss r = if scales v then or_end (Some iss, None) (given_shift iss) r.words r else Ok ((Some iss, None), r)
 
 -- an initial send sequence number that is given, and the shift
 abbrev pub given_start : Version → Rest → Result (Start × Rest) TextFault

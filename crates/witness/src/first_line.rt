@@ -14,6 +14,7 @@ pub(crate) fn first_text(version: Version) -> &'static str
     match version {
         Version::One => "witness 1",
         Version::Two => "witness 2",
+        Version::Three => "witness 3",
     }
 }
 

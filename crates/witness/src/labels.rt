@@ -92,7 +92,7 @@ fn effect_label(alloc: Global, fields: &mut Fields) -> Result<Label<NamedLine>, 
 fn segment_label(version: Version, fields: &mut Fields) -> Result<Label<NamedLine>, TextFault>
     ensures { Gives (λ label. (label, fields.new)) result (segment_label version fields.old) }
 {
-    let (host, lport, rport) = endpoint(fields)?;
+    let (host, lport, rport) = endpoint(version, fields)?;
     let pos = fields.number(0, MAX_POSITION)?;
     let len = fields.number(0, MAX_LEN)? as u16;
     let flags = flags(fields)?;
@@ -113,10 +113,10 @@ fn segment_label(version: Version, fields: &mut Fields) -> Result<Label<NamedLin
 
 // An inbox entry, and what its taking leaves: the congestion window, and whether data are kept and the time is sampled.
 #[tactic(auto, unfolding(crate::specs::LabelFields::taking_label))]
-fn taking_label(fields: &mut Fields) -> Result<Label<NamedLine>, TextFault>
-    ensures { Gives (λ label. (label, fields.new)) result (taking_label fields.old) }
+fn taking_label(version: Version, fields: &mut Fields) -> Result<Label<NamedLine>, TextFault>
+    ensures { Gives (λ label. (label, fields.new)) result (taking_label version fields.old) }
 {
-    let (host, line) = entry(fields)?;
+    let (host, line) = entry(version, fields)?;
     let cwnd = fields.number32()?;
     let keep = bit(fields)?;
     let sample = bit(fields)?;
@@ -126,10 +126,10 @@ fn taking_label(fields: &mut Fields) -> Result<Label<NamedLine>, TextFault>
 
 // An endpoint, its congestion window and its slow start threshold.
 #[tactic(auto, unfolding(crate::specs::LabelFields::recovery_label))]
-fn recovery_label(fields: &mut Fields) -> Result<Label<NamedLine>, TextFault>
-    ensures { Gives (λ label. (label, fields.new)) result (recovery_label fields.old) }
+fn recovery_label(version: Version, fields: &mut Fields) -> Result<Label<NamedLine>, TextFault>
+    ensures { Gives (λ label. (label, fields.new)) result (recovery_label version fields.old) }
 {
-    let (host, lport, rport) = endpoint(fields)?;
+    let (host, lport, rport) = endpoint(version, fields)?;
     let cwnd = fields.number32()?;
     let ssthresh = fields.number32()?;
     let recovery = Recovery {
@@ -154,15 +154,15 @@ pub(crate) fn label(
         LabelWord::Line => line_label(fields),
         LabelWord::Effect => effect_label(alloc, fields),
         LabelWord::Making => segment_label(version, fields),
-        LabelWord::Taking => taking_label(fields),
+        LabelWord::Taking => taking_label(version, fields),
         LabelWord::Dropping => {
-            let (host, line) = entry(fields)?;
+            let (host, line) = entry(version, fields)?;
             Ok(Label::K { host, line })
         }
         LabelWord::Refusing => {
-            let (host, line) = entry(fields)?;
+            let (host, line) = entry(version, fields)?;
             Ok(Label::R { host, line })
         }
-        LabelWord::Recovery => recovery_label(fields),
+        LabelWord::Recovery => recovery_label(version, fields),
     }
 }

@@ -13,10 +13,10 @@ const MAX_SHIFT: u64 = 14;
 
 // A host, and the ports of one of its endpoints: the local one and the remote one.
 #[tactic(auto, unfolding(crate::specs::Parts::endpoint_field))]
-pub(crate) fn endpoint(fields: &mut Fields) -> Result<(Host, u16, u16), TextFault>
-    ensures { Gives (λ endpoint. (endpoint, fields.new)) result (endpoint_field fields.old) }
+pub(crate) fn endpoint(version: Version, fields: &mut Fields) -> Result<(Host, u16, u16), TextFault>
+    ensures { Gives (λ endpoint. (endpoint, fields.new)) result (endpoint_field version fields.old) }
 {
-    let host = fields.host()?;
+    let host = fields.host(version)?;
     let local = fields.port()?;
     let remote = fields.port()?;
     Ok((host, local, remote))
@@ -24,10 +24,10 @@ pub(crate) fn endpoint(fields: &mut Fields) -> Result<(Host, u16, u16), TextFaul
 
 // A host, and the number of the line by which a segment came to its inbox.
 #[tactic(auto, unfolding(crate::specs::Parts::entry_field))]
-pub(crate) fn entry(fields: &mut Fields) -> Result<(Host, u64), TextFault>
-    ensures { Gives (λ entry. (entry, fields.new)) result (entry_field fields.old) }
+pub(crate) fn entry(version: Version, fields: &mut Fields) -> Result<(Host, u64), TextFault>
+    ensures { Gives (λ entry. (entry, fields.new)) result (entry_field version fields.old) }
 {
-    let host = fields.host()?;
+    let host = fields.host(version)?;
     let line = u64::from(fields.number32()?);
     Ok((host, line))
 }
@@ -56,8 +56,8 @@ pub(crate) fn extras(fields: &mut Fields) -> Result<Extras, TextFault>
     Ok(Extras::Two(first, second))
 }
 
-// The initial send sequence number behind a segment's window, where there is a further field, and in version 2 the shift,
-// where there is one more. These fields are always numbers.
+// The initial send sequence number behind a segment's window, where there is a further field, and where windows may be scaled
+// the shift, where there is one more. These fields are always numbers.
 #[tactic(auto, unfolding(crate::specs::Parts::start_field))]
 pub(crate) fn start(
     version: Version,
@@ -69,7 +69,7 @@ pub(crate) fn start(
         return Ok((None, None));
     }
     let iss = Word(fields.number32()?);
-    if matches!(version, Version::One) || fields.is_empty() {
+    if !version.scales() || fields.is_empty() {
         return Ok((Some(iss), None));
     }
     let shift = fields.number(0, MAX_SHIFT)? as u8;

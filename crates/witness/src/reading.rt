@@ -66,6 +66,7 @@ fn version_named(text: &[u8]) -> Version
 {
     match text.lines_with_terminator().next() {
         Some(raw) if begins_witness(Version::Two, raw) => Version::Two,
+        Some(raw) if begins_witness(Version::Three, raw) => Version::Three,
         _ => Version::One,
     }
 }

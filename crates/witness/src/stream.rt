@@ -153,7 +153,8 @@ impl<B: BufRead> StepReader<B> {
     fn read_line(&mut self, number: u64) -> Result<Option<Step>, ReadFault>
         requires { number_read self.old ≡ Some number }
         ensures next { IfOk result (Yields (steps_left B.remaining self.old) (steps_left B.remaining self.new)) }
-        ensures place { IfOk result (λ item. IfSome item (λ step. StandsAt (version_of self.old) number step × (number_read self.new ≡ Some (number_after number step)))) }
+        ensures place { IfOk result (λ item. IfSome item (λ step. StandsAt (version_of self.old) number step ×
+            (number_read self.new ≡ Some (number_after number step)))) }
         ensures fault { (e : TextFault) → result ≡ Err (ReadFault.Text e) → FailsLeft e (steps_left B.remaining self.old) }
         ensures open { fault_of self.new ≡ fault_of self.old }
         ensures version { version_of self.new ≡ version_of self.old }

@@ -41,7 +41,7 @@ pub fn child(alloc: Global, listener: u32, how: TakeChoice, m: &Emission, moment
     child.window.wnd = u32::from(m.window);
     child.window.wl1 = m.pos;
     child.congestion.cwnd = how.cwnd;
-    child.congestion.smss = told_smss(m);
+    child.congestion.smss = told_smss(m.mss);
     child.timers = persist_taken(child.timers, m.window, moment);
     child
 }

@@ -28,24 +28,24 @@ use crate::arrives::otherwise::sequence::{is_acceptable, is_bad_number};
 use crate::arrives::otherwise::text::receive;
 use crate::arrives::otherwise::timers::{state_timers, timers_before};
 use crate::arrives::otherwise::window::{is_unread, probe_due_taken, window_taken};
-use case_forms::{Header, Initial, TakeChoice};
-use machine::{Emission, Endpoint, Name};
+use case_forms::{Header, TakeChoice};
+use machine::{Arrived, Endpoint, Name};
 use segment::OutOfMemory;
 use verdict::Rule;
 
 /// Whether an endpoint in any other state but CLOSED may take the segment (RFC 9293, 3.10.7.4). `full`: it is a child
 /// that would join a full queue. An error is the first rule that is broken.
 pub fn admits_connected(
-    initial: Initial,
+    header: &Header,
     full: bool,
     me: Name,
     endpoint: &Endpoint,
     how: TakeChoice,
-    m: &Emission,
+    m: &Arrived<'_>,
 ) -> Result<(), Rule>
-    ensures { result_err result ≡ first_broken (rules_with_queue initial full me endpoint.now how m.now) }
+    ensures { result_err result ≡ first_broken (rules_with_queue header.now full me endpoint.now how m.now) }
 {
-    if !is_from_peer(me, endpoint, m) {
+    if !header.version.is_half() && !is_from_peer(me, endpoint, m) {
         return Err(Rule::NotPeer);
     }
     if is_bad_number(endpoint, m) {
@@ -60,7 +60,7 @@ pub fn admits_connected(
     if full {
         return Err(Rule::QueueFull);
     }
-    if greatest_window(initial, endpoint, m) < how.cwnd as u64 {
+    if greatest_window(header.initial, endpoint, m) < how.cwnd as u64 {
         return Err(Rule::Growth);
     }
     if how.sample && !may_sample(endpoint, m) {
@@ -77,7 +77,7 @@ pub(crate) fn taken(
     header: &Header,
     endpoint: &mut Endpoint,
     how: TakeChoice,
-    m: &Emission,
+    m: &Arrived<'_>,
     moment: u64,
 ) -> Result<(), OutOfMemory>
     requires room { HasRoom endpoint.old }

@@ -19,7 +19,7 @@ use crate::arrives::otherwise::timers::{rto_taken, timeout_taken};
 use crate::arrives::otherwise::window::{is_unread, persist_taken};
 use crate::same::same_word;
 use case_forms::{Header, Initial, State, TakeChoice};
-use machine::{Emission, Endpoint, Window};
+use machine::{Arrived, Endpoint, Window};
 use seqno::number;
 use timer_rules::Timers;
 use verdict::Rule;
@@ -31,14 +31,14 @@ pub fn admits_syn_sent(
     initial: Initial,
     endpoint: &Endpoint,
     how: TakeChoice,
-    m: &Emission,
+    m: &Arrived<'_>,
 ) -> Result<(), Rule>
     ensures { result_err result ≡ first_broken (syn_sent_rules initial endpoint.now how m.now) }
 {
-    if !(m.flags.syn || m.flags.rst) {
+    if !(m.flags().syn || m.flags().rst) {
         return Err(Rule::State);
     }
-    if (m.flags.ack || m.flags.rst) && !answers_syn(endpoint, m) {
+    if (m.flags().ack || m.flags().rst) && !answers_syn(endpoint, m) {
         return Err(Rule::AckRange);
     }
     if greatest_at_syn(initial, endpoint, m) < how.cwnd as u64 {
@@ -54,37 +54,38 @@ pub fn admits_syn_sent(
 }
 
 /// Whether it acknowledges, in SYN-SENT, the endpoint's SYN, which is all that was made.
-pub(crate) fn answers_syn(endpoint: &Endpoint, m: &Emission) -> bool
+pub(crate) fn answers_syn(endpoint: &Endpoint, m: &Arrived<'_>) -> bool
     ensures { result ≡ answers_syn endpoint.now m.now }
 {
-    m.flags.ack && endpoint.max_made() == 1 && has_syn_number(endpoint, m)
+    m.flags().ack && endpoint.max_made() == 1 && has_syn_number(endpoint, m)
 }
 
-pub(crate) fn has_syn_number(endpoint: &Endpoint, m: &Emission) -> bool
+pub(crate) fn has_syn_number(endpoint: &Endpoint, m: &Arrived<'_>) -> bool
     ensures { result ≡ option_map_or (λ iss. same_word m.now.ack_seq (number_of iss 1)) endpoint.now.iss false }
 {
     match endpoint.iss {
-        Some(iss) => same_word(m.ack_seq, number(iss, 1)),
+        Some(iss) => same_word(m.ack_seq(), number(iss, 1)),
         None => false,
     }
 }
 
 /// The segment size that a SYN tells of, 536 where it tells of none or of 0 (RFC 9293, 3.7.1).
-pub(crate) fn told_smss(m: &Emission) -> u32
-    ensures { result ≡ told_smss m.now }
+pub(crate) fn told_smss(told: Option<u16>) -> u32
+    ensures { result ≡ told_smss told }
 {
-    match m.mss {
+    match told {
         Some(mss) => { if mss == 0 { 536 } else { mss as u32 } }
         None => 536,
     }
 }
 
-/// The greatest in SYN-SENT, with the segment size that the SYN brings.
-pub(crate) fn greatest_at_syn(initial: Initial, endpoint: &Endpoint, m: &Emission) -> u64
+/// The greatest congestion window in bytes that an endpoint in SYN-SENT may have once it took the segment, with the segment
+/// size that the SYN brings.
+pub fn greatest_at_syn(initial: Initial, endpoint: &Endpoint, m: &Arrived<'_>) -> u64
     ensures { result ≡ greatest_at_syn initial endpoint.now m.now }
 {
-    if m.flags.syn && !m.flags.rst && m.flags.ack {
-        first_window(initial, told_smss(m), endpoint.syn_lost)
+    if m.flags().syn && !m.flags().rst && m.flags().ack {
+        first_window(initial, told_smss(m.mss()), endpoint.syn_lost)
     } else {
         endpoint.congestion.cwnd as u64
     }
@@ -92,7 +93,7 @@ pub(crate) fn greatest_at_syn(initial: Initial, endpoint: &Endpoint, m: &Emissio
 
 /// Whether the segment acknowledges the own SYN of a child in SYN-RECEIVED, so that the child joins its listener's
 /// queue.
-pub fn joins(endpoint: &Endpoint, m: &Emission) -> bool
+pub fn joins(endpoint: &Endpoint, m: &Arrived<'_>) -> bool
     ensures { result ≡ is_syn_received endpoint.now.state && acknowledges_syn endpoint.now m.now }
 {
     endpoint.state.is_syn_received() && acknowledges_syn(endpoint, m)
@@ -103,7 +104,7 @@ pub(crate) fn met_peer(
     header: &Header,
     endpoint: &mut Endpoint,
     how: TakeChoice,
-    m: &Emission,
+    m: &Arrived<'_>,
     moment: u64,
 )
     requires { endpoint.old.stream.receive ≡ received.empty }
@@ -112,12 +113,12 @@ pub(crate) fn met_peer(
     let una = una_met(endpoint, m);
     let congestion = congestion_met(endpoint, how, m);
     let window = window_met(endpoint, m);
-    let backs = if m.flags.ack { 0 } else { endpoint.backs };
+    let backs = if m.flags().ack { 0 } else { endpoint.backs };
     endpoint.timers = timers_met(header, endpoint, how, m, moment, una);
     endpoint.state = state_met(m);
-    endpoint.irs = Some(m.seq);
-    endpoint.peer_shift = m.scale;
-    endpoint.stream.peer = Some(m.maker);
+    endpoint.irs = Some(m.seq());
+    endpoint.peer_shift = m.scale();
+    endpoint.stream.peer = Some(m.maker());
     endpoint.stream.receive.meet();
     endpoint.stream.una = una;
     endpoint.window = window;
@@ -128,44 +129,44 @@ pub(crate) fn met_peer(
     endpoint.makings.forget_below(una);
 }
 
-pub(crate) fn state_met(m: &Emission) -> State
+pub(crate) fn state_met(m: &Arrived<'_>) -> State
     ensures { result ≡ (if m.now.flags.ack then states.Established else states.SynReceived) }
 {
-    if m.flags.ack {
+    if m.flags().ack {
         State::Established
     } else {
         State::SynReceived
     }
 }
 
-pub(crate) fn una_met(endpoint: &Endpoint, m: &Emission) -> u64
+pub(crate) fn una_met(endpoint: &Endpoint, m: &Arrived<'_>) -> u64
     ensures { result ≡ una_met endpoint.now m.now }
 {
     let una = endpoint.stream.una;
-    if m.flags.ack { una.max(1) } else { una }
+    if m.flags().ack { una.max(1) } else { una }
 }
 
-pub(crate) fn window_met(endpoint: &Endpoint, m: &Emission) -> Window
+pub(crate) fn window_met(endpoint: &Endpoint, m: &Arrived<'_>) -> Window
     ensures { result ≡ record endpoint.now.window { wnd = m.now.window; wl1 = m.now.pos; wl2 = if m.now.flags.ack then 1 else 0 } }
 {
     let mut window = endpoint.window;
-    window.wnd = u32::from(m.window);
-    window.wl1 = m.pos;
-    window.wl2 = if m.flags.ack { 1 } else { 0 };
+    window.wnd = u32::from(m.window());
+    window.wl1 = m.pos();
+    window.wl2 = if m.flags().ack { 1 } else { 0 };
     window
 }
 
-pub(crate) fn congestion_met(endpoint: &Endpoint, how: TakeChoice, m: &Emission) -> Congestion
+pub(crate) fn congestion_met(endpoint: &Endpoint, how: TakeChoice, m: &Arrived<'_>) -> Congestion
     ensures { result ≡ record endpoint.now.congestion {
       cwnd = how.cwnd;
-      smss = told_smss m.now;
+      smss = told_smss m.now.mss;
       dup = if m.now.flags.ack then 0 else endpoint.now.congestion.dup;
     } }
 {
     let mut congestion = endpoint.congestion;
     congestion.cwnd = how.cwnd;
-    congestion.smss = told_smss(m);
-    congestion.dup = if m.flags.ack { 0 } else { congestion.dup };
+    congestion.smss = told_smss(m.mss());
+    congestion.dup = if m.flags().ack { 0 } else { congestion.dup };
     congestion
 }
 
@@ -175,15 +176,15 @@ pub(crate) fn timers_met(
     header: &Header,
     endpoint: &Endpoint,
     how: TakeChoice,
-    m: &Emission,
+    m: &Arrived<'_>,
     moment: u64,
     una: u64,
 ) -> Timers
     requires { una ≡ una_met endpoint.now m.now }
     ensures { result ≡ timers_met header.now endpoint.now how m.now moment }
 {
-    let sample = how.sample && m.flags.ack && endpoint.stream.una == 0;
-    let measured = timeout_taken(header, endpoint, sample, 1, m.flags.ack, moment);
+    let sample = how.sample && m.flags().ack && endpoint.stream.una == 0;
+    let measured = timeout_taken(header, endpoint, sample, 1, m.flags().ack, moment);
     let running = rto_taken(measured, una == endpoint.max_made(), false, moment);
-    persist_taken(running, m.window, moment)
+    persist_taken(running, m.window(), moment)
 }

@@ -16,13 +16,14 @@ ghost use Rattle.streams.specs.Lists.{modify};
 ghost use Rattle.endpoint_state.specs.declared.body.arrives.Found.TheVariants as found;
 ghost use Rattle.endpoint_state.specs.Changes.{changed};
 ghost use Rattle.endpoint_state.specs.Faults.{fault_rule};
-ghost use Rattle.endpoint_state.specs.Takers.{IsOpen, joins_at, taker_found};
+ghost use Rattle.endpoint_state.specs.Kept.{AreReadable};
+ghost use Rattle.endpoint_state.specs.Takers.{IsOpen, joins_by, taker_found};
 
 use crate::body::Body;
 use crate::fault::StepFault;
 use case_forms::{Header, Host, TakeChoice};
 use endpoint::joins;
-use machine::{Emission, Endpoint, Name};
+use machine::{Arrived, Emission, Endpoint, Name};
 use segment::OutOfMemory;
 use seqno::number;
 use std::alloc::Global;
@@ -84,6 +85,7 @@ impl Body {
         how: TakeChoice,
         m: &Emission,
     ) -> Result<Found, Rule>
+        requires { AreReadable self.now.endpoints }
         ensures rule { result_err result ≡ first_broken (taker_rules header.now host self.now how m.now (taker self.now m.now)) }
         ensures taker { IfOk result (λ found. taker_found self.now (Some found) ≡ taker self.now m.now) }
         ensures open { IfOk result (IsOpen self.now) }
@@ -103,6 +105,7 @@ impl Body {
         how: TakeChoice,
         m: &Emission,
     ) -> Result<(), Rule>
+        requires { AreReadable self.now.endpoints }
         ensures { result_err result ≡ first_broken (taker_rules header.now host self.now how m.now (taker_found self.now (Some found))) }
     {
         match found {
@@ -111,6 +114,8 @@ impl Body {
         }
     }
 
+    // The endpoint at a place reads the segment, and may take it.
+    #[tactic(auto, using(crate::proofs::Readable::una_at))]
     fn admits_taking_at(
         &self,
         header: &Header,
@@ -119,27 +124,29 @@ impl Body {
         how: TakeChoice,
         m: &Emission,
     ) -> Result<(), Rule>
+        requires { AreReadable self.now.endpoints }
         ensures { result_err result ≡ first_broken (taker_rules header.now host self.now how m.now (taker_found self.now (Some (found.Endpoint place)))) }
     {
         let Some(endpoint) = self.endpoint_at(place) else {
             return Err(Rule::NoEndpoint);
         };
+        let m = Arrived::read(header.version, endpoint, m);
         if endpoint.state.is_syn_sent() {
-            return endpoint::admits_syn_sent(header.initial, endpoint, how, m);
+            return endpoint::admits_syn_sent(header.initial, endpoint, how, &m);
         }
-        let full = self.joins_full_queue(header, endpoint, m);
+        let full = self.joins_full_queue(header, endpoint, &m);
         let me = Name {
             host,
             number: place,
         };
-        endpoint::admits_connected(header.initial, full, me, endpoint, how, m)
+        endpoint::admits_connected(header, full, me, endpoint, how, &m)
     }
 
     // The endpoint is a child that would join a full queue.
-    fn joins_full_queue(&self, header: &Header, endpoint: &Endpoint, m: &Emission) -> bool
+    fn joins_full_queue(&self, header: &Header, endpoint: &Endpoint, m: &Arrived<'_>) -> bool
         ensures { result ≡ joins_full_queue header.now self.now endpoint.now m.now }
     {
-        if !endpoint.state.is_syn_received() || m.flags.rst {
+        if !endpoint.state.is_syn_received() || m.flags().rst {
             return false;
         }
         match endpoint.listener {
@@ -161,7 +168,7 @@ impl Body {
 
     /// This host takes a segment that came in, at a moment in microseconds (RFC 9293, 3.10.7). An error is the first rule that
     /// is broken, or that memory ran out; nothing is changed then.
-    #[tactic(auto, using(crate::proofs::BodyLemmas::body_same))]
+    #[tactic(auto, using(crate::proofs::BodyLemmas::body_same, crate::proofs::Readable::room_reads))]
     pub(crate) fn take(
         &mut self,
         alloc: Global,
@@ -219,9 +226,13 @@ impl Body {
             ≡ forget_body (after_taking header.now self.old how m.now moment (taker_found self.old (Some (found.Endpoint place))))) }
         ensures err { OnErr result (self.new ≡ self.old) }
     {
-        match self.joins_at(m, place) {
-            Some(listener) => self.take_and_join(header, place, listener, how, m, moment),
-            None => self.endpoints.take(header, place, how, m, moment),
+        let Some(endpoint) = self.endpoint_at(place) else {
+            unreachable!()
+        };
+        let m = Arrived::read(header.version, endpoint, m);
+        match joins_by(endpoint, &m) {
+            Some(listener) => self.take_and_join(header, place, listener, how, &m, moment),
+            None => self.endpoints.take(header, place, how, &m, moment),
         }
     }
 
@@ -232,7 +243,7 @@ impl Body {
         place: u32,
         listener: u32,
         how: TakeChoice,
-        m: &Emission,
+        m: &Arrived<'_>,
         moment: u64,
     ) -> Result<(), OutOfMemory>
         requires kept { All HasRoom self.old.endpoints }
@@ -253,22 +264,6 @@ impl Body {
                 self.listeners.leave_last(listener);
                 Err(error)
             }
-        }
-    }
-
-    // The listener whose queue the endpoint at a place joins.
-    fn joins_at(&self, m: &Emission, place: u32) -> Option<u32>
-        ensures { result ≡ joins_at self.now m.now place }
-    {
-        match self.endpoint_at(place) {
-            Some(endpoint) => {
-                if joins(endpoint, m) {
-                    endpoint.listener
-                } else {
-                    None
-                }
-            }
-            None => None,
         }
     }
 
@@ -299,6 +294,17 @@ impl Body {
             Some(endpoint) => is_stray_ack(endpoint, m),
             None => true,
         }
+    }
+}
+
+// The listener whose queue an endpoint joins by a segment.
+fn joins_by(endpoint: &Endpoint, m: &Arrived<'_>) -> Option<u32>
+    ensures { result ≡ joins_by endpoint.now m.now }
+{
+    if joins(endpoint, m) {
+        endpoint.listener
+    } else {
+        None
     }
 }
 

@@ -20,10 +20,10 @@ ghost use Rattle.endpoint_state.specs.Waiting.{AreWaiting};
 use crate::body::Body;
 use case_forms::{Answer, Call, State};
 use endpoint::{endpoint_allows, listener_allows};
-use indexmap::IndexMap;
 use machine::{Endpoint, Listener, Queue, Socket, Thing};
 use segment::OutOfMemory;
 use std::alloc::Global;
+use tables::Table;
 
 impl Body {
     /// Whether a call may have this answer (RFC 9293, 3.9.1 and 3.10).
@@ -92,7 +92,7 @@ impl Body {
             is_open: true,
             queue: Queue::new(alloc),
         };
-        self.sockets.reserve(1)?;
+        self.sockets.reserve(number)?;
         self.listeners.add(listener)?;
         self.sockets.insert(number, live(Thing::Listens(place)))?;
         Ok(())
@@ -114,7 +114,7 @@ impl Body {
     {
         let place = self.endpoints.len() as u32;
         let endpoint = Endpoint::new(alloc, lport, rport, None, State::SynSent);
-        self.sockets.reserve(1)?;
+        self.sockets.reserve(number)?;
         self.endpoints.add(alloc, endpoint)?;
         self.sockets.insert(number, live(Thing::Ends(place)))?;
         Ok(())
@@ -337,10 +337,10 @@ fn live(thing: Thing) -> Socket
 }
 
 // A socket number is no longer live.
-fn retire(sockets: &mut IndexMap<u32, Socket>, number: u32)
+fn retire(sockets: &mut Table<Socket>, number: u32)
     ensures { sockets.new.entries ≡ dead sockets.old.entries number }
 {
-    if let Some(socket) = sockets.get(&number).copied() {
+    if let Some(socket) = sockets.get(number).copied() {
         let ended = Socket {
             live: false,
             ..socket

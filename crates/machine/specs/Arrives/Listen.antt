@@ -23,6 +23,6 @@ child l how m moment =
       peer_shift = m.scale;
       stream = record fresh.stream { peer = Some m.maker; receive = met };
       window = record fresh.window { wnd = m.window; wl1 = m.pos };
-      congestion = record fresh.congestion { cwnd = how.cwnd; smss = told_smss m };
+      congestion = record fresh.congestion { cwnd = how.cwnd; smss = told_smss m.mss };
       timers = persist_taken fresh.timers m.window moment;
     }

@@ -11,9 +11,9 @@ pub mod Timers
 use Rattle.std.specs.Prelude.{ℕ, ◌+◌, nat_le, nat_lt, Bool, false, not, ◌&&◌, if◌then◌else◌, List, [], ◌∷◌, length, slice_get, is_some}
 use Rattle.std.specs.Option.{option_map_or}
 use Rattle.case_forms.specs.States.{is_syn_received}
+use Rattle.case_forms.specs.Versions.{is_half}
 use Rattle.case_forms.specs.declared.steps.TakeChoice.{TakeChoice}
 use Rattle.case_forms.specs.declared.trace.Header.{Header}
-use Rattle.case_forms.specs.declared.version.Initial.{Initial}
 use Rattle.verdict.specs.declared.rule.Rule.{Rule}
 use Rattle.verdict.specs.declared.rule.Rule.TheVariants as rules
 use Rattle.machine.specs.Endpoints.{Name, Endpoint, Emission, max_made}
@@ -34,14 +34,15 @@ abbrev pub joins_full_queue : Header → Body → Endpoint → Emission → Bool
 joins_full_queue h b e m = is_syn_received e.state && not m.flags.rst && option_map_or (is_queue_full h b) e.listener false
 
 -- the rules in the other states, where it is known whether the child would join a full queue
-abbrev pub rules_with_queue : Initial → (full : Bool) → Name → Endpoint → TakeChoice → Emission → List (Rule × Bool)
-rules_with_queue initial full me e how m =
-    (rules.NotPeer, not (is_from_peer me e m)) ∷ (rules.Number, is_bad_number e m) ∷ (rules.Unacceptable, not (is_acceptable e m))
+abbrev pub rules_with_queue : Header → (full : Bool) → Name → Endpoint → TakeChoice → Emission → List (Rule × Bool)
+rules_with_queue h full me e how m =
+    (rules.NotPeer, not (is_half h.version) && not (is_from_peer me e m)) ∷ (rules.Number, is_bad_number e m) ∷ (rules.Unacceptable, not (is_acceptable e m))
     ∷ (rules.AckRange, is_bad_ack_range e m) ∷ (rules.QueueFull, full)
-    ∷ (rules.Growth, nat_lt (greatest_window initial e m) how.cwnd) ∷ (rules.Sample, how.sample && not (may_sample e m)) ∷ (rules.ScaleUnread, is_unread e m) ∷ []
+    ∷ (rules.Growth, nat_lt (greatest_window h.initial e m) how.cwnd) ∷ (rules.Sample, how.sample && not (may_sample e m))
+    ∷ (rules.ScaleUnread, is_unread e m) ∷ []
 
 abbrev pub connected_rules : Header → Body → Name → Endpoint → TakeChoice → Emission → List (Rule × Bool)
-connected_rules h b me e how m = rules_with_queue h.initial (joins_full_queue h b e m) me e how m
+connected_rules h b me e how m = rules_with_queue h (joins_full_queue h b e m) me e how m
 
 -- a segment without RST is taken, in all states but SYN-SENT
 abbrev pub taken : Header → Endpoint → TakeChoice → Emission → ℕ → Endpoint

@@ -177,7 +177,7 @@ fn a_witness_is_read_up_to_a_failure(rt: HostRuntime) -> Result<(), Fail> {
 #[test]
 fn a_trace_has_at_most_ten_million_lines(rt: HostRuntime) -> Result<(), Fail> {
     for (number, is_read) in [(10_000_000, true), (10_000_001, false)] {
-        let line = event_line(rt.alloc(), 0, number, b"10 1 B status 5\n");
+        let line = event_line(rt.alloc(), Version::One, 0, number, b"10 1 B status 5\n");
         assert!(rt; line.is_ok() == is_read);
     }
     Ok(())

@@ -1,6 +1,6 @@
 //! The answer that a call has at an endpoint (RFC 9293, 3.9.1 and 3.10).
 
-ghost use Rattle.std.specs.Prelude.{◌≡◌, ◌≤◌, ℕ, nat_lt, true, length, Some, IfNone, IfOk};
+ghost use Rattle.std.specs.Prelude.{◌≡◌, ◌≤◌, ℕ, nat_lt, true, false, length, Some, IfNone, IfOk};
 ghost use Rattle.std.specs.Option.{IfSome};
 ghost use Rattle.case_forms.specs.declared.calls.Answer.TheVariants as answers;
 ghost use Rattle.machine.specs.Calls.{endpoint_allows};
@@ -10,7 +10,7 @@ ghost use Rattle.machine.specs.Calls.Receive.{recv_allows};
 ghost use Rattle.machine.specs.Calls.Send.{send_allows, sends_some};
 ghost use Rattle.machine.specs.Machine.{gives};
 ghost use Rattle.streams.specs.Received.{waiting};
-ghost use Rattle.stack_core.specs.Answers.{IfSendWaits, IsOnSocket, SendWaits, unacknowledged};
+ghost use Rattle.stack_core.specs.Answers.{IfSendWaits, IsOnSocket, SendWaits, is_again, unacknowledged};
 ghost use Rattle.stack_core.specs.Cores.{IsCallWithin};
 
 use case_forms::{Answer, Call, OutOfMemory, State};
@@ -29,6 +29,7 @@ pub(crate) fn at_endpoint(
     requires within { IsCallWithin call.now }
     requires socket { IsOnSocket call.now }
     ensures some { IfOk result (λ o. IfSome o (λ a. endpoint_allows endpoint.now call.now a ≡ true)) }
+    ensures once { IfOk result (λ o. IfSome o (λ a. is_again a ≡ false)) }
     ensures gives { IfOk result (λ o. IfSome o (λ a. (n : ℕ) → gives call.now a ≡ Some n → ⊥)) }
     ensures none { IfOk result (λ o. IfNone o ((endpoint_allows endpoint.now call.now answers.Again ≡ true) × IfSendWaits ring endpoint.now call.now)) }
 {
@@ -46,7 +47,8 @@ pub(crate) fn at_endpoint(
 
 // How the endpoint failed.
 fn told(fault: Fault) -> Answer
-    ensures { tells fault result ≡ true }
+    ensures tells { tells fault result ≡ true }
+    ensures once { is_again result ≡ false }
 {
     match fault {
         Fault::Refused => Answer::Refused,
@@ -57,6 +59,7 @@ fn told(fault: Fault) -> Answer
 
 fn await_answer(endpoint: &Endpoint) -> Option<Answer>
     ensures some { IfSome result (λ a. await_allows endpoint.now a ≡ true) }
+    ensures once { IfSome result (λ a. is_again a ≡ false) }
     ensures none { IfNone result (await_allows endpoint.now answers.Again ≡ true) }
 {
     match endpoint.fault {
@@ -72,7 +75,8 @@ fn await_answer(endpoint: &Endpoint) -> Option<Answer>
 }
 
 fn shut_answer(endpoint: &Endpoint) -> Answer
-    ensures { shut_allows endpoint.now result ≡ true }
+    ensures allowed { shut_allows endpoint.now result ≡ true }
+    ensures once { is_again result ≡ false }
 {
     match endpoint.fault {
         Some(fault) => told(fault),
@@ -89,6 +93,7 @@ fn shut_answer(endpoint: &Endpoint) -> Answer
 fn send_answer(endpoint: &Endpoint, bytes: &Bytes, ring: u16) -> Option<Answer>
     requires some { 1 ≤ length bytes.now }
     ensures some { IfSome result (λ a. send_allows endpoint.now bytes.now a ≡ true) }
+    ensures once { IfSome result (λ a. is_again a ≡ false) }
     ensures none { IfNone result ((send_allows endpoint.now bytes.now answers.Again ≡ true) × SendWaits ring endpoint.now) }
 {
     match endpoint.fault {
@@ -110,6 +115,7 @@ fn send_answer(endpoint: &Endpoint, bytes: &Bytes, ring: u16) -> Option<Answer>
 fn accepted(endpoint: &Endpoint, bytes: &Bytes, ring: u16) -> Option<Answer>
     requires some { 1 ≤ length bytes.now }
     ensures some { IfSome result (λ a. sends_some bytes.now a ≡ true) }
+    ensures once { IfSome result (λ a. is_again a ≡ false) }
     ensures none { IfNone result (ring ≤ unacknowledged endpoint.now) }
 {
     let waiting = unacknowledged(endpoint);
@@ -133,6 +139,7 @@ fn unacknowledged(endpoint: &Endpoint) -> u64
 fn recv_answer(alloc: Global, endpoint: &Endpoint, most: u16) -> Result<Option<Answer>, OutOfMemory>
     requires most { 1 ≤ most }
     ensures some { IfOk result (λ o. IfSome o (λ a. recv_allows endpoint.now most a ≡ true)) }
+    ensures once { IfOk result (λ o. IfSome o (λ a. is_again a ≡ false)) }
     ensures none { IfOk result (λ o. IfNone o (recv_allows endpoint.now most answers.Again ≡ true)) }
 {
     if endpoint.stream.receive.has_waiting() {
@@ -152,7 +159,8 @@ fn recv_answer(alloc: Global, endpoint: &Endpoint, most: u16) -> Result<Option<A
 fn read_answer(alloc: Global, endpoint: &Endpoint, most: u16) -> Result<Answer, OutOfMemory>
     requires most { 1 ≤ most }
     requires waiting { nat_lt 0 (length (waiting endpoint.now.stream.receive)) ≡ true }
-    ensures { IfOk result (λ a. recv_allows endpoint.now most a ≡ true) }
+    ensures allowed { IfOk result (λ a. recv_allows endpoint.now most a ≡ true) }
+    ensures once { IfOk result (λ a. is_again a ≡ false) }
 {
     let bytes = endpoint.stream.receive.read(alloc, most as usize)?;
     Ok(Answer::Bytes(Bytes::from_slice(alloc, bytes.as_slice())?))

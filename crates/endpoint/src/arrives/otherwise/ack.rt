@@ -10,75 +10,75 @@ ghost use Rattle.streams.specs.Makings.{made_again};
 
 use crate::arrives::otherwise::window::takes_window;
 use case_forms::{State, TakeChoice};
-use machine::{Emission, Endpoint};
+use machine::{Arrived, Endpoint};
 
 /// Whether the segment acknowledges nothing, or what was not made. In SYN-RECEIVED it has to acknowledge the SYN.
-pub(crate) fn is_bad_ack_range(endpoint: &Endpoint, m: &Emission) -> bool
+pub(crate) fn is_bad_ack_range(endpoint: &Endpoint, m: &Arrived<'_>) -> bool
     ensures { result ≡ is_bad_ack_range endpoint.now m.now }
 {
-    !m.flags.rst
-        && (!m.flags.ack
-            || endpoint.max_made() < m.ack
-            || (endpoint.state.is_syn_received() && m.ack <= endpoint.stream.una))
+    !m.flags().rst
+        && (!m.flags().ack
+            || endpoint.max_made() < m.ack()
+            || (endpoint.state.is_syn_received() && m.ack() <= endpoint.stream.una))
 }
 
 /// Whether the segment acknowledges what was not acknowledged before.
-pub(crate) fn is_new_ack(endpoint: &Endpoint, m: &Emission) -> bool
+pub(crate) fn is_new_ack(endpoint: &Endpoint, m: &Arrived<'_>) -> bool
     ensures { result ≡ is_new_ack endpoint.now m.now }
 {
-    m.flags.ack && !m.flags.rst && endpoint.stream.una < m.ack
+    m.flags().ack && !m.flags().rst && endpoint.stream.una < m.ack()
 }
 
 /// Whether it acknowledges the endpoint's own SYN for the first time.
-pub(crate) fn acknowledges_syn(endpoint: &Endpoint, m: &Emission) -> bool
+pub(crate) fn acknowledges_syn(endpoint: &Endpoint, m: &Arrived<'_>) -> bool
     ensures { result ≡ acknowledges_syn endpoint.now m.now }
 {
     is_new_ack(endpoint, m) && endpoint.stream.una == 0
 }
 
 /// How many positions it acknowledges for the first time: 0 where it acknowledges none.
-pub(crate) fn acked(endpoint: &Endpoint, m: &Emission) -> u64
+pub(crate) fn acked(endpoint: &Endpoint, m: &Arrived<'_>) -> u64
     ensures { result ≡ acked endpoint.now m.now }
 {
-    m.ack.saturating_sub(endpoint.stream.una)
+    m.ack().saturating_sub(endpoint.stream.una)
 }
 
 /// Whether it is a duplicate acknowledgment: something is not acknowledged, and the segment takes no position and
 /// tells of nothing new.
-pub(crate) fn is_duplicate(endpoint: &Endpoint, m: &Emission) -> bool
+pub(crate) fn is_duplicate(endpoint: &Endpoint, m: &Arrived<'_>) -> bool
     ensures { result ≡ is_duplicate endpoint.now m.now }
 {
     endpoint.stream.una < endpoint.max_made()
         && m.length() == 0
-        && !m.flags.rst
-        && m.ack == endpoint.stream.una
+        && !m.flags().rst
+        && m.ack() == endpoint.stream.una
         && endpoint.peer_window(m) == endpoint.window.wnd
 }
 
 /// Whether a round trip may be measured by it: it acknowledges what was not acknowledged before, and all of that was
 /// made once (RFC 6298, 3).
-pub(crate) fn may_sample(endpoint: &Endpoint, m: &Emission) -> bool
+pub(crate) fn may_sample(endpoint: &Endpoint, m: &Arrived<'_>) -> bool
     ensures { result ≡ may_sample endpoint.now m.now }
 {
-    is_new_ack(endpoint, m) && !endpoint.makings.is_made_again(endpoint.stream.una, m.ack)
+    is_new_ack(endpoint, m) && !endpoint.makings.is_made_again(endpoint.stream.una, m.ack())
 }
 
 // In SYN-SENT the SYN is measured by its acknowledgment alone.
-pub(crate) fn is_no_sample(endpoint: &Endpoint, m: &Emission) -> bool
+pub(crate) fn is_no_sample(endpoint: &Endpoint, m: &Arrived<'_>) -> bool
     ensures { result ≡ (m.now.flags.rst || not m.now.flags.ack || made_again endpoint.now.makings endpoint.now.stream.una 1) }
 {
-    m.flags.rst || !m.flags.ack || endpoint.makings.is_made_again(endpoint.stream.una, 1)
+    m.flags().rst || !m.flags().ack || endpoint.makings.is_made_again(endpoint.stream.una, 1)
 }
 
 /// The oldest position that is not acknowledged, then.
-pub(crate) fn una_after(endpoint: &Endpoint, m: &Emission) -> u64
+pub(crate) fn una_after(endpoint: &Endpoint, m: &Arrived<'_>) -> u64
     ensures { result ≡ una_after endpoint.now m.now }
 {
-    endpoint.stream.una.max(m.ack)
+    endpoint.stream.una.max(m.ack())
 }
 
 /// The state once the acknowledgment is looked at, and not yet a FIN (RFC 9293, 3.10.7.4, fifth).
-pub(crate) fn acknowledged(endpoint: &Endpoint, m: &Emission) -> State
+pub(crate) fn acknowledged(endpoint: &Endpoint, m: &Arrived<'_>) -> State
     ensures { result ≡ acknowledged endpoint.now.state endpoint.now m.now }
 {
     match endpoint.state {
@@ -114,7 +114,7 @@ pub(crate) fn acknowledged(endpoint: &Endpoint, m: &Emission) -> State
     }
 }
 
-pub(crate) fn dup_taken(endpoint: &Endpoint, m: &Emission) -> u32
+pub(crate) fn dup_taken(endpoint: &Endpoint, m: &Arrived<'_>) -> u32
     requires { endpoint.now.congestion.dup + 1 < 2 ^ 32 }
     ensures { result ≡ (if is_new_ack endpoint.now m.now then 0
         else if is_duplicate endpoint.now m.now then endpoint.now.congestion.dup + 1 else endpoint.now.congestion.dup) }
@@ -130,7 +130,7 @@ pub(crate) fn dup_taken(endpoint: &Endpoint, m: &Emission) -> u32
 }
 
 /// Up to which position what was made may be made again: all of it, where a window above 0 ends the waiting for one.
-pub(crate) fn recover_taken(endpoint: &Endpoint, m: &Emission) -> u64
+pub(crate) fn recover_taken(endpoint: &Endpoint, m: &Arrived<'_>) -> u64
     ensures { result ≡ (if opens endpoint.now m.now && is_some endpoint.now.timers.persist_armed then max_made endpoint.now else endpoint.now.recover) }
 {
     if opens(endpoint, m) && endpoint.timers.persist_armed.is_some() {
@@ -141,7 +141,7 @@ pub(crate) fn recover_taken(endpoint: &Endpoint, m: &Emission) -> u64
 }
 
 /// How often the retransmission timer expired since a new acknowledgment.
-pub(crate) fn backs_taken(endpoint: &Endpoint, m: &Emission) -> u32
+pub(crate) fn backs_taken(endpoint: &Endpoint, m: &Arrived<'_>) -> u32
     ensures { result ≡ (if is_new_ack endpoint.now m.now then 0 else endpoint.now.backs) }
 {
     if is_new_ack(endpoint, m) {
@@ -151,7 +151,7 @@ pub(crate) fn backs_taken(endpoint: &Endpoint, m: &Emission) -> u32
     }
 }
 
-pub(crate) fn syn_acknowledged(endpoint: &Endpoint, m: &Emission) -> State
+pub(crate) fn syn_acknowledged(endpoint: &Endpoint, m: &Arrived<'_>) -> State
     ensures { result ≡ acknowledged states.SynReceived endpoint.now m.now }
 {
     if !acknowledges_syn(endpoint, m) {
@@ -164,14 +164,14 @@ pub(crate) fn syn_acknowledged(endpoint: &Endpoint, m: &Emission) -> State
     }
 }
 
-pub(crate) fn fin_acknowledged(endpoint: &Endpoint, m: &Emission) -> bool
+pub(crate) fn fin_acknowledged(endpoint: &Endpoint, m: &Arrived<'_>) -> bool
     ensures { result ≡ fin_acknowledged endpoint.now m.now }
 {
     endpoint.stream.ended && endpoint.stream.accepted.end() < una_after(endpoint, m)
 }
 
-pub(crate) fn opens(endpoint: &Endpoint, m: &Emission) -> bool
+pub(crate) fn opens(endpoint: &Endpoint, m: &Arrived<'_>) -> bool
     ensures { result ≡ opens endpoint.now m.now }
 {
-    takes_window(endpoint, m) && 0 < m.window
+    takes_window(endpoint, m) && 0 < m.window()
 }

@@ -6,21 +6,21 @@ ghost use Rattle.std.specs.Prelude.{◌≡◌};
 
 use crate::arrives::otherwise::text::first_byte;
 use case_forms::{State, TakeChoice};
-use machine::{Emission, Endpoint};
+use machine::{Arrived, Endpoint};
 
-pub(crate) fn keeps_fin(endpoint: &Endpoint, how: TakeChoice, m: &Emission) -> bool
+pub(crate) fn keeps_fin(endpoint: &Endpoint, how: TakeChoice, m: &Arrived<'_>) -> bool
     requires { IsSmallEmission m.now }
     ensures { result ≡ keeps_fin endpoint.now how m.now }
 {
     let place = fin_place(m);
-    how.keep && m.flags.fin && endpoint.next() <= place && place <= endpoint.window.edge
+    how.keep && m.flags().fin && endpoint.next() <= place && place <= endpoint.window.edge
 }
 
-pub(crate) fn fin_place(m: &Emission) -> u64
+pub(crate) fn fin_place(m: &Arrived<'_>) -> u64
     requires { IsSmallEmission m.now }
     ensures { result ≡ fin_place m.now }
 {
-    first_byte(m) + m.payload.len() as u64
+    first_byte(m) + m.payload().len() as u64
 }
 
 // The state once the peer's FIN was passed, where it was (RFC 9293, 3.10.7.4, eighth).

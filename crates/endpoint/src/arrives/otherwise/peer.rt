@@ -6,17 +6,17 @@ ghost use Rattle.std.specs.Option.{option_map_or};
 ghost use Rattle.std.specs.Prelude.{◌≡◌, false, true};
 
 use crate::same::same_name;
-use machine::{Emission, Endpoint, Name};
+use machine::{Arrived, Endpoint, Name};
 
 /// Whether the peer made it for this endpoint, or before the peer knew whom. A reset that answers is this endpoint's
 /// where it answers a segment that the endpoint made.
-pub(crate) fn is_from_peer(me: Name, endpoint: &Endpoint, m: &Emission) -> bool
+pub(crate) fn is_from_peer(me: Name, endpoint: &Endpoint, m: &Arrived<'_>) -> bool
     ensures { result ≡ is_from_peer me endpoint.now m.now }
 {
-    if m.answers {
-        return same_name(m.maker, me);
+    if m.is_answer() {
+        return same_name(m.maker(), me);
     }
-    is_peer(endpoint, m.maker) && may_be_for(m, me)
+    is_peer(endpoint, m.maker()) && may_be_for(m, me)
 }
 
 pub(crate) fn is_peer(endpoint: &Endpoint, maker: Name) -> bool
@@ -28,10 +28,10 @@ pub(crate) fn is_peer(endpoint: &Endpoint, maker: Name) -> bool
     }
 }
 
-pub(crate) fn may_be_for(m: &Emission, me: Name) -> bool
+pub(crate) fn may_be_for(m: &Arrived<'_>, me: Name) -> bool
     ensures { result ≡ option_map_or (λ knew. same_name knew me) m.now.knew true }
 {
-    match m.knew {
+    match m.knew() {
         Some(knew) => same_name(knew, me),
         None => true,
     }

@@ -4,7 +4,7 @@ ghost use Rattle.machine.specs.Arrives.Otherwise.Sequence.{place_taken, is_bad_n
 ghost use Rattle.std.specs.Prelude.{◌≡◌, ◌&&◌, ◌+◌, ◌^◌, nat_le, nat_lt};
 
 use crate::same::same_word;
-use machine::{Emission, Endpoint};
+use machine::{Arrived, Endpoint};
 use seqno::{Word, number, read_near};
 
 /// A position that is no further above another reads ahead of it, one no further below reads behind.
@@ -12,28 +12,28 @@ const HALF_TURN: u64 = 1 << 31;
 
 /// The position at which the segment begins; of a reset that answers, what its number reads as near the next position.
 /// None: that would be below position 0, or the endpoint took no SYN.
-pub(crate) fn place_taken(endpoint: &Endpoint, m: &Emission) -> Option<u64>
+pub(crate) fn place_taken(endpoint: &Endpoint, m: &Arrived<'_>) -> Option<u64>
     ensures { result ≡ place_taken endpoint.now m.now }
 {
-    if !m.answers {
-        return Some(m.pos);
+    if !m.is_answer() {
+        return Some(m.pos());
     }
     match endpoint.irs {
-        Some(irs) => read_near(endpoint.next(), irs, m.seq),
+        Some(irs) => read_near(endpoint.next(), irs, m.seq()),
         None => None,
     }
 }
 
 /// Whether a number of the segment does not read back to the position that it was made at. Of a reset that answers:
 /// whether its sequence number reads as no position.
-pub(crate) fn is_bad_number(endpoint: &Endpoint, m: &Emission) -> bool
+pub(crate) fn is_bad_number(endpoint: &Endpoint, m: &Arrived<'_>) -> bool
     ensures { result ≡ is_bad_number endpoint.now m.now }
 {
-    if m.answers {
+    if m.is_answer() {
         return place_taken(endpoint, m).is_none();
     }
-    !reads_as(endpoint.next(), endpoint.irs, m.seq, m.pos)
-        || (m.flags.ack && !reads_as(endpoint.stream.una, endpoint.iss, m.ack_seq, m.ack))
+    !reads_as(endpoint.next(), endpoint.irs, m.seq(), m.pos())
+        || (m.flags().ack && !reads_as(endpoint.stream.una, endpoint.iss, m.ack_seq(), m.ack()))
 }
 
 pub(crate) fn reads_as(near: u64, base: Option<Word>, w: Word, pos: u64) -> bool
@@ -52,12 +52,21 @@ pub(crate) fn is_near(near: u64, pos: u64) -> bool
 }
 
 /// Whether the segment is acceptable: its first or its last position lies in the receive window; at a window of 0 it
-/// begins at the next position. In SYN-RECEIVED the peer's SYN is let in again with its acknowledgment (RFC 9293, 3.5).
-pub(crate) fn is_acceptable(endpoint: &Endpoint, m: &Emission) -> bool
+/// begins at the next position. In SYN-RECEIVED the peer's SYN is let in again with its acknowledgment (RFC 9293, 3.5); no
+/// other segment with a SYN is, but for a reset.
+pub(crate) fn is_acceptable(endpoint: &Endpoint, m: &Arrived<'_>) -> bool
     ensures { result ≡ is_acceptable endpoint.now m.now }
 {
-    if endpoint.state.is_syn_received() && m.flags.syn && m.flags.ack && m.pos == 0 && !m.answers {
+    if endpoint.state.is_syn_received()
+        && m.flags().syn
+        && m.flags().ack
+        && m.pos() == 0
+        && !m.is_answer()
+    {
         return true;
+    }
+    if m.flags().syn && !m.flags().rst {
+        return false;
     }
     match place_taken(endpoint, m) {
         Some(pos) => is_acceptable_at(endpoint, m, pos),
@@ -65,7 +74,7 @@ pub(crate) fn is_acceptable(endpoint: &Endpoint, m: &Emission) -> bool
     }
 }
 
-pub(crate) fn is_acceptable_at(endpoint: &Endpoint, m: &Emission, pos: u64) -> bool
+pub(crate) fn is_acceptable_at(endpoint: &Endpoint, m: &Arrived<'_>, pos: u64) -> bool
     ensures { result ≡ is_acceptable_at endpoint.now m.now pos }
 {
     if endpoint.receive_window() == 0 {

@@ -10,14 +10,14 @@ ghost use Rattle.streams.specs.Received.{is_ended};
 
 use crate::arrives::otherwise::fin::{fin_place, keeps_fin};
 use case_forms::TakeChoice;
-use machine::{Emission, Endpoint};
+use machine::{Arrived, Endpoint};
 use segment::OutOfMemory;
 
 /// Keeps what is kept of a segment. The answer is whether the peer's FIN was taken then, with all before it.
 pub(crate) fn receive(
     endpoint: &mut Endpoint,
     how: TakeChoice,
-    m: &Emission,
+    m: &Arrived<'_>,
 ) -> Result<bool, OutOfMemory>
     requires small { IsSmallEmission m.now }
     requires met { 1 ≤ next endpoint.old }
@@ -37,7 +37,7 @@ pub(crate) fn receive(
     Ok(endpoint.stream.receive.is_ended())
 }
 
-pub(crate) fn kept_bytes<'a>(endpoint: &Endpoint, how: TakeChoice, m: &'a Emission) -> &'a [u8]
+pub(crate) fn kept_bytes<'a>(endpoint: &Endpoint, how: TakeChoice, m: &'a Arrived<'_>) -> &'a [u8]
     requires { IsSmallEmission m.now }
     ensures { result.now ≡ kept_bytes endpoint.now how m.now }
 {
@@ -47,20 +47,20 @@ pub(crate) fn kept_bytes<'a>(endpoint: &Endpoint, how: TakeChoice, m: &'a Emissi
     if !how.keep || end <= start {
         return &[];
     }
-    &m.payload.as_slice()[start as usize..end as usize]
+    &m.payload()[start as usize..end as usize]
 }
 
-pub(crate) fn kept_start(endpoint: &Endpoint, m: &Emission) -> u64
+pub(crate) fn kept_start(endpoint: &Endpoint, m: &Arrived<'_>) -> u64
     requires { m.now.pos ≤ greatest_position }
     ensures { result ≡ kept_start endpoint.now m.now }
 {
     endpoint.next().max(first_byte(m))
 }
 
-pub(crate) fn first_byte(m: &Emission) -> u64
+pub(crate) fn first_byte(m: &Arrived<'_>) -> u64
     requires { m.now.pos ≤ greatest_position }
     ensures value { result ≡ first_byte m.now }
     ensures small { result ≤ greatest_position + 1 }
 {
-    m.pos + m.flags.syn as u64
+    m.pos() + m.flags().syn as u64
 }

@@ -9,7 +9,7 @@ ghost use Rattle.std.specs.Prelude.{◌≡◌, ◌==◌, ◌&&◌, if◌then◌e
 use crate::arrives::otherwise::ack::{acknowledges_syn, is_new_ack, una_after};
 use crate::arrives::otherwise::window::{persist_taken, takes_window};
 use case_forms::{Header, State, TakeChoice, Timer};
-use machine::{Emission, Endpoint};
+use machine::{Arrived, Endpoint};
 use timer_rules::Timers;
 
 /// The timers before the state is looked at: `timers_taken` is `state_timers` of them.
@@ -17,7 +17,7 @@ pub(crate) fn timers_before(
     header: &Header,
     endpoint: &Endpoint,
     how: TakeChoice,
-    m: &Emission,
+    m: &Arrived<'_>,
     moment: u64,
 ) -> Timers
     ensures { let measured = timeout_taken header.now endpoint.now (how.sample && is_new_ack endpoint.now m.now) m.now.ack
@@ -27,11 +27,11 @@ pub(crate) fn timers_before(
 {
     let is_new = is_new_ack(endpoint, m);
     let syn = acknowledges_syn(endpoint, m);
-    let measured = timeout_taken(header, endpoint, how.sample && is_new, m.ack, syn, moment);
+    let measured = timeout_taken(header, endpoint, how.sample && is_new, m.ack(), syn, moment);
     let all_acked = una_after(endpoint, m) == endpoint.max_made();
     let running = rto_taken(measured, all_acked, is_new, moment);
     if takes_window(endpoint, m) {
-        persist_taken(running, m.window, moment)
+        persist_taken(running, m.window(), moment)
     } else {
         running
     }

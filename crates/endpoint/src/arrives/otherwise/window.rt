@@ -6,42 +6,42 @@ ghost use Rattle.std.specs.Prelude.{◌≡◌, ◌&&◌, not};
 use crate::arrives::otherwise::ack::{acknowledges_syn, opens};
 use crate::same::same_bool;
 use case_forms::Timer;
-use machine::{Emission, Endpoint, Window};
+use machine::{Arrived, Endpoint, Window};
 use timer_rules::Timers;
 
 /// Whether its window can't be read as it was meant: scaling was in force at its maker and is not here, or the other way.
-pub(crate) fn is_unread(endpoint: &Endpoint, m: &Emission) -> bool
+pub(crate) fn is_unread(endpoint: &Endpoint, m: &Arrived<'_>) -> bool
     ensures { result ≡ is_unread endpoint.now m.now }
 {
-    !m.flags.syn && !m.answers && !same_bool(m.scaled, endpoint.is_scaling())
+    !m.flags().syn && !m.is_answer() && !same_bool(m.is_scaled(), endpoint.is_scaling())
 }
 
 /// Whether the window is taken from the segment: it is not older than the one that it was taken from last, or
 /// acknowledges the SYN.
-pub(crate) fn takes_window(endpoint: &Endpoint, m: &Emission) -> bool
+pub(crate) fn takes_window(endpoint: &Endpoint, m: &Arrived<'_>) -> bool
     ensures { result ≡ takes_window endpoint.now m.now }
 {
-    endpoint.stream.una <= m.ack
+    endpoint.stream.una <= m.ack()
         && (acknowledges_syn(endpoint, m)
-            || endpoint.window.wl1 < m.pos
-            || endpoint.window.wl1 == m.pos && endpoint.window.wl2 <= m.ack)
+            || endpoint.window.wl1 < m.pos()
+            || endpoint.window.wl1 == m.pos() && endpoint.window.wl2 <= m.ack())
 }
 
 /// The window that the peer offers then.
-pub(crate) fn window_taken(endpoint: &Endpoint, m: &Emission) -> Window
+pub(crate) fn window_taken(endpoint: &Endpoint, m: &Arrived<'_>) -> Window
     ensures { result ≡ window_taken endpoint.now m.now }
 {
     let mut window = endpoint.window;
     if takes_window(endpoint, m) {
         window.wnd = endpoint.peer_window(m);
-        window.wl1 = m.pos;
-        window.wl2 = m.ack;
+        window.wl1 = m.pos();
+        window.wl2 = m.ack();
     }
     window
 }
 
 /// Whether a byte behind a window of 0 is still to be made.
-pub(crate) fn probe_due_taken(endpoint: &Endpoint, m: &Emission) -> bool
+pub(crate) fn probe_due_taken(endpoint: &Endpoint, m: &Arrived<'_>) -> bool
     ensures { result ≡ endpoint.now.probe_due && not (opens endpoint.now m.now) }
 {
     endpoint.probe_due && !opens(endpoint, m)

@@ -32,8 +32,9 @@ is_acceptable_at e m pos =
     if receive_window e == 0 then pos == next e
     else is_in_window e pos || nat_lt 0 (segment_length m) && is_in_window e (pos + segment_length m - 1)
 
--- in SYN-RECEIVED the SYN of the peer is let in again with its acknowledgment (simultaneous open; RFC 9293, 3.5)
+-- in SYN-RECEIVED the SYN of the peer is let in again with its acknowledgment (simultaneous open; RFC 9293, 3.5); any other
+-- segment with SYN and without RST is not acceptable
 abbrev pub is_acceptable : Endpoint → Emission → Bool
 is_acceptable e m =
     is_syn_received e.state && m.flags.syn && m.flags.ack && m.pos == 0 && not m.answers
-    || option_map_or (is_acceptable_at e m) (place_taken e m) false
+    || not (m.flags.syn && not m.flags.rst) && option_map_or (is_acceptable_at e m) (place_taken e m) false

@@ -1,6 +1,6 @@
 use Rattle.std.proofs.Common.{refl}
 use Rattle.std.proofs.lemmas.Result.{err_from_is_err_and}
-use Rattle.trace_reader.specs.Headers.{first_line, initial_line}
+use Rattle.trace_reader.specs.Headers.{first_line, late_lines}
 use Rattle.trace_reader.proofs.HeaderLaw.{skew_line, msl_line, grain_line, minrto_line, extra_line, with_first, with_skew, with_msl, with_grain, with_minrto, with_extra, with_initial}
 use Rattle.trace_reader.proofs.HeaderReads.{is_header, value_then, value_not, value_last}
 use Rattle.trace_reader.proofs.header.header.Goals as goal
@@ -73,7 +73,7 @@ returns-in_err-initial-clause-header g c =
     (value_then grain_line (with_grain c.in_ok-version.version c.in_ok-skew.skew c.in_ok-msl.msl) _ _ _ c.in_ok-grain.grain _ c.in_ok-grain.ensures.value
     (value_then minrto_line (with_minrto c.in_ok-version.version c.in_ok-skew.skew c.in_ok-msl.msl c.in_ok-grain.grain) _ _ _ c.in_ok-minrto.minrto _ c.in_ok-minrto.ensures.value
     (value_then extra_line (with_extra c.in_ok-version.version c.in_ok-skew.skew c.in_ok-msl.msl c.in_ok-grain.grain c.in_ok-minrto.minrto) _ _ _ c.in_ok-extra.field-0 _ c.in_ok-extra.ensures.value
-    (value_not (initial_line c.in_ok-version.version) (with_initial c.in_ok-version.version c.in_ok-skew.skew c.in_ok-msl.msl c.in_ok-grain.grain c.in_ok-minrto.minrto c.in_ok-extra.field-0) _ _ c.in_err-initial.field-0.0 c.in_err-initial.ensures.value))))))))
+    (value_not (late_lines c.in_ok-version.version) (with_initial c.in_ok-version.version c.in_ok-skew.skew c.in_ok-msl.msl c.in_ok-grain.grain c.in_ok-minrto.minrto c.in_ok-extra.field-0) _ _ c.in_err-initial.field-0.0 c.in_err-initial.ensures.value))))))))
 
 pub returns-clause-header : goal.returns-clause-header
 returns-clause-header g c =
@@ -84,4 +84,4 @@ returns-clause-header g c =
     (value_then grain_line (with_grain c.in_ok-version.version c.in_ok-skew.skew c.in_ok-msl.msl) _ _ _ c.in_ok-grain.grain _ c.in_ok-grain.ensures.value
     (value_then minrto_line (with_minrto c.in_ok-version.version c.in_ok-skew.skew c.in_ok-msl.msl c.in_ok-grain.grain) _ _ _ c.in_ok-minrto.minrto _ c.in_ok-minrto.ensures.value
     (value_then extra_line (with_extra c.in_ok-version.version c.in_ok-skew.skew c.in_ok-msl.msl c.in_ok-grain.grain c.in_ok-minrto.minrto) _ _ _ c.in_ok-extra.field-0 _ c.in_ok-extra.ensures.value
-    (value_last (initial_line c.in_ok-version.version) (with_initial c.in_ok-version.version c.in_ok-skew.skew c.in_ok-msl.msl c.in_ok-grain.grain c.in_ok-minrto.minrto c.in_ok-extra.field-0) _ _ c.in_ok-initial.initial _ (λ rest. refl) c.in_ok-initial.ensures.value)))))))
+    (value_last (late_lines c.in_ok-version.version) (with_initial c.in_ok-version.version c.in_ok-skew.skew c.in_ok-msl.msl c.in_ok-grain.grain c.in_ok-minrto.minrto c.in_ok-extra.field-0) _ _ c.in_ok-initial.initial _ (λ rest. refl) c.in_ok-initial.ensures.value)))))))

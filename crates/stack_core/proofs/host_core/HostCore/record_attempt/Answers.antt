@@ -6,6 +6,9 @@ use Rattle.hosts.specs.HostRules.{Permitted}
 use Rattle.machine.specs.Machine.{tcp}
 use Rattle.stack_core.specs.Cores.{Core, GivesNext, own_body, world}
 use Rattle.stack_core.proofs.AnswerLemmas.{effect_fits, ended_call, finish_fits}
+use Rattle.std.specs.Prelude.{IfNone}
+use Rattle.stack_core.specs.CallEvents.{KeptNoAnswer}
+use Rattle.stack_core.proofs.WaitLemmas.{no_answer}
 use Rattle.stack_core.proofs.host_core.HostCore.record_attempt.Goals as goal
 
 pub add-requires-clause-fits : goal.add-requires-clause-fits
@@ -29,3 +32,6 @@ returns-clause-some c = (
   c.note_answer.ensures ∙ ended_call c.args.self.now c.open_with_room.new.self c.add.new.self c.add-2.new.self c.args.tick c.line.result c.args.thread c.in-Ok-Some.answer c.in_ok-copy.field-0 c.in_ok-ending.ending c.open_with_room.ensures.opened c.in_ok-add.ensures.ok c.in_ok-add-2.ensures.ok
       c.in_ok-copy.ensures c.in_ok-ending.ensures c.line.ensures,
 )
+
+pub returns-in-Ok-None-clause-none : goal.returns-in-Ok-None-clause-none
+returns-in-Ok-None-clause-none c = (refl, no_answer c.args.self.now c.args.thread (subst (λ (o : Option Answer). IfNone o (KeptNoAnswer c.args.self.now c.args.thread)) c.in-Ok-None.field-0-is c.in-Ok-None.ensures.none))

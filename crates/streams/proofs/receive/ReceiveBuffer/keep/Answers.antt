@@ -1,18 +1,19 @@
-use Rattle.std.proofs.Common.{◌≡◌, ◌+◌, ◌-◌, ◌^◌, arith, ap, sym, ◌∙◌, List, Option}
+use Rattle.std.proofs.Common.{◌≡◌, ◌+◌, ◌-◌, ◌^◌, ◌++◌, arith, ap, sym, ◌∙◌, List, Option}
 use Rattle.streams.specs.declared.cell.Cell.{Cell}
 use Rattle.streams.specs.Forgetting.{forgotten}
-use Rattle.streams.specs.Received.{Receiving, next, kept}
-use Rattle.streams.specs.Cells.{body}
+use Rattle.streams.specs.Received.{Receiving, body_kept, end_kept, kept, next, part_kept}
+use Rattle.streams.specs.Views.{gone_cells}
 use Rattle.streams.proofs.Writes.{length_front}
 use Rattle.streams.proofs.Fronts.{next_put_all}
-use Rattle.streams.proofs.Gone.{front_gone, keep_long, put_all_gone, view_faded}
+use Rattle.streams.proofs.Gone.{front_gone, keep_long, view_faded}
+use Rattle.streams.proofs.Keeping.{kept_gone, part_short}
 use Rattle.streams.proofs.receive.ReceiveBuffer.keep.Goals as goal
 
 pub overflow_sub-at : goal.overflow_sub-at
 overflow_sub-at c = let all = front_gone c.self.inside.gone c.self.inside.cells.items in let same = ap (λ (r : Receiving). next r) c.self.view_is in omega arith
 
 pub advanced-self-inside-requires : goal.advanced-self-inside-requires
-advanced-self-inside-requires c = let longer = next_put_all c.self.inside.cells.items (c.args.position - c.self.inside.gone) (body c.args.bytes.now c.args.fin) in rw (c.place.ensures.items, c.reserve.ensures.items) (omega arith)
+advanced-self-inside-requires c = let longer = next_put_all c.self.inside.cells.items (c.args.position - c.self.inside.gone) (body_kept c.self.inside.cells.items (c.args.position - c.self.inside.gone) c.args.bytes.now c.args.fin) in rw (c.place.ensures.items, c.reserve.ensures.items) (omega arith)
 
 pub invariant_of-self-2 : goal.invariant_of-self-2
 invariant_of-self-2 c =
@@ -20,7 +21,10 @@ invariant_of-self-2 c =
     let same = ap (λ (r : Receiving). next r) c.self.view_is in
     let most = length_front c.self.inside.cells.items in (
       c.advanced-self-inside.ensures,
-      rw (c.place.ensures.items, c.reserve.ensures.items) (keep_long c.self.inside.gone c.args.position (2 ^ 63) c.self.inside.cells.items c.args.bytes.now c.args.fin (omega arith) (omega arith) (omega arith)),
+      rw (c.place.ensures.items, c.reserve.ensures.items)
+          (let short = part_short c.self.inside.cells.items (c.args.position - c.self.inside.gone) c.args.bytes.now in
+          keep_long c.self.inside.gone c.args.position (2 ^ 63) c.self.inside.cells.items (part_kept c.self.inside.cells.items (c.args.position - c.self.inside.gone) c.args.bytes.now)
+          (end_kept c.self.inside.cells.items (c.args.position - c.self.inside.gone) c.args.bytes.now c.args.fin) (omega arith) (omega arith) (omega arith)),
       λ none. let empty = c.self.invariant.2 none in absurd (omega arith),
     )
 
@@ -29,8 +33,10 @@ returns-clause-ok c =
     let all = front_gone c.self.inside.gone c.self.inside.cells.items in
     let same = ap (λ (r : Receiving). next r) c.self.view_is in
     let at : c.self.inside.gone + (c.args.position - c.self.inside.gone) ≡ c.args.position = omega arith in
-    rw (c.place.ensures.items, c.reserve.ensures.items, ← put_all_gone c.self.inside.gone c.self.inside.cells.items (c.args.position - c.self.inside.gone) (body c.args.bytes.now c.args.fin), at)
-    (ap (λ (r : Receiving). kept r c.args.position c.args.bytes.now c.args.fin) c.self.view_is)
+    rw (c.place.ensures.items, c.reserve.ensures.items)
+    (sym (kept_gone c.self.inside.gone (c.args.position - c.self.inside.gone) c.self.inside.cells.items c.args.bytes.now c.args.fin c.self.invariant.2)
+    ∙ (ap (λ n. kept (record { taken = gone_cells c.self.inside.gone ++ c.self.inside.cells.items; delivered = c.self.inside.gone - 1 }) n c.args.bytes.now c.args.fin) at
+    ∙ ap (λ (r : Receiving). kept r c.args.position c.args.bytes.now c.args.fin) c.self.view_is))
 
 pub returns-clause-faded : goal.returns-clause-faded
 returns-clause-faded c =

@@ -14,10 +14,10 @@ returns-in_err-next_line-clause-fault g c = λ e is.
     let made = p.1 in
     let gave = p.2 in
     let same : c.in_err-next_line.field-0.0 ≡ Text e = cc in
-    next_fails _ _ e (c.next_line.ensures.fault e (c.in_err-next_line.was ∙ ap (λ (f : ReadFault). Err f) same))
+    next_fails c.args.self.now.version _ _ e (c.next_line.ensures.fault e (c.in_err-next_line.was ∙ ap (λ (f : ReadFault). Err f) same))
 
 pub returns-then-not-branch-clause-next : goal.returns-then-not-branch-clause-next
-returns-then-not-branch-clause-next g c = all_read _ _ _ (c.next_line.ensures.none (c.in_ok-next_line.was ∙ ap (λ b. Ok b) c.if-not-branch.true))
+returns-then-not-branch-clause-next g c = all_read c.args.self.now.version _ _ _ (c.next_line.ensures.none (c.in_ok-next_line.was ∙ ap (λ b. Ok b) c.if-not-branch.true))
 
 pub returns-in_err-line-clause-fault : goal.returns-in_err-line-clause-fault
 returns-in_err-line-clause-fault g c = λ e is.
@@ -27,15 +27,15 @@ returns-in_err-line-clause-fault g c = λ e is.
     let gave = p.2 in
     let same : c.in_err-line.field-0.0 ≡ e = cc in
     subst (λ (f : TextFault). FailsLeft f (lines_left g.A.Read.remaining c.args.self.now)) same
-    (line_fails _ _ _ c.next_line.new.line.items c.in_err-line.field-0.0 took (rw c.as_slice.ensures.value at c.in_err-line.ensures))
+    (line_fails c.args.self.now.version _ _ _ c.next_line.new.line.items c.in_err-line.field-0.0 took (rw c.as_slice.ensures.value at c.in_err-line.ensures))
 
 pub overflow_add-self : goal.overflow_add-self
-overflow_add-self g c = let s = stands _ _ _ c.in_ok-line.ensures in let few = s.few in omega (arith, few)
+overflow_add-self g c = let s = stands c.args.self.now.version _ _ _ c.in_ok-line.ensures in let few = s.few in omega (arith, few)
 
 pub returns-clause-next : goal.returns-clause-next
 returns-clause-next g c =
     let took = c.next_line.ensures.line (c.in_ok-next_line.was ∙ ap (λ b. Ok b) c.if-not-branch.false) in
-    line_read _ _ _ c.next_line.new.line.items c.in_ok-line.line took (rw c.as_slice.ensures.value at c.in_ok-line.ensures)
+    line_read c.args.self.now.version _ _ _ c.next_line.new.line.items c.in_ok-line.line took (rw c.as_slice.ensures.value at c.in_ok-line.ensures)
 
 pub returns-clause-place : goal.returns-clause-place
-returns-clause-place g c = (stands _ _ _ c.in_ok-line.ensures, refl)
+returns-clause-place g c = (stands c.args.self.now.version _ _ _ c.in_ok-line.ensures, refl)

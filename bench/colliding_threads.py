@@ -1,0 +1,67 @@
+#!/usr/bin/env python3
+"""Writes a case with many threads whose numbers collide in a table with hashes, to standard output.
+
+Each thread begins a `status` call and ends it. The numbers are such that the hasher of the kit's maps, whose seed is fixed,
+gives them hashes that begin in one 32nd of the places of a table of that size. So a check that keeps threads in such a table
+walks over a good part of it for each, and takes four times as long for twice as many threads.
+
+The one argument is the count of threads, 147,000 where it is missing. The verdict on N threads is `yes A B` with A = 2 N and
+B = N.
+"""
+
+import sys
+
+COUNT = 147_000
+FIRST_EVENT_LINE = 7
+HEADER = ["trace 1", "skew 0", "msl 120000000", "grain 1000", "minrto 1000000", "extra 0"]
+
+# The kit's hasher: where it begins, what it multiplies by for four bytes, and how many entries a group of places takes.
+START = 0x243F6A8885A308D3
+FACTOR = 0x9E3779B97F4A7C15 ^ 8
+GROUP_LOAD = 9
+# Which part of the places the hashes begin in.
+CROWD = 32
+
+LOW_64 = 2**64 - 1
+LOW_32 = 2**32 - 1
+
+
+def colliding(count):
+    """So many numbers of 32 bits, the hashes of which begin in the first places of a table for that many."""
+    groups = 1
+    while GROUP_LOAD * groups < count:
+        groups *= 2
+    mask, crowded = groups - 1, max(groups // CROWD, 1)
+    found, number = [], 0
+    while len(found) < count:
+        product = (START ^ (number | number << 32)) * FACTOR
+        mixed = (product & LOW_64) ^ (product >> 64)
+        if ((mixed ^ (mixed >> 32)) & LOW_32 & mask) < crowded:
+            found.append(number)
+        number += 1
+    return found
+
+
+def main():
+    count = int(sys.argv[1]) if len(sys.argv) > 1 else COUNT
+    threads = colliding(count)
+    write = sys.stdout.write
+    for line in HEADER:
+        write(line + "\n")
+    moment = 0
+    for event in ("B status 5", "E badsocket"):
+        for thread in threads:
+            write(f"{moment} {thread} {event}\n")
+            moment += 1
+    write("witness 1\n")
+    moment = 0
+    for thread in threads:
+        write(f"{moment} L {FIRST_EVENT_LINE + moment}\n{moment} D {thread} badsocket\n")
+        moment += 1
+    for _ in threads:
+        write(f"{moment} L {FIRST_EVENT_LINE + moment}\n")
+        moment += 1
+
+
+if __name__ == "__main__":
+    main()

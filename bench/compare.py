@@ -1,0 +1,123 @@
+#!/usr/bin/env python3
+"""Times a checker on all cases of this folder, and another one beside it, and prints the ratios.
+
+    python3 bench/compare.py OURS [OTHER] [--runs N] [--only WORD]
+
+OURS and OTHER are programs that answer `check` and `many --workers 1` on standard input. The runs of both are interleaved, and
+of N runs, 5 where N is missing, the least processor time counts, with the system's part, and the greatest memory. Answers
+that differ are told. A case that grows is run at one size and at twice that size, and OURS has to take at most 2.3 times
+as long for the second: if it takes longer, the last line says so, and the status is 1. Of OURS each case is also timed by
+its two texts in two files, where it is one case.
+"""
+
+import argparse
+import os
+import subprocess
+import sys
+import tempfile
+
+BENCH = os.path.dirname(os.path.abspath(__file__))
+MOST_GROWTH = 2.3
+
+# What is run: a name, the script, its arguments at one size and at twice that size (or None), and the words.
+CASES = [
+    ("whole transfer", "bulk_transfer.py", (["20000"], ["40000"]), ["check"]),
+    ("calls open at once", "overlapping_calls.py", None, ["check"]),
+    ("reading alone", "long_trace.py", None, ["check"]),
+    ("colliding threads", "colliding_threads.py", (["73500"], ["147000"]), ["check"]),
+    ("bytes made again", "made_again.py", (["32000"], ["64000"]), ["check"]),
+    ("many cases", "many_cases.py", None, ["many", "--workers", "1"]),
+]
+
+
+class Cost:
+    """The least processor time in seconds, the greatest memory in megabytes, and what was printed."""
+
+    def __init__(self):
+        self.seconds = float("inf")
+        self.megabytes = 0.0
+        self.printed = None
+
+    def run(self, words, text):
+        with open(text, "rb") as given, tempfile.TemporaryFile() as printed:
+            child = subprocess.Popen(words, stdin=given, stdout=printed)
+            _, status, usage = os.wait4(child.pid, 0)
+            child.returncode = status
+            printed.seek(0)
+            self.printed = printed.read()
+        self.seconds = min(self.seconds, usage.ru_utime + usage.ru_stime)
+        self.megabytes = max(self.megabytes, usage.ru_maxrss / 1024)
+
+
+def written(script, arguments, path):
+    with open(path, "wb") as text:
+        subprocess.run([sys.executable, os.path.join(BENCH, script), *arguments], stdout=text, check=True)
+    return path
+
+
+def parted(path):
+    """The trace and the witness of a case as two files, or None where it has no witness."""
+    names = path + ".trace", path + ".witness"
+    has_witness = False
+    with open(path, "rb") as case, open(names[0], "wb") as trace, open(names[1], "wb") as witness:
+        for line in case:
+            has_witness = has_witness or line.startswith(b"witness ")
+            (witness if has_witness else trace).write(line)
+    return names if has_witness else None
+
+
+def measured(programs, words, path, runs):
+    """What each program costs, and OURS by two files."""
+    costs = [Cost() for _ in programs]
+    files = parted(path) if words == ["check"] else None
+    by_files = Cost() if files else None
+    for _ in range(runs):
+        for program, cost in zip(programs, costs):
+            cost.run([program, *words], path)
+        if files:
+            by_files.run([programs[0], "check", "--trace", files[0], "--witness", files[1]], os.devnull)
+    return costs, by_files
+
+
+def row(name, costs, by_files):
+    cells = [f"{cost.seconds:.2f} s, {cost.megabytes:.0f} MB" for cost in costs]
+    cells.append(f"{by_files.seconds:.2f} s, {by_files.megabytes:.0f} MB" if by_files else "")
+    if len(costs) == 2:
+        ours, other = costs
+        cells.append(f"{ours.seconds / other.seconds:.2f} / {ours.megabytes / other.megabytes:.2f}")
+        if ours.printed != other.printed:
+            cells.append("THE ANSWERS DIFFER")
+    return f"| {name} | " + " | ".join(cells) + " |"
+
+
+def main():
+    parser = argparse.ArgumentParser()
+    parser.add_argument("programs", nargs="+")
+    parser.add_argument("--runs", type=int, default=5)
+    parser.add_argument("--only", default="")
+    given = parser.parse_args()
+    programs = [os.path.abspath(program) for program in given.programs[:2]]
+    heads = ["case", "ours", "the other", "ours, two files", "time / memory of ours to the other's"]
+    if len(programs) == 1:
+        heads = ["case", "ours", "ours, two files"]
+    print("| " + " | ".join(heads) + " |\n|" + "---|" * len(heads))
+    slow = []
+    with tempfile.TemporaryDirectory() as folder:
+        path = os.path.join(folder, "case")
+        for name, script, sizes, words in CASES:
+            if given.only not in name:
+                continue
+            seconds = []
+            for arguments in sizes or ([],):
+                costs, by_files = measured(programs, words, written(script, arguments, path), given.runs)
+                print(row(" ".join([name, *arguments]), costs, by_files), flush=True)
+                seconds.append(costs[0].seconds)
+            if sizes and seconds[1] > MOST_GROWTH * seconds[0]:
+                slow.append(f"{name}: {seconds[1] / seconds[0]:.2f} times as long for twice the size")
+    for line in slow:
+        print(line)
+    return 1 if slow else 0
+
+
+if __name__ == "__main__":
+    sys.exit(main())

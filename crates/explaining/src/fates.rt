@@ -1,0 +1,115 @@
+//! What became of the lines of a case, as its witness tells.
+
+use crate::whole::Whole;
+use case_forms::{Event, Extras, Label, NamedLine, OutOfMemory, Step};
+use indexmap::IndexMap;
+use std::alloc::Global;
+
+/// What became of a segment that came in.
+#[derive(Clone, Copy)]
+pub(crate) enum Fate {
+    Waits,
+    Taken,
+    Dropped,
+    Reset,
+}
+
+impl Fate {
+    /// The class of its arrow.
+    pub(crate) fn class(self) -> &'static str {
+        match self {
+            Fate::Waits => "waits",
+            Fate::Taken => "taken",
+            Fate::Dropped => "dropped",
+            Fate::Reset => "reset",
+        }
+    }
+}
+
+/// What became of the lines of a case. Lines are named by their numbers.
+#[derive(Drop)]
+pub(crate) struct Fates {
+    /// For each line that came in, the line that it copies.
+    pub copies: IndexMap<u64, u64>,
+    /// The lines that were copied.
+    pub copied: IndexMap<u64, ()>,
+    pub fates: IndexMap<u64, Fate>,
+    /// For each line that begins a call, the line behind which the call has its effect.
+    pub effects: IndexMap<u64, u64>,
+    // For each thread, the line that began its call.
+    begun: IndexMap<u32, u64>,
+    /// The line behind which the refused step stands.
+    pub refused: Option<u64>,
+    last: u64,
+}
+
+impl Fates {
+    /// What the witness of a case tells.
+    pub(crate) fn of(alloc: Global, whole: &Whole) -> Result<Fates, OutOfMemory> {
+        let mut fates = Fates {
+            copies: IndexMap::new(alloc),
+            copied: IndexMap::new(alloc),
+            fates: IndexMap::new(alloc),
+            effects: IndexMap::new(alloc),
+            begun: IndexMap::new(alloc),
+            refused: None,
+            last: 0,
+        };
+        for (place, step) in whole.steps.as_slice().iter().enumerate() {
+            if let Some(refused) = whole.refused {
+                if refused.place == place {
+                    fates.refused = Some(fates.last);
+                    return Ok(fates);
+                }
+            }
+            fates.read(whole, step)?;
+        }
+        Ok(fates)
+    }
+
+    fn read_line(&mut self, whole: &Whole, named: NamedLine) -> Result<(), OutOfMemory> {
+        let Some(line) = whole.line(named.number) else {
+            return Ok(());
+        };
+        match (&line.event, named.extras) {
+            (Event::Came(_, _), Extras::One(copied)) => {
+                self.copies.insert(named.number, u64::from(copied))?;
+                self.copied.insert(u64::from(copied), ())?;
+                self.fates.insert(named.number, Fate::Waits)?;
+            }
+            (Event::Came(_, _), Extras::Bare) => {
+                self.fates.insert(named.number, Fate::Waits)?;
+            }
+            (Event::CallBegin(_), _) => {
+                self.begun.insert(line.thread, named.number)?;
+            }
+            _ => {}
+        }
+        Ok(())
+    }
+
+    fn read(&mut self, whole: &Whole, step: &Step) -> Result<(), OutOfMemory> {
+        match &step.label {
+            Label::L(named) => {
+                self.last = named.number;
+                self.read_line(whole, *named)?;
+            }
+            Label::D { thread, .. } => {
+                if let Some(begin) = self.begun.get(thread).copied() {
+                    self.effects.insert(begin, self.last)?;
+                }
+            }
+            Label::T { line, .. } => {
+                self.fates.insert(*line, Fate::Taken)?;
+            }
+            Label::K { line, .. } => {
+                self.fates.insert(*line, Fate::Dropped)?;
+            }
+            Label::R { line, .. } => {
+                self.fates.insert(*line, Fate::Reset)?;
+            }
+            Label::M { .. } | Label::F { .. } => {}
+        }
+        Ok(())
+    }
+}

@@ -1,0 +1,54 @@
+//! A line of a text that can't be read, with a mark under its columns.
+
+use crate::parts::line_at;
+use crate::text::{Piece, add, say};
+use case_forms::OutOfMemory;
+use line_fields::{FaultKind, TextFault, push_end, push_word};
+
+// How many bytes before the mark are shown, and how many in all.
+const BEFORE: usize = 60;
+
+const SHOWN: usize = 110;
+
+/// Writes the line at fault, and a mark under the columns.
+pub(crate) fn mark(out: &mut Vec<u8>, text: &[u8], fault: &TextFault) -> Result<(), OutOfMemory> {
+    let Some(line) = line_at(text, fault.span.line) else {
+        return say(out, &[Piece::Word("the text ends before this line")]);
+    };
+    let from = fault.span.start.saturating_sub(BEFORE);
+    let left = line.get(from..).unwrap_or(&[]);
+    let shown = left.get(..SHOWN).unwrap_or(left);
+    say(out, &[Piece::Word("  "), Piece::Raw(shown)])?;
+    add(out, &[Piece::Word("  ")])?;
+    for _ in from..fault.span.start {
+        push_word(out, " ")?;
+    }
+    let stop = fault.span.stop.min(from.saturating_add(SHOWN));
+    for _ in fault.span.start..stop {
+        push_word(out, "^")?;
+    }
+    if stop <= fault.span.start {
+        push_word(out, "^")?;
+    }
+    push_end(out)?;
+    say(out, &[Piece::Word(meaning(fault.kind))])
+}
+
+fn meaning(kind: FaultKind) -> &'static str {
+    match kind {
+        FaultKind::Header =>
+            "a line of the header is another one, or is missing, or has another count of fields",
+        FaultKind::Field => "no such word may stand here, or a field is empty, missing or too many",
+        FaultKind::Number =>
+            "the number is badly written (a sign, a leading zero) or out of its limits",
+        FaultKind::Hex =>
+            "bytes are written as two hex digits each, and there is a limit to how many",
+        FaultKind::Segment(_) => "the digits are good, and their bytes are no TCP segment",
+        FaultKind::MomentFalls =>
+            "the moment is below that of the event line before: lines stand in the order of their moments",
+        FaultKind::LineTooLong => "a line has at most 140,000 bytes",
+        FaultKind::Cut => "the last line has no line feed: the text was cut off",
+        FaultKind::TooManyLines => "a text has at most 10,000,000 lines",
+        FaultKind::OutOfMemory => "memory ran out",
+    }
+}

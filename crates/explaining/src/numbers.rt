@@ -1,0 +1,64 @@
+//! Numbers on the wire as positions, counted from the initial sequence numbers that a trace shows.
+
+use case_forms::{Host, OutOfMemory, Wire};
+use indexmap::IndexMap;
+use segment::{Flag, Segment};
+use std::alloc::Global;
+
+// A host, its own port and the peer's.
+type Ends = (u8, u16, u16);
+
+/// The initial sequence numbers that were shown last.
+#[derive(Drop)]
+pub(crate) struct Numbers {
+    first: IndexMap<Ends, u32>,
+}
+
+impl Numbers {
+    pub(crate) fn new(alloc: Global) -> Numbers {
+        Numbers {
+            first: IndexMap::new(alloc),
+        }
+    }
+
+    /// A segment of a host is seen: a SYN tells its initial sequence number.
+    pub(crate) fn see(&mut self, host: Host, wire: &Wire) -> Result<(), OutOfMemory> {
+        let seg = &wire.seg;
+        if seg.has(Flag::Syn) {
+            self.first.insert(ends(host, seg.src, seg.dst), seg.seq.0)?;
+        }
+        Ok(())
+    }
+
+    /// The position of a segment of a host, modulo 2^32; its number where no SYN was seen.
+    pub(crate) fn place(&self, host: Host, seg: &Segment) -> u32 {
+        self.from(ends(host, seg.src, seg.dst), seg.seq.0)
+    }
+
+    /// The position that a segment of a host acknowledges.
+    pub(crate) fn acknowledged(&self, host: Host, seg: &Segment) -> u32 {
+        self.from(ends(other(host), seg.dst, seg.src), seg.ack.0)
+    }
+
+    fn from(&self, key: Ends, number: u32) -> u32 {
+        match self.first.get(&key) {
+            Some(first) => number.wrapping_sub(*first),
+            None => number,
+        }
+    }
+}
+
+fn ends(host: Host, lport: u16, rport: u16) -> Ends {
+    match host {
+        Host::Zero => (0, lport, rport),
+        Host::One => (1, lport, rport),
+    }
+}
+
+/// The other host.
+pub(crate) fn other(host: Host) -> Host {
+    match host {
+        Host::Zero => Host::One,
+        Host::One => Host::Zero,
+    }
+}

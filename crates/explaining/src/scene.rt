@@ -1,0 +1,142 @@
+//! A case up to the step that is refused: the world before it, and what was taken.
+
+ghost use Rattle.std.specs.Prelude.{◌<◌, OnOk};
+ghost use Rattle.machine.specs.Bounds.{most_steps};
+
+use case_forms::{Header, Host, Label, Line, NamedLine, OutOfMemory, Step};
+use endpoint_state::{Endpoint, StepFault, World};
+use indexmap::IndexMap;
+use machine::{Arrived, Emission};
+use spec_step::apply_line;
+use std::alloc::{AllocError, Global};
+
+// The greatest position of a segment that is made.
+const GREATEST_POSITION: u64 = 1_000_000_000_000_000_000;
+
+// A world takes fewer steps than this.
+const MOST_STEPS: u64 = 40_000_000;
+
+// Whether one more step may be done; no witness that `check` reads has so many.
+fn has_room(world: &World) -> Result<(), StepFault>
+    ensures { OnOk result (world.now.steps < most_steps) }
+{
+    if world.steps() < MOST_STEPS {
+        Ok(())
+    } else {
+        Err(StepFault::OutOfMemory)
+    }
+}
+
+/// What is known at a step.
+#[derive(Drop)]
+pub(crate) struct Scene<'t> {
+    pub world: World,
+    pub header: &'t Header,
+    pub lines: &'t [Line],
+    pub steps: &'t [Step],
+    /// The place of the step among the steps, from 0.
+    pub place: usize,
+    /// For each line that was taken, the place of the step that took it.
+    pub taken: IndexMap<u64, usize>,
+}
+
+impl<'t> Scene<'t> {
+    /// The world before a step, where the steps before it are permitted.
+    pub(crate) fn before(
+        alloc: Global,
+        header: &'t Header,
+        lines: &'t [Line],
+        steps: &'t [Step],
+        place: usize,
+    ) -> Result<Scene<'t>, OutOfMemory> {
+        let mut scene = Scene {
+            world: World::start(alloc, header),
+            header,
+            lines,
+            steps,
+            place,
+            taken: IndexMap::new(alloc),
+        };
+        for (at, step) in steps.iter().enumerate().take(place) {
+            scene.go_on(at, step)?;
+        }
+        Ok(scene)
+    }
+
+    fn go_on(&mut self, at: usize, step: &Step) -> Result<(), OutOfMemory> {
+        let done = match &step.label {
+            Label::L(named) => self.take_line(at, step.moment, *named),
+            label => do_hidden(&mut self.world, step.moment, label),
+        };
+        match done {
+            Ok(()) | Err(StepFault::Broken(_)) => Ok(()),
+            Err(StepFault::OutOfMemory) => Err(AllocError),
+        }
+    }
+
+    fn take_line(&mut self, at: usize, moment: u64, named: NamedLine) -> Result<(), StepFault> {
+        let Some(line) = self.line(named.number) else {
+            return Ok(());
+        };
+        let Some(taken) = line.copy()?.taken(named.extras) else {
+            return Ok(());
+        };
+        self.taken.insert(named.number, at)?;
+        has_room(&self.world)?;
+        apply_line(&mut self.world, moment, &taken)
+    }
+
+    /// The line of this number. None: the trace has no such event line.
+    pub(crate) fn line(&self, number: u64) -> Option<&'t Line> {
+        let place = number.checked_sub(self.header.first_event_line())?;
+        self.lines.get(usize::try_from(place).ok()?)
+    }
+
+    /// The step that is refused. None: the fault shows behind the last one.
+    pub(crate) fn step(&self) -> Option<&'t Step> {
+        self.steps.get(self.place)
+    }
+
+    /// The endpoint of a host with these ports, closed or not.
+    pub(crate) fn endpoint(&self, host: Host, lport: u16, rport: u16) -> Option<&Endpoint> {
+        self.world.body(host).endpoint_of(lport, rport)
+    }
+
+    /// A segment as an endpoint reads it. None: the endpoint is further than positions go.
+    pub(crate) fn as_read<'m>(&self, endpoint: &Endpoint, m: &'m Emission) -> Option<Arrived<'m>> {
+        if endpoint.stream.una < 1 << 63 {
+            Some(Arrived::read(self.header.version, endpoint, m))
+        } else {
+            None
+        }
+    }
+
+    /// The endpoint that a segment finds.
+    pub(crate) fn taker(&self, host: Host, m: &Emission) -> Option<&Endpoint> {
+        self.endpoint(host, m.rport, m.lport)
+    }
+}
+
+fn do_hidden(world: &mut World, moment: u64, label: &Label<NamedLine>) -> Result<(), StepFault> {
+    has_room(world)?;
+    match label {
+        Label::L(_) => Ok(()),
+        Label::D { thread, answer } => world.effect(*thread, answer),
+        Label::M { host, plan } => {
+            if plan.pos > GREATEST_POSITION {
+                return Ok(());
+            }
+            world.make(*host, plan, moment)
+        }
+        Label::T { host, line, choice } => world.take(*host, *line, *choice, moment),
+        Label::K { host, line } => {
+            world.drop_arrival(*host, *line, moment)?;
+            Ok(())
+        }
+        Label::R { host, line } => world.answer(*host, *line, moment),
+        Label::F { host, recovery } => {
+            world.recover(*host, *recovery, moment)?;
+            Ok(())
+        }
+    }
+}

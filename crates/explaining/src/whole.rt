@@ -1,0 +1,76 @@
+//! A case that is shown: its lines, its steps, and where it is refused.
+
+use crate::parts::{Parts, cut};
+use case_forms::{Line, Steps, Trace};
+use checker::check_case;
+use line_fields::TextFault;
+use std::alloc::Global;
+use trace_reader::read_trace;
+use verdict::{Rule, Verdict};
+use witness::read_witness_for;
+
+/// The step that is refused.
+#[derive(Clone, Copy)]
+pub(crate) struct Refused {
+    /// Its place among the steps, from 0.
+    pub place: usize,
+    pub rule: Rule,
+}
+
+/// A case. Where its witness can't be read it has no steps.
+#[derive(Drop)]
+pub(crate) struct Whole {
+    pub trace: Trace,
+    pub steps: Steps,
+    pub refused: Option<Refused>,
+}
+
+impl Whole {
+    /// Reads a case. An error is the trace's first fault.
+    pub(crate) fn read(alloc: Global, text: &[u8]) -> Result<Whole, TextFault> {
+        let parts = cut(text);
+        let trace = read_trace(alloc, parts.trace)?;
+        let steps = steps_of(alloc, parts, &trace);
+        Ok(Whole {
+            trace,
+            steps,
+            refused: refused_at(alloc, text),
+        })
+    }
+
+    /// The line of this number. None: the trace has no such event line.
+    pub(crate) fn line(&self, number: u64) -> Option<&Line> {
+        let place = number.checked_sub(self.trace.header.first_event_line())?;
+        self.trace
+            .lines
+            .as_slice()
+            .get(usize::try_from(place).ok()?)
+    }
+}
+
+fn steps_of(alloc: Global, parts: Parts<'_>, trace: &Trace) -> Steps {
+    match read_witness_for(alloc, trace.header.version, parts.witness) {
+        Ok(witness) => witness.steps,
+        Err(_) => Steps::new(alloc),
+    }
+}
+
+// Where a case is refused at a step.
+fn refused_at(alloc: Global, text: &[u8]) -> Option<Refused> {
+    match check_case(alloc, text) {
+        Ok(
+            Verdict::No {
+                witness_line,
+                rule,
+                ..
+            },
+        ) => {
+            let place = witness_line.checked_sub(2)?;
+            Some(Refused {
+                place: usize::try_from(place).ok()?,
+                rule,
+            })
+        }
+        _ => None,
+    }
+}

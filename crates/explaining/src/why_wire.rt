@@ -1,0 +1,243 @@
+//! The rules of the machine at a step that takes a line.
+
+use crate::described::describe;
+use crate::scene::Scene;
+use crate::text::{Piece, say};
+use crate::{why_calls, why_timers};
+use case_forms::{Event, Extras, Host, Line, NamedLine, OutOfMemory, Wire};
+use machine::Emission;
+use segment::Flag;
+use verdict::Rule;
+
+/// What the rule compares at a line.
+pub(crate) fn why(
+    out: &mut Vec<u8>,
+    scene: &Scene<'_>,
+    line: &Line,
+    named: NamedLine,
+    moment: u64,
+    rule: Rule,
+) -> Result<(), OutOfMemory> {
+    match &line.event {
+        Event::CallBegin(_) => why_calls::why_thread(out, scene, line.thread),
+        Event::CallEnd(answer) => why_calls::why_end(out, scene, line.thread, answer),
+        Event::Sent(host, wire) => why_sent(out, scene, *host, named.extras, wire, rule),
+        Event::Came(host, wire) => why_came(out, scene, *host, named.extras, wire, moment, rule),
+        Event::Expired(host, lport, rport, timer) => match scene.endpoint(*host, *lport, *rport) {
+            Some(endpoint) => {
+                describe(out, *host, endpoint)?;
+                why_timers::why_expiry(out, scene, endpoint, *timer, named.extras, moment)
+            }
+            None => say(
+                out,
+                &[
+                    Piece::At(*host),
+                    Piece::Word(" has no endpoint of these ports"),
+                ],
+            ),
+        },
+    }
+}
+
+fn first_extra(extras: Extras) -> u32 {
+    match extras {
+        Extras::Bare => 0,
+        Extras::One(first) | Extras::Two(first, _) => first,
+    }
+}
+
+// A segment that goes out: the made one beside the line's.
+fn why_sent(
+    out: &mut Vec<u8>,
+    scene: &Scene<'_>,
+    host: Host,
+    extras: Extras,
+    wire: &Wire,
+    rule: Rule,
+) -> Result<(), OutOfMemory> {
+    let number = first_extra(extras);
+    match scene.world.made(host, number) {
+        None => say(
+            out,
+            &[
+                Piece::At(host),
+                Piece::Word(" made no segment of the number "),
+                Piece::Number(u64::from(number)),
+                Piece::Word("; up to here "),
+                Piece::Number(u64::from(scene.world.count())),
+                Piece::Word(" were made at both hosts"),
+            ],
+        ),
+        Some(made) => match rule {
+            Rule::BytesDiffer => differences(out, made.emission(), wire),
+            _ => say(out, &[Piece::Word("that segment went out before")]),
+        },
+    }
+}
+
+// Both sides, field by field, where they differ.
+fn differences(out: &mut Vec<u8>, m: &Emission, wire: &Wire) -> Result<(), OutOfMemory> {
+    let seg = &wire.seg;
+    differ(out, "source port", u64::from(m.lport), u64::from(seg.src))?;
+    differ(
+        out,
+        "destination port",
+        u64::from(m.rport),
+        u64::from(seg.dst),
+    )?;
+    differ(
+        out,
+        "sequence number",
+        u64::from(m.seq.0),
+        u64::from(seg.seq.0),
+    )?;
+    if m.flags.ack {
+        differ(
+            out,
+            "acknowledgment number",
+            u64::from(m.ack_seq.0),
+            u64::from(seg.ack.0),
+        )?;
+    }
+    differ(
+        out,
+        "ACK",
+        u64::from(m.flags.ack),
+        u64::from(seg.has(Flag::Ack)),
+    )?;
+    differ(
+        out,
+        "RST",
+        u64::from(m.flags.rst),
+        u64::from(seg.has(Flag::Rst)),
+    )?;
+    differ(
+        out,
+        "SYN",
+        u64::from(m.flags.syn),
+        u64::from(seg.has(Flag::Syn)),
+    )?;
+    differ(
+        out,
+        "FIN",
+        u64::from(m.flags.fin),
+        u64::from(seg.has(Flag::Fin)),
+    )?;
+    if !m.answers {
+        differ(out, "window", u64::from(m.window), u64::from(seg.window))?;
+    }
+    differ(
+        out,
+        "bytes",
+        m.payload.len() as u64,
+        seg.payload.len() as u64,
+    )?;
+    differ_bytes(out, m.payload.as_slice(), seg.payload.as_slice())?;
+    differ_shift(out, m, wire)
+}
+
+fn differ(out: &mut Vec<u8>, name: &str, made: u64, shown: u64) -> Result<(), OutOfMemory> {
+    if made == shown {
+        return Ok(());
+    }
+    say(
+        out,
+        &[
+            Piece::Word("  "),
+            Piece::Word(name),
+            Piece::Word(": made "),
+            Piece::Number(made),
+            Piece::Word(", the line shows "),
+            Piece::Number(shown),
+        ],
+    )
+}
+
+// The first byte in which two texts of bytes differ.
+fn differ_bytes(out: &mut Vec<u8>, made: &[u8], shown: &[u8]) -> Result<(), OutOfMemory> {
+    for (place, (a, b)) in made.iter().zip(shown.iter()).enumerate() {
+        if *a != *b {
+            return say(
+                out,
+                &[
+                    Piece::Word("  byte "),
+                    Piece::Number(place as u64),
+                    Piece::Word(" (from 0): "),
+                    Piece::Number(u64::from(*a)),
+                    Piece::Word(" on one side, "),
+                    Piece::Number(u64::from(*b)),
+                    Piece::Word(" on the line"),
+                ],
+            );
+        }
+    }
+    Ok(())
+}
+
+fn differ_shift(out: &mut Vec<u8>, m: &Emission, wire: &Wire) -> Result<(), OutOfMemory> {
+    match (m.shift, wire.seg.scale) {
+        (Some(given), Some(told)) => differ(
+            out,
+            "shift of windows",
+            u64::from(given),
+            u64::from(told),
+        ),
+        (None, Some(told)) => say(
+            out,
+            &[
+                Piece::Word("  shift of windows: made with none, the line shows "),
+                Piece::Number(u64::from(told)),
+            ],
+        ),
+        (_, None) => Ok(()),
+    }
+}
+
+// A segment that comes in, beside the line that it copies.
+fn why_came(
+    out: &mut Vec<u8>,
+    scene: &Scene<'_>,
+    host: Host,
+    extras: Extras,
+    wire: &Wire,
+    moment: u64,
+    rule: Rule,
+) -> Result<(), OutOfMemory> {
+    let other = match host {
+        Host::Zero => Host::One,
+        Host::One => Host::Zero,
+    };
+    let copied = u64::from(first_extra(extras));
+    match scene.world.sent(other, copied) {
+        None => say(
+            out,
+            &[
+                Piece::Word("line "),
+                Piece::Number(copied),
+                Piece::Word(" is no O line of "),
+                Piece::At(other),
+                Piece::Word(" that was taken before"),
+            ],
+        ),
+        Some(m) => match rule {
+            Rule::CopyDiffers => copy_differs(out, m, wire),
+            _ => say(
+                out,
+                &[
+                    Piece::Word("it comes in at "),
+                    Piece::Number(moment),
+                    Piece::Word(", it went out at "),
+                    Piece::Number(m.moment),
+                    Piece::Word(", the maximum segment lifetime is "),
+                    Piece::Number(scene.header.msl),
+                ],
+            ),
+        },
+    }
+}
+
+fn copy_differs(out: &mut Vec<u8>, m: &Emission, wire: &Wire) -> Result<(), OutOfMemory> {
+    differ(out, "bytes", m.bytes.len() as u64, wire.bytes.len() as u64)?;
+    differ_bytes(out, m.bytes.as_slice(), wire.bytes.as_slice())?;
+    differences(out, m, wire)
+}

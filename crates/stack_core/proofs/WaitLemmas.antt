@@ -1,0 +1,48 @@
+-- A call that waits in what is kept waits in the whole world.
+use Rattle.std.proofs.Common.{◌≡◌, ◌≤◌, ℕ, Option, None, Some, ap, sym, ◌∙◌, subst, inl, inr}
+use Rattle.std.specs.Prelude.{◌-◌, max}
+use Rattle.std.specs.Option.{option_map, option_map_or}
+use Rattle.std.proofs.lemmas.Option.{none-some, slice_get-map}
+use Rattle.case_forms.specs.declared.calls.Call.{Call}
+use Rattle.case_forms.specs.declared.calls.Call.TheVariants as calls
+use Rattle.case_forms.specs.declared.calls.Answer.TheVariants as answers
+use Rattle.machine.specs.Bodies.{Body, thing_of}
+use Rattle.machine.specs.declared.endpoint.Endpoint.{Endpoint}
+use Rattle.machine.specs.declared.endpoint.Thing.{Thing}
+use Rattle.machine.specs.declared.endpoint.Thing.TheVariants.{Listens, Ends}
+use Rattle.machine.specs.Forgetting.{forget_body, forget_endpoint}
+use Rattle.machine_laws.proofs.ForgetCalls.{call_allows-forget}
+use Rattle.machine_laws.proofs.ForgetReads.{end_of-forget}
+use Rattle.stack_core.specs.Answers.{SendWaits, Waits, endpoint_named, thing_endpoint}
+use Rattle.stack_core.specs.CallEvents.{KeptNoAnswer, NoAnswer}
+use Rattle.stack_core.specs.Cores.{Core, own_body}
+
+named_forget : (b : Body) (n : ℕ) (e : Endpoint) → endpoint_named b n ≡ Some e → endpoint_named (forget_body b) n ≡ Some (forget_endpoint e)
+named_forget b n e = by (thing_of b n)
+  where
+    at : (t : Thing) → thing_endpoint b t ≡ Some e → thing_endpoint (forget_body b) t ≡ Some (forget_endpoint e)
+    at (Listens l) is = absurd (none-some e is)
+    at (Ends i) is = slice_get-map forget_endpoint b.endpoints i ∙ ap (option_map forget_endpoint) is
+
+    by : (o : Option Thing) → option_map_or (thing_endpoint b) o None ≡ Some e → option_map_or (thing_endpoint (forget_body b)) o None ≡ Some (forget_endpoint e)
+    by None is = absurd (none-some e is)
+    by (Some t) is = at t is
+
+send_waits : (ring : ℕ) (e : Endpoint) → SendWaits ring (forget_endpoint e) → SendWaits ring e
+send_waits ring e (inl early) = inl early
+send_waits ring e (inr full) = inr (subst (λ (n : ℕ). ring ≤ n - max e.stream.una 1) (end_of-forget e) full)
+
+waits_whole : (ring : ℕ) (b : Body) (call : Call) → Waits ring (forget_body b) call → Waits ring b call
+waits_whole ring b (calls.Send n bytes) waits = (sym (call_allows-forget b (calls.Send n bytes) answers.Again) ∙ waits.0, λ e is. send_waits ring e (waits.1 (forget_endpoint e) (named_forget b n e is)))
+waits_whole ring b (calls.Listen host port backlog) waits = (sym (call_allows-forget b (calls.Listen host port backlog) answers.Again) ∙ waits.0, tt)
+waits_whole ring b (calls.Connect host lport rport) waits = (sym (call_allows-forget b (calls.Connect host lport rport) answers.Again) ∙ waits.0, tt)
+waits_whole ring b (calls.Await n) waits = (sym (call_allows-forget b (calls.Await n) answers.Again) ∙ waits.0, tt)
+waits_whole ring b (calls.Accept n) waits = (sym (call_allows-forget b (calls.Accept n) answers.Again) ∙ waits.0, tt)
+waits_whole ring b (calls.Recv n most) waits = (sym (call_allows-forget b (calls.Recv n most) answers.Again) ∙ waits.0, tt)
+waits_whole ring b (calls.Shut n) waits = (sym (call_allows-forget b (calls.Shut n) answers.Again) ∙ waits.0, tt)
+waits_whole ring b (calls.Close n) waits = (sym (call_allows-forget b (calls.Close n) answers.Again) ∙ waits.0, tt)
+waits_whole ring b (calls.Abort n) waits = (sym (call_allows-forget b (calls.Abort n) answers.Again) ∙ waits.0, tt)
+waits_whole ring b (calls.Status n) waits = (sym (call_allows-forget b (calls.Status n) answers.Again) ∙ waits.0, tt)
+
+pub no_answer : (c : Core) (thread : ℕ) → KeptNoAnswer c thread → NoAnswer c thread
+no_answer c thread none call is = waits_whole c.ring (own_body c) call (none call is)

@@ -1,0 +1,140 @@
+//! Which positions were made again.
+//!
+//! A segment that is made again marks one range, however long it is and whatever stands before it. Ranges may overlap. They
+//! are found in order, and one that lies below all that may still be asked for is discarded, so each costs the logarithm of
+//! how many there are.
+
+ghost use Rattle.std.specs.List.{list_any};
+ghost use Rattle.std.specs.Prelude.{◌≡◌, ℕ, ◌<◌, ◌≤◌, ◌∷◌, ◌&&◌, ◌||◌, nat_le, nat_lt, true, false, IfNone, IfSome, OnOk, OnErr};
+ghost use Rattle.streams.specs.Marks.{AreRanges, IsBelow, in_ranges, is_marked};
+
+use std::alloc::{AllocError, Global};
+use std::collections::BTreeMap;
+
+/// The positions that were made again.
+#[derive(Drop)]
+pub(crate) struct Marks {
+    /// Where ranges of them begin, with the position behind each range. None begins below `floor`.
+    ranges: BTreeMap<u64, u64>,
+    /// All from here on and below `reached` were made again, too.
+    floor: u64,
+    reached: u64,
+}
+
+impl Marks {
+    /// No position was made again.
+    pub(crate) fn new(alloc: Global) -> Marks
+        ensures none { (position : ℕ) → is_marked result position ≡ false }
+        ensures below { IsBelow 0 result }
+    {
+        Marks {
+            ranges: BTreeMap::new(alloc),
+            floor: 0,
+            reached: 0,
+        }
+    }
+
+    /// The positions from `from` to before `upto` were made again. Where memory runs out none of them is marked.
+    pub(crate) fn add(&mut self, from: u64, upto: u64) -> Result<(), AllocError>
+        ensures marked { OnOk result ((position : ℕ) → is_marked self.new position
+            ≡ (is_marked self.old position || (nat_le from position && nat_lt position upto))) }
+        ensures err { OnErr result ((position : ℕ) → is_marked self.new position ≡ is_marked self.old position) }
+        ensures below { (end : ℕ) → upto ≤ end → IsBelow end self.old → IsBelow end self.new }
+    {
+        self.lower(from)?;
+        add_range(&mut self.ranges, from, upto)
+    }
+
+    // A range may begin at this position then. No position is marked or not any more.
+    fn lower(&mut self, from: u64) -> Result<(), AllocError>
+        ensures low { OnOk result (self.new.floor ≤ from) }
+        ensures same { (position : ℕ) → is_marked self.new position ≡ is_marked self.old position }
+        ensures below { (end : ℕ) → IsBelow end self.old → IsBelow end self.new }
+    {
+        if self.floor <= from {
+            return Ok(());
+        }
+        add_range(&mut self.ranges, self.floor, self.reached)?;
+        self.floor = 0;
+        self.reached = 0;
+        Ok(())
+    }
+
+    /// Whether one of the positions from `from` to before `upto` was made again.
+    pub(crate) fn meets(&self, from: u64, upto: u64) -> bool
+        requires { from < upto }
+        ensures found { result ≡ true → (end : ℕ) → IsBelow end self.now → (position : ℕ) × (from ≤ position) × (position < upto) ×
+            (position < end) × (is_marked self.now position ≡ true) }
+        ensures none { result ≡ false → (position : ℕ) → from ≤ position → position < upto → is_marked self.now position ≡ false }
+    {
+        from.max(self.floor) < upto.min(self.reached) || meet(&self.ranges, from, upto)
+    }
+
+    /// Those below a position are as if they had not been made again.
+    pub(crate) fn forget_below(&mut self, una: u64)
+        ensures { (end : ℕ) → IsBelow end self.old → IsBelow end self.new ×
+            ((position : ℕ) → is_marked self.new position ≡ (nat_le una position && is_marked self.old position)) }
+    {
+        if una <= self.floor {
+            return;
+        }
+        self.reached = drop_below(&mut self.ranges, una, self.reached);
+        self.floor = una;
+    }
+}
+
+// One range more, if it is not empty.
+fn add_range(ranges: &mut BTreeMap<u64, u64>, from: u64, upto: u64) -> Result<(), AllocError>
+    ensures added { OnOk result ((position : ℕ) → in_ranges ranges.new.entries position
+        ≡ (in_ranges ranges.old.entries position || (nat_le from position && nat_lt position upto))) }
+    ensures err { OnErr result (ranges.new.entries ≡ ranges.old.entries) }
+    ensures below { (floor end : ℕ) → floor ≤ from → upto ≤ end → AreRanges floor end ranges.old.entries → AreRanges floor end ranges.new.entries }
+{
+    if upto <= from {
+        return Ok(());
+    }
+    let old = ranges.get(&from).copied().unwrap_or(0);
+    ranges.insert(from, upto.max(old))?;
+    Ok(())
+}
+
+// Whether one of the ranges has a position from `from` to before `upto`.
+fn meet(ranges: &BTreeMap<u64, u64>, from: u64, upto: u64) -> bool
+    ensures { result ≡ list_any (λ e. nat_lt e.0 upto && nat_lt from e.1) ranges.now.entries }
+{
+    for (_, end) in ranges.range(..upto) {
+        if from < *end {
+            return true;
+        }
+    }
+    false
+}
+
+// The ranges that begin below a position are discarded. Answers how far they reach, and at least `reached`.
+fn drop_below(ranges: &mut BTreeMap<u64, u64>, una: u64, reached: u64) -> u64
+    ensures same { (position : ℕ) → una ≤ position → (in_ranges ranges.new.entries position || nat_lt position result)
+        ≡ (in_ranges ranges.old.entries position || nat_lt position reached) }
+    ensures below { (floor end : ℕ) → AreRanges floor end ranges.old.entries → reached ≤ end → AreRanges una end ranges.new.entries × (result ≤ end) }
+{
+    let mut far = reached;
+    while let Some(end) = pop_below(ranges, una) {
+        far = far.max(end);
+    }
+    far
+}
+
+// The first range is discarded, if it begins below a position. Answers its end.
+fn pop_below(ranges: &mut BTreeMap<u64, u64>, una: u64) -> Option<u64>
+    ensures popped { IfSome result (λ end. (start : ℕ) × (ranges.old.entries ≡ (start, end) ∷ ranges.new.entries) × (start < una)) }
+    ensures none { IfNone result ((floor end : ℕ) → AreRanges floor end ranges.old.entries → AreRanges una end ranges.old.entries) }
+    ensures same { IfNone result (ranges.new.entries ≡ ranges.old.entries) }
+{
+    let (start, _) = ranges.first_key_value()?;
+    if una <= *start {
+        return None;
+    }
+    match ranges.pop_first() {
+        Some((_, end)) => Some(end),
+        None => None,
+    }
+}

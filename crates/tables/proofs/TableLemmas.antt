@@ -1,0 +1,116 @@
+-- Entries and where they stand.
+use Rattle.std.proofs.Common.{◌≡◌, ℕ, zero, suc, ◌<◌, Bool, true, false, cond, List, [], ◌∷◌, ◌++◌, length, get_or, Option, None, Some, Result, Ok, Err, OnErr, refl, sym, ap, ◌∙◌, subst, arith, rules}
+use Rattle.std.proofs.lemmas.Bool.Decides.{nat_tests}
+use Rattle.std.specs.Prelude.{nat_eq, slice_set, if◌then◌else◌}
+use Rattle.std.specs.Map.{lookup}
+use Rattle.std.specs.Option.{option_map, option_flatten}
+use Rattle.std.specs.Ordering.{nat_cmp}
+use Rattle.std.specs.BTreeMap.{is_at}
+use Rattle.indexmap.specs.IndexMap.{insert_entry}
+use Rattle.tables.specs.Tables.{place_of, place_in}
+
+equal : (k n : ℕ) → nat_eq k n ≡ true → k ≡ n
+equal k n is = grind (arith, nat_tests, is)
+
+swapped : (k n : ℕ) → nat_eq n k ≡ nat_eq k n
+swapped k n = by (nat_eq k n) refl
+  where
+    by : (b : Bool) → nat_eq k n ≡ b → nat_eq n k ≡ b
+    by true is = grind (arith, nat_tests, is)
+    by false is = grind (arith, nat_tests, is)
+
+module _ {V : Type 0} (x : ℕ × V) (es : List (ℕ × V)) (k : ℕ) where
+  step : (b : Bool) → nat_eq k x.0 ≡ b → place_of (x ∷ es) k ≡ (if b then Some 0 else option_map (λ place. suc place) (place_of es k))
+  step b is = ap (λ (t : Bool). if t then Some 0 else option_map (λ place. suc place) (place_of es k)) is
+
+  first : place_of (x ∷ es) k ≡ Some 0 → nat_eq k x.0 ≡ true
+  first at = by (nat_eq k x.0) refl (place_of es k) refl
+    where
+      by : (b : Bool) → nat_eq k x.0 ≡ b → (o : Option ℕ) → place_of es k ≡ o → nat_eq k x.0 ≡ true
+      by true is o rest = is
+      by false is None rest = let none : place_of (x ∷ es) k ≡ None = rw (is, rest) refl in absurd cc
+      by false is (Some q) rest = let some : place_of (x ∷ es) k ≡ Some (suc q) = rw (is, rest) refl in absurd cc
+
+  later : (q : ℕ) → place_of (x ∷ es) k ≡ Some (suc q) → (nat_eq k x.0 ≡ false) × (place_of es k ≡ Some q)
+  later q at = by (nat_eq k x.0) refl (place_of es k) refl
+    where
+      by : (b : Bool) → nat_eq k x.0 ≡ b → (o : Option ℕ) → place_of es k ≡ o → (nat_eq k x.0 ≡ false) × (place_of es k ≡ Some q)
+      by true is o rest = let own : place_of (x ∷ es) k ≡ Some 0 = rw is refl in absurd cc
+      by false is None rest = let none : place_of (x ∷ es) k ≡ None = rw (is, rest) refl in absurd cc
+      by false is (Some p) rest = let some : place_of (x ∷ es) k ≡ Some (suc p) = rw (is, rest) refl in (is, cc)
+
+  nowhere : place_of (x ∷ es) k ≡ None → (nat_eq k x.0 ≡ false) × (place_of es k ≡ None)
+  nowhere at = by (nat_eq k x.0) refl (place_of es k) refl
+    where
+      by : (b : Bool) → nat_eq k x.0 ≡ b → (o : Option ℕ) → place_of es k ≡ o → (nat_eq k x.0 ≡ false) × (place_of es k ≡ None)
+      by true is o rest = let own : place_of (x ∷ es) k ≡ Some 0 = rw is refl in absurd cc
+      by false is None rest = (is, rest)
+      by false is (Some p) rest = let some : place_of (x ∷ es) k ≡ Some (suc p) = rw (is, rest) refl in absurd cc
+
+module _ {V : Type 0} where
+  -- a place is one of the list's
+  pub within : (es : List (ℕ × V)) (k p : ℕ) → place_of es k ≡ Some p → p < length es
+  within [] k p at = absurd cc
+  within (x ∷ es) k zero at = omega arith
+  within (x ∷ es) k (suc q) at = let rest : q < length es = within es k q (later x es k q at).1 in omega arith
+
+  -- what stands there is what is looked up
+  pub found : (es : List (ℕ × V)) (k p : ℕ) (e : ℕ × V) → place_of es k ≡ Some p → e ≡ get_or es p e → Some e.1 ≡ lookup (nat_eq k) es
+  found [] k p e at is = absurd cc
+  found (x ∷ es) k zero e at is = rw (first x es k at) (ap (λ (y : ℕ × V). Some y.1) is)
+  found (x ∷ es) k (suc q) e at is = let rest = later x es k q at in rw rest.0 (found es k q e rest.1 is)
+
+  -- where no entry has a place none is found
+  pub none_found : (es : List (ℕ × V)) (k : ℕ) → place_of es k ≡ None → lookup (nat_eq k) es ≡ None
+  none_found [] k at = refl
+  none_found (x ∷ es) k at = let rest = nowhere x es k at in rw rest.0 (none_found es k rest.1)
+
+  -- an entry that is there takes a value
+  pub set_is : (es : List (ℕ × V)) (k p : ℕ) (v : V) → place_of es k ≡ Some p → slice_set es p (k, v) ≡ insert_entry nat_eq es k v
+  set_is [] k p v at = absurd cc
+  set_is (x ∷ es) k zero v at = let own = first x es k at in rw own (ap (λ (n : ℕ). (n, v) ∷ es) (equal k x.0 own))
+  set_is (x ∷ es) k (suc q) v at = let rest = later x es k q at in rw rest.0 (ap (λ (ys : List (ℕ × V)). x ∷ ys) (set_is es k q v rest.1))
+
+  -- and all stay where they were
+  pub place_set : (es : List (ℕ × V)) (k p : ℕ) (v : V) → place_of es k ≡ Some p → (n : ℕ) → place_of es n ≡ place_of (slice_set es p (k, v)) n
+  place_set [] k p v at n = absurd cc
+  place_set (x ∷ es) k zero v at n = ap (λ (m : ℕ). if nat_eq n m then Some 0 else option_map (λ place. suc place) (place_of es n)) (sym (equal k x.0 (first x es k at)))
+  place_set (x ∷ es) k (suc q) v at n = ap (λ (o : Option ℕ). if nat_eq n x.0 then Some 0 else option_map (λ place. suc place) o) (place_set es k q v (later x es k q at).1 n)
+
+  -- a new entry goes last
+  pub push_is : (es : List (ℕ × V)) (k : ℕ) (v : V) → place_of es k ≡ None → es ++ (k, v) ∷ [] ≡ insert_entry nat_eq es k v
+  push_is [] k v at = refl
+  push_is (x ∷ es) k v at = let rest = nowhere x es k at in rw rest.0 (ap (λ (ys : List (ℕ × V)). x ∷ ys) (push_is es k v rest.1))
+
+  -- and stands there
+  pub place_push : (es : List (ℕ × V)) (k : ℕ) (v : V) → place_of es k ≡ None → (n : ℕ) → cond (nat_eq k n) (Some (length es)) (place_of es n) ≡ place_of (es ++ (k, v) ∷ []) n
+  place_push [] k v at n = by (nat_eq k n) refl
+    where
+      by : (b : Bool) → nat_eq k n ≡ b → cond (nat_eq k n) (Some 0) None ≡ place_of ((k, v) ∷ []) n
+      by true is = rw (swapped k n, is) refl
+      by false is = rw (swapped k n, is) refl
+  place_push (x ∷ es) k v at n = by (nat_eq k n) refl (nowhere x es k at).0 (place_push es k v (nowhere x es k at).1 n)
+    where
+      by : (b : Bool) → nat_eq k n ≡ b → nat_eq k x.0 ≡ false → cond (nat_eq k n) (Some (length es)) (place_of es n) ≡ place_of (es ++ (k, v) ∷ []) n
+          → cond (nat_eq k n) (Some (length (x ∷ es))) (place_of (x ∷ es) n) ≡ place_of (x ∷ es ++ (k, v) ∷ []) n
+      by true is apart rest =
+          let other : nat_eq n x.0 ≡ false = subst (λ (m : ℕ). nat_eq m x.0 ≡ false) (equal k n is) apart in
+          rw (is, other) (ap (option_map (λ (place : ℕ). suc place)) (rw is at rest))
+      by false is apart rest = rw is (ap (λ (o : Option ℕ). if nat_eq n x.0 then Some 0 else option_map (λ place. suc place) o) (rw is at rest))
+
+at_is : (n k : ℕ) → is_at (nat_cmp n) k ≡ nat_eq n k
+at_is n k = search rules
+
+-- a number is led to one more place
+pub led : (old new : List (ℕ × Option ℕ)) (k : ℕ) (to : Option ℕ) → ((q : ℕ) → lookup (is_at (nat_cmp q)) new ≡ cond (is_at (nat_cmp k) q) (Some to) (lookup (is_at (nat_cmp q)) old))
+    → (n : ℕ) → place_in new n ≡ cond (nat_eq k n) to (place_in old n)
+led old new k to updates n = ap (λ (o : Option (Option ℕ)). option_flatten o) (updates n) ∙ by (nat_eq k n) refl
+  where
+    by : (b : Bool) → nat_eq k n ≡ b → option_flatten (cond (is_at (nat_cmp k) n) (Some to) (lookup (is_at (nat_cmp n)) old)) ≡ cond (nat_eq k n) to (place_in old n)
+    by true is = rw (at_is k n, is) refl
+    by false is = rw (at_is k n, is) refl
+
+-- what holds in any case holds of an error
+pub on_err : {A E : Type 0} {P : Type 0} (r : Result A E) → P → OnErr r P
+on_err (Ok x) p = tt
+on_err (Err e) p = p

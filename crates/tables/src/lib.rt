@@ -1,0 +1,11 @@
+//! Tables by numbers that a text chooses.
+//!
+//! An entry is found in the logarithm of their number, whatever the numbers are: a table with hashes would let a text choose
+//! numbers that collide. Entries stay in the order in which they were added.
+//!
+//! - `table`: a table by 32-bit numbers
+#![tactic(auto)]
+
+mod table;
+
+pub use table::Table;

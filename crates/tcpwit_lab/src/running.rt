@@ -1,0 +1,124 @@
+//! What the program does with its words, its reader and its writer.
+
+ghost use Rattle.std.specs.Prelude.{◌<◌, ◌^◌};
+ghost use Rattle.counted.specs.Counting.{failures_of};
+
+use counted::{Counted, ReadFault};
+use explaining::{Range, draw, explain, fault_line, show};
+use lab::find;
+use line_fields::{FaultKind, TextFault};
+use std::alloc::Global;
+use std::io::{BufRead, Write};
+
+// Done.
+const DONE: u8 = 0;
+// The text is refused.
+const REFUSED: u8 = 2;
+// The words ask for nothing that the program does.
+const USAGE: u8 = 3;
+// Memory ran out.
+const MEMORY: u8 = 4;
+// A read or a write failed.
+const DEVICE: u8 = 5;
+
+/// Does what the words behind the program's name ask for, and answers the status: 0 where it is done, 2 where the text is
+/// refused, 3 where the words are none of the program's, 4 where memory ran out, and 5 where a read or a write failed.
+pub(crate) fn run<R: BufRead, W: Write>(
+    alloc: Global,
+    words: &[&str],
+    r: &mut Counted<R>,
+    w: &mut Counted<W>,
+) -> u8
+    requires { (failures_of r.old < 2 ^ 50) × (failures_of w.old < 2 ^ 50) }
+{
+    let Some(asked) = asked_by(words) else {
+        return say(w, b"bad usage\n", USAGE);
+    };
+    let mut text = Vec::new(alloc);
+    match r.append_all(&mut text) {
+        Ok(()) => answer(alloc, asked, text.as_slice(), w),
+        Err(ReadFault::Read) => say(w, b"bad device\n", DEVICE),
+        Err(ReadFault::OutOfMemory) => say(w, b"bad memory\n", MEMORY),
+    }
+}
+
+// What the words ask for.
+#[derive(Clone, Copy)]
+enum Asked {
+    Find,
+    Explain,
+    Show,
+    Draw(Range),
+}
+
+// What the words ask for. None: nothing that the program does.
+fn asked_by(words: &[&str]) -> Option<Asked> {
+    match words {
+        [word] => match *word {
+            "find" => Some(Asked::Find),
+            "explain" => Some(Asked::Explain),
+            "show" => Some(Asked::Show),
+            "draw" => Some(Asked::Draw(Range {
+                from: None,
+                to: None,
+            })),
+            _ => None,
+        },
+        [word, options @ ..] if *word == "draw" => Some(Asked::Draw(range_of(options)?)),
+        _ => None,
+    }
+}
+
+// The lines that `--from N`, `--to M` or both ask for.
+fn range_of(options: &[&str]) -> Option<Range> {
+    match options {
+        [name, value] if *name == "--from" => Some(Range {
+            from: Some(value.parse::<u64>().ok()?),
+            to: None,
+        }),
+        [name, value] if *name == "--to" => Some(Range {
+            from: None,
+            to: Some(value.parse::<u64>().ok()?),
+        }),
+        [name, from, other, to] if *name == "--from" && *other == "--to" => Some(Range {
+            from: Some(from.parse::<u64>().ok()?),
+            to: Some(to.parse::<u64>().ok()?),
+        }),
+        _ => None,
+    }
+}
+
+// Does what is asked for with a text.
+fn answer<W: Write>(alloc: Global, asked: Asked, text: &[u8], w: &mut Counted<W>) -> u8 {
+    match asked {
+        Asked::Find => tell(alloc, find(alloc, text), w),
+        Asked::Show => tell(alloc, show(alloc, text), w),
+        Asked::Draw(range) => tell(alloc, draw(alloc, text, range), w),
+        Asked::Explain => match explain(alloc, text) {
+            Ok(said) => say(w, said.text.as_slice(), said.status),
+            Err(_) => say(w, b"bad memory\n", MEMORY),
+        },
+    }
+}
+
+// Writes a case, or the fault of its trace.
+fn tell<W: Write>(alloc: Global, case: Result<Vec<u8>, TextFault>, w: &mut Counted<W>) -> u8 {
+    match case {
+        Ok(text) => say(w, text.as_slice(), DONE),
+        Err(fault) => match fault.kind {
+            FaultKind::OutOfMemory => say(w, b"bad memory\n", MEMORY),
+            _ => match fault_line(alloc, "bad trace ", &fault) {
+                Ok(line) => say(w, line.as_slice(), REFUSED),
+                Err(_) => say(w, b"bad memory\n", MEMORY),
+            },
+        },
+    }
+}
+
+// Writes a text, and answers this status, or 5 where the writer failed.
+fn say<W: Write>(w: &mut Counted<W>, text: &[u8], status: u8) -> u8 {
+    if w.write_all(text).is_err() || w.flush().is_err() {
+        return DEVICE;
+    }
+    status
+}

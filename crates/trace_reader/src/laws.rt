@@ -1,0 +1,21 @@
+//! What the reader answers is the first fault.
+
+ghost use Rattle.std.specs.Prelude.{◌≡◌, ◌↔◌, ℕ, List, Err};
+ghost use Rattle.case_forms.specs.declared.version.Version.{Version};
+ghost use Rattle.line_fields.specs.declared.fault.TextFault.{TextFault};
+ghost use Rattle.trace_reader.specs.EventLines.{Place, behind, line_of};
+ghost use Rattle.line_fields.specs.Folding.{read_lines};
+ghost use Rattle.trace_reader.specs.EventForms.{IsLineFault, IsEventsFault};
+
+/// An event line is read with this fault exactly where it is its first one: that of the line as a whole, or else that of the first
+/// field that doesn't fit the form of an event line.
+pub fn event_line_faults()
+    ensures { (v : Version) (place : Place) (raw : List ℕ) (e : TextFault) → (line_of v place raw ≡ Err e) ↔ IsLineFault v place raw e }
+{}
+
+/// Event lines from a place on are read with this fault exactly where it is the first fault of the first of them that has one, and
+/// those before it are spelled as event lines.
+pub fn first_event_fault()
+    ensures { (v : Version) (place : Place) (raws : List (List ℕ)) (e : TextFault) → (read_lines (line_of v) behind place raws ≡ Err e)
+        ↔ IsEventsFault v place raws e }
+{}

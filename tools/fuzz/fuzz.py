@@ -1,0 +1,173 @@
+#!/usr/bin/env python3
+"""Changes case files and compares what several ways of checking answer.
+
+    fuzz.py PROGRAM CASES [--changes N] [--seed S] [--other CHECKER] [--jobs N]
+
+PROGRAM is the built `tcpwit`, CASES the folder of the case files. Each change takes a case file and alters bytes, fields, lines or
+numbers (near limits), once to four times. The changed cases are answered by `many` in batches, each by `check`, and each cut into
+two files by `check --trace --witness` where it can be cut; with --other also by a second checker, which reads a case on standard
+input and prints the same line. All lines have to be equal. What differs is printed with the seed of the change, and the case is
+written beside it to `differing/`. The last line has the counts; the exit status is 1 where anything differed.
+"""
+import argparse
+import concurrent.futures
+import os
+import random
+import subprocess
+import sys
+import tempfile
+
+LIMITS = [0, 1, 2, 7, 14, 15, 536, 1095, 1096, 2190, 2191, 65515, 65516, 65535, 65536, 2**31 - 1, 2**31, 2**32 - 1, 2**32,
+          10**12, 10**12 + 1, 10**18, 10**18 + 1, 2**63, 2**64 - 1, 2**64]
+
+
+def changed_number(text, random_):
+    """A number near the old one, or near a limit."""
+    if not text.isdigit():
+        return text
+    value = random_.choice([int(text[:20]) + random_.choice([-2, -1, 1, 2, 10, 1000]), random_.choice(LIMITS)])
+    return (b"-%d" % -value) if value < 0 else b"%d" % value
+
+
+def changed_field(line, random_):
+    fields = line.split(b" ")
+    place = random_.randrange(len(fields))
+    kind = random_.randrange(6)
+    if kind <= 2:
+        fields[place] = changed_number(fields[place], random_)
+    elif kind == 3:
+        del fields[place]
+    elif kind == 4:
+        fields.insert(place, random_.choice(fields))
+    else:
+        other = random_.randrange(len(fields))
+        fields[place], fields[other] = fields[other], fields[place]
+    return b" ".join(fields)
+
+
+def changed_bytes(text, random_):
+    place = random_.randrange(len(text) + 1)
+    kind = random_.randrange(4)
+    byte = bytes([random_.choice(b"0123456789 \n\rabcdefABILEOTDMKRFS\x00\xff")])
+    if kind == 0:
+        return text[:place] + byte + text[place:]
+    if kind == 1:
+        return text[:place] + text[place + 1:]
+    if kind == 2:
+        return text[:place] + byte + text[place + 1:]
+    return text[:place]
+
+
+def changed_lines(lines, random_):
+    place = random_.randrange(len(lines))
+    kind = random_.randrange(8)
+    if kind <= 4:
+        lines[place] = changed_field(lines[place], random_)
+    elif kind == 5:
+        del lines[place]
+    elif kind == 6:
+        lines.insert(place, random_.choice(lines))
+    else:
+        other = random_.randrange(len(lines))
+        lines[place], lines[other] = lines[other], lines[place]
+    return lines
+
+
+def changed(text, random_):
+    for _ in range(random_.randint(1, 4)):
+        if random_.random() < 0.15 or not text:
+            text = changed_bytes(text, random_)
+        else:
+            text = b"\n".join(changed_lines(text.split(b"\n"), random_))
+    return text
+
+
+def answer(words, text):
+    done = subprocess.run(words, input=text, capture_output=True, timeout=60)
+    return done.stdout + done.stderr
+
+
+def cut(text):
+    """The trace and the witness of a case, where a line begins the witness."""
+    lines = text.split(b"\n")
+    first = lines[0].removesuffix(b"\r") if len(lines) > 1 else b""
+    version = first[6:] if first in (b"trace 2", b"trace 3") else b"1"
+    place = 0
+    for line in lines[:-1]:
+        if line.removesuffix(b"\r") == b"witness " + version:
+            return text[:place], text[place:]
+        place += len(line) + 1
+    return None
+
+
+def by_files(program, text, folder, name):
+    parts = cut(text)
+    if parts is None:
+        return None
+    paths = [os.path.join(folder, name + end) for end in (".trace", ".witness")]
+    for path, part in zip(paths, parts):
+        with open(path, "wb") as file:
+            file.write(part)
+    return answer([program, "check", "--trace", paths[0], "--witness", paths[1]], b"")
+
+
+def compared(words, seed, text, many_line, folder):
+    """The answers to one changed case, where they differ."""
+    found = {"many": many_line, "check": answer([words.program, "check"], text)}
+    two = by_files(words.program, text, folder, str(seed))
+    if two is not None:
+        found["two files"] = two
+    if words.other:
+        found["other"] = answer([words.other], text)
+    return found if len(set(found.values())) > 1 else None
+
+
+def batch(words, cases, first, count, folder):
+    """Compares `count` changes, the seeds from `first` on: those that differ, and how many were yes or no."""
+    texts = []
+    for seed in range(first, first + count):
+        random_ = random.Random(seed)
+        texts.append(changed(random_.choice(cases), random_))
+    usable = [not any(line.removesuffix(b"\r") == b"end" for line in text.split(b"\n")) for text in texts]
+    joined = b"".join(text + (b"" if text.endswith(b"\n") or not text else b"\n") + b"end\n" for text in texts)
+    lines = answer([words.program, "many", "--workers", "2"], joined).splitlines(keepends=True) if all(usable) else [None] * count
+    differing, judged = [], 0
+    for seed, text, line in zip(range(first, first + count), texts, lines):
+        # a text without an end of its last line gets one in the joined input, so `many` answers another text
+        alone = line if line is not None and (text.endswith(b"\n") or not text) else answer([words.program, "check"], text)
+        judged += alone[:3] in (b"yes", b"no ")
+        found = compared(words, seed, text, alone, folder)
+        if found:
+            differing.append((seed, text, found))
+    return differing, judged
+
+
+def main():
+    words = argparse.ArgumentParser(description=__doc__.splitlines()[0])
+    words.add_argument("program")
+    words.add_argument("cases")
+    words.add_argument("--changes", type=int, default=100_000)
+    words.add_argument("--seed", type=int, default=1)
+    words.add_argument("--other")
+    words.add_argument("--jobs", type=int, default=os.cpu_count())
+    words = words.parse_args()
+    words.program = os.path.abspath(words.program)
+    cases = [open(os.path.join(root, file), "rb").read() for root, _, files in os.walk(words.cases) for file in sorted(files) if file.endswith(".case")]
+    size = 50
+    firsts = range(words.seed, words.seed + words.changes, size)
+    wrong = judged = 0
+    with tempfile.TemporaryDirectory() as folder, concurrent.futures.ThreadPoolExecutor(words.jobs) as pool:
+        for differing, counted in pool.map(lambda first: batch(words, cases, first, size, folder), firsts):
+            judged += counted
+            for seed, text, found in differing:
+                wrong += 1
+                os.makedirs("differing", exist_ok=True)
+                with open(f"differing/{seed}.case", "wb") as file:
+                    file.write(text)
+                print(seed, found, flush=True)
+    print(f"{len(firsts) * size} changes, {judged} of them answered yes or no, {wrong} differing")
+    sys.exit(1 if wrong else 0)
+
+
+if __name__ == "__main__":
+    main()

@@ -1,0 +1,160 @@
+#!/usr/bin/env python3
+"""Runs the built program while memory is refused, and says of each run whether its answer is one that may be given.
+
+    sweep.py PROGRAM CASES [--most N] [--jobs N]
+
+PROGRAM is the built `tcpwit`, CASES the folder of the case files with its `expected.txt`. `refuse.c` beside this script is
+built with `cc` and put before the program by LD_PRELOAD. Each command runs once with nothing refused, which tells how often
+it asks for memory (at most N times are then refused one by one, the default being 4000, evenly spread). Then memory is
+refused at the n-th call alone, at the n-th and all later ones, at every 2nd, 3rd and 7th, and at all of 2^k bytes and more.
+
+An answer is right where it is the answer without refusal, or the line `bad memory` with status 4. Of many cases each line may
+also be `bad memory` by itself, with status 4. What `record` writes has to be answered yes by `check`. Anything else (another line, a signal, a word on standard error, a run of more
+than 60 seconds) is wrong and is printed. The last line has the counts; the exit status is 1 where any run was wrong.
+"""
+import argparse
+import concurrent.futures
+import os
+import subprocess
+import sys
+import tempfile
+
+HERE = os.path.dirname(os.path.abspath(__file__))
+BAD_MEMORY = b"bad memory\n"
+
+
+def built_library(folder):
+    library = os.path.join(folder, "refuse.so")
+    subprocess.run(["cc", "-O2", "-Wall", "-shared", "-fPIC", "-o", library, os.path.join(HERE, "refuse.c")], check=True)
+    return library
+
+
+def run(program, library, command, environment):
+    """The answer of one run: (output, error output, status), or None where it took too long."""
+    words, text = command
+    surroundings = {"PATH": os.environ.get("PATH", ""), "LD_PRELOAD": library, **environment}
+    try:
+        done = subprocess.run([program, *words], input=text, capture_output=True, env=surroundings, timeout=60)
+    except subprocess.TimeoutExpired:
+        return None
+    return done.stdout, done.stderr, done.returncode
+
+
+def is_right(answer, wanted):
+    """Whether an answer may be given where `wanted` is the one without refusal."""
+    if answer is None:
+        return False
+    output, error, status = answer
+    if error:
+        return False
+    if (output, status) == wanted or (output, status) == (BAD_MEMORY, 4):
+        return True
+    found, lines = output.splitlines(), wanted[0].splitlines()
+    pairs = list(zip(found, lines))
+    return (
+        len(lines) > 1
+        and len(found) == len(lines)
+        and status == 4
+        and all(line in (own, BAD_MEMORY.strip()) for line, own in pairs)
+    )
+
+
+def is_recorded(program, answer):
+    """Whether what was recorded explains itself, or memory ran out: a recording differs from run to run."""
+    if answer is None or answer[1]:
+        return False
+    if (answer[0], answer[2]) == (BAD_MEMORY, 4):
+        return True
+    judged = subprocess.run([program, "check"], input=answer[0], capture_output=True)
+    return answer[2] in (0, 1) and judged.stdout.startswith(b"yes ")
+
+
+def commands(cases, folder):
+    """The commands that are swept: a name, and the words with the standard input."""
+    expected = dict(line.rstrip("\n").split("\t") for line in open(os.path.join(cases, "expected.txt")))
+
+    def text(name):
+        with open(os.path.join(cases, name + ".case"), "rb") as file:
+            return file.read()
+
+    names = ["examples/handshake_and_five_bytes", "examples/two_threads", "worked-second-child-with-extra-1",
+             "worked-five-thousand-bytes-past-the-congestion-window", "text-a-fault-of-the-trace-before-one-of-the-witness"]
+    names = [name for name in names if name in expected]
+    found = {}
+    for name in names:
+        found["check " + name] = (["check"], text(name)), expected[name]
+    for name in names[:2]:
+        trace, witness = text(name).split(b"witness ", 1)
+        paths = os.path.join(folder, "trace"), os.path.join(folder, "witness")
+        paths = tuple(path + str(len(found)) for path in paths)
+        for path, part in zip(paths, (trace, b"witness " + witness)):
+            with open(path, "wb") as file:
+                file.write(part)
+        found["two files " + name] = (["check", "--trace", paths[0], "--witness", paths[1]], b""), expected[name]
+    joined = b"".join(text(name) + b"end\n" for name in names[:3])
+    lines = "\n".join(expected[name] for name in names[:3])
+    for workers in ("1", "2", "8"):
+        found["many " + workers] = (["many", "--workers", workers], joined), lines
+    hex_text = "00500fa000000064ffffffff6012ffff00000000020403e8"
+    found["segment"] = (["segment", hex_text], b""), "src 80 dst 4000 seq 100 ack 4294967295 flags AS wnd 65535 mss 1000 len 0 first 101"
+    found["segment of no hex"] = (["segment", "x"], b""), "bad segment hex"
+    found["usage"] = (["chck"], b""), "bad usage"
+    for rounds, lose in (("2", "3"), ("3", "0")):
+        found[f"record {rounds} {lose}"] = (["record", "--rounds", rounds, "--lose", lose], b""), None
+    return found
+
+
+def refusals(count, most):
+    """What is refused in turn, as environments."""
+    step = max(1, (count + most) // most)
+    for n in range(1, count + 3, step):
+        yield {"REFUSE_AT": str(n)}
+        yield {"REFUSE_FROM": str(n)}
+    for n in (2, 3, 7):
+        yield {"REFUSE_EVERY": str(n)}
+    for power in range(0, 25):
+        yield {"REFUSE_SIZE": str(2**power)}
+
+
+def swept(program, library, name, command, line, most, folder, pool):
+    """The runs of one command and those that were wrong, as texts."""
+    counts = os.path.join(folder, "count")
+    plain = run(program, library, command, {"REFUSE_COUNT": counts})
+    if plain is None or plain[1] or (line is not None and plain[0].decode() != line + "\n"):
+        return 1, [f"{name}: without refusal {plain}"]
+    with open(counts) as file:
+        count = int(file.read())
+    wanted = plain[0], plain[2]
+    asked = list(refusals(count, most))
+    answers = pool.map(lambda environment: run(program, library, command, environment), asked)
+    is_fine = (lambda answer: is_recorded(program, answer)) if name.startswith("record") else (lambda answer: is_right(answer, wanted))
+    wrong = [f"{name} {environment}: {answer}" for environment, answer in zip(asked, answers) if not is_fine(answer)]
+    print(f"{name}: {count} allocations, {len(asked)} runs, {len(wrong)} wrong", flush=True)
+    return len(asked) + 1, wrong
+
+
+def main():
+    words = argparse.ArgumentParser(description=__doc__.splitlines()[0])
+    words.add_argument("program")
+    words.add_argument("cases")
+    words.add_argument("--most", type=int, default=4000)
+    words.add_argument("--jobs", type=int, default=os.cpu_count())
+    words = words.parse_args()
+    program = os.path.abspath(words.program)
+    runs, wrong = 0, []
+    with tempfile.TemporaryDirectory() as folder, concurrent.futures.ThreadPoolExecutor(words.jobs) as pool:
+        library = built_library(folder)
+        for name, (command, line) in commands(words.cases, folder).items():
+            if name.startswith("record") and run(program, library, command, {})[0] == b"bad usage\n":
+                print(f"{name}: this program has no such word")
+                continue
+            done, failed = swept(program, library, name, command, line, words.most, folder, pool)
+            runs, wrong = runs + done, wrong + failed
+    for text in wrong:
+        print(text)
+    print(f"{runs} runs, {len(wrong)} wrong")
+    sys.exit(1 if wrong else 0)
+
+
+if __name__ == "__main__":
+    main()
