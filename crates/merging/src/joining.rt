@@ -1,8 +1,9 @@
 //! Two hosts' recordings, merged.
 
-ghost use Rattle.std.specs.Prelude.{◌≡◌, ◌≤◌, ◌+◌, IfOk, IfErr};
+ghost use Rattle.std.specs.Prelude.{◌≡◌, ◌≤◌, ◌+◌, false, IfOk, IfErr};
 ghost use Rattle.case_forms.specs.declared.calls.Host.TheVariants.{Zero, One};
 ghost use Rattle.case_forms.specs.Traces.{first_event_line};
+ghost use Rattle.case_forms.specs.Versions.{is_half};
 ghost use Rattle.recordings.specs.Recordings.{merged};
 ghost use Rattle.stack_core.specs.Entries.{steps_in};
 ghost use Rattle.checker.specs.Explains.{Explains};
@@ -76,7 +77,8 @@ fn tell(alloc: Global, zero: &Recording, one: &Recording) -> Result<Recorded, Ou
     })
 }
 
-/// The recordings of host 0 and of host 1, merged in the order of their keys, with lines and made segments counted anew.
+/// The recordings of host 0 and of host 1 in a whole case, merged in the order of their keys, with lines and made segments
+/// counted anew.
 pub fn merge_recordings(
     alloc: Global,
     zero: &Recording,
@@ -84,6 +86,7 @@ pub fn merge_recordings(
 ) -> Result<Recorded, MergeFault>
     requires hosts { (zero.now.me ≡ Zero) × (one.now.me ≡ One) }
     requires headers { zero.now.header ≡ one.now.header }
+    requires whole { is_half zero.now.header.version ≡ false }
     requires few { steps_in zero.now.entries + steps_in one.now.entries ≤ 100000000 }
     requires above { AllAbove zero.now.entries × AllAbove one.now.entries }
     ensures header { IfOk result (λ r. r.trace.header ≡ zero.now.header) }
