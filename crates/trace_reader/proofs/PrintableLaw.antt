@@ -1,5 +1,5 @@
 -- A trace is printed as a text that stands for it, with its spans, exactly where it is within the limits.
-use Rattle.std.proofs.Common.{◌≡◌, ◌≤◌, ◌<◌, ◌+◌, ◌^◌, ℕ, List, [], ◌∷◌, ◌++◌, length, take, get_or, suc, Result, Ok, refl, sym, ap, subst, ◌∙◌, inl, arith}
+use Rattle.std.proofs.Common.{◌≡◌, ◌≤◌, ◌<◌, ◌+◌, ◌^◌, ℕ, List, [], ◌∷◌, ◌++◌, length, take, get_or, suc, refl, sym, ap, subst, ◌∙◌, inl, arith}
 use Rattle.std.specs.Prelude.{map, codes}
 use Rattle.std.specs.Fmt.{decimal}
 use Rattle.std.specs.List.{AllByRecursion}
@@ -8,7 +8,7 @@ use Rattle.std.proofs.lemmas.List.Folds.{concat-append}
 use Rattle.case_forms.specs.declared.trace.Header.{Header}
 use Rattle.case_forms.specs.declared.trace.Line.{Line}
 use Rattle.case_forms.specs.declared.trace.Trace.{Trace}
-use Rattle.case_forms.specs.Traces.{IsRecorded, IsTrace}
+use Rattle.case_forms.specs.Traces.{IsRecorded}
 use Rattle.line_fields.specs.Lines.{IsLine}
 use Rattle.line_fields.specs.Folding.{AreSpelled}
 use Rattle.line_fields.specs.Spelling.{printed, printed_line, joined, piece_texts}
