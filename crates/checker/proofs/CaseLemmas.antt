@@ -18,7 +18,7 @@ use Rattle.checker.specs.declared.case.CaseFault.{CaseFault}
 use Rattle.checker.specs.Cases.{cut_place, trace_part, witness_part, judged, case_of, case_result, GivesCase}
 use Rattle.checker.specs.Texts.{GivesTexts, texts_result, witness_behind}
 
-concat_both : (xs ys : List (List ℕ)) → concat (xs ++ ys) ≡ concat xs ++ concat ys
+pub concat_both : (xs ys : List (List ℕ)) → concat (xs ++ ys) ≡ concat xs ++ concat ys
 concat_both [] ys = refl
 concat_both (x ∷ xs) ys = ap (λ (zs : List ℕ). x ++ zs) (concat_both xs ys) ∙ sym (append_assoc x (concat xs) (concat ys))
 
@@ -28,7 +28,7 @@ module _ (v : Version) where
   abbrev pub AreTraceLines : List (List ℕ) → Type 0
   AreTraceLines raws = AllByRecursion (λ raw. begins_witness v raw ≡ false) raws
 
-  place_found : (front : List (List ℕ)) (raw : List ℕ) (rest : List (List ℕ)) → AreTraceLines front → begins_witness v raw ≡ true → cut_place v (front ++ raw ∷ rest) ≡ length front
+  pub place_found : (front : List (List ℕ)) (raw : List ℕ) (rest : List (List ℕ)) → AreTraceLines front → begins_witness v raw ≡ true → cut_place v (front ++ raw ∷ rest) ≡ length front
   place_found [] raw rest none begins = rw begins refl
   place_found (r ∷ front) raw rest none begins = rw none.0 (let there : cut_place v (front ++ raw ∷ rest) ≡ length front = place_found front raw rest none.1 begins in omega arith)
 
@@ -77,7 +77,7 @@ module _ (v : Version) where
       (ap (take at) all ∙ take_at (concat c.front) (concat left) at (sym c.here), ap (drop at) all ∙ drop_at (concat c.front) (concat left) at (sym c.here))
 
   -- the parts, where the place of the cut is known
-  parts_at : (text : List ℕ) (front left : List (List ℕ)) → front ++ left ≡ lines_of text → cut_place v (front ++ left) ≡ length front → (trace_part v text ≡ concat front) × (witness_part v text ≡ concat left)
+  pub parts_at : (text : List ℕ) (front left : List (List ℕ)) → front ++ left ≡ lines_of text → cut_place v (front ++ left) ≡ length front → (trace_part v text ≡ concat front) × (witness_part v text ≡ concat left)
   parts_at text front left lines place =
       let same : cut_place v (lines_of text) ≡ length front = ap (cut_place v) (sym lines) ∙ place in (
         ap (λ (n : ℕ). concat (take n (lines_of text))) same ∙ ap (λ (raws : List (List ℕ)). concat (take (length front) raws)) (sym lines) ∙ ap concat (take_at front left (length front) refl),

@@ -21,3 +21,5 @@ pub mod SocketLemmas
 pub mod PortRuns
 pub mod PortLemmas
 pub mod StreamLemmas
+pub mod StepSpans
+pub mod PrintedLemmas

@@ -1,15 +1,21 @@
 //! What a yes means for every trace and every witness.
 
-ghost use Rattle.std.specs.Prelude.{◌≡◌, ◌<◌, ◌↔◌, ℕ, List, Some, length, take};
+ghost use Rattle.std.specs.Prelude.{◌≡◌, ◌<◌, ◌↔◌, ℕ, List, ◌++◌, Some, Ok, length, map, take};
 ghost use Rattle.case_forms.specs.declared.trace.Line.{Line};
 ghost use Rattle.case_forms.specs.declared.trace.Trace.{Trace};
 ghost use Rattle.case_forms.specs.declared.steps.Witness.{Witness};
 ghost use Rattle.case_forms.specs.Traces.{line_at};
 ghost use Rattle.trace_reader.specs.TraceText.{IsTraceText};
 ghost use Rattle.trace_reader.specs.Printed.{trace_text};
+ghost use Rattle.trace_reader.specs.Printable.{IsPrintableTrace};
+ghost use Rattle.witness.specs.WitnessText.{IsWitnessText};
+ghost use Rattle.witness.specs.Printed.{witness_text, without_span};
+ghost use Rattle.witness.specs.Printable.{IsPrintableWitness};
+ghost use Rattle.verdict.specs.declared.report.Verdict.{Verdict};
 ghost use Rattle.verdict.specs.declared.report.Verdict.TheVariants.{Yes};
 ghost use Rattle.interval_order.specs.Placed.{Precedes, TakesAt};
 ghost use Rattle.checker.specs.Seen.{moves};
+ghost use Rattle.checker.specs.Cases.{case_result};
 ghost use Rattle.checker.specs.Verdicts.{verdict};
 ghost use Rattle.checker.specs.Explains.{Explains, IsYes};
 ghost use Rattle.checker.specs.Peers.{AllPeersAreMet, EachPeerWasMet};
@@ -123,4 +129,22 @@ pub fn verdict_when_read_again()
 /// A trace may have two witnesses that are both answered yes, with their hidden steps in another order.
 pub fn two_witnesses_of_one_trace()
     ensures { (t : Trace) × (v : Witness) × (w : Witness) × HaveTwo t v w }
+{}
+
+/// A text that stands for a trace and one that stands for a witness of its version, one behind the other, are a case with
+/// their verdict.
+pub fn printed_case()
+    ensures texts { (t : Trace) (w : Witness) (first second : List ℕ) → t.header.version ≡ w.version → IsTraceText t first →
+        IsWitnessText w second → case_result (first ++ second) ≡ Ok (verdict t w) }
+
+    // So are the texts that are printed, wherever the spans of lines and steps are.
+    ensures printed { (t : Trace) (w : Witness) → t.header.version ≡ w.version → IsPrintableTrace t → IsPrintableWitness w →
+        case_result (trace_text t ++ witness_text w) ≡ Ok (verdict t w) }
+
+    // What explains itself is printed as a case that is answered yes.
+    ensures yes { (t : Trace) (w : Witness) → t.header.version ≡ w.version → IsPrintableTrace t → IsPrintableWitness w →
+        Explains t w → (v : Verdict) × (case_result (trace_text t ++ witness_text w) ≡ Ok v) × IsYes v }
+
+    // Where steps stand in their text is no matter.
+    ensures spans { (t : Trace) (v w : Witness) → map without_span v.steps ≡ map without_span w.steps → verdict t v ≡ verdict t w }
 {}

@@ -15,16 +15,18 @@
 //! - `steps`: the rest of a witness, which is read for its faults alone
 //! - `two_texts`: a case in two texts, judged while they are read
 //! - `case`: a case in one text, which is cut and judged by the same reading
+//! - `printed`: a trace and its witness as one text, which is a case with their verdict
 //! - `laws`: what holds for every trace and witness; each law is the contract of a call that does nothing. They say when the
 //!   verdict is yes and what it counts, which line is taken first, that receives are told a prefix of what the peer's sends
 //!   accepted, what else follows for streams, windows and peers, also after the first n steps, that the verdict stays where the
-//!   trace is printed and read again, and that a trace may have two witnesses
+//!   trace is printed and read again, or both are printed as a case, and that a trace may have two witnesses
 #![tactic(auto)]
 
 mod ahead;
 mod case;
 mod laws;
 mod offering;
+mod printed;
 mod replay;
 mod steps;
 mod turns;
@@ -33,8 +35,9 @@ mod two_texts;
 pub use case::{CaseFault, check_case};
 pub use laws::{
     earlier_lines_are_taken_first, explained_follows, explained_is_yes, peers_are_met,
-    receives_begin_sends, streams_at_each_moment, two_witnesses_of_one_trace,
+    printed_case, receives_begin_sends, streams_at_each_moment, two_witnesses_of_one_trace,
     verdict_when_read_again, yes_counts_all_lines,
 };
+pub use printed::print_case;
 pub use replay::check;
 pub use two_texts::check_streams;

@@ -12,6 +12,7 @@
 //! - `file_words`, `files`: the words that ask for a case in two files, and the run on them
 //! - `many_words`, `many`: the words that ask for many cases, and the run that serves them too (`specs/ManyWords`,
 //!   `specs/Many`); it alone starts threads
+//! - `recording`: a recording of two hosts that talk over a connection
 //! - `many_laws`: what the cutting of an input into cases means (`specs/ManyLaw`)
 //!
 //! What a case is answered is told by `checker`, and what is counted as a failure by `counted`.
@@ -25,6 +26,7 @@ mod lines;
 mod many;
 mod many_laws;
 mod many_words;
+mod recording;
 mod running;
 mod segment_line;
 mod words;
@@ -34,4 +36,5 @@ pub use files::{answer_bad_device, run_files};
 pub use given::given_words;
 pub use many::run_all;
 pub use many_laws::cases_are_cut_back;
+pub use recording::{Plan, RecordFault, Recording, record};
 pub use running::{answer_bad_memory, run};

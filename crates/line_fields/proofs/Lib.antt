@@ -19,3 +19,5 @@ pub mod LeftLemmas
 pub mod ReadsLemmas
 pub mod FieldFaults
 pub mod AnswerFaults
+pub mod Printable
+pub mod ShortAnswers

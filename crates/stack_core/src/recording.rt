@@ -1,6 +1,6 @@
 //! What one host recorded, and the world to which it leads.
 
-ghost use Rattle.std.specs.Prelude.{◌≡◌, ◌<◌, ◌≤◌, [], length, nat_eq, OnOk, OnErr};
+ghost use Rattle.std.specs.Prelude.{◌≡◌, ◌<◌, ◌≤◌, [], length, nat_eq, true, OnOk, OnErr};
 ghost use Rattle.std.specs.Map.{lookup};
 ghost use Rattle.std.specs.Option.{IfSome, option_copied};
 ghost use Rattle.std.specs.Result.{result_err};
@@ -8,7 +8,7 @@ ghost use Rattle.case_forms.specs.Witnesses.{IsWithinLimits};
 ghost use Rattle.case_forms.specs.Traces.{first_event_line};
 ghost use Rattle.verdict.specs.Rules.{first_broken};
 ghost use Rattle.hosts.specs.Tables.{other, pick};
-ghost use Rattle.hosts.specs.Hosts.{turn_of};
+ghost use Rattle.hosts.specs.Hosts.{Idle, turn_of};
 ghost use Rattle.hosts.specs.HostRules.{step_rules};
 ghost use Rattle.machine.specs.Bounds.{IsSmallEmission, most_steps};
 ghost use Rattle.machine.specs.Forgetting.{forget, forget_body};
@@ -26,6 +26,7 @@ use crate::item::Item;
 use crate::tick::Tick;
 use case_forms::{Call, Header, Host, OutOfMemory};
 use endpoint_state::{Body, Made, World};
+use machine::Emission;
 use machine_laws::{forgetting_is_free, runs_forget};
 use recordings::books_grow;
 use spec_step::{Label, StepFault, admits, apply, bring};
@@ -123,6 +124,13 @@ impl Recording {
         self.world.pending_call(thread)
     }
 
+    /// Whether a thread is in no call, so that it may begin this one.
+    pub fn admits_begin(&self, thread: u32, call: &Call) -> bool
+        ensures { result ≡ true → turn_of thread (world_left self.now).threads ≡ Idle }
+    {
+        self.world.admits_begin(thread, call).is_ok()
+    }
+
     /// How many segments were made: at most one by each step.
     pub fn count(&self) -> u32
         ensures count { result ≡ (world_left self.now).count }
@@ -146,6 +154,13 @@ impl Recording {
         ensures { result.now ≡ forget_body (pick (world_left self.now).hosts self.now.me).body }
     {
         self.world.body(self.me)
+    }
+
+    /// The segment that the host let out with this line.
+    pub fn sent(&self, line: u64) -> Option<&Emission>
+        ensures { option_copied result ≡ lookup (nat_eq line) (pick (world_left self.now).hosts self.now.me).wire }
+    {
+        self.world.sent(self.me, line)
     }
 
     // A host has at most as many endpoints as there were steps: a call that does nothing, whose contract says it.

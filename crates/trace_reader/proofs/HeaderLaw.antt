@@ -483,7 +483,8 @@ words_clean One i = tt
 words_clean Two i = ((clean_by (codes "initial") refl, (initial_clean i, tt)), tt)
 words_clean Three i = ((clean_by (codes "initial") refl, (initial_clean i, tt)), ((clean_by (codes "half") refl, (IsClean-decimal 0 (omega arith), tt)), tt))
 
-header_clean : (h : Header) → IsHeader h → AllByRecursion (AllByRecursion IsClean) (header_words h)
+-- no field of a header holds a space, a CR or a LF
+pub header_clean : (h : Header) → IsHeader h → AllByRecursion (AllByRecursion IsClean) (header_words h)
 header_clean h limits =
     let skew = limits.skew in let msl = limits.msl in let grain = limits.grain in let minrto = limits.minrto in let extra = limits.extra in (
       first_clean h.version,

@@ -9,3 +9,5 @@ pub mod StreamLaw
 pub mod HeaderReads
 pub mod EventFaults
 pub mod TextFaults
+pub mod ShortLines
+pub mod PrintableLaw

@@ -16,3 +16,4 @@ pub mod TraceText
 pub mod TraceLeft
 pub mod Printed
 pub mod EventForms
+pub mod Printable

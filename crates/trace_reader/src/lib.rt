@@ -33,6 +33,6 @@ pub use events::event_line;
 pub use header::version_named;
 pub use laws::{event_line_faults, first_event_fault};
 pub use line_fields::{FaultKind, ReadFault, SegFault, Span, TextFault, Token};
-pub use printing::{print_law, print_trace};
+pub use printing::{event_bytes, print_law, print_trace, printable_law};
 pub use reading::read_trace;
 pub use stream::TraceReader;

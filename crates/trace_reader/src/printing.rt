@@ -1,20 +1,23 @@
 //! The printer of a trace.
 
-ghost use Rattle.std.specs.Prelude.{◌≡◌, ◌∷◌, [], ◌++◌, ℕ, List, IfOk, OnOk, map};
-ghost use Rattle.std.specs.List.{concat};
+ghost use Rattle.std.specs.Prelude.{◌≡◌, ◌<◌, ◌∷◌, [], ◌++◌, ℕ, List, Ok, IfOk, OnOk, map, slice_index};
+ghost use Rattle.std.specs.List.{concat, AllByRecursion};
 ghost use Rattle.std.specs.Fmt.{decimal};
 ghost use Rattle.case_forms.specs.declared.trace.Trace.{Trace};
 ghost use Rattle.line_fields.specs.Hosts.{host_number};
-ghost use Rattle.line_fields.specs.Spelling.{plain, hex, number, printed, printed_line, printed_behind};
+ghost use Rattle.line_fields.specs.Spelling.{IsBytePiece, plain, hex, number, printed, printed_line, printed_behind};
 ghost use Rattle.trace_reader.specs.Headers.{late_words};
 ghost use Rattle.trace_reader.specs.Calls.{call_pieces};
 ghost use Rattle.trace_reader.specs.Events.{event_pieces};
 ghost use Rattle.trace_reader.specs.EventLines.{line_pieces};
-ghost use Rattle.trace_reader.specs.TraceText.{IsTraceText};
+ghost use Rattle.trace_reader.specs.TraceText.{IsTraceText, trace_of};
+ghost use Rattle.trace_reader.specs.Printable.{HasBytes, IsPrintableTrace, with_columns};
 ghost use Rattle.trace_reader.specs.Printed.{header_text, trace_text};
 
 use crate::header::first_text;
-use case_forms::{Call, Event, Header, Host, Initial, Line, OutOfMemory, Trace, Version, Wire};
+use case_forms::{
+    Answer, Call, Event, Header, Host, Initial, Line, OutOfMemory, Trace, Version, Wire,
+};
 use line_fields::{
     push_answer, push_end, push_hex, push_host, push_number, push_space, push_word, timer_name,
 };
@@ -179,12 +182,14 @@ fn push_line(out: &mut Vec<u8>, line: &Line) -> Result<(), OutOfMemory>
 
 /// The text of a trace, each line ended by LF.
 pub fn print_trace(alloc: Global, trace: &Trace) -> Result<Vec<u8>, OutOfMemory>
-    ensures { IfOk result (λ text. text.items ≡ trace_text trace.now) }
+    ensures text { IfOk result (λ text. text.items ≡ trace_text trace.now) }
+    ensures bytes { IfOk result (λ text. AllByRecursion HasBytes trace.now.lines) }
 {
     let mut out = Vec::new(alloc);
     push_header(&mut out, &trace.header)?;
     for line in trace.lines.as_slice() {
         push_line(&mut out, line)?;
+        event_bytes(&line.event);
     }
     Ok(out)
 }
@@ -193,3 +198,45 @@ pub fn print_trace(alloc: Global, trace: &Trace) -> Result<Vec<u8>, OutOfMemory>
 pub fn print_law()
     ensures { (t : Trace) (text : List ℕ) → IsTraceText t text → IsTraceText t (trace_text t) }
 {}
+
+/// A trace is printed as a text that stands for it, with the spans of that text, exactly where it is within the limits.
+pub fn printable_law()
+    ensures printed { (t : Trace) → IsPrintableTrace t → IsTraceText (with_columns t) (trace_text t) }
+    ensures read { (t : Trace) → IsPrintableTrace t → trace_of (trace_text t) ≡ Ok (with_columns t) }
+    ensures only { (t : Trace) (text : List ℕ) → IsTraceText (with_columns t) text → IsPrintableTrace t }
+{}
+
+// The elements of a slice of bytes are below 256, as its type says.
+fn slice_bytes(bytes: &[u8])
+    ensures { (i : ℕ) → slice_index bytes.now i < 256 }
+{}
+
+// So are those of bytes in memory of their own.
+fn own_bytes(bytes: &segment::Bytes)
+    ensures { (i : ℕ) → slice_index bytes.now i < 256 }
+{
+    slice_bytes(bytes.as_slice());
+}
+
+// A call's bytes are bytes.
+fn call_bytes(call: &Call)
+    ensures { AllByRecursion IsBytePiece (call_pieces call.now) }
+{
+    if let Call::Send(_, bytes) = call {
+        own_bytes(bytes);
+    }
+}
+
+/// An event's bytes are bytes, as the types of values in memory say.
+pub fn event_bytes(event: &Event)
+    ensures { AllByRecursion IsBytePiece (event_pieces event.now) }
+{
+    match event {
+        Event::CallBegin(call) => call_bytes(call),
+        Event::CallEnd(Answer::Bytes(bytes)) => own_bytes(bytes),
+        Event::CallEnd(_) => (),
+        Event::Sent(_, wire) => own_bytes(&wire.bytes),
+        Event::Came(_, wire) => own_bytes(&wire.bytes),
+        Event::Expired(_, _, _, _) => (),
+    }
+}

@@ -81,14 +81,17 @@ words_clean versions.One = (clean_by (codes "witness") refl, (clean_by (codes "1
 words_clean versions.Two = (clean_by (codes "witness") refl, (clean_by (codes "2") refl, tt))
 words_clean versions.Three = (clean_by (codes "witness") refl, (clean_by (codes "3") refl, tt))
 
-first_ends : (v : Version) → NoReturn (first_text v)
+pub first_ends : (v : Version) → NoReturn (first_text v)
 first_ends v = subst NoReturn (words_joined v) (joined_no_return (first_words v) (words_clean v))
 
-text_lines : (w : Witness) (text : List ℕ) (t : IsWitnessText w text) → lines_of text ≡ t.first ∷ t.raws
-text_lines w text t =
+-- what spells a witness are lines
+pub text_raws : (w : Witness) (text : List ℕ) (t : IsWitnessText w text) → AllByRecursion IsRaw (t.first ∷ t.raws)
+text_raws w text t =
     let one : IsRaw t.first = is_raw 1 (first_words w.version) t.first (words_clean w.version) (subst (λ (line : List ℕ). IsLine 1 line t.first) (sym (words_joined w.version)) t.begins) in
-    let others = spelled_raws number_after (IsStepText w.version) (is_step_raw w.version) 2 w.steps t.raws t.steps in
-    ap lines_of t.parts ∙ lines_of-concat (t.first ∷ t.raws) (one, others)
+    (one, spelled_raws number_after (IsStepText w.version) (is_step_raw w.version) 2 w.steps t.raws t.steps)
+
+text_lines : (w : Witness) (text : List ℕ) (t : IsWitnessText w text) → lines_of text ≡ t.first ∷ t.raws
+text_lines w text t = ap lines_of t.parts ∙ lines_of-concat (t.first ∷ t.raws) (text_raws w text t)
 
 pub text_again : (w : Witness) (text : List ℕ) → IsWitnessText w text → witness_for w.version text ≡ Ok w
 unfolding witness_for

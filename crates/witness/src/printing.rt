@@ -1,16 +1,18 @@
 //! The text of a witness.
 
-ghost use Rattle.std.specs.Prelude.{◌≡◌, ℕ, List, [], ◌∷◌, ◌++◌, IfOk, OnOk};
+ghost use Rattle.std.specs.Prelude.{◌≡◌, ◌<◌, ℕ, List, [], ◌∷◌, ◌++◌, Ok, IfOk, OnOk, slice_index};
+ghost use Rattle.std.specs.List.{AllByRecursion};
 ghost use Rattle.case_forms.specs.declared.steps.Witness.{Witness};
-ghost use Rattle.line_fields.specs.Spelling.{number, printed_behind, printed_line};
+ghost use Rattle.line_fields.specs.Spelling.{IsBytePiece, number, printed_behind, printed_line};
 ghost use Rattle.witness.specs.Labels.{bit_number, extras_pieces, iss_pieces, shift_pieces, segment_pieces, endpoint_pieces, entry_pieces, label_pieces};
 ghost use Rattle.witness.specs.Steps.{step_pieces};
-ghost use Rattle.witness.specs.WitnessText.{IsWitnessText};
+ghost use Rattle.witness.specs.WitnessText.{IsWitnessText, witness_of};
+ghost use Rattle.witness.specs.Printable.{HasBytes, IsPrintableWitness, with_columns};
 ghost use Rattle.witness.specs.Printed.{witness_text, without_spans};
 
 use crate::first_line::first_text;
 use crate::flags::push_flags;
-use case_forms::{Extras, Host, Label, NamedLine, OutOfMemory, SegmentPlan, Step, Witness};
+use case_forms::{Answer, Extras, Host, Label, NamedLine, OutOfMemory, SegmentPlan, Step, Witness};
 use line_fields::{push_answer, push_end, push_host, push_number, push_space, push_word};
 use seqno::Word;
 use std::alloc::Global;
@@ -143,13 +145,15 @@ fn push_step(out: &mut Vec<u8>, step: &Step) -> Result<(), OutOfMemory>
 
 /// The text of a witness, each line ended by LF.
 pub fn print_witness(alloc: Global, witness: &Witness) -> Result<Vec<u8>, OutOfMemory>
-    ensures { IfOk result (λ bytes. bytes.items ≡ witness_text witness.now) }
+    ensures text { IfOk result (λ bytes. bytes.items ≡ witness_text witness.now) }
+    ensures bytes { IfOk result (λ bytes. AllByRecursion HasBytes witness.now.steps) }
 {
     let mut out = Vec::new(alloc);
     push_word(&mut out, first_text(witness.version))?;
     push_end(&mut out)?;
     for step in witness.steps.as_slice() {
         push_step(&mut out, step)?;
+        label_bytes(&step.label);
     }
     Ok(out)
 }
@@ -159,3 +163,28 @@ pub fn print_witness(alloc: Global, witness: &Witness) -> Result<Vec<u8>, OutOfM
 pub fn print_law()
     ensures { (v w : Witness) (text : List ℕ) → IsWitnessText v text → without_spans v ≡ without_spans w → IsWitnessText v (witness_text w) }
 {}
+
+/// A witness is printed as a text that stands for it, with the spans of that text, exactly where it is within the limits.
+pub fn printable_law()
+    ensures printed { (w : Witness) → IsPrintableWitness w → IsWitnessText (with_columns w) (witness_text w) }
+    ensures read { (w : Witness) → IsPrintableWitness w → witness_of (witness_text w) ≡ Ok (with_columns w) }
+    ensures only { (w : Witness) (text : List ℕ) → IsWitnessText (with_columns w) text → IsPrintableWitness w }
+{}
+
+// The elements of a slice of bytes are below 256, as its type says.
+fn slice_bytes(bytes: &[u8])
+    ensures { (i : ℕ) → slice_index bytes.now i < 256 }
+{}
+
+/// A label's bytes are bytes, as the types of values in memory say.
+pub fn label_bytes(label: &Label<NamedLine>)
+    ensures { AllByRecursion IsBytePiece (label_pieces label.now) }
+{
+    if let Label::D {
+        answer: Answer::Bytes(bytes),
+        ..
+    } = label
+    {
+        slice_bytes(bytes.as_slice());
+    }
+}

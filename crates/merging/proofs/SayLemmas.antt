@@ -1,0 +1,256 @@
+-- What is said of the steps of a run tells them.
+use Rattle.std.proofs.Common.{◌≡◌, ℕ, ◌+◌, ◌≤◌, ◌⊎◌, inl, inr, zero, suc, Bool, true, false, List, [], ◌∷◌, map, refl, sym, ap, ◌∙◌, subst, arith, Option, Some, None}
+use Rattle.std.specs.Prelude.{nat_eq, if◌then◌else◌, not}
+use Rattle.std.specs.List.{cons_option, enumerate_from}
+use Rattle.std.specs.Map.{lookup}
+use Rattle.std.specs.Option.{option_map, option_map_or}
+use Rattle.std.proofs.lemmas.Bool.Decides.{nat_tests}
+use Rattle.std.proofs.lemmas.Option.{none-some}
+use Rattle.case_forms.specs.declared.calls.Host.{Host}
+use Rattle.case_forms.specs.declared.named_line.Extras.{Extras}
+use Rattle.case_forms.specs.declared.named_line.Extras.TheVariants as extras
+use Rattle.case_forms.specs.declared.named_line.NamedLine.{NamedLine}
+use Rattle.case_forms.specs.declared.steps.Label.{Label}
+use Rattle.case_forms.specs.declared.steps.Label.TheVariants as labels
+use Rattle.case_forms.specs.declared.steps.Step as witness
+use Rattle.case_forms.specs.declared.taken_line.TakenLine.{TakenLine}
+use Rattle.case_forms.specs.declared.timer.Expiry.{Expiry}
+use Rattle.case_forms.specs.declared.timer.Growth.{Growth}
+use Rattle.case_forms.specs.declared.timer.Timer.{Timer}
+use Rattle.case_forms.specs.declared.timer.Timer.TheVariants as timers
+use Rattle.case_forms.specs.declared.trace.Header.{Header}
+use Rattle.case_forms.specs.declared.trace.Line.{Line}
+use Rattle.case_forms.specs.declared.trace.Wire.{Wire}
+use Rattle.case_forms.specs.TakenLines.{taken_of}
+use Rattle.case_forms.specs.Traces.{line_at, IsRecorded}
+use Rattle.case_forms.specs.Versions.{is_half}
+use Rattle.verdict.specs.declared.rule.Rule.TheVariants as rules
+use Rattle.verdict.specs.Rules.{first_broken}
+use Rattle.hosts.specs.Tables.{on, other, pick}
+use Rattle.hosts.specs.Hosts.{Deed, Does, Expires, Makes, Sends, Gets, Hears, Takes, Drops, Answers, Step, Begin, Finish, Effect, At, Stamped, HostState, World}
+use Rattle.hosts.specs.HostRules.{Permitted, deed_rules, just}
+use Rattle.hosts.specs.HostSteps.{Lawful, after}
+use Rattle.machine.specs.declared.endpoint.Emission.{Emission}
+use Rattle.machine.specs.Machine.{tcp, tcp_shape}
+use Rattle.machine.specs.Steps.{label_step, step_of}
+use Rattle.recordings.specs.Books.{Item, Do, Bring, step_line}
+use Rattle.recordings.specs.Keys.{If}
+use Rattle.recordings.specs.Merging.{Names}
+use Rattle.recordings.specs.Placing as placing
+use Rattle.recordings.specs.Placing.{MomentsRise, event_of}
+use Rattle.recordings.specs.Recordings.{TcpEntry}
+use Rattle.recordings.proofs.Joint.{LinesRise}
+use Rattle.checker.specs.Seen.{act_of, stamped}
+use Rattle.merging.specs.Saying.{AllSaid, IsPlain, IsSaid, IsSaidDeed, IsSaidItem, all_renumbered, deed_renumbered, label_said, line_said, lines_said, renumbered, step_said, steps_said, with_renumbered}
+use Rattle.merging.specs.Told.{TakesWell, AllTakeWell, event_told, line_told}
+
+-- ---- one step
+
+-- a step that takes no line
+record IsHidden (h : Header) (moment : ℕ) (step : Step tcp_shape) : Type 0 where
+  said : line_said moment step ≡ None
+  number : step_line (tcp h) step ≡ None
+  event : event_of (tcp h) step ≡ None
+  act : (find : ℕ → Option Line) → label_step find (label_said step) ≡ Some step
+  takes : (lines : List Line) → TakesWell h lines (label_said step)
+
+-- a step that takes this line
+record IsLine (h : Header) (moment : ℕ) (step : Step tcp_shape) : Type 0 where
+  line : Line
+  said : line_said moment step ≡ Some line
+  number : step_line (tcp h) step ≡ Some line.number
+  moment_is : line.moment ≡ moment
+  event : event_of (tcp h) step ≡ Some (event_told line.thread line.event)
+  act : (find : ℕ → Option Line) → find line.number ≡ Some line → label_step find (label_said step) ≡ Some step
+  takes : (lines : List Line) → line_at h lines line.number ≡ Some line → TakesWell h lines (label_said step)
+
+-- the step of a line that was looked up
+abbrev looked_up : Extras → Option Line → Option (Step tcp_shape)
+looked_up x o = option_map step_of (option_map (λ t. labels.L t) (option_map_or (taken_of x) o None))
+
+expiry_line : (h : Header) (moment : ℕ) (host : Host) (line lport rport : ℕ) (timer : Timer) (growth : Growth) → IsPlain timer growth → IsLine h moment (At host (Expires line (record { lport = lport; rport = rport; timer = timer }) growth))
+expiry_line h moment host line lport rport timers.Rto growth plain = record { line = _; said = refl; number = refl; moment_is = refl; event = refl; act = λ find at. ap (looked_up (extras.Two growth.cwnd growth.ssthresh)) at; takes = λ lines at. (_, at, refl) }
+expiry_line h moment host line lport rport timers.Persist growth plain = record { line = _; said = refl; number = refl; moment_is = refl; event = refl; act = λ find at. ap (looked_up extras.Bare) at ∙ ap (λ (g : Growth). Some (let d : Deed tcp_shape = Expires line (record { lport = lport; rport = rport; timer = timers.Persist }) g in At host d)) (sym plain); takes = λ lines at. (_, at, refl) }
+expiry_line h moment host line lport rport timers.Msl2 growth plain = record { line = _; said = refl; number = refl; moment_is = refl; event = refl; act = λ find at. ap (looked_up extras.Bare) at ∙ ap (λ (g : Growth). Some (let d : Deed tcp_shape = Expires line (record { lport = lport; rport = rport; timer = timers.Msl2 }) g in At host d)) (sym plain); takes = λ lines at. (_, at, refl) }
+expiry_line h moment host line lport rport timers.Giveup growth plain = record { line = _; said = refl; number = refl; moment_is = refl; event = refl; act = λ find at. ap (looked_up extras.Bare) at ∙ ap (λ (g : Growth). Some (let d : Deed tcp_shape = Expires line (record { lport = lport; rport = rport; timer = timers.Giveup }) g in At host d)) (sym plain); takes = λ lines at. (_, at, refl) }
+
+-- what comes in names the line that it copies
+abbrev IsWholeDeed : Deed tcp_shape → Type 0
+IsWholeDeed (Hears line wire) = ⊥
+IsWholeDeed d = Unit {0}
+
+abbrev pub IsWhole : Step tcp_shape → Type 0
+IsWhole (At host d) = IsWholeDeed d
+IsWhole step = Unit {0}
+
+module _ (h : Header) (both : is_half h.version ≡ false) where
+  came_in : (moment : ℕ) (host : Host) (line copied : ℕ) (wire : Wire) → IsLine h moment (At host (Gets line copied wire))
+  came_in moment host line copied wire = record {
+    line = _;
+    said = refl;
+    number = refl;
+    moment_is = refl;
+    event = refl;
+    act = λ find at. ap (looked_up (extras.One copied)) at;
+    takes = λ lines at. (_, at, ap (λ (b : Bool). if b then 0 else 1) (sym both));
+  }
+
+  deed_is : (moment : ℕ) (host : Host) (d : Deed tcp_shape) → IsSaidDeed d → IsWholeDeed d → IsHidden h moment (At host d) ⊎ IsLine h moment (At host d)
+  deed_is moment host (Does x) s w = inl (record { said = refl; number = refl; event = refl; act = λ find. refl; takes = λ lines. tt })
+  deed_is moment host (Expires line x growth) s w = inr (expiry_line h moment host line x.lport x.rport x.timer growth s)
+  deed_is moment host (Makes plan) s w = inl (record { said = refl; number = refl; event = refl; act = λ find. refl; takes = λ lines. tt })
+  deed_is moment host (Sends line number wire) s w =
+      inr (record { line = _; said = refl; number = refl; moment_is = refl; event = refl; act = λ find at. ap (looked_up (extras.One number)) at; takes = λ lines at. (_, at, refl) })
+  deed_is moment host (Gets line copied wire) s w = inr (came_in moment host line copied wire)
+  deed_is moment host (Hears line wire) s w = absurd w
+  deed_is moment host (Takes line choice) s w = inl (record { said = refl; number = refl; event = refl; act = λ find. refl; takes = λ lines. tt })
+  deed_is moment host (Drops line) s w = inl (record { said = refl; number = refl; event = refl; act = λ find. refl; takes = λ lines. tt })
+  deed_is moment host (Answers line) s w = inl (record { said = refl; number = refl; event = refl; act = λ find. refl; takes = λ lines. tt })
+
+  step_is : (moment : ℕ) (step : Step tcp_shape) → IsSaid step → IsWhole step → IsHidden h moment step ⊎ IsLine h moment step
+  step_is moment (Begin line t call) s w =
+      inr (record { line = _; said = refl; number = refl; moment_is = refl; event = refl; act = λ find at. ap (looked_up extras.Bare) at; takes = λ lines at. (_, at, refl) })
+  step_is moment (Finish line t answer) s w =
+      inr (record { line = _; said = refl; number = refl; moment_is = refl; event = refl; act = λ find at. ap (looked_up extras.Bare) at; takes = λ lines at. (_, at, refl) })
+  step_is moment (Effect t answer) s w = inl (record { said = refl; number = refl; event = refl; act = λ find. refl; takes = λ lines. tt })
+  step_is moment (At host d) s w = deed_is moment host d s w
+
+  -- a line that is heard of a host that is not recorded is not permitted where both are
+  deed_whole : (host : Host) (moment : ℕ) (far : List (ℕ × Emission)) (x : HostState tcp_shape) (d : Deed tcp_shape) → first_broken (deed_rules (tcp h) host moment far x d) ≡ None → IsWholeDeed d
+  deed_whole host moment far x (Hears line wire) may =
+      none-some rules.NoEmission (sym may ∙ ap (λ (b : Bool). first_broken (just rules.NoEmission (not b))) both)
+  deed_whole host moment far x (Does y) may = tt
+  deed_whole host moment far x (Expires line y growth) may = tt
+  deed_whole host moment far x (Makes plan) may = tt
+  deed_whole host moment far x (Sends line number wire) may = tt
+  deed_whole host moment far x (Gets line copied wire) may = tt
+  deed_whole host moment far x (Takes line choice) may = tt
+  deed_whole host moment far x (Drops line) may = tt
+  deed_whole host moment far x (Answers line) may = tt
+
+  step_whole : (moment : ℕ) (w : World tcp_shape) (step : Step tcp_shape) → Permitted (tcp h) moment w step → IsWhole step
+  step_whole moment w (Begin line t call) may = tt
+  step_whole moment w (Finish line t answer) may = tt
+  step_whole moment w (Effect t answer) may = tt
+  step_whole moment w (At host d) may = deed_whole host moment (pick w.hosts (other host)).wire (pick w.hosts host) d may
+
+-- ---- all steps
+
+abbrev pub AllSaidSteps : List (Stamped tcp_shape) → Type 0
+AllSaidSteps [] = Unit {0}
+AllSaidSteps (x ∷ xs) = IsSaid x.step × AllSaidSteps xs
+
+-- and name what they copy
+abbrev pub AllWhole : List (Stamped tcp_shape) → Type 0
+AllWhole [] = Unit {0}
+AllWhole (x ∷ xs) = IsWhole x.step × AllWhole xs
+
+pub run_whole : (h : Header) → is_half h.version ≡ false → (w : World tcp_shape) (xs : List (Stamped tcp_shape)) → Lawful (tcp h) w xs → AllWhole xs
+run_whole h both w [] run = tt
+run_whole h both w (x ∷ xs) run = (step_whole h both x.moment w x.step run.0, run_whole h both (after (tcp h) x.moment w x.step) xs run.1)
+
+recorded_less : (n a b : ℕ) (lines : List Line) → a ≤ b → IsRecorded n b lines → IsRecorded n a lines
+recorded_less n a b [] le r = tt
+recorded_less n a b (line ∷ lines) le r = (r.0, (let up : b ≤ line.moment = r.1 in omega (arith, le)), r.2)
+
+-- a line's step in front
+in_front : (h : Header) (n m : ℕ) (step : Step tcp_shape) (xs : List (Stamped tcp_shape)) → step_line (tcp h) step ≡ Some m → If (step_line (tcp h) step) (LinesRise (tcp h) n xs) (λ line. (line ≡ n) × LinesRise (tcp h) (suc n) xs) → (m ≡ n) × LinesRise (tcp h) (n + 1) xs
+in_front h n m step xs is r =
+    let s : (m ≡ n) × LinesRise (tcp h) (suc n) xs = subst (λ (o : Option ℕ). If o (LinesRise (tcp h) n xs) (λ line. (line ≡ n) × LinesRise (tcp h) (suc n) xs)) is r in
+    let z : suc n ≡ n + 1 = omega arith in
+    (s.0, subst (λ (k : ℕ). LinesRise (tcp h) k xs) z s.1)
+
+not_in_front : (h : Header) (n : ℕ) (step : Step tcp_shape) (xs : List (Stamped tcp_shape)) → step_line (tcp h) step ≡ None → If (step_line (tcp h) step) (LinesRise (tcp h) n xs) (λ line. (line ≡ n) × LinesRise (tcp h) (suc n) xs) → LinesRise (tcp h) n xs
+not_in_front h n step xs is r = subst (λ (o : Option ℕ). If o (LinesRise (tcp h) n xs) (λ line. (line ≡ n) × LinesRise (tcp h) (suc n) xs)) is r
+
+pub recorded_in : (h : Header) → is_half h.version ≡ false → (n b : ℕ) (xs : List (Stamped tcp_shape)) → AllSaidSteps xs → AllWhole xs → LinesRise (tcp h) n xs → MomentsRise (tcp h) b xs → IsRecorded n b (lines_said xs)
+recorded_in h both n b [] s w rise moments = tt
+recorded_in h both n b (x ∷ xs) s w rise moments = go (step_is h both x.moment x.step s.0 w.0) (λ m r. recorded_in h both m x.moment xs s.1 w.1 r moments.1)
+  where
+    go : IsHidden h x.moment x.step ⊎ IsLine h x.moment x.step → ((m : ℕ) → LinesRise (tcp h) m xs → IsRecorded m x.moment (lines_said xs)) → IsRecorded n b (lines_said (x ∷ xs))
+    go (inl k) rest =
+        subst (λ (o : Option Line). IsRecorded n b (on o (lines_said xs) (λ line. line ∷ lines_said xs))) (sym k.said)
+        (recorded_less n b x.moment (lines_said xs) moments.0 (rest n (not_in_front h n x.step xs k.number rise)))
+    go (inr k) rest =
+        let f = in_front h n k.line.number x.step xs k.number rise in
+        subst (λ (o : Option Line). IsRecorded n b (on o (lines_said xs) (λ line. line ∷ lines_said xs))) (sym k.said)
+        (f.0, (let le : b ≤ x.moment = moments.0 in let same : k.line.moment ≡ x.moment = k.moment_is in omega (arith, le, same)), subst (λ (m : ℕ). IsRecorded (n + 1) m (lines_said xs)) (sym k.moment_is) (rest (n + 1) f.1))
+
+pub lines_are : (h : Header) → is_half h.version ≡ false → (xs : List (Stamped tcp_shape)) → AllSaidSteps xs → AllWhole xs → map line_told (lines_said xs) ≡ placing.lines_of (tcp h) xs
+lines_are h both [] s w = refl
+lines_are h both (x ∷ xs) s w = go (step_is h both x.moment x.step s.0 w.0) (lines_are h both xs s.1 w.1)
+  where
+    go : IsHidden h x.moment x.step ⊎ IsLine h x.moment x.step → map line_told (lines_said xs) ≡ placing.lines_of (tcp h) xs → map line_told (lines_said (x ∷ xs)) ≡ placing.lines_of (tcp h) (x ∷ xs)
+    go (inl k) rest =
+        ap (λ (o : Option Line). map line_told (on o (lines_said xs) (λ line. line ∷ lines_said xs))) k.said ∙ rest
+        ∙ ap (λ (o : Option (placing.Event tcp_shape)). on o (placing.lines_of (tcp h) xs) (λ e. record { moment = x.moment; event = e } ∷ placing.lines_of (tcp h) xs)) (sym k.event)
+    go (inr k) rest =
+        ap (λ (o : Option Line). map line_told (on o (lines_said xs) (λ line. line ∷ lines_said xs))) k.said
+        ∙ ap (λ (m : ℕ). let p : placing.Line tcp_shape = record { moment = m; event = event_told k.line.thread k.line.event } in p ∷ map line_told (lines_said xs)) k.moment_is
+        ∙ ap (λ (ls : List (placing.Line tcp_shape)). record { moment = x.moment; event = event_told k.line.thread k.line.event } ∷ ls) rest
+        ∙ ap (λ (o : Option (placing.Event tcp_shape)). on o (placing.lines_of (tcp h) xs) (λ e. record { moment = x.moment; event = e } ∷ placing.lines_of (tcp h) xs)) (sym k.event)
+
+-- these lines are found among all
+abbrev Finds : Header → List Line → ℕ → List Line → Type 0
+Finds h all n lines = (m : ℕ) (line : Line) → lookup (nat_eq m) (enumerate_from n lines) ≡ Some line → line_at h all m ≡ Some line
+
+above : (k n : ℕ) (lines : List Line) (line : Line) → lookup (nat_eq n) (enumerate_from k lines) ≡ Some line → k ≤ n
+above k n [] line at = absurd (none-some line at)
+above k n (x ∷ lines) line at = go (nat_eq n k) refl (λ a. above (k + 1) n lines line a)
+  where
+    go : (b : Bool) → nat_eq n k ≡ b → (lookup (nat_eq n) (enumerate_from (k + 1) lines) ≡ Some line → k + 1 ≤ n) → k ≤ n
+    go true is rest = let same : n ≡ k = grind (arith, nat_tests, is) in omega arith
+    go false is rest = let up : k + 1 ≤ n = rest (rw is at at) in omega arith
+
+finds_first : (h : Header) (all : List Line) (n : ℕ) (line : Line) (lines : List Line) → Finds h all n (line ∷ lines) → line_at h all n ≡ Some line
+finds_first h all n line lines finds = let self : nat_eq n n ≡ true = grind (arith, nat_tests) in finds n line (rw self refl)
+
+finds_rest : (h : Header) (all : List Line) (n : ℕ) (line : Line) (lines : List Line) → Finds h all n (line ∷ lines) → Finds h all (n + 1) lines
+finds_rest h all n line lines finds m l at =
+    let up : n + 1 ≤ m = above (n + 1) m lines l at in
+    let apart : nat_eq m n ≡ false = grind (arith, nat_tests) in
+    finds m l (rw apart at)
+
+pub told_from : (h : Header) → is_half h.version ≡ false → (all : List Line) (n : ℕ) (xs : List (Stamped tcp_shape)) → AllSaidSteps xs → AllWhole xs → LinesRise (tcp h) n xs → Finds h all n (lines_said xs) → (stamped h all (steps_said xs) ≡ xs) × AllTakeWell h all (steps_said xs)
+told_from h both all n [] s w rise finds = (refl, tt)
+told_from h both all n (x ∷ xs) s w rise finds = go (step_is h both x.moment x.step s.0 w.0) (λ m r f. told_from h both all m xs s.1 w.1 r f)
+  where
+    go : IsHidden h x.moment x.step ⊎ IsLine h x.moment x.step → ((m : ℕ) → LinesRise (tcp h) m xs → Finds h all m (lines_said xs) → (stamped h all (steps_said xs) ≡ xs) × AllTakeWell h all (steps_said xs))
+        → (stamped h all (steps_said (x ∷ xs)) ≡ x ∷ xs) × AllTakeWell h all (steps_said (x ∷ xs))
+    go (inl k) rest =
+        let here : Finds h all n (lines_said xs) = subst (λ (o : Option Line). Finds h all n (on o (lines_said xs) (λ line. line ∷ lines_said xs))) k.said finds in
+        let more = rest n (not_in_front h n x.step xs k.number rise) here in
+        (ap (λ (o : Option (Step tcp_shape)). cons_option (option_map (λ step. record { moment = x.moment; step = step }) o) (stamped h all (steps_said xs))) (k.act (line_at h all)) ∙ ap (λ (ys : List (Stamped tcp_shape)). x ∷ ys) more.0, (k.takes all, more.1))
+    go (inr k) rest =
+        let f = in_front h n k.line.number x.step xs k.number rise in
+        let here : Finds h all n (k.line ∷ lines_said xs) = subst (λ (o : Option Line). Finds h all n (on o (lines_said xs) (λ line. line ∷ lines_said xs))) k.said finds in
+        let more = rest (n + 1) f.1 (finds_rest h all n k.line (lines_said xs) here) in
+        let at : line_at h all k.line.number ≡ Some k.line = subst (λ (m : ℕ). line_at h all m ≡ Some k.line) (sym f.0) (finds_first h all n k.line (lines_said xs) here) in
+        (ap (λ (o : Option (Step tcp_shape)). cons_option (option_map (λ step. record { moment = x.moment; step = step }) o) (stamped h all (steps_said xs))) (k.act (line_at h all) at) ∙ ap (λ (ys : List (Stamped tcp_shape)). x ∷ ys) more.0, (k.takes all at, more.1))
+
+-- ---- entries
+
+deed_said : (names : Names) (g : Host) (d : Deed tcp_shape) → IsSaidDeed d → IsSaidDeed (deed_renumbered names g d)
+deed_said names g (Does x) s = tt
+deed_said names g (Expires line x growth) s = s
+deed_said names g (Makes plan) s = tt
+deed_said names g (Sends line number wire) s = tt
+deed_said names g (Gets line copied wire) s = tt
+deed_said names g (Hears line wire) s = tt
+deed_said names g (Takes line choice) s = tt
+deed_said names g (Drops line) s = tt
+deed_said names g (Answers line) s = tt
+
+step_said_again : (names : Names) (g : Host) (step : Step tcp_shape) → IsSaid step → IsSaid (renumbered names g step)
+step_said_again names g (Begin line t call) s = tt
+step_said_again names g (Finish line t answer) s = tt
+step_said_again names g (Effect t answer) s = tt
+step_said_again names g (At host d) s = deed_said names g d s
+
+pub all_said : (names : Names) (es : List TcpEntry) → AllSaid es → AllSaidSteps (all_renumbered names es)
+all_said names [] s = tt
+all_said names (e ∷ es) s = go e.item s.0 (all_said names es s.1)
+  where
+    go : (item : Item tcp_shape) → IsSaidItem item → AllSaidSteps (all_renumbered names es) → AllSaidSteps (with_renumbered names e.key item (all_renumbered names es))
+    go (Do step) s rest = (step_said_again names e.key.host step s, rest)
+    go (Bring f) s rest = rest

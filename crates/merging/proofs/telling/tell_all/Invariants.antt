@@ -1,0 +1,18 @@
+use Rattle.std.proofs.Common.{◌≡◌, ◌++◌, length}
+use Rattle.merging.specs.Numbers.{AllSmall, names_by}
+use Rattle.merging.specs.Saying.{AllSaid, all_renumbered, lines_said, steps_said}
+use Rattle.merging.proofs.telling.tell_all.Given as goal
+
+-- what is told, and what is left will tell, is all
+abbrev pub invariant-loop-entry : goal.invariant-loop-entry
+invariant-loop-entry l = record {
+  small : AllSmall l.entries;
+  lines : l.lines ++ lines_said (all_renumbered (names_by l.fn.counts.lines l.fn.counts.mades) l.entries)
+      ≡ lines_said (all_renumbered (names_by l.fn.counts.lines l.fn.counts.mades) l.fn.entries);
+  steps : l.steps ++ steps_said (all_renumbered (names_by l.fn.counts.lines l.fn.counts.mades) l.entries)
+      ≡ steps_said (all_renumbered (names_by l.fn.counts.lines l.fn.counts.mades) l.fn.entries);
+  said : AllSaid l.entries → AllSaid l.fn.entries;
+}
+
+abbrev pub decreases-loop-entry : goal.decreases-loop-entry
+decreases-loop-entry l = length l.entries

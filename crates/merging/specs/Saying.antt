@@ -1,0 +1,134 @@
+-- Steps of the machine as lines of a trace and as steps of a witness.
+use Rattle.std.specs.Prelude.{◌≡◌, ℕ, ◌+◌, List, [], ◌∷◌, Option, None, Some, map}
+use Rattle.case_forms.specs.declared.calls.Host.{Host}
+use Rattle.case_forms.specs.declared.named_line.Extras.{Extras}
+use Rattle.case_forms.specs.declared.named_line.Extras.TheVariants as extras
+use Rattle.case_forms.specs.declared.named_line.NamedLine.{NamedLine}
+use Rattle.case_forms.specs.declared.steps.Label.{Label}
+use Rattle.case_forms.specs.declared.steps.Label.TheVariants as labels
+use Rattle.case_forms.specs.declared.steps.Step as witness
+use Rattle.case_forms.specs.declared.timer.Growth.{Growth}
+use Rattle.case_forms.specs.declared.timer.Timer.{Timer}
+use Rattle.case_forms.specs.declared.timer.Timer.TheVariants as timers
+use Rattle.case_forms.specs.declared.trace.Event.{Event}
+use Rattle.case_forms.specs.declared.trace.Event.TheVariants as events
+use Rattle.case_forms.specs.declared.trace.Line.{Line}
+use Rattle.hosts.specs.Tables.{on, other}
+use Rattle.hosts.specs.Hosts.{Deed, Does, Expires, Makes, Sends, Gets, Hears, Takes, Drops, Answers, Step, Begin, Finish, Effect, At, Stamped}
+use Rattle.machine.specs.Machine.{tcp_shape}
+use Rattle.recordings.specs.Books.{Item, Do, Bring, Key}
+use Rattle.recordings.specs.Merging.{Names}
+use Rattle.recordings.specs.Keys.{rank}
+use Rattle.recordings.specs.Recordings.{TcpEntry}
+use Rattle.checker.specs.Again.{nowhere}
+use Rattle.merging.specs.Numbers.{counted, names_in, no_counts}
+use Rattle.merging.specs.Order.{in_order}
+
+-- a line of a trace; the threads of segments that go out, that come in, and of timers are the host's own
+abbrev pub said : ℕ → ℕ → ℕ → Event → Line
+said line moment thread event = record { number = line; moment = moment; thread = thread; event = event; span = nowhere }
+
+abbrev pub deed_line_said : ℕ → Host → Deed tcp_shape → Option Line
+deed_line_said moment host (Expires line x growth) = Some (said line moment (6 + rank host) (events.Expired host x.lport x.rport x.timer))
+deed_line_said moment host (Sends line number wire) = Some (said line moment (8 + rank host) (events.Sent host wire))
+deed_line_said moment host (Gets line copied wire) = Some (said line moment (4 + rank host) (events.Came host wire))
+deed_line_said moment host (Hears line wire) = Some (said line moment (4 + rank host) (events.Came host wire))
+deed_line_said moment host deed = None
+
+-- the line that a step at this moment takes
+abbrev pub line_said : ℕ → Step tcp_shape → Option Line
+line_said moment (Begin line t call) = Some (said line moment t (events.CallBegin call))
+line_said moment (Finish line t answer) = Some (said line moment t (events.CallEnd answer))
+line_said moment (Effect t answer) = None
+line_said moment (At host deed) = deed_line_said moment host deed
+
+-- a retransmission timer's line is named with both windows, another's with nothing
+abbrev pub growth_said : Timer → Growth → Extras
+growth_said timers.Rto growth = extras.Two growth.cwnd growth.ssthresh
+growth_said timer growth = extras.Bare
+
+abbrev pub names : ℕ → Extras → Label NamedLine
+names line x = labels.L (record { number = line; extras = x })
+
+abbrev pub deed_said : Host → Deed tcp_shape → Label NamedLine
+deed_said host (Does x) = labels.F host x
+deed_said host (Expires line x growth) = names line (growth_said x.timer growth)
+deed_said host (Makes plan) = labels.M host plan
+deed_said host (Sends line number wire) = names line (extras.One number)
+deed_said host (Gets line copied wire) = names line (extras.One copied)
+deed_said host (Hears line wire) = names line extras.Bare
+deed_said host (Takes line choice) = labels.T host line choice
+deed_said host (Drops line) = labels.K host line
+deed_said host (Answers line) = labels.R host line
+
+-- the label of a step
+abbrev pub label_said : Step tcp_shape → Label NamedLine
+label_said (Begin line t call) = names line extras.Bare
+label_said (Finish line t answer) = names line extras.Bare
+label_said (Effect t answer) = labels.D t answer
+label_said (At host deed) = deed_said host deed
+
+-- the lines that steps take, in their order
+abbrev pub lines_said : List (Stamped tcp_shape) → List Line
+lines_said [] = []
+lines_said (x ∷ xs) = on (line_said x.moment x.step) (lines_said xs) (λ line. line ∷ lines_said xs)
+
+-- the steps as those of a witness
+abbrev pub step_said : Stamped tcp_shape → witness.Step
+step_said x = record { moment = x.moment; label = label_said x.step; span = nowhere }
+
+abbrev pub steps_said : List (Stamped tcp_shape) → List witness.Step
+steps_said xs = map step_said xs
+
+-- a deed of host h under new numbers, and a step; whatever the header says
+abbrev pub deed_renumbered : Names → Host → Deed tcp_shape → Deed tcp_shape
+deed_renumbered names h (Does x) = Does x
+deed_renumbered names h (Expires line x growth) = Expires (names.line h line) x growth
+deed_renumbered names h (Makes plan) = Makes plan
+deed_renumbered names h (Sends line number wire) = Sends (names.line h line) (names.made h number) wire
+deed_renumbered names h (Gets line copied wire) = Gets (names.line h line) (names.line (other h) copied) wire
+deed_renumbered names h (Hears line wire) = Hears (names.line h line) wire
+deed_renumbered names h (Takes line choice) = Takes (names.line h line) choice
+deed_renumbered names h (Drops line) = Drops (names.line h line)
+deed_renumbered names h (Answers line) = Answers (names.line h line)
+
+abbrev pub renumbered : Names → Host → Step tcp_shape → Step tcp_shape
+renumbered names h (Begin line t call) = Begin (names.line h line) t call
+renumbered names h (Finish line t answer) = Finish (names.line h line) t answer
+renumbered names h (Effect t answer) = Effect t answer
+renumbered names h (At host deed) = At host (deed_renumbered names h deed)
+
+-- the steps of entries under new numbers
+abbrev pub with_renumbered : Names → Key → Item tcp_shape → List (Stamped tcp_shape) → List (Stamped tcp_shape)
+with_renumbered names key (Do step) xs = record { moment = key.moment; step = renumbered names key.host step } ∷ xs
+with_renumbered names key (Bring f) xs = xs
+
+abbrev pub all_renumbered : Names → List TcpEntry → List (Stamped tcp_shape)
+all_renumbered names [] = []
+all_renumbered names (x ∷ xs) = with_renumbered names x.key x.item (all_renumbered names xs)
+
+-- the steps of both hosts' entries in the order of their keys, with lines counted from the first on
+abbrev pub both_renumbered : ℕ → (zeros ones : List TcpEntry) → List (Stamped tcp_shape)
+both_renumbered first zeros ones = all_renumbered (names_in (counted (no_counts first) (in_order zeros ones))) (in_order zeros ones)
+
+-- nothing is chosen at a timer that is no retransmission timer
+abbrev pub IsPlain : Timer → Growth → Type 0
+IsPlain timers.Rto growth = Unit {0}
+IsPlain timer growth = growth ≡ record { cwnd = 0; ssthresh = 0 }
+
+abbrev pub IsSaidDeed : Deed tcp_shape → Type 0
+IsSaidDeed (Expires line x growth) = IsPlain x.timer growth
+IsSaidDeed deed = Unit {0}
+
+-- a witness has all that the step says
+abbrev pub IsSaid : Step tcp_shape → Type 0
+IsSaid (At host deed) = IsSaidDeed deed
+IsSaid step = Unit {0}
+
+abbrev pub IsSaidItem : Item tcp_shape → Type 0
+IsSaidItem (Do step) = IsSaid step
+IsSaidItem (Bring f) = Unit {0}
+
+abbrev pub AllSaid : List TcpEntry → Type 0
+AllSaid [] = Unit {0}
+AllSaid (x ∷ xs) = IsSaidItem x.item × AllSaid xs

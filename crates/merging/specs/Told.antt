@@ -1,0 +1,50 @@
+-- What a trace and a witness say of a run of the machine.
+use Rattle.std.specs.Prelude.{◌≡◌, ℕ, List, [], ◌∷◌, Some, map}
+use Rattle.case_forms.specs.declared.trace.Header.{Header}
+use Rattle.case_forms.specs.declared.trace.Event.{Event}
+use Rattle.case_forms.specs.declared.trace.Event.TheVariants as events
+use Rattle.case_forms.specs.declared.trace.Line.{Line}
+use Rattle.case_forms.specs.declared.trace.Trace.{Trace}
+use Rattle.case_forms.specs.declared.named_line.NamedLine.{NamedLine}
+use Rattle.case_forms.specs.declared.steps.Label.{Label}
+use Rattle.case_forms.specs.declared.steps.Label.TheVariants as labels
+use Rattle.case_forms.specs.declared.steps.Step.{Step}
+use Rattle.case_forms.specs.declared.steps.Witness.{Witness}
+use Rattle.case_forms.specs.Steps.{extras_count}
+use Rattle.case_forms.specs.Traces.{line_at, IsTrace}
+use Rattle.interval_order.specs.OrderRules.{extras_of}
+use Rattle.hosts.specs.Hosts.{Stamped}
+use Rattle.recordings.specs.Placing as placing
+use Rattle.machine.specs.Machine.{tcp, tcp_shape}
+use Rattle.checker.specs.Seen.{stamped}
+
+-- what an event of that thread is to the machine, to which the threads of segments and timers are nothing
+abbrev pub event_told : ℕ → Event → placing.Event tcp_shape
+event_told thread (events.CallBegin call) = placing.CallBegin thread call
+event_told thread (events.CallEnd answer) = placing.CallEnd thread answer
+event_told thread (events.Sent host wire) = placing.Sent host wire
+event_told thread (events.Came host wire) = placing.Came host wire
+event_told thread (events.Expired host lport rport timer) = placing.Expired host (record { lport = lport; rport = rport; timer = timer })
+
+-- what a line is to the machine
+abbrev pub line_told : Line → placing.Line tcp_shape
+line_told line = record { moment = line.moment; event = event_told line.thread line.event }
+
+-- a label that takes a line takes one of the trace's, with as many extra numbers as its kind has
+abbrev pub TakesWell : Header → List Line → Label NamedLine → Type 0
+TakesWell h lines (labels.L named) =
+    (line : Line) × (line_at h lines named.number ≡ Some line) × (extras_count named.extras ≡ extras_of h.version line.event)
+TakesWell h lines _ = Unit {0}
+
+-- each of these steps does
+abbrev pub AllTakeWell : Header → List Line → List Step → Type 0
+AllTakeWell h lines [] = Unit {0}
+AllTakeWell h lines (s ∷ steps) = TakesWell h lines s.label × AllTakeWell h lines steps
+
+-- trace and witness say these steps: the witness's steps are these, as the checker sees them, and the trace's lines are those that they take
+pub record Tells (t : Trace) (w : Witness) (steps : List (Stamped tcp_shape)) : Type 0 where
+  pub trace : IsTrace t
+  pub version : t.header.version ≡ w.version
+  pub takes : AllTakeWell t.header t.lines w.steps
+  pub steps_are : stamped t.header t.lines w.steps ≡ steps
+  pub lines_are : map line_told t.lines ≡ placing.lines_of (tcp t.header) steps

@@ -1,0 +1,159 @@
+-- A trace is printed as a text that stands for it, with its spans, exactly where it is within the limits.
+use Rattle.std.proofs.Common.{◌≡◌, ◌≤◌, ◌<◌, ◌+◌, ◌^◌, ℕ, List, [], ◌∷◌, ◌++◌, length, take, get_or, suc, refl, sym, ap, subst, ◌∙◌, inl, arith}
+use Rattle.std.specs.Prelude.{map, codes}
+use Rattle.std.specs.Fmt.{decimal}
+use Rattle.std.specs.List.{AllByRecursion}
+use Rattle.std.proofs.Math.Seq.{take-suc}
+use Rattle.std.proofs.lemmas.List.Folds.{concat-append}
+use Rattle.case_forms.specs.declared.trace.Header.{Header}
+use Rattle.case_forms.specs.declared.trace.Line.{Line}
+use Rattle.case_forms.specs.declared.trace.Trace.{Trace}
+use Rattle.case_forms.specs.Traces.{IsRecorded}
+use Rattle.line_fields.specs.Lines.{IsLine}
+use Rattle.line_fields.specs.Folding.{AreSpelled}
+use Rattle.line_fields.specs.Spelling.{printed, printed_line, joined, piece_texts}
+use Rattle.line_fields.proofs.Printable.{pieces_written, written_bytes, short_decimal}
+use Rattle.case_forms.specs.declared.version.Version.{Version}
+use Rattle.case_forms.specs.declared.version.Version.TheVariants as versions
+use Rattle.case_forms.specs.declared.version.Initial.{Initial}
+use Rattle.case_forms.specs.declared.version.Initial.TheVariants.{Rfc5681, Rfc6928}
+use Rattle.case_forms.specs.Versions.{first_line_of}
+use Rattle.trace_reader.specs.Headers.{IsHeader, AreLines, header_words, first_words, initial_words, initial_number, late_words}
+use Rattle.trace_reader.specs.Events.{event_pieces}
+use Rattle.trace_reader.specs.EventLines.{Place, behind, line_pieces, IsEventLine}
+use Rattle.trace_reader.specs.TraceText.{first_place, IsTraceText}
+use Rattle.trace_reader.specs.Printed.{trace_text}
+use Rattle.trace_reader.specs.Printable.{HasBytes, IsWithinLine, IsWithinTrace, IsPrintableLine, IsPrintableTrace, at_columns, with_columns}
+use Rattle.trace_reader.proofs.ShortLines.{line_short}
+
+-- ---- the header
+
+fed : (number : ℕ) (ws : List (List ℕ)) → length (joined ws) ≤ 140000 → number ≤ 10000000 → IsLine number (joined ws) (printed ws)
+fed number ws short count = record { ends = (10 ∷ [], inl refl, refl); short = short; count = count }
+
+number_fed : (number : ℕ) (name : List ℕ) (n : ℕ) → length (joined (name ∷ decimal n ∷ [])) ≤ length name + 1 + length (decimal n) → length name ≤ 20 → n < 2 ^ 64 → number ≤ 10000000
+    → IsLine number (joined (name ∷ decimal n ∷ [])) (printed (name ∷ decimal n ∷ []))
+number_fed number name n len short lt count = fed number (name ∷ decimal n ∷ []) (let own = short_decimal n lt in omega (arith, len, own)) count
+
+first_printed : (v : Version) → IsLine 1 (joined (first_words v)) (printed (first_words v))
+first_printed versions.One = fed 1 (first_words versions.One) (omega arith) (omega arith)
+first_printed versions.Two = fed 1 (first_words versions.Two) (omega arith) (omega arith)
+first_printed versions.Three = fed 1 (first_words versions.Three) (omega arith) (omega arith)
+
+initial_small : (i : Initial) → initial_number i < 2 ^ 64
+initial_small Rfc5681 = omega arith
+initial_small Rfc6928 = omega arith
+
+initial_printed : (i : Initial) → IsLine 7 (joined (initial_words i)) (printed (initial_words i))
+initial_printed i = number_fed 7 (codes "initial") (initial_number i) (omega arith) (omega arith) (initial_small i) (omega arith)
+
+late_printed : (v : Version) (i : Initial) → AreLines 7 (late_words v i) (map printed (late_words v i))
+late_printed versions.One i = tt
+late_printed versions.Two i = (initial_printed i, tt)
+late_printed versions.Three i = (initial_printed i, (number_fed 8 (codes "half") 0 (omega arith) (omega arith) (omega arith) (omega arith), tt))
+
+header_printed : (h : Header) → IsHeader h → AreLines 1 (header_words h) (map printed (header_words h))
+header_printed h limits =
+    let skew = limits.skew in let msl = limits.msl in let grain = limits.grain in let minrto = limits.minrto in let extra = limits.extra in (
+      first_printed h.version,
+      (
+        number_fed 2 (codes "skew") h.skew (omega arith) (omega arith) (omega arith) (omega arith),
+        (
+          number_fed 3 (codes "msl") h.msl (omega arith) (omega arith) (omega arith) (omega arith),
+          (
+            number_fed 4 (codes "grain") h.grain (omega arith) (omega arith) (omega arith) (omega arith),
+            (
+              number_fed 5 (codes "minrto") h.minrto (omega arith) (omega arith) (omega arith) (omega arith),
+              (number_fed 6 (codes "extra") h.extra (omega arith) (omega arith) (omega arith) (omega arith), late_printed h.version h.initial),
+            ),
+          ),
+        ),
+      ),
+    )
+
+-- ---- the event lines
+
+line_printed : (v : Version) (place : Place) (l : Line) → l.number ≡ place.1 → place.0 ≤ l.moment → place.1 ≤ 10000000 → IsPrintableLine v l → IsEventLine v place (at_columns l) (printed_line (line_pieces l))
+line_printed v place l number rises count p = record {
+  texts = piece_texts (line_pieces l);
+  written = (refl, (refl, pieces_written (event_pieces l.event) p.bytes));
+  text = fed place.1 (piece_texts (line_pieces l)) (line_short v l p.moment p.thread p.event) count;
+  rises = rises;
+  moment = p.moment;
+  thread = p.thread;
+  event = p.event;
+  number = number;
+  span = ap (λ (n : ℕ). record { line = n; start = 0; stop = length (joined (piece_texts (line_pieces l))) }) number;
+}
+
+lines_printed : (v : Version) (place : Place) (lines : List Line) → IsRecorded place.1 place.0 lines → place.1 + length lines ≤ 10000001 → AllByRecursion (IsPrintableLine v) lines
+    → AreSpelled (IsEventLine v) behind place (map at_columns lines) (map (λ l. printed_line (line_pieces l)) lines)
+lines_printed v place [] recorded few all = tt
+lines_printed v place (l ∷ ls) recorded few all =
+    (line_printed v place l recorded.0 recorded.1 (omega arith) all.0, lines_printed v (l.moment, place.1 + 1) ls recorded.2 (omega arith) all.1)
+
+-- ---- the whole text
+
+again_same : (lines : List Line) → map (λ l. printed_line (line_pieces l)) (map at_columns lines) ≡ map (λ l. printed_line (line_pieces l)) lines
+again_same [] = refl
+again_same (l ∷ ls) = ap (λ (xs : List (List ℕ)). printed_line (line_pieces l) ∷ xs) (again_same ls)
+
+pub is_printed : (t : Trace) → IsPrintableTrace t → IsTraceText (with_columns t) (trace_text t)
+is_printed t p = record {
+  headers = map printed (header_words t.header);
+  events = map (λ l. printed_line (line_pieces l)) t.lines;
+  limits = p.header;
+  are_headers = header_printed t.header p.header;
+  are_events = lines_printed t.header.version (first_place t.header) t.lines p.recorded p.few p.lines;
+  joined = sym (concat-append (map printed (header_words t.header)) (map (λ l. printed_line (line_pieces l)) t.lines));
+}
+
+-- ---- and nothing else is
+
+record AreWithin (v : Version) (place : Place) (ls : List Line) : Type 0 where
+  recorded : IsRecorded place.1 place.0 ls
+  few : place.1 + length ls ≤ 10000001
+  lines : AllByRecursion (IsPrintableLine v) ls
+
+within : (v : Version) (place : Place) (lines : List Line) (raws : List (List ℕ)) → place.1 ≤ 10000001 → AreSpelled (IsEventLine v) behind place (map at_columns lines) raws → AreWithin v place lines
+within v place [] raws le h = record { recorded = tt; few = omega arith; lines = tt }
+within v place (l ∷ ls) [] le h = absurd h
+within v place (l ∷ ls) (raw ∷ raws) le h =
+    let own = h.0 in
+    let count = own.text.count in
+    let others = within v (l.moment, place.1 + 1) ls raws (omega arith) h.1 in
+    let few = others.few in record {
+      recorded = (own.number, own.rises, others.recorded);
+      few = omega arith;
+      lines = (record { moment = own.moment; thread = own.thread; event = own.event; bytes = (written_bytes (line_pieces l) own.texts own.written).1.1 }, others.lines);
+    }
+
+first_small : (v : Version) → first_line_of v ≤ 10000001
+first_small versions.One = omega arith
+first_small versions.Two = omega arith
+first_small versions.Three = omega arith
+
+pub is_printable : (t : Trace) (text : List ℕ) → IsTraceText (with_columns t) text → IsPrintableTrace t
+is_printable t text s =
+    let own = within t.header.version (first_place t.header) t.lines s.events (first_small t.header.version) s.are_events in
+    record { header = s.limits; recorded = own.recorded; few = own.few; lines = own.lines }
+
+-- ---- what holds of the elements so far, and of one more
+
+both : {X : Type 0} (P : X → Type 0) (xs ys : List X) → AllByRecursion P xs → AllByRecursion P ys → AllByRecursion P (xs ++ ys)
+both P [] ys p q = q
+both P (x ∷ xs) ys p q = (p.0, both P xs ys p.1 q)
+
+pub all_more : {X : Type 0} (P : X → Type 0) (xs : List X) (i : ℕ) (d : X) → i < length xs → AllByRecursion P (take i xs) → P (get_or xs i d) → AllByRecursion P (take (i + 1) xs)
+all_more {X = X} P xs i d lt before here =
+    let one : suc i ≡ i + 1 = omega arith in
+    subst (λ (ys : List X). AllByRecursion P ys) (sym (take-suc xs i d lt) ∙ ap (λ (n : ℕ). take n xs) one) (both P (take i xs) (get_or xs i d ∷ []) before (here, tt))
+
+-- ---- values in memory
+
+lines_print : (v : Version) (lines : List Line) → AllByRecursion (IsWithinLine v) lines → AllByRecursion HasBytes lines → AllByRecursion (IsPrintableLine v) lines
+lines_print v [] p b = tt
+lines_print v (l ∷ ls) p b = let own = p.0 in (record { moment = own.moment; thread = own.thread; event = own.event; bytes = b.0 }, lines_print v ls p.1 b.1)
+
+pub within_prints : (t : Trace) → IsWithinTrace t → AllByRecursion HasBytes t.lines → IsPrintableTrace t
+within_prints t p b = record { header = p.header; recorded = p.recorded; few = p.few; lines = lines_print t.header.version t.lines p.lines b }
