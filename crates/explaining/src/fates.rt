@@ -1,13 +1,15 @@
 //! What became of the lines of a case, as its witness tells.
 
 use crate::whole::Whole;
-use case_forms::{Event, Extras, Label, NamedLine, OutOfMemory, Step};
+use case_forms::{Event, Extras, Label, Line, NamedLine, OutOfMemory, Step};
 use indexmap::IndexMap;
 use std::alloc::Global;
 
 /// What became of a segment that came in.
 #[derive(Clone, Copy)]
 pub(crate) enum Fate {
+    /// No step before the refused one takes its line.
+    Seen,
     Waits,
     Taken,
     Dropped,
@@ -18,6 +20,7 @@ impl Fate {
     /// The class of its arrow.
     pub(crate) fn class(self) -> &'static str {
         match self {
+            Fate::Seen => "seen",
             Fate::Waits => "waits",
             Fate::Taken => "taken",
             Fate::Dropped => "dropped",
@@ -32,8 +35,12 @@ pub(crate) struct Fates {
     /// For each line that came in, the line that it copies.
     pub copies: IndexMap<u64, u64>,
     /// The lines that were copied.
-    pub copied: IndexMap<u64, ()>,
-    pub fates: IndexMap<u64, Fate>,
+    copied: IndexMap<u64, ()>,
+    fates: IndexMap<u64, Fate>,
+    /// The lines that went out.
+    gone: IndexMap<u64, ()>,
+    // All that comes in was taken, and both hosts are recorded: what went out and was not copied is lost.
+    is_told: bool,
     /// For each line that begins a call, the line behind which the call has its effect.
     pub effects: IndexMap<u64, u64>,
     // For each thread, the line that began its call.
@@ -50,21 +57,47 @@ impl Fates {
             copies: IndexMap::new(alloc),
             copied: IndexMap::new(alloc),
             fates: IndexMap::new(alloc),
+            gone: IndexMap::new(alloc),
+            is_told: false,
             effects: IndexMap::new(alloc),
             begun: IndexMap::new(alloc),
             refused: None,
             last: 0,
         };
+        fates.read_all(whole)?;
+        fates.is_told = !whole.trace.header.version.is_half()
+            && count_came(whole.trace.lines.as_slice()) == fates.fates.len() as u64;
+        Ok(fates)
+    }
+
+    // Reads the steps up to the refused one.
+    fn read_all(&mut self, whole: &Whole) -> Result<(), OutOfMemory> {
         for (place, step) in whole.steps.as_slice().iter().enumerate() {
-            if let Some(refused) = whole.refused {
+            if let Some(refused) = whole.refused() {
                 if refused.place == place {
-                    fates.refused = Some(fates.last);
-                    return Ok(fates);
+                    self.refused = Some(self.last);
+                    return Ok(());
                 }
             }
-            fates.read(whole, step)?;
+            self.read(whole, step)?;
         }
-        Ok(fates)
+        Ok(())
+    }
+
+    /// What became of the segment that came in with a line.
+    pub(crate) fn fate(&self, line: u64) -> Fate {
+        self.fates.get(&line).copied().unwrap_or(Fate::Seen)
+    }
+
+    /// The class of what goes out with a line and is not copied. None: a line copies it.
+    pub(crate) fn class_sent(&self, line: u64) -> Option<&'static str> {
+        if self.copied.contains_key(&line) {
+            None
+        } else if self.is_told && self.gone.contains_key(&line) {
+            Some("lost")
+        } else {
+            Some("seen")
+        }
     }
 
     fn read_line(&mut self, whole: &Whole, named: NamedLine) -> Result<(), OutOfMemory> {
@@ -79,6 +112,9 @@ impl Fates {
             }
             (Event::Came(_, _), Extras::Bare) => {
                 self.fates.insert(named.number, Fate::Waits)?;
+            }
+            (Event::Sent(_, _), _) => {
+                self.gone.insert(named.number, ())?;
             }
             (Event::CallBegin(_), _) => {
                 self.begun.insert(line.thread, named.number)?;
@@ -112,4 +148,15 @@ impl Fates {
         }
         Ok(())
     }
+}
+
+// How many lines tell of a segment that comes in.
+fn count_came(lines: &[Line]) -> u64 {
+    let mut count: u64 = 0;
+    for line in lines {
+        if matches!(&line.event, Event::Came(_, _)) {
+            count = count.saturating_add(1);
+        }
+    }
+    count
 }

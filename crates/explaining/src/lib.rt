@@ -8,7 +8,8 @@
 //! - `parts`: the two texts of a case, and their lines; `marks`: a line at fault, with a mark under its columns
 //! - `scene`: the world before the step that is refused
 //! - `text`: lines of plain words; `described`: an endpoint in words
-//! - `why_order`, `why_calls`, `why_making`, `why_wire`, `why_taking`, `why_timers`: what each rule compares
+//! - `why_order`, `why_calls`, `why_making`, `why_wire`, `why_taking`, `why_reset`, `why_timers`: what each rule compares
+//! - `why_answers`: the answers that a call may have
 //! - `causes`: what usually causes a rule to be broken
 //! - `whole`: a case that is shown; `numbers`: numbers on the wire as positions; `words`: segments, calls and steps in words
 //! - `showing`: a case as text
@@ -29,9 +30,11 @@ mod showing;
 mod text;
 mod verdict_in_words;
 mod whole;
+mod why_answers;
 mod why_calls;
 mod why_making;
 mod why_order;
+mod why_reset;
 mod why_taking;
 mod why_timers;
 mod why_wire;

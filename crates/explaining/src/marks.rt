@@ -4,6 +4,7 @@ use crate::parts::line_at;
 use crate::text::{Piece, add, say};
 use case_forms::OutOfMemory;
 use line_fields::{FaultKind, TextFault, push_end, push_word};
+use segment::SegFault;
 
 // How many bytes before the mark are shown, and how many in all.
 const BEFORE: usize = 60;
@@ -13,7 +14,13 @@ const SHOWN: usize = 110;
 /// Writes the line at fault, and a mark under the columns.
 pub(crate) fn mark(out: &mut Vec<u8>, text: &[u8], fault: &TextFault) -> Result<(), OutOfMemory> {
     let Some(line) = line_at(text, fault.span.line) else {
-        return say(out, &[Piece::Word("the text ends before this line")]);
+        return say(
+            out,
+            &[
+                Piece::Word("the text ends before this line: "),
+                Piece::Word(meaning(fault.kind)),
+            ],
+        );
     };
     let from = fault.span.start.saturating_sub(BEFORE);
     let left = line.get(from..).unwrap_or(&[]);
@@ -43,12 +50,24 @@ fn meaning(kind: FaultKind) -> &'static str {
             "the number is badly written (a sign, a leading zero) or out of its limits",
         FaultKind::Hex =>
             "bytes are written as two hex digits each, and there is a limit to how many",
-        FaultKind::Segment(_) => "the digits are good, and their bytes are no TCP segment",
+        FaultKind::Segment(fault) => meaning_of_segment(fault),
         FaultKind::MomentFalls =>
             "the moment is below that of the event line before: lines stand in the order of their moments",
         FaultKind::LineTooLong => "a line has at most 140,000 bytes",
         FaultKind::Cut => "the last line has no line feed: the text was cut off",
         FaultKind::TooManyLines => "a text has at most 10,000,000 lines",
         FaultKind::OutOfMemory => "memory ran out",
+    }
+}
+
+fn meaning_of_segment(fault: SegFault) -> &'static str {
+    match fault {
+        SegFault::Short => "a TCP segment has 20 bytes at least",
+        SegFault::Offset =>
+            "the TCP header's data offset is below 5, or points behind the last byte",
+        SegFault::OptionLength =>
+            "an option of the TCP header is shorter than 2 bytes, or longer than the header",
+        SegFault::TooLong => "a TCP segment has 65,515 bytes at most",
+        SegFault::OutOfMemory => "memory ran out",
     }
 }

@@ -1,6 +1,6 @@
 //! Numbers on the wire as positions, counted from the initial sequence numbers that a trace shows.
 
-use case_forms::{Host, OutOfMemory, Wire};
+use case_forms::{Event, Host, Line, OutOfMemory, Version, Wire};
 use indexmap::IndexMap;
 use segment::{Flag, Segment};
 use std::alloc::Global;
@@ -12,17 +12,28 @@ type Ends = (u8, u16, u16);
 #[derive(Drop)]
 pub(crate) struct Numbers {
     first: IndexMap<Ends, u32>,
+    half: bool,
 }
 
 impl Numbers {
-    pub(crate) fn new(alloc: Global) -> Numbers {
+    pub(crate) fn new(alloc: Global, version: Version) -> Numbers {
         Numbers {
             first: IndexMap::new(alloc),
+            half: version.is_half(),
         }
     }
 
-    /// A segment of a host is seen: a SYN tells its initial sequence number.
-    pub(crate) fn see(&mut self, host: Host, wire: &Wire) -> Result<(), OutOfMemory> {
+    /// A line is seen: a SYN that goes out tells its host's initial sequence number; in a half case one that comes in tells
+    /// the other host's.
+    pub(crate) fn read(&mut self, line: &Line) -> Result<(), OutOfMemory> {
+        match &line.event {
+            Event::Sent(host, wire) => self.see(*host, wire),
+            Event::Came(host, wire) if self.half => self.see(other(*host), wire),
+            _ => Ok(()),
+        }
+    }
+
+    fn see(&mut self, host: Host, wire: &Wire) -> Result<(), OutOfMemory> {
         let seg = &wire.seg;
         if seg.has(Flag::Syn) {
             self.first.insert(ends(host, seg.src, seg.dst), seg.seq.0)?;

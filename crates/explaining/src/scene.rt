@@ -3,12 +3,13 @@
 ghost use Rattle.std.specs.Prelude.{◌<◌, OnOk};
 ghost use Rattle.machine.specs.Bounds.{most_steps};
 
-use case_forms::{Header, Host, Label, Line, NamedLine, OutOfMemory, Step};
+use case_forms::{Flags, Header, Host, Label, Line, NamedLine, OutOfMemory, SegmentPlan, Step};
 use endpoint_state::{Endpoint, StepFault, World};
 use indexmap::IndexMap;
 use machine::{Arrived, Emission};
 use spec_step::apply_line;
 use std::alloc::{AllocError, Global};
+use verdict::Rule;
 
 // The greatest position of a segment that is made.
 const GREATEST_POSITION: u64 = 1_000_000_000_000_000_000;
@@ -111,7 +112,30 @@ impl<'t> Scene<'t> {
         }
     }
 
-    /// The endpoint that a segment finds.
+    /// Whether the state of the endpoint at the ports of a making allows a segment of this kind there.
+    pub(crate) fn allows_kind(
+        &self,
+        host: Host,
+        plan: &SegmentPlan,
+        flags: Flags,
+        len: u16,
+    ) -> bool {
+        if has_room(&self.world).is_err() {
+            return false;
+        }
+        let plan = SegmentPlan {
+            pos: 0,
+            len,
+            flags,
+            ..*plan
+        };
+        !matches!(
+            self.world.admits_making(host, &plan),
+            Err(Rule::NoEndpoint | Rule::State)
+        )
+    }
+
+    /// The endpoint of a segment's ports, closed or not.
     pub(crate) fn taker(&self, host: Host, m: &Emission) -> Option<&Endpoint> {
         self.endpoint(host, m.rport, m.lport)
     }

@@ -4,7 +4,7 @@ use crate::numbers::Numbers;
 use crate::text::{Piece, add, say};
 use crate::whole::{Refused, Whole};
 use crate::words::{push_event, push_label};
-use case_forms::{Event, Label, Line, OutOfMemory, Step};
+use case_forms::{Label, Line, OutOfMemory, Step};
 use indexmap::IndexMap;
 use line_fields::TextFault;
 use std::alloc::Global;
@@ -24,7 +24,7 @@ pub fn show(alloc: Global, text: &[u8]) -> Result<Vec<u8>, TextFault> {
     let whole = Whole::read(alloc, text)?;
     let mut show = Showing {
         out: Vec::new(alloc),
-        numbers: Numbers::new(alloc),
+        numbers: Numbers::new(alloc, whole.trace.header.version),
         shown: IndexMap::new(alloc),
     };
     show.all(&whole)?;
@@ -38,7 +38,7 @@ impl Showing {
         let first = whole.trace.header.first_event_line();
         for (place, step) in whole.steps.as_slice().iter().enumerate() {
             self.step(lines, first, step)?;
-            self.refusal(place, whole.refused)?;
+            self.refusal(place, whole.refused())?;
         }
         self.rest(lines)
     }
@@ -68,9 +68,7 @@ impl Showing {
     }
 
     fn line(&mut self, line: &Line, moment: u64) -> Result<(), OutOfMemory> {
-        if let Event::Sent(host, wire) = &line.event {
-            self.numbers.see(*host, wire)?;
-        }
+        self.numbers.read(line)?;
         self.shown.insert(line.number, ())?;
         add(
             &mut self.out,

@@ -5,7 +5,7 @@ use crate::marks::mark;
 use crate::parts::{Parts, cut, line_at};
 use crate::scene::Scene;
 use crate::text::{Piece, fault_line, say};
-use crate::{why_calls, why_making, why_order, why_taking, why_timers, why_wire};
+use crate::{why_calls, why_making, why_order, why_reset, why_taking, why_timers, why_wire};
 use case_forms::{Label, OutOfMemory};
 use checker::{CaseFault, check_case};
 use std::alloc::{AllocError, Global};
@@ -113,7 +113,7 @@ fn explain_no(
 // What the rule compares.
 fn why(alloc: Global, out: &mut Vec<u8>, scene: &Scene<'_>, rule: Rule) -> Result<(), OutOfMemory> {
     let Some(step) = scene.step() else {
-        return Ok(());
+        return why_order::why_unplaced(out, scene);
     };
     if why_order::is_of_order(rule) {
         return why_order::why(out, scene, step, rule);
@@ -123,14 +123,18 @@ fn why(alloc: Global, out: &mut Vec<u8>, scene: &Scene<'_>, rule: Rule) -> Resul
             Some(line) => why_wire::why(out, scene, line, *named, step.moment, rule),
             None => Ok(()),
         },
-        Label::D { thread, answer } => why_calls::why_effect(alloc, out, scene, *thread, answer),
+        Label::D { thread, answer } => {
+            why_calls::why_effect(alloc, out, scene, *thread, answer, rule)
+        }
         Label::M { host, plan } => why_making::why(out, scene, *host, plan, rule),
         Label::T { host, line, choice } => {
             why_taking::why(out, scene, *host, *line, *choice, rule)
         }
         Label::K { host, line } | Label::R { host, line } => {
-            why_taking::why_waiting(out, scene, *host, *line)
+            why_reset::why(out, scene, *host, *line)
         }
-        Label::F { host, recovery } => why_timers::why_recovery(out, scene, *host, *recovery),
+        Label::F { host, recovery } => {
+            why_timers::why_recovery(out, scene, *host, *recovery, rule)
+        }
     }
 }

@@ -17,12 +17,22 @@ pub(crate) struct Refused {
     pub rule: Rule,
 }
 
+/// Where a case is refused.
+#[derive(Clone, Copy)]
+pub(crate) enum Refusal {
+    /// The verdict is yes, or a text can't be read.
+    Nowhere,
+    At(Refused),
+    /// No step takes this line.
+    Unplaced(u64),
+}
+
 /// A case. Where its witness can't be read it has no steps.
 #[derive(Drop)]
 pub(crate) struct Whole {
     pub trace: Trace,
     pub steps: Steps,
-    pub refused: Option<Refused>,
+    pub refusal: Refusal,
 }
 
 impl Whole {
@@ -34,8 +44,16 @@ impl Whole {
         Ok(Whole {
             trace,
             steps,
-            refused: refused_at(alloc, text),
+            refusal: refusal_of(alloc, text),
         })
+    }
+
+    /// The step that is refused. None: no step is.
+    pub(crate) fn refused(&self) -> Option<Refused> {
+        match self.refusal {
+            Refusal::At(refused) => Some(refused),
+            Refusal::Nowhere | Refusal::Unplaced(_) => None,
+        }
     }
 
     /// The line of this number. None: the trace has no such event line.
@@ -55,22 +73,24 @@ fn steps_of(alloc: Global, parts: Parts<'_>, trace: &Trace) -> Steps {
     }
 }
 
-// Where a case is refused at a step.
-fn refused_at(alloc: Global, text: &[u8]) -> Option<Refused> {
+fn refusal_of(alloc: Global, text: &[u8]) -> Refusal {
     match check_case(alloc, text) {
         Ok(
             Verdict::No {
                 witness_line,
+                trace_line,
                 rule,
-                ..
             },
-        ) => {
-            let place = witness_line.checked_sub(2)?;
-            Some(Refused {
-                place: usize::try_from(place).ok()?,
-                rule,
-            })
-        }
-        _ => None,
+        ) => match step_at(witness_line) {
+            Some(place) => Refusal::At(Refused { place, rule }),
+            None => Refusal::Unplaced(trace_line),
+        },
+        _ => Refusal::Nowhere,
     }
+}
+
+// The place of the step in a line of the witness, from 0. None: no step stands there.
+fn step_at(witness_line: u64) -> Option<usize> {
+    let place = witness_line.checked_sub(2)?;
+    usize::try_from(place).ok()
 }

@@ -3,11 +3,18 @@
 use crate::described::describe;
 use crate::scene::Scene;
 use crate::text::{Piece, add, say};
-use case_forms::{Answer, Call, Host, OutOfMemory, State};
-use endpoint_state::{World, call_allowed};
+use crate::why_answers::allowed;
+use crate::why_wire::first_difference;
+use crate::words::{push_call, push_told};
+use case_forms::{Answer, Call, Event, Host, Label, OutOfMemory};
+use endpoint_state::World;
 use line_fields::push_answer;
 use machine::Thing;
 use std::alloc::Global;
+use verdict::Rule;
+
+// Data of more bytes than these is told by its length.
+const SHOWN: usize = 60;
 
 /// What is known of a thread's call whose effect is refused.
 pub(crate) fn why_effect(
@@ -16,20 +23,42 @@ pub(crate) fn why_effect(
     scene: &Scene<'_>,
     thread: u32,
     answer: &Answer,
+    rule: Rule,
 ) -> Result<(), OutOfMemory> {
+    why_thread(out, scene, thread)?;
     let Some(call) = scene.world.pending_call(thread) else {
-        return why_thread(out, scene, thread);
+        return Ok(());
     };
-    if let Some(socket) = socket_of(call) {
-        describe_socket(out, &scene.world, Host::Zero, socket)?;
-        describe_socket(out, &scene.world, Host::One, socket)?;
+    if let (Rule::Socket, Answer::Given(number)) = (rule, answer) {
+        return given_before(out, &scene.world, *number);
     }
+    describe_meant(out, &scene.world, call)?;
     add(out, &[Piece::Word("the witness has the answer:")])?;
-    push_answer(out, answer)?;
+    push_shown(out, answer)?;
     say(out, &[])?;
     add(out, &[Piece::Word("allowed there:")])?;
     allowed(alloc, out, &scene.world, call)?;
     say(out, &[])
+}
+
+// A socket number that is given a second time.
+fn given_before(out: &mut Vec<u8>, world: &World, number: u32) -> Result<(), OutOfMemory> {
+    let host = if world.body(Host::Zero).is_given(number) {
+        Host::Zero
+    } else {
+        Host::One
+    };
+    say(
+        out,
+        &[
+            Piece::Word("socket number "),
+            Piece::Number(u64::from(number)),
+            Piece::Word(" was given before, at "),
+            Piece::At(host),
+            Piece::Word("; each is given once, at either host"),
+        ],
+    )?;
+    describe_socket(out, world, host, number)
 }
 
 /// Where a thread is in its calls.
@@ -39,35 +68,79 @@ pub(crate) fn why_thread(
     thread: u32,
 ) -> Result<(), OutOfMemory> {
     let number = u64::from(thread);
-    if let Some(answer) = scene.world.given_answer(thread) {
-        add(
-            out,
-            &[
-                Piece::Word("the open call of thread "),
-                Piece::Number(number),
-                Piece::Word(" had its effect, with the answer"),
-            ],
-        )?;
-        push_answer(out, answer)?;
-        return say(out, &[]);
-    }
-    match scene.world.pending_call(thread) {
-        Some(_) => say(
-            out,
-            &[
-                Piece::Word("the open call of thread "),
-                Piece::Number(number),
-                Piece::Word(" had no effect yet"),
-            ],
-        ),
-        None => say(
+    let pending = scene.world.pending_call(thread);
+    let given = scene.world.given_answer(thread);
+    if pending.is_none() && given.is_none() {
+        return say(
             out,
             &[
                 Piece::Word("thread "),
                 Piece::Number(number),
                 Piece::Word(" has no open call"),
             ],
-        ),
+        );
+    }
+    add(
+        out,
+        &[
+            Piece::Word("the open call of thread "),
+            Piece::Number(number),
+            Piece::Word(", begun in trace line "),
+            Piece::Number(begun_at(scene, thread)),
+        ],
+    )?;
+    if let Some(call) = pending {
+        add(out, &[Piece::Word(": ")])?;
+        push_call(out, call)?;
+        return say(out, &[Piece::Word("; it had no effect yet")]);
+    }
+    add(
+        out,
+        &[
+            Piece::Word(", had its effect in line "),
+            Piece::Number(effect_at(scene, thread)),
+            Piece::Word(" of the witness, with the answer"),
+        ],
+    )?;
+    if let Some(answer) = given {
+        push_shown(out, answer)?;
+    }
+    say(out, &[])
+}
+
+// The last line that began a call of a thread and was taken; 0 where none is.
+fn begun_at(scene: &Scene<'_>, thread: u32) -> u64 {
+    let mut begun = 0;
+    for line in scene.lines {
+        if line.thread == thread
+            && matches!(&line.event, Event::CallBegin(_))
+            && scene.taken.contains_key(&line.number)
+        {
+            begun = line.number;
+        }
+    }
+    begun
+}
+
+// The line of the witness with the last effect of a thread before the step; 0 where there is none.
+fn effect_at(scene: &Scene<'_>, thread: u32) -> u64 {
+    let mut found: u64 = 0;
+    for (place, step) in scene.steps.iter().enumerate().take(scene.place) {
+        match &step.label {
+            Label::D { thread: other, .. } if *other == thread => {
+                found = (place as u64).saturating_add(2);
+            }
+            _ => {}
+        }
+    }
+    found
+}
+
+// Writes an answer, of long data the length alone.
+fn push_shown(out: &mut Vec<u8>, answer: &Answer) -> Result<(), OutOfMemory> {
+    match answer {
+        Answer::Bytes(bytes) if SHOWN < bytes.len() => push_told(out, answer),
+        answer => push_answer(out, answer),
     }
 }
 
@@ -79,15 +152,32 @@ pub(crate) fn why_end(
     answer: &Answer,
 ) -> Result<(), OutOfMemory> {
     add(out, &[Piece::Word("the line has the answer")])?;
-    push_answer(out, answer)?;
+    push_shown(out, answer)?;
     say(out, &[])?;
-    why_thread(out, scene, thread)
+    why_thread(out, scene, thread)?;
+    match (answer, scene.world.given_answer(thread)) {
+        (Answer::Bytes(told), Some(Answer::Bytes(given))) => first_difference(
+            out,
+            "byte ",
+            "in the effect",
+            given.as_slice(),
+            told.as_slice(),
+        ),
+        _ => Ok(()),
+    }
 }
 
-// The socket number that a call names.
-fn socket_of(call: &Call) -> Option<u32> {
+// What a call finds.
+fn describe_meant(out: &mut Vec<u8>, world: &World, call: &Call) -> Result<(), OutOfMemory> {
     match call {
-        Call::Listen(_, _, _) | Call::Connect(_, _, _) => None,
+        Call::Listen(host, port, _) => match world.body(*host).listener_on(*port) {
+            Some(place) => describe_listener(out, world, *host, place),
+            None => Ok(()),
+        },
+        Call::Connect(host, lport, rport) => match world.body(*host).endpoint_of(*lport, *rport) {
+            Some(endpoint) => describe(out, *host, endpoint),
+            None => Ok(()),
+        },
         Call::Await(socket)
         | Call::Accept(socket)
         | Call::Send(socket, _)
@@ -95,8 +185,25 @@ fn socket_of(call: &Call) -> Option<u32> {
         | Call::Shut(socket)
         | Call::Close(socket)
         | Call::Abort(socket)
-        | Call::Status(socket) => Some(*socket),
+        | Call::Status(socket) => describe_named(out, world, *socket),
     }
+}
+
+// What a socket number names.
+fn describe_named(out: &mut Vec<u8>, world: &World, socket: u32) -> Result<(), OutOfMemory> {
+    let at_zero = world.body(Host::Zero).is_given(socket);
+    if !at_zero && !world.body(Host::One).is_given(socket) {
+        return say(
+            out,
+            &[
+                Piece::Word("socket number "),
+                Piece::Number(u64::from(socket)),
+                Piece::Word(" was never given"),
+            ],
+        );
+    }
+    describe_socket(out, world, Host::Zero, socket)?;
+    describe_socket(out, world, Host::One, socket)
 }
 
 // What a socket number names at a host that gave it.
@@ -115,144 +222,37 @@ fn describe_socket(
             Some(endpoint) => describe(out, host, endpoint),
             None => Ok(()),
         },
-        Some(Thing::Listens(place)) => match body.listener_at(place) {
-            Some(listener) => say(
-                out,
-                &[
-                    Piece::Word("it is a listener on port "),
-                    Piece::Number(u64::from(listener.port)),
-                    Piece::Word(", in whose queue stand "),
-                    Piece::Number(listener.queue.len() as u64),
-                ],
-            ),
-            None => Ok(()),
-        },
+        Some(Thing::Listens(place)) => describe_listener(out, world, host, place),
         None => say(
             out,
-            &[Piece::Word("the socket number was closed or aborted")],
+            &[
+                Piece::Word("socket number "),
+                Piece::Number(u64::from(socket)),
+                Piece::Word(" was closed or aborted"),
+            ],
         ),
     }
 }
 
-// The answers that a call may have.
-fn allowed(
-    alloc: Global,
-    out: &mut Vec<u8>,
-    world: &World,
-    call: &Call,
-) -> Result<(), OutOfMemory> {
-    let answers = [
-        Answer::Done,
-        Answer::Again,
-        Answer::Eof,
-        Answer::Closed,
-        Answer::NotConn,
-        Answer::Refused,
-        Answer::Reset,
-        Answer::Timeout,
-        Answer::InUse,
-        Answer::BadSocket,
-    ];
-    for answer in &answers {
-        allowed_one(out, world, call, answer)?;
-    }
-    let states = [
-        State::Closed,
-        State::Listen,
-        State::SynSent,
-        State::SynReceived,
-        State::Established,
-        State::FinWait1,
-        State::FinWait2,
-        State::CloseWait,
-        State::Closing,
-        State::LastAck,
-        State::TimeWait,
-    ];
-    for state in &states {
-        allowed_one(out, world, call, &Answer::State(*state))?;
-    }
-    allowed_bytes(alloc, out, world, call)
-}
-
-fn allowed_one(
-    out: &mut Vec<u8>,
-    world: &World,
-    call: &Call,
-    answer: &Answer,
-) -> Result<(), OutOfMemory> {
-    if call_allowed(world, call, answer).is_ok() {
-        push_answer(out, answer)?;
-        add(out, &[Piece::Word(",")])?;
-    }
-    Ok(())
-}
-
-// The answers with a number or with bytes.
-fn allowed_bytes(
-    alloc: Global,
-    out: &mut Vec<u8>,
-    world: &World,
-    call: &Call,
-) -> Result<(), OutOfMemory> {
-    match call {
-        Call::Send(_, bytes) => {
-            if call_allowed(world, call, &Answer::Given(1)).is_ok() {
-                add(
-                    out,
-                    &[
-                        Piece::Word(" ok N with N from 1 to "),
-                        Piece::Number(bytes.len() as u64),
-                    ],
-                )?;
-            }
-            Ok(())
-        }
-        Call::Recv(socket, most) => {
-            next_bytes(alloc, out, world, Host::Zero, *socket, *most)?;
-            next_bytes(alloc, out, world, Host::One, *socket, *most)
-        }
-        Call::Listen(_, _, _) | Call::Connect(_, _, _) | Call::Accept(_) => {
-            if call_allowed(world, call, &Answer::Given(u32::MAX)).is_ok() {
-                add(
-                    out,
-                    &[Piece::Word(" ok N with a number N that was never given")],
-                )?;
-            }
-            Ok(())
-        }
-        _ => Ok(()),
-    }
-}
-
-// The bytes that a receive may be given.
-fn next_bytes(
-    alloc: Global,
+// The listener at a place of a host's.
+fn describe_listener(
     out: &mut Vec<u8>,
     world: &World,
     host: Host,
-    socket: u32,
-    most: u16,
+    place: u32,
 ) -> Result<(), OutOfMemory> {
-    let body = world.body(host);
-    let Some(Thing::Ends(place)) = body.thing(socket) else {
-        return Ok(());
-    };
-    let Some(endpoint) = body.endpoint_at(place) else {
-        return Ok(());
-    };
-    let bytes = endpoint.stream.receive.read(alloc, usize::from(most))?;
-    if bytes.is_empty() {
-        return Ok(());
+    match world.body(host).listener_at(place) {
+        Some(listener) => say(
+            out,
+            &[
+                Piece::Word("before the step, "),
+                Piece::At(host),
+                Piece::Word("'s listener on port "),
+                Piece::Number(u64::from(listener.port)),
+                Piece::Word(": children that may be accepted "),
+                Piece::Number(listener.queue.len() as u64),
+            ],
+        ),
+        None => Ok(()),
     }
-    let digits = hex::encode(alloc, bytes.as_slice())?;
-    add(
-        out,
-        &[
-            Piece::Word(" data with 1 to "),
-            Piece::Number(bytes.len() as u64),
-            Piece::Word(" bytes of "),
-            Piece::Raw(digits.as_bytes()),
-        ],
-    )
 }

@@ -3,7 +3,9 @@
 use crate::described::describe;
 use crate::scene::Scene;
 use crate::text::{Piece, add, say};
-use case_forms::{Host, OutOfMemory, SegmentPlan};
+use crate::why_wire::no_endpoint;
+use crate::words::push_flags;
+use case_forms::{Flags, Host, OutOfMemory, SegmentPlan};
 use endpoint_state::Endpoint;
 use verdict::Rule;
 use window_rules::{congestion_edge, offered_edge};
@@ -20,18 +22,13 @@ pub(crate) fn why(
     rule: Rule,
 ) -> Result<(), OutOfMemory> {
     match scene.endpoint(host, plan.lport, plan.rport) {
-        None => say(
-            out,
-            &[
-                Piece::At(host),
-                Piece::Word(" has no endpoint between its port "),
-                Piece::Number(u64::from(plan.lport)),
-                Piece::Word(" and the peer's port "),
-                Piece::Number(u64::from(plan.rport)),
-            ],
-        ),
+        None => no_endpoint(out, host, plan.lport, plan.rport),
         Some(endpoint) => {
             describe(out, host, endpoint)?;
+            if matches!(rule, Rule::NoEndpoint | Rule::State) {
+                state(out, endpoint, plan)?;
+                return may_make(out, scene, host, plan);
+            }
             why_at(out, endpoint, plan, rule)
         }
     }
@@ -50,7 +47,7 @@ fn why_at(
         Rule::PayloadRange => payload_range(out, endpoint, plan),
         Rule::AckField => ack_field(out, endpoint, plan),
         Rule::Iss => iss(out, endpoint, plan),
-        Rule::Size => say(
+        _ => say(
             out,
             &[
                 Piece::Word("it holds "),
@@ -59,7 +56,6 @@ fn why_at(
                 Piece::Number(u64::from(endpoint.congestion.smss)),
             ],
         ),
-        _ => state(out, endpoint, plan),
     }
 }
 
@@ -131,38 +127,43 @@ fn congestion(
 
 fn old_data(out: &mut Vec<u8>, endpoint: &Endpoint, plan: &SegmentPlan) -> Result<(), OutOfMemory> {
     let made = endpoint.max_made();
+    let una = endpoint.stream.una;
+    add(
+        out,
+        &[
+            Piece::Word("it begins at "),
+            Piece::Number(plan.pos),
+            Piece::Word(" and ends at "),
+            Piece::Number(end_of(plan)),
+            Piece::Word(if plan.flags.fin { " with a FIN" } else { "" }),
+        ],
+    )?;
     if plan.pos > made {
         return say(
             out,
             &[
-                Piece::Word("it begins at "),
-                Piece::Number(plan.pos),
-                Piece::Word(", a gap behind "),
+                Piece::Word(": a gap behind "),
                 Piece::Number(made),
                 Piece::Word(", up to which segments were made"),
             ],
         );
     }
-    if plan.pos < endpoint.stream.una {
+    if plan.pos < una {
         return say(
             out,
             &[
-                Piece::Word("it begins at "),
-                Piece::Number(plan.pos),
-                Piece::Word(", below una "),
-                Piece::Number(endpoint.stream.una),
-                Piece::Word(": that is acknowledged"),
+                Piece::Word(": below una "),
+                Piece::Number(una),
+                Piece::Word(", so that is acknowledged; an empty segment may begin one below una"),
             ],
         );
     }
     say(
         out,
         &[
-            Piece::Word("it begins at "),
-            Piece::Number(plan.pos),
-            Piece::Word(", made before up to "),
+            Piece::Word("; segments were made up to "),
             Piece::Number(made),
-            Piece::Word("; only what lies below "),
+            Piece::Word(", and of that what ends at or below "),
             Piece::Number(endpoint.recover),
             Piece::Word(" may be made again: an expiry or fast recovery moves that"),
         ],
@@ -174,20 +175,36 @@ fn payload_range(
     endpoint: &Endpoint,
     plan: &SegmentPlan,
 ) -> Result<(), OutOfMemory> {
+    add(
+        out,
+        &[
+            Piece::Word("it begins at "),
+            Piece::Number(plan.pos),
+            Piece::Word(" and holds "),
+            Piece::Number(u64::from(plan.len)),
+            Piece::Word(" bytes, up to "),
+            Piece::Number(end_of(plan)),
+        ],
+    )?;
+    if plan.flags.syn {
+        return say(
+            out,
+            &[Piece::Word("; a SYN stands at 0 and holds no bytes")],
+        );
+    }
+    if plan.flags.rst {
+        return say(out, &[Piece::Word("; a reset holds no bytes")]);
+    }
     say(
         out,
         &[
-            Piece::Word("it holds the positions "),
-            Piece::Number(plan.pos),
-            Piece::Word(" to "),
-            Piece::Number(end_of(plan)),
-            Piece::Word(if plan.flags.fin { " and a FIN" } else { "" }),
-            Piece::Word("; sends accepted bytes from 1 to "),
+            Piece::Word(if plan.flags.fin { ", and a FIN there" } else { "" }),
+            Piece::Word("; sends accepted the bytes from 1 up to "),
             Piece::Number(endpoint.stream.accepted.end()),
             Piece::Word(if endpoint.stream.ended {
-                ", and sending is ended there"
+                ", and sending is ended: a FIN stands there"
             } else {
-                ", and sending is not ended"
+                ", and sending is not ended: no FIN may go"
             }),
         ],
     )
@@ -216,38 +233,47 @@ fn ack_field(
 }
 
 fn iss(out: &mut Vec<u8>, endpoint: &Endpoint, plan: &SegmentPlan) -> Result<(), OutOfMemory> {
+    match endpoint.iss {
+        Some(number) => add(
+            out,
+            &[
+                Piece::Word("the initial sequence number "),
+                Piece::Number(u64::from(number.0)),
+                Piece::Word(" was given before"),
+            ],
+        )?,
+        None => add(
+            out,
+            &[Piece::Word("no initial sequence number was given yet")],
+        )?,
+    }
+    match plan.iss {
+        Some(number) => add(
+            out,
+            &[
+                Piece::Word(", and the step gives "),
+                Piece::Number(u64::from(number.0)),
+            ],
+        )?,
+        None => add(out, &[Piece::Word(", and the step gives none")])?,
+    }
     say(
         out,
-        &[
-            Piece::Word(if endpoint.iss.is_some() {
-                "an initial sequence number was given before"
-            } else {
-                "no initial sequence number was given yet"
-            }),
-            Piece::Word(if plan.iss.is_some() {
-                ", and the step gives one"
-            } else {
-                ", and the step gives none"
-            }),
-            Piece::Word(if plan.flags.syn {
-                ", with a SYN"
-            } else {
-                ", without a SYN"
-            }),
-        ],
+        &[Piece::Word(if plan.flags.syn {
+            ", with a SYN"
+        } else {
+            ", without a SYN"
+        })],
     )
 }
 
 fn state(out: &mut Vec<u8>, endpoint: &Endpoint, plan: &SegmentPlan) -> Result<(), OutOfMemory> {
+    add(out, &[Piece::Word("the segment: ")])?;
+    push_flags(out, plan.flags)?;
     say(
         out,
         &[
-            Piece::Word("a segment with"),
-            Piece::Word(if plan.flags.syn { " SYN" } else { "" }),
-            Piece::Word(if plan.flags.ack { " ACK" } else { "" }),
-            Piece::Word(if plan.flags.fin { " FIN" } else { "" }),
-            Piece::Word(if plan.flags.rst { " RST" } else { "" }),
-            Piece::Word(", "),
+            Piece::Word("with "),
             Piece::Number(u64::from(plan.len)),
             Piece::Word(" bytes"),
             Piece::Word(if endpoint.reset_due {
@@ -256,10 +282,88 @@ fn state(out: &mut Vec<u8>, endpoint: &Endpoint, plan: &SegmentPlan) -> Result<(
                 "; no reset is due"
             }),
             Piece::Word(if endpoint.closed {
-                ", the socket was closed"
+                ", and the socket was closed"
             } else {
-                ""
+                ", and the socket was not closed"
             }),
         ],
     )
+}
+
+// A kind of segment: its name, its flags, and whether it has bytes.
+struct Kind {
+    name: &'static str,
+    flags: Flags,
+    len: u16,
+}
+
+const BARE: Flags = Flags {
+    ack: false,
+    rst: false,
+    syn: false,
+    fin: false,
+};
+
+const KINDS: [Kind; 6] = [
+    Kind {
+        name: " SYN",
+        flags: Flags { syn: true, ..BARE },
+        len: 0,
+    },
+    Kind {
+        name: " SYN ACK",
+        flags: Flags {
+            syn: true,
+            ack: true,
+            ..BARE
+        },
+        len: 0,
+    },
+    Kind {
+        name: " ACK",
+        flags: Flags { ack: true, ..BARE },
+        len: 0,
+    },
+    Kind {
+        name: " ACK with bytes",
+        flags: Flags { ack: true, ..BARE },
+        len: 1,
+    },
+    Kind {
+        name: " FIN ACK",
+        flags: Flags {
+            fin: true,
+            ack: true,
+            ..BARE
+        },
+        len: 0,
+    },
+    Kind {
+        name: " RST",
+        flags: Flags { rst: true, ..BARE },
+        len: 0,
+    },
+];
+
+// Which kinds of segments the state allows at these ports.
+fn may_make(
+    out: &mut Vec<u8>,
+    scene: &Scene<'_>,
+    host: Host,
+    plan: &SegmentPlan,
+) -> Result<(), OutOfMemory> {
+    add(out, &[Piece::Word("allowed there:")])?;
+    let start = out.len();
+    for kind in &KINDS {
+        if scene.allows_kind(host, plan, kind.flags, kind.len) {
+            if out.len() != start {
+                add(out, &[Piece::Word(" or")])?;
+            }
+            add(out, &[Piece::Word(kind.name)])?;
+        }
+    }
+    if out.len() == start {
+        add(out, &[Piece::Word(" no segment")])?;
+    }
+    say(out, &[])
 }

@@ -2,7 +2,7 @@
 
 use crate::scene::Scene;
 use crate::text::{Piece, say};
-use case_forms::{Label, Line, NamedLine, OutOfMemory, Step};
+use case_forms::{Event, Label, Line, NamedLine, OutOfMemory, Step, Timer};
 use verdict::Rule;
 
 /// Whether a rule is of the order of lines.
@@ -67,17 +67,46 @@ fn line_range(out: &mut Vec<u8>, scene: &Scene<'_>, named: NamedLine) -> Result<
                 Piece::Number(named.number),
             ],
         ),
-        Some(_) => say(
+        Some(line) => say(
             out,
             &[
-                Piece::Word("the step gives "),
+                Piece::Word("extra numbers that the step gives: "),
                 Piece::Number(u64::from(named.extras.count())),
-                Piece::Word(
-                    " extra numbers; an O line has one, an I line one (in a half case none), a T line of rto two, every other none",
-                ),
+                Piece::Word("; "),
+                Piece::Word(wanted(line, scene.header.version.is_half())),
             ],
         ),
     }
+}
+
+// The extra numbers of a line.
+fn wanted(line: &Line, half: bool) -> &'static str {
+    match &line.event {
+        Event::CallBegin(_) => "a B line has none",
+        Event::CallEnd(_) => "an E line has none",
+        Event::Sent(_, _) => "an O line has 1, the number of the made segment that it shows",
+        Event::Came(_, _) if half => "an I line of a half case has none",
+        Event::Came(_, _) => "an I line has 1, the number of the O line that it copies",
+        Event::Expired(_, _, _, Timer::Rto) => "a T line of rto has 2, cwnd and ssthresh",
+        Event::Expired(_, _, _, _) => "a T line of any timer but rto has none",
+    }
+}
+
+/// What is left over behind the last step.
+pub(crate) fn why_unplaced(out: &mut Vec<u8>, scene: &Scene<'_>) -> Result<(), OutOfMemory> {
+    let (taken, all) = (scene.taken.len() as u64, scene.lines.len() as u64);
+    say(
+        out,
+        &[
+            Piece::Word("the witness has "),
+            Piece::Number(scene.steps.len() as u64),
+            Piece::Word(" steps; of the "),
+            Piece::Number(all),
+            Piece::Word(" event lines no step takes "),
+            Piece::Number(all.saturating_sub(taken)),
+            Piece::Word(", and this one is the first of them"),
+        ],
+    )
 }
 
 fn line_again(out: &mut Vec<u8>, scene: &Scene<'_>, number: u64) -> Result<(), OutOfMemory> {

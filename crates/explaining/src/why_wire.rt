@@ -1,10 +1,11 @@
 //! The rules of the machine at a step that takes a line.
 
 use crate::described::describe;
+use crate::numbers::other;
 use crate::scene::Scene;
 use crate::text::{Piece, say};
 use crate::{why_calls, why_timers};
-use case_forms::{Event, Extras, Host, Line, NamedLine, OutOfMemory, Wire};
+use case_forms::{Event, Extras, Host, Label, Line, NamedLine, OutOfMemory, Wire};
 use machine::Emission;
 use segment::Flag;
 use verdict::Rule;
@@ -26,17 +27,30 @@ pub(crate) fn why(
         Event::Expired(host, lport, rport, timer) => match scene.endpoint(*host, *lport, *rport) {
             Some(endpoint) => {
                 describe(out, *host, endpoint)?;
-                why_timers::why_expiry(out, scene, endpoint, *timer, named.extras, moment)
+                why_timers::why_expiry(out, scene, endpoint, *timer, named.extras, (moment, rule))
             }
-            None => say(
-                out,
-                &[
-                    Piece::At(*host),
-                    Piece::Word(" has no endpoint of these ports"),
-                ],
-            ),
+            None => no_endpoint(out, *host, *lport, *rport),
         },
     }
+}
+
+/// A host has no endpoint of these ports.
+pub(crate) fn no_endpoint(
+    out: &mut Vec<u8>,
+    host: Host,
+    lport: u16,
+    rport: u16,
+) -> Result<(), OutOfMemory> {
+    say(
+        out,
+        &[
+            Piece::At(host),
+            Piece::Word(" has no endpoint between its port "),
+            Piece::Number(u64::from(lport)),
+            Piece::Word(" and the peer's port "),
+            Piece::Number(u64::from(rport)),
+        ],
+    )
 }
 
 fn first_extra(extras: Extras) -> u32 {
@@ -70,8 +84,36 @@ fn why_sent(
         ),
         Some(made) => match rule {
             Rule::BytesDiffer => differences(out, made.emission(), wire),
-            _ => say(out, &[Piece::Word("that segment went out before")]),
+            _ => say(
+                out,
+                &[
+                    Piece::Word("made segment "),
+                    Piece::Number(u64::from(number)),
+                    Piece::Word(" went out before, in trace line "),
+                    Piece::Number(shown_before(scene, number)),
+                ],
+            ),
         },
+    }
+}
+
+// The O line that showed a made segment before the step; 0 where there is none.
+fn shown_before(scene: &Scene<'_>, number: u32) -> u64 {
+    let mut found = 0;
+    for step in scene.steps.iter().take(scene.place) {
+        if let Label::L(named) = &step.label {
+            if first_extra(named.extras) == number && is_going_out(scene, named.number) {
+                found = named.number;
+            }
+        }
+    }
+    found
+}
+
+fn is_going_out(scene: &Scene<'_>, number: u64) -> bool {
+    match scene.line(number) {
+        Some(line) => matches!(&line.event, Event::Sent(_, _)),
+        None => false,
     }
 }
 
@@ -153,20 +195,32 @@ fn differ(out: &mut Vec<u8>, name: &str, made: u64, shown: u64) -> Result<(), Ou
     )
 }
 
-// The first byte in which two texts of bytes differ.
 fn differ_bytes(out: &mut Vec<u8>, made: &[u8], shown: &[u8]) -> Result<(), OutOfMemory> {
-    for (place, (a, b)) in made.iter().zip(shown.iter()).enumerate() {
+    first_difference(out, "payload byte ", "made", made, shown)
+}
+
+/// The first byte in which two runs of bytes differ: what they are of, and the word for the first of them.
+pub(crate) fn first_difference(
+    out: &mut Vec<u8>,
+    of: &str,
+    word: &str,
+    one: &[u8],
+    shown: &[u8],
+) -> Result<(), OutOfMemory> {
+    for (place, (a, b)) in one.iter().zip(shown.iter()).enumerate() {
         if *a != *b {
             return say(
                 out,
                 &[
-                    Piece::Word("  byte "),
+                    Piece::Word("  "),
+                    Piece::Word(of),
                     Piece::Number(place as u64),
                     Piece::Word(" (from 0): "),
+                    Piece::Word(word),
+                    Piece::Word(" "),
                     Piece::Number(u64::from(*a)),
-                    Piece::Word(" on one side, "),
+                    Piece::Word(", the line shows "),
                     Piece::Number(u64::from(*b)),
-                    Piece::Word(" on the line"),
                 ],
             );
         }
@@ -203,22 +257,10 @@ fn why_came(
     moment: u64,
     rule: Rule,
 ) -> Result<(), OutOfMemory> {
-    let other = match host {
-        Host::Zero => Host::One,
-        Host::One => Host::Zero,
-    };
+    let other = other(host);
     let copied = u64::from(first_extra(extras));
     match scene.world.sent(other, copied) {
-        None => say(
-            out,
-            &[
-                Piece::Word("line "),
-                Piece::Number(copied),
-                Piece::Word(" is no O line of "),
-                Piece::At(other),
-                Piece::Word(" that was taken before"),
-            ],
-        ),
+        None => no_emission(out, scene, other, copied),
         Some(m) => match rule {
             Rule::CopyDiffers => copy_differs(out, m, wire),
             _ => say(
@@ -236,8 +278,50 @@ fn why_came(
     }
 }
 
+// What the line is that should have gone out at a host.
+fn no_emission(
+    out: &mut Vec<u8>,
+    scene: &Scene<'_>,
+    host: Host,
+    copied: u64,
+) -> Result<(), OutOfMemory> {
+    let is_emission = match scene.line(copied) {
+        Some(line) => matches!(&line.event, Event::Sent(sender, _) if *sender == host),
+        None => false,
+    };
+    say(
+        out,
+        &[
+            Piece::Word("line "),
+            Piece::Number(copied),
+            Piece::Word(if is_emission {
+                " is not taken yet; it is an O line of "
+            } else {
+                " is no O line of "
+            }),
+            Piece::At(host),
+        ],
+    )
+}
+
 fn copy_differs(out: &mut Vec<u8>, m: &Emission, wire: &Wire) -> Result<(), OutOfMemory> {
-    differ(out, "bytes", m.bytes.len() as u64, wire.bytes.len() as u64)?;
-    differ_bytes(out, m.bytes.as_slice(), wire.bytes.as_slice())?;
+    if m.bytes.len() != wire.bytes.len() {
+        say(
+            out,
+            &[
+                Piece::Word("  bytes of the segment: sent "),
+                Piece::Number(m.bytes.len() as u64),
+                Piece::Word(", the line shows "),
+                Piece::Number(wire.bytes.len() as u64),
+            ],
+        )?;
+    }
+    first_difference(
+        out,
+        "byte of the segment ",
+        "sent",
+        m.bytes.as_slice(),
+        wire.bytes.as_slice(),
+    )?;
     differences(out, m, wire)
 }

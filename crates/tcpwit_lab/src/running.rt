@@ -54,38 +54,55 @@ enum Asked {
 // What the words ask for. None: nothing that the program does.
 fn asked_by(words: &[&str]) -> Option<Asked> {
     match words {
+        [word, options @ ..] if *word == "draw" => Some(Asked::Draw(range_of(options)?)),
         [word] => match *word {
             "find" => Some(Asked::Find),
             "explain" => Some(Asked::Explain),
             "show" => Some(Asked::Show),
-            "draw" => Some(Asked::Draw(Range {
-                from: None,
-                to: None,
-            })),
             _ => None,
         },
-        [word, options @ ..] if *word == "draw" => Some(Asked::Draw(range_of(options)?)),
         _ => None,
     }
 }
 
-// The lines that `--from N`, `--to M` or both ask for.
+// The lines that `--from N`, `--to M` or both ask for, in either order. None: other words, an option twice, a number that is
+// badly written, or M below N.
 fn range_of(options: &[&str]) -> Option<Range> {
-    match options {
-        [name, value] if *name == "--from" => Some(Range {
-            from: Some(value.parse::<u64>().ok()?),
-            to: None,
-        }),
-        [name, value] if *name == "--to" => Some(Range {
+    let range = match options {
+        [] => Range {
             from: None,
-            to: Some(value.parse::<u64>().ok()?),
-        }),
-        [name, from, other, to] if *name == "--from" && *other == "--to" => Some(Range {
-            from: Some(from.parse::<u64>().ok()?),
-            to: Some(to.parse::<u64>().ok()?),
-        }),
-        _ => None,
+            to: None,
+        },
+        [name, value] if *name == "--from" => Range {
+            from: Some(line_number(value)?),
+            to: None,
+        },
+        [name, value] if *name == "--to" => Range {
+            from: None,
+            to: Some(line_number(value)?),
+        },
+        [name, from, other, to] if *name == "--from" && *other == "--to" => Range {
+            from: Some(line_number(from)?),
+            to: Some(line_number(to)?),
+        },
+        [name, to, other, from] if *name == "--to" && *other == "--from" => Range {
+            from: Some(line_number(from)?),
+            to: Some(line_number(to)?),
+        },
+        _ => return None,
+    };
+    match (range.from, range.to) {
+        (Some(from), Some(to)) if to < from => None,
+        _ => Some(range),
     }
+}
+
+// A number in digits alone, without a leading zero.
+fn line_number(value: &str) -> Option<u64> {
+    if value.starts_with("+") || value.starts_with("0") {
+        return None;
+    }
+    value.parse::<u64>().ok()
 }
 
 // Does what is asked for with a text.
