@@ -13,7 +13,7 @@ use Rattle.verdict.specs.declared.rule.Rule.{Rule}
 use Rattle.verdict.specs.declared.rule.Rule.TheVariants as rules
 use Rattle.verdict.specs.Rules.{first_broken}
 use Rattle.hosts.specs.Tables.{Both, gone_out, on, other, pick, unsent, waiting, with_host}
-use Rattle.hosts.specs.Hosts.{Deed, Does, Expires, Makes, Sends, Gets, Takes, Drops, Answers, Step, Begin, Finish, Effect, At, HostState, World, Turn, Idle, Called, Answered, turn_of}
+use Rattle.hosts.specs.Hosts.{Deed, Does, Expires, Makes, Sends, Gets, Hears, Takes, Drops, Answers, Step, Begin, Finish, Effect, At, HostState, World, Turn, Idle, Called, Answered, turn_of}
 use Rattle.hosts.specs.HostRules.{Permitted, aim_of, deed_rules, just}
 use Rattle.hosts.specs.HostSteps.{act_made, after, call_after, deed_after, effect_after, makes, start}
 use Rattle.hosts.proofs.Entries.{lookup_insert}

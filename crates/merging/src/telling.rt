@@ -119,6 +119,17 @@ fn tell_line(
             Event::Came(*at, wire.copy()?),
             Extras::One(counts.lines.number(other(host), *copied)),
         ),
+        TakenLine::Heard {
+            line,
+            host: at,
+            wire,
+        } => told_line(
+            counts.lines.number(host, *line),
+            moment,
+            4 + rank(*at),
+            Event::Came(*at, wire.copy()?),
+            Extras::Bare,
+        ),
         TakenLine::Expired {
             line,
             host: at,
