@@ -63,6 +63,7 @@ lined h (Do (At host d)) = deed d
     deed (Makes plan) = inl (refl, refl)
     deed (Sends line number wire) = inr (line, refl, refl)
     deed (Gets line copied wire) = inr (line, refl, refl)
+    deed (Hears line wire) = inr (line, refl, refl)
     deed (Takes line choice) = inl (refl, refl)
     deed (Drops line) = inl (refl, refl)
     deed (Answers line) = inl (refl, refl)

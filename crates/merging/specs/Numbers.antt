@@ -1,5 +1,6 @@
 -- Lines and made segments of two hosts, counted anew.
-use Rattle.std.specs.Prelude.{◌≤◌, ℕ, ◌+◌, ◌-◌, nat_lt, Bool, true, false, if◌then◌else◌, List, [], ◌∷◌, ◌++◌, length, slice_get, unwrap_or}
+use Rattle.std.specs.Prelude.{◌≤◌, ℕ, ◌+◌, ◌-◌, nat_lt, Bool, true, false, if◌then◌else◌}
+use Rattle.std.specs.Prelude.{List, [], ◌∷◌, ◌++◌, length, slice_get, unwrap_or}
 use Rattle.case_forms.specs.declared.calls.Host.{Host}
 use Rattle.case_forms.specs.declared.calls.Host.TheVariants.{Zero, One}
 use Rattle.hosts.specs.Hosts.{Deed, Does, Expires, Makes, Sends, Gets, Hears, Takes, Drops, Answers, Step, Begin, Finish, Effect, At}
@@ -88,6 +89,10 @@ counted c (x ∷ xs) = counted (counted_one c x) xs
 -- the new numbers
 abbrev pub names_in : Counts → Names
 names_in c = record { line = number_in c.lines; made = number_in c.mades }
+
+-- the new numbers, where lines and made segments were counted so
+abbrev pub names_by : Turns → Turns → Names
+names_by lines mades = names_in (record { lines = lines; mades = mades })
 
 -- numbers that are small
 abbrev pub IsSmall : ℕ → Type 0

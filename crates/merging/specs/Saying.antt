@@ -21,6 +21,8 @@ use Rattle.recordings.specs.Merging.{Names}
 use Rattle.recordings.specs.Keys.{rank}
 use Rattle.recordings.specs.Recordings.{TcpEntry}
 use Rattle.checker.specs.Again.{nowhere}
+use Rattle.merging.specs.Numbers.{counted, names_in, no_counts}
+use Rattle.merging.specs.Order.{in_order}
 
 -- a line of a trace; the threads of segments that go out, that come in, and of timers are the host's own
 abbrev pub said : ℕ → ℕ → ℕ → Event → Line
@@ -104,6 +106,10 @@ with_renumbered names key (Bring f) xs = xs
 abbrev pub all_renumbered : Names → List TcpEntry → List (Stamped tcp_shape)
 all_renumbered names [] = []
 all_renumbered names (x ∷ xs) = with_renumbered names x.key x.item (all_renumbered names xs)
+
+-- the steps of both hosts' entries in the order of their keys, with lines counted from the first on
+abbrev pub both_renumbered : ℕ → (zeros ones : List TcpEntry) → List (Stamped tcp_shape)
+both_renumbered first zeros ones = all_renumbered (names_in (counted (no_counts first) (in_order zeros ones))) (in_order zeros ones)
 
 -- nothing is chosen at a timer that is no retransmission timer
 abbrev pub IsPlain : Timer → Growth → Type 0
