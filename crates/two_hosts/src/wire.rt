@@ -1,0 +1,22 @@
+//! What becomes of the segments of a host on their way.
+
+use recorder::LoseEach;
+
+/// The way of one host's segments to the other.
+#[derive(Clone, Copy, Debug)]
+pub struct Wire<F> {
+    /// What becomes of each segment.
+    pub fate: F,
+    /// How many segments the other host takes before it closes its end.
+    pub taken: u64,
+}
+
+impl Wire<LoseEach> {
+    /// Each `every`-th segment is lost, none where `every` is 0, and the end stays open for so many segments.
+    pub fn losing(every: u32, taken: u64) -> Wire<LoseEach> {
+        Wire {
+            fate: LoseEach::new(every),
+            taken,
+        }
+    }
+}
