@@ -5,4 +5,6 @@ pub mod Many
 pub mod ManyLaw
 pub mod ManyWords
 pub mod Output
+pub mod RecordReading
+pub mod RecordWords
 pub mod SegmentText
