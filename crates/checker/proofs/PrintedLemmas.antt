@@ -29,7 +29,7 @@ use Rattle.line_fields.proofs.Endings.{ending_again}
 use Rattle.line_fields.proofs.Loop.{spelled_raws}
 use Rattle.line_fields.proofs.Texts.{lines_of-concat}
 use Rattle.line_fields.proofs.Written.{first_plain, written_clean}
-use Rattle.trace_reader.specs.Headers.{IsHeader, AreLines, first_words, initial_words, header_words, version_named}
+use Rattle.trace_reader.specs.Headers.{IsHeader, AreLines, first_words, late_words, header_words, version_named}
 use Rattle.trace_reader.specs.Events.{event_pieces}
 use Rattle.trace_reader.specs.EventLines.{Place, behind, line_pieces, IsEventLine}
 use Rattle.trace_reader.specs.TraceText.{first_place, IsTraceText, trace_of}
@@ -73,6 +73,7 @@ IsOther (w ∷ ws) = (0 < length w) × (get_or w 0 0 ≡ 119 → ⊥)
 first_letter : (v : Version) → get_or (first_text v) 0 0 ≡ 119
 first_letter versions.One = refl
 first_letter versions.Two = refl
+first_letter versions.Three = refl
 
 not_first : (v : Version) (n : ℕ) (ws : List (List ℕ)) (raw : List ℕ) → AllByRecursion IsClean ws → IsOther ws → IsLine n (joined ws) raw → begins_witness v raw ≡ false
 not_first v n [] raw clean other line = absurd other
@@ -88,14 +89,16 @@ other_number n ws lt = let some = decimal_nonempty n lt in (some, λ e. let rang
 version_other : (v : Version) → IsOther (first_words v)
 version_other versions.One = (omega arith, λ e. omega arith)
 version_other versions.Two = (omega arith, λ e. omega arith)
+version_other versions.Three = (omega arith, λ e. omega arith)
 
-initial_others : (v : Version) (i : Initial) → AllByRecursion IsOther (initial_words v i)
-initial_others versions.One i = tt
-initial_others versions.Two i = ((omega arith, λ e. omega arith), tt)
+late_others : (v : Version) (i : Initial) → AllByRecursion IsOther (late_words v i)
+late_others versions.One i = tt
+late_others versions.Two i = ((omega arith, λ e. omega arith), tt)
+late_others versions.Three i = ((omega arith, λ e. omega arith), ((omega arith, λ e. omega arith), tt))
 
 header_others : (h : Header) → AllByRecursion IsOther (header_words h)
 header_others h =
-    (version_other h.version, ((omega arith, λ e. omega arith), ((omega arith, λ e. omega arith), ((omega arith, λ e. omega arith), ((omega arith, λ e. omega arith), ((omega arith, λ e. omega arith), initial_others h.version h.initial))))))
+    (version_other h.version, ((omega arith, λ e. omega arith), ((omega arith, λ e. omega arith), ((omega arith, λ e. omega arith), ((omega arith, λ e. omega arith), ((omega arith, λ e. omega arith), late_others h.version h.initial))))))
 
 words_not : (v : Version) (number : ℕ) (lines : List (List (List ℕ))) (raws : List (List ℕ)) → AllByRecursion (AllByRecursion IsClean) lines → AllByRecursion IsOther lines → AreLines number lines raws → AreTraceLines v raws
 words_not v number [] [] clean other h = tt
@@ -103,17 +106,17 @@ words_not v number [] (raw ∷ raws) clean other h = absurd h
 words_not v number (ws ∷ lines) [] clean other h = absurd h
 words_not v number (ws ∷ lines) (raw ∷ raws) clean other h = (not_first v number ws raw clean.0 other.0 h.0, words_not v (number + 1) lines raws clean.1 other.1 h.1)
 
-event_not : (v : Version) (place : Place) (l : Line) (raw : List ℕ) → IsEventLine place l raw → begins_witness v raw ≡ false
-event_not v place l raw t =
+event_not : (u v : Version) (place : Place) (l : Line) (raw : List ℕ) → IsEventLine u place l raw → begins_witness v raw ≡ false
+event_not u v place l raw t =
     let w = first_plain (decimal l.moment) (number l.thread ∷ event_pieces l.event) t.texts t.written in
     let moment = t.moment in
-    not_first v place.1 t.texts raw (written_clean (line_pieces l) t.texts (line_clean l t.moment t.thread t.event) t.written) (subst IsOther (sym w.1) (other_number l.moment w.0 (omega arith))) t.text
+    not_first v place.1 t.texts raw (written_clean (line_pieces l) t.texts (line_clean u l t.moment t.thread t.event) t.written) (subst IsOther (sym w.1) (other_number l.moment w.0 (omega arith))) t.text
 
-events_not : (v : Version) (place : Place) (lines : List Line) (raws : List (List ℕ)) → AreSpelled IsEventLine behind place lines raws → AreTraceLines v raws
-events_not v place [] [] h = tt
-events_not v place [] (raw ∷ raws) h = absurd h
-events_not v place (l ∷ ls) [] h = absurd h
-events_not v place (l ∷ ls) (raw ∷ raws) h = (event_not v place l raw h.0, events_not v (l.moment, place.1 + 1) ls raws h.1)
+events_not : (u v : Version) (place : Place) (lines : List Line) (raws : List (List ℕ)) → AreSpelled (IsEventLine u) behind place lines raws → AreTraceLines v raws
+events_not u v place [] [] h = tt
+events_not u v place [] (raw ∷ raws) h = absurd h
+events_not u v place (l ∷ ls) [] h = absurd h
+events_not u v place (l ∷ ls) (raw ∷ raws) h = (event_not u v place l raw h.0, events_not u v (l.moment, place.1 + 1) ls raws h.1)
 
 both : {X : Type 0} (P : X → Type 0) (xs ys : List X) → AllByRecursion P xs → AllByRecursion P ys → AllByRecursion P (xs ++ ys)
 both P [] ys p q = q
@@ -133,11 +136,11 @@ answered v = Ok v
 trace_lines : (v : Version) (t : Trace) (a : List ℕ) (s : IsTraceText t a) → AreTraceLines v (s.headers ++ s.events)
 trace_lines v t a s =
     both (λ raw. begins_witness v raw ≡ false) s.headers s.events (words_not v 1 (header_words t.header) s.headers (header_clean t.header s.limits) (header_others t.header) s.are_headers)
-    (events_not v (first_place t.header) t.lines s.events s.are_events)
+    (events_not t.header.version v (first_place t.header) t.lines s.events s.are_events)
 
 trace_raws : (t : Trace) (a : List ℕ) (s : IsTraceText t a) → AllByRecursion IsRaw (s.headers ++ s.events)
 trace_raws t a s =
-    both IsRaw s.headers s.events (header_raw t.header s.headers s.limits s.are_headers) (spelled_raws behind IsEventLine line_is_raw (first_place t.header) t.lines s.events s.are_events)
+    both IsRaw s.headers s.events (header_raw t.header s.headers s.limits s.are_headers) (spelled_raws behind (IsEventLine t.header.version) (line_is_raw t.header.version) (first_place t.header) t.lines s.events s.are_events)
 
 -- a case is cut between the two texts
 case_parts : (t : Trace) (w : Witness) (a b : List ℕ) → IsTraceText t a → IsWitnessText w b → (trace_part w.version (a ++ b) ≡ a) × (witness_part w.version (a ++ b) ≡ b)

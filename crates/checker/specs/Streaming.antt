@@ -62,7 +62,8 @@ abbrev pub IsWhole : {A : Type 0} → Option (Result (List A) TextFault) → Lis
 IsWhole all items = all ≡ Some (Ok items)
 
 -- a case has come so far: which lines were offered, and which steps done, of all that there are
-pub record SoFar (header : Header) (lines left : Option (Result (List Line) TextFault)) (steps ahead : Option (Result (List Step) TextFault)) (o : Order) (p : Progress) (offered : List Line) (earlier : List Step) : Type 0 where
+pub record SoFar (header : Header) (lines left : Option (Result (List Line) TextFault)) (steps ahead : Option (Result (List Step) TextFault))
+    (o : Order) (p : Progress) (offered : List Line) (earlier : List Step) : Type 0 where
   pub passed : Passes lines left offered
   pub done : Passes steps ahead earlier
   pub come : HasCome header offered earlier o p

@@ -134,13 +134,16 @@ pub fn two_witnesses_of_one_trace()
 /// A text that stands for a trace and one that stands for a witness of its version, one behind the other, are a case with
 /// their verdict.
 pub fn printed_case()
-    ensures texts { (t : Trace) (w : Witness) (first second : List ℕ) → t.header.version ≡ w.version → IsTraceText t first → IsWitnessText w second → case_result (first ++ second) ≡ Ok (verdict t w) }
+    ensures texts { (t : Trace) (w : Witness) (first second : List ℕ) → t.header.version ≡ w.version → IsTraceText t first →
+        IsWitnessText w second → case_result (first ++ second) ≡ Ok (verdict t w) }
 
     // So are the texts that are printed, wherever the spans of lines and steps are.
-    ensures printed { (t : Trace) (w : Witness) → t.header.version ≡ w.version → IsPrintableTrace t → IsPrintableWitness w → case_result (trace_text t ++ witness_text w) ≡ Ok (verdict t w) }
+    ensures printed { (t : Trace) (w : Witness) → t.header.version ≡ w.version → IsPrintableTrace t → IsPrintableWitness w →
+        case_result (trace_text t ++ witness_text w) ≡ Ok (verdict t w) }
 
     // What explains itself is printed as a case that is answered yes.
-    ensures yes { (t : Trace) (w : Witness) → t.header.version ≡ w.version → IsPrintableTrace t → IsPrintableWitness w → Explains t w → (v : Verdict) × (case_result (trace_text t ++ witness_text w) ≡ Ok v) × IsYes v }
+    ensures yes { (t : Trace) (w : Witness) → t.header.version ≡ w.version → IsPrintableTrace t → IsPrintableWitness w →
+        Explains t w → (v : Verdict) × (case_result (trace_text t ++ witness_text w) ≡ Ok v) × IsYes v }
 
     // Where steps stand in their text is no matter.
     ensures spans { (t : Trace) (v w : Witness) → map without_span v.steps ≡ map without_span w.steps → verdict t v ≡ verdict t w }

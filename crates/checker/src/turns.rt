@@ -122,7 +122,8 @@ fn judge_step<A: BufRead>(
     requires label { IsWithinLimits step.now.label }
     ensures ahead { IfOk result (λ r. IsAhead lines.new) }
     ensures done { IfOk result (λ r. IfNone r (IsDone window.old window.new world.old world.new step.now × (lines.new ≡ lines.old))) }
-    ensures refused { IfOk result (λ r. IfSome r (λ rule. IsRefused window.old world.old step.now (left_ahead A.remaining lines.old) (left_ahead A.remaining lines.new) rule)) }
+    ensures refused { IfOk result (λ r. IfSome r (λ rule.
+        IsRefused window.old world.old step.now (left_ahead A.remaining lines.old) (left_ahead A.remaining lines.new) rule)) }
     ensures fault { IfErr result (λ e. TraceFails e (left_ahead A.remaining lines.old)) }
     ensures read { result ≡ Err CaseFault.Read → failures_of (source_ahead lines.new) ≡ one_more (failures_of (source_ahead lines.old)) }
     ensures same { result ≢ Err CaseFault.Read → failures_of (source_ahead lines.new) ≡ failures_of (source_ahead lines.old) }
@@ -154,9 +155,11 @@ fn go_on<A: BufRead, B: BufRead>(
     ensures in_step { IfOk result (λ r. IsOnward r → IsInStep window.new (line_ahead lines.new)) }
     ensures steps { IfOk result (λ r. IsOnward r → world.new.steps ≤ world.old.steps + 1) }
     ensures place { IfOk result (λ r. IsMore r → (number_of steps.new ≡ number_of steps.old + 1) × (number_of steps.old ≤ 10000000)) }
-    ensures tells { (header : Header) (t : Option (Result (List Line) TextFault)) (s : Option (Result (List Step) TextFault)) (offered : List Line) (earlier : List Step)
+    ensures tells { (header : Header) (t : Option (Result (List Line) TextFault)) (s : Option (Result (List Step) TextFault))
+        (offered : List Line) (earlier : List Step)
         → SoFar header t (left_ahead A.remaining lines.old) s (steps_left B.remaining steps.old) window.old world.old offered earlier
-        → TellsTurn header t (left_ahead A.remaining lines.new) s (steps_left B.remaining steps.old) (steps_left B.remaining steps.new) window.new world.new offered earlier result }
+        → TellsTurn header t (left_ahead A.remaining lines.new) s (steps_left B.remaining steps.old) (steps_left B.remaining steps.new)
+        window.new world.new offered earlier result }
     ensures read { result ≡ Err CaseFault.Read →
         OneFailed (failures_of (source_ahead lines.old)) (reader_failures steps.old) (failures_of (source_ahead lines.new)) (reader_failures steps.new) }
     ensures same_lines { result ≢ Err CaseFault.Read → failures_of (source_ahead lines.new) ≡ failures_of (source_ahead lines.old) }

@@ -175,8 +175,10 @@ fn end_of_witness<A: BufRead>(
 ) -> Result<Verdict, CaseFault>
     requires ahead { IsAhead lines.old }
     requires in_step { IsInStep window.now (line_ahead lines.old) }
-    ensures tells { (header : Header) (t : Option (Result (List Line) TextFault)) (s : Option (Result (List Step) TextFault)) (p : Progress) (offered : List Line) (earlier : List Step) (ahead : Option (Result (List Step) TextFault)) (next : Option (Result (List Step) TextFault))
-        → SoFar header t (left_ahead A.remaining lines.old) s ahead window.now p offered earlier → Yields ahead next None → Tallied earlier tally.lines tally.hidden
+    ensures tells { (header : Header) (t : Option (Result (List Line) TextFault)) (s : Option (Result (List Step) TextFault))
+        (p : Progress) (offered : List Line) (earlier : List Step) (ahead next : Option (Result (List Step) TextFault))
+        → SoFar header t (left_ahead A.remaining lines.old) s ahead window.now p offered earlier → Yields ahead next None
+        → Tallied earlier tally.lines tally.hidden
         → Tells header t s result }
     ensures read { result ≡ Err CaseFault.Read → failures_of (source_ahead lines.new) ≡ one_more (failures_of (source_ahead lines.old)) }
     ensures same { result ≢ Err CaseFault.Read → failures_of (source_ahead lines.new) ≡ failures_of (source_ahead lines.old) }

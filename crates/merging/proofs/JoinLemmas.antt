@@ -7,7 +7,7 @@ use Rattle.case_forms.specs.declared.calls.Host.{Host}
 use Rattle.case_forms.specs.declared.calls.Host.TheVariants.{Zero, One}
 use Rattle.case_forms.specs.declared.trace.Header.{Header}
 use Rattle.hosts.specs.Tables.{pick, other}
-use Rattle.hosts.specs.Hosts.{Deed, Does, Expires, Makes, Sends, Gets, Takes, Drops, Answers, Step, Begin, Finish, Effect, At}
+use Rattle.hosts.specs.Hosts.{Deed, Does, Expires, Makes, Sends, Gets, Hears, Takes, Drops, Answers, Step, Begin, Finish, Effect, At}
 use Rattle.machine.specs.declared.endpoint.Emission.{Emission}
 use Rattle.machine.specs.Machine.{tcp, tcp_shape}
 use Rattle.recordings.specs.Books.{Item, Do, Bring, Key, item_line}
@@ -63,6 +63,7 @@ lined h (Do (At host d)) = deed d
     deed (Makes plan) = inl (refl, refl)
     deed (Sends line number wire) = inr (line, refl, refl)
     deed (Gets line copied wire) = inr (line, refl, refl)
+    deed (Hears line wire) = inr (line, refl, refl)
     deed (Takes line choice) = inl (refl, refl)
     deed (Drops line) = inl (refl, refl)
     deed (Answers line) = inl (refl, refl)

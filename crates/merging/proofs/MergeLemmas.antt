@@ -1,5 +1,5 @@
 -- What two recordings tell, merged.
-use Rattle.std.proofs.Common.{◌≡◌, ℕ, ◌+◌, ◌≤◌, List, map, refl, sym, ap, ◌∙◌, subst, arith}
+use Rattle.std.proofs.Common.{◌≡◌, ℕ, ◌+◌, ◌≤◌, false, List, map, refl, sym, ap, ◌∙◌, subst, arith}
 use Rattle.case_forms.specs.declared.calls.Host.{Host}
 use Rattle.case_forms.specs.declared.calls.Host.TheVariants.{Zero, One}
 use Rattle.case_forms.specs.declared.trace.Header.{Header}
@@ -10,7 +10,7 @@ use Rattle.case_forms.specs.declared.steps.Witness.{Witness}
 use Rattle.case_forms.specs.declared.version.Version.{Version}
 use Rattle.case_forms.specs.declared.version.Version.TheVariants as versions
 use Rattle.case_forms.specs.Traces.{first_event_line, IsRecorded}
-use Rattle.case_forms.specs.Versions.{first_line_of}
+use Rattle.case_forms.specs.Versions.{first_line_of, is_half}
 use Rattle.hosts.specs.Hosts.{Stamped}
 use Rattle.hosts.specs.HostSteps.{start}
 use Rattle.hosts.specs.Tables.{pick}
@@ -35,7 +35,7 @@ use Rattle.checker.specs.Seen.{stamped}
 use Rattle.merging.specs.Told.{AllTakeWell, Tells, line_told}
 use Rattle.merging.proofs.JoinLemmas.{named_sent, small_merged}
 use Rattle.merging.proofs.OrderLemmas.{names_are, order_is, steps_are}
-use Rattle.merging.proofs.SayLemmas.{AllSaidSteps, all_said, lines_are, recorded_in, told_from}
+use Rattle.merging.proofs.SayLemmas.{AllSaidSteps, AllWhole, all_said, lines_are, recorded_in, run_whole, told_from}
 use Rattle.merging.proofs.SmallLemmas.{kept_small}
 
 -- two recordings, of host 0 and of host 1, with one header, each of which brought what the other let out
@@ -69,6 +69,7 @@ beside a b hosts headers zero one few above p q = record {
 first_small : (v : Version) → first_line_of v ≤ 100
 first_small versions.One = omega arith
 first_small versions.Two = omega arith
+first_small versions.Three = omega arith
 
 pub beside_small : (a b : Recorded) → AreBeside a b → AllSmall (in_order a.entries b.entries)
 beside_small a b x =
@@ -114,12 +115,12 @@ merged_is h zs os =
     ∙ steps_are h (names_of (tcp h) (first_event_line h) (in_order zs os)) (in_order zs os)
     ∙ ap (λ (xs : List TcpEntry). steps_of (tcp h) (names_of (tcp h) (first_event_line h) xs) xs) (order_is h zs os)
 
-told_by : (t : Trace) (w : Witness) (zs os : List TcpEntry) → w.version ≡ t.header.version
+told_by : (t : Trace) (w : Witness) (zs os : List TcpEntry) → is_half t.header.version ≡ false → w.version ≡ t.header.version
     → t.lines ≡ lines_said (all_renumbered (new_names t.header (in_order zs os)) (in_order zs os))
     → w.steps ≡ steps_said (all_renumbered (new_names t.header (in_order zs os)) (in_order zs os))
     → AllSaid (in_order zs os) → Books (tcp t.header) (first_event_line t.header) zs os
     → Tells t w (merged t.header (first_event_line t.header) zs os)
-told_by t w zs os version lines_is steps_is s books =
+told_by t w zs os both version lines_is steps_is s books =
     let h = t.header in
     let first = first_event_line t.header in
     let es = in_order zs os in
@@ -127,27 +128,29 @@ told_by t w zs os version lines_is steps_is s books =
     let are = merged_is t.header zs os in
     let is_said : AllSaidSteps xs = subst AllSaidSteps are (all_said (new_names t.header es) es s) in
     let rise : LinesRise (tcp h) first xs = (law (tcp h) (λ n. refl) first (keys.merge (tcp h) zs os) (told (tcp h) zs os (start (tcp h)) (start (tcp h)) first first books.0 books.1)).1 in
-    let moments : MomentsRise (tcp h) 0 xs = (is_placed_run (tcp h) (λ n. refl) h.skew first zs os books).0.moments in
+    let placed = is_placed_run (tcp h) (λ n. refl) h.skew first zs os books in
+    let moments : MomentsRise (tcp h) 0 xs = placed.0.moments in
+    let whole : AllWhole xs = run_whole h both (start (tcp h)) xs placed.1 in
     let lines_eq : t.lines ≡ lines_said xs = lines_is ∙ ap lines_said are in
     let steps_eq : w.steps ≡ steps_said xs = steps_is ∙ ap steps_said are in
-    let from = told_from h (lines_said xs) first xs is_said rise (λ m line at. at) in
+    let from = told_from h both (lines_said xs) first xs is_said whole rise (λ m line at. at) in
     record {
-      trace = subst (λ (ls : List Line). IsRecorded first 0 ls) (sym lines_eq) (recorded_in h first 0 xs is_said rise moments);
+      trace = subst (λ (ls : List Line). IsRecorded first 0 ls) (sym lines_eq) (recorded_in h both first 0 xs is_said whole rise moments);
       version = sym version;
       takes = subst (λ (ls : List Line). AllTakeWell h ls w.steps) (sym lines_eq) (subst (λ (ss : List witness.Step). AllTakeWell h (lines_said xs) ss) (sym steps_eq) from.1);
       steps_are = ap (λ (ls : List Line). stamped h ls w.steps) lines_eq ∙ ap (λ (ss : List witness.Step). stamped h (lines_said xs) ss) steps_eq ∙ from.0;
-      lines_are = ap (map line_told) lines_eq ∙ lines_are h xs is_said;
+      lines_are = ap (map line_told) lines_eq ∙ lines_are h both xs is_said whole;
     }
 
 -- the same for a trace that has this header
-pub told_as : (h : Header) (t : Trace) (w : Witness) (zs os : List TcpEntry) → t.header ≡ h → w.version ≡ h.version
+pub told_as : (h : Header) (t : Trace) (w : Witness) (zs os : List TcpEntry) → is_half h.version ≡ false → t.header ≡ h → w.version ≡ h.version
     → t.lines ≡ lines_said (all_renumbered (new_names h (in_order zs os)) (in_order zs os))
     → w.steps ≡ steps_said (all_renumbered (new_names h (in_order zs os)) (in_order zs os))
     → AllSaid (in_order zs os) → Books (tcp h) (first_event_line h) zs os
     → Tells t w (merged h (first_event_line h) zs os)
-told_as h t w zs os is version lines_is steps_is s books =
+told_as h t w zs os both is version lines_is steps_is s books =
     subst (λ (g : Header). Tells t w (merged g (first_event_line g) zs os)) is
-    (told_by t w zs os (version ∙ ap (λ (g : Header). g.version) (sym is))
+    (told_by t w zs os (ap (λ (g : Header). is_half g.version) is ∙ both) (version ∙ ap (λ (g : Header). g.version) (sym is))
     (lines_is ∙ ap (λ (g : Header). lines_said (all_renumbered (new_names g (in_order zs os)) (in_order zs os))) (sym is))
     (steps_is ∙ ap (λ (g : Header). steps_said (all_renumbered (new_names g (in_order zs os)) (in_order zs os))) (sym is))
     s

@@ -6,7 +6,7 @@ use Rattle.case_forms.specs.declared.calls.Host.{Host}
 use Rattle.case_forms.specs.declared.calls.Host.TheVariants.{Zero, One}
 use Rattle.case_forms.specs.declared.trace.Header.{Header}
 use Rattle.hosts.specs.Tables.{on, other}
-use Rattle.hosts.specs.Hosts.{Deed, Does, Expires, Makes, Sends, Gets, Takes, Drops, Answers, Step, Begin, Finish, Effect, At, Stamped}
+use Rattle.hosts.specs.Hosts.{Deed, Does, Expires, Makes, Sends, Gets, Hears, Takes, Drops, Answers, Step, Begin, Finish, Effect, At, Stamped}
 use Rattle.machine.specs.Machine.{tcp, tcp_shape}
 use Rattle.recordings.specs.Books.{Item, Do, Bring, Key, item_line}
 use Rattle.recordings.specs.Keys as keys
@@ -119,6 +119,7 @@ line_head h x xs = go x.item
     deed host (Makes plan) = refl
     deed host (Sends line number wire) = refl
     deed host (Gets line copied wire) = refl
+    deed host (Hears line wire) = refl
     deed host (Takes line choice) = refl
     deed host (Drops line) = refl
     deed host (Answers line) = refl
@@ -139,6 +140,7 @@ make_head h x xs = ap (λ (b : Bool). turn_if b x.key.host (make_turns (tcp h) x
     deed host (Makes plan) = refl
     deed host (Sends line number wire) = refl
     deed host (Gets line copied wire) = refl
+    deed host (Hears line wire) = refl
     deed host (Takes line choice) = refl
     deed host (Drops line) = refl
     deed host (Answers line) = refl
@@ -201,6 +203,7 @@ renumbered_is h names g (At host d) = deed d
     deed (Makes plan) = refl
     deed (Sends line number wire) = refl
     deed (Gets line copied wire) = refl
+    deed (Hears line wire) = refl
     deed (Takes line choice) = refl
     deed (Drops line) = refl
     deed (Answers line) = refl

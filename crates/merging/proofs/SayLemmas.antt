@@ -1,6 +1,6 @@
 -- What is said of the steps of a run tells them.
 use Rattle.std.proofs.Common.{◌≡◌, ℕ, ◌+◌, ◌≤◌, ◌⊎◌, inl, inr, zero, suc, Bool, true, false, List, [], ◌∷◌, map, refl, sym, ap, ◌∙◌, subst, arith, Option, Some, None}
-use Rattle.std.specs.Prelude.{nat_eq}
+use Rattle.std.specs.Prelude.{nat_eq, if◌then◌else◌, not}
 use Rattle.std.specs.List.{cons_option, enumerate_from}
 use Rattle.std.specs.Map.{lookup}
 use Rattle.std.specs.Option.{option_map, option_map_or}
@@ -20,10 +20,17 @@ use Rattle.case_forms.specs.declared.timer.Timer.{Timer}
 use Rattle.case_forms.specs.declared.timer.Timer.TheVariants as timers
 use Rattle.case_forms.specs.declared.trace.Header.{Header}
 use Rattle.case_forms.specs.declared.trace.Line.{Line}
+use Rattle.case_forms.specs.declared.trace.Wire.{Wire}
 use Rattle.case_forms.specs.TakenLines.{taken_of}
 use Rattle.case_forms.specs.Traces.{line_at, IsRecorded}
-use Rattle.hosts.specs.Tables.{on}
-use Rattle.hosts.specs.Hosts.{Deed, Does, Expires, Makes, Sends, Gets, Takes, Drops, Answers, Step, Begin, Finish, Effect, At, Stamped}
+use Rattle.case_forms.specs.Versions.{is_half}
+use Rattle.verdict.specs.declared.rule.Rule.TheVariants as rules
+use Rattle.verdict.specs.Rules.{first_broken}
+use Rattle.hosts.specs.Tables.{on, other, pick}
+use Rattle.hosts.specs.Hosts.{Deed, Does, Expires, Makes, Sends, Gets, Hears, Takes, Drops, Answers, Step, Begin, Finish, Effect, At, Stamped, HostState, World}
+use Rattle.hosts.specs.HostRules.{Permitted, deed_rules, just}
+use Rattle.hosts.specs.HostSteps.{Lawful, after}
+use Rattle.machine.specs.declared.endpoint.Emission.{Emission}
 use Rattle.machine.specs.Machine.{tcp, tcp_shape}
 use Rattle.machine.specs.Steps.{label_step, step_of}
 use Rattle.recordings.specs.Books.{Item, Do, Bring, step_line}
@@ -67,27 +74,80 @@ expiry_line h moment host line lport rport timers.Persist growth plain = record 
 expiry_line h moment host line lport rport timers.Msl2 growth plain = record { line = _; said = refl; number = refl; moment_is = refl; event = refl; act = λ find at. ap (looked_up extras.Bare) at ∙ ap (λ (g : Growth). Some (let d : Deed tcp_shape = Expires line (record { lport = lport; rport = rport; timer = timers.Msl2 }) g in At host d)) (sym plain); takes = λ lines at. (_, at, refl) }
 expiry_line h moment host line lport rport timers.Giveup growth plain = record { line = _; said = refl; number = refl; moment_is = refl; event = refl; act = λ find at. ap (looked_up extras.Bare) at ∙ ap (λ (g : Growth). Some (let d : Deed tcp_shape = Expires line (record { lport = lport; rport = rport; timer = timers.Giveup }) g in At host d)) (sym plain); takes = λ lines at. (_, at, refl) }
 
-deed_is : (h : Header) (moment : ℕ) (host : Host) (d : Deed tcp_shape) → IsSaidDeed d → IsHidden h moment (At host d) ⊎ IsLine h moment (At host d)
-deed_is h moment host (Does x) s = inl (record { said = refl; number = refl; event = refl; act = λ find. refl; takes = λ lines. tt })
-deed_is h moment host (Expires line x growth) s = inr (expiry_line h moment host line x.lport x.rport x.timer growth s)
-deed_is h moment host (Makes plan) s = inl (record { said = refl; number = refl; event = refl; act = λ find. refl; takes = λ lines. tt })
-deed_is h moment host (Sends line number wire) s = inr (record { line = _; said = refl; number = refl; moment_is = refl; event = refl; act = λ find at. ap (looked_up (extras.One number)) at; takes = λ lines at. (_, at, refl) })
-deed_is h moment host (Gets line copied wire) s = inr (record { line = _; said = refl; number = refl; moment_is = refl; event = refl; act = λ find at. ap (looked_up (extras.One copied)) at; takes = λ lines at. (_, at, refl) })
-deed_is h moment host (Takes line choice) s = inl (record { said = refl; number = refl; event = refl; act = λ find. refl; takes = λ lines. tt })
-deed_is h moment host (Drops line) s = inl (record { said = refl; number = refl; event = refl; act = λ find. refl; takes = λ lines. tt })
-deed_is h moment host (Answers line) s = inl (record { said = refl; number = refl; event = refl; act = λ find. refl; takes = λ lines. tt })
+-- what comes in names the line that it copies
+abbrev IsWholeDeed : Deed tcp_shape → Type 0
+IsWholeDeed (Hears line wire) = ⊥
+IsWholeDeed d = Unit {0}
 
-step_is : (h : Header) (moment : ℕ) (step : Step tcp_shape) → IsSaid step → IsHidden h moment step ⊎ IsLine h moment step
-step_is h moment (Begin line t call) s = inr (record { line = _; said = refl; number = refl; moment_is = refl; event = refl; act = λ find at. ap (looked_up extras.Bare) at; takes = λ lines at. (_, at, refl) })
-step_is h moment (Finish line t answer) s = inr (record { line = _; said = refl; number = refl; moment_is = refl; event = refl; act = λ find at. ap (looked_up extras.Bare) at; takes = λ lines at. (_, at, refl) })
-step_is h moment (Effect t answer) s = inl (record { said = refl; number = refl; event = refl; act = λ find. refl; takes = λ lines. tt })
-step_is h moment (At host d) s = deed_is h moment host d s
+abbrev pub IsWhole : Step tcp_shape → Type 0
+IsWhole (At host d) = IsWholeDeed d
+IsWhole step = Unit {0}
+
+module _ (h : Header) (both : is_half h.version ≡ false) where
+  came_in : (moment : ℕ) (host : Host) (line copied : ℕ) (wire : Wire) → IsLine h moment (At host (Gets line copied wire))
+  came_in moment host line copied wire = record {
+    line = _;
+    said = refl;
+    number = refl;
+    moment_is = refl;
+    event = refl;
+    act = λ find at. ap (looked_up (extras.One copied)) at;
+    takes = λ lines at. (_, at, ap (λ (b : Bool). if b then 0 else 1) (sym both));
+  }
+
+  deed_is : (moment : ℕ) (host : Host) (d : Deed tcp_shape) → IsSaidDeed d → IsWholeDeed d → IsHidden h moment (At host d) ⊎ IsLine h moment (At host d)
+  deed_is moment host (Does x) s w = inl (record { said = refl; number = refl; event = refl; act = λ find. refl; takes = λ lines. tt })
+  deed_is moment host (Expires line x growth) s w = inr (expiry_line h moment host line x.lport x.rport x.timer growth s)
+  deed_is moment host (Makes plan) s w = inl (record { said = refl; number = refl; event = refl; act = λ find. refl; takes = λ lines. tt })
+  deed_is moment host (Sends line number wire) s w =
+      inr (record { line = _; said = refl; number = refl; moment_is = refl; event = refl; act = λ find at. ap (looked_up (extras.One number)) at; takes = λ lines at. (_, at, refl) })
+  deed_is moment host (Gets line copied wire) s w = inr (came_in moment host line copied wire)
+  deed_is moment host (Hears line wire) s w = absurd w
+  deed_is moment host (Takes line choice) s w = inl (record { said = refl; number = refl; event = refl; act = λ find. refl; takes = λ lines. tt })
+  deed_is moment host (Drops line) s w = inl (record { said = refl; number = refl; event = refl; act = λ find. refl; takes = λ lines. tt })
+  deed_is moment host (Answers line) s w = inl (record { said = refl; number = refl; event = refl; act = λ find. refl; takes = λ lines. tt })
+
+  step_is : (moment : ℕ) (step : Step tcp_shape) → IsSaid step → IsWhole step → IsHidden h moment step ⊎ IsLine h moment step
+  step_is moment (Begin line t call) s w =
+      inr (record { line = _; said = refl; number = refl; moment_is = refl; event = refl; act = λ find at. ap (looked_up extras.Bare) at; takes = λ lines at. (_, at, refl) })
+  step_is moment (Finish line t answer) s w =
+      inr (record { line = _; said = refl; number = refl; moment_is = refl; event = refl; act = λ find at. ap (looked_up extras.Bare) at; takes = λ lines at. (_, at, refl) })
+  step_is moment (Effect t answer) s w = inl (record { said = refl; number = refl; event = refl; act = λ find. refl; takes = λ lines. tt })
+  step_is moment (At host d) s w = deed_is moment host d s w
+
+  -- a line that is heard of a host that is not recorded is not permitted where both are
+  deed_whole : (host : Host) (moment : ℕ) (far : List (ℕ × Emission)) (x : HostState tcp_shape) (d : Deed tcp_shape) → first_broken (deed_rules (tcp h) host moment far x d) ≡ None → IsWholeDeed d
+  deed_whole host moment far x (Hears line wire) may =
+      none-some rules.NoEmission (sym may ∙ ap (λ (b : Bool). first_broken (just rules.NoEmission (not b))) both)
+  deed_whole host moment far x (Does y) may = tt
+  deed_whole host moment far x (Expires line y growth) may = tt
+  deed_whole host moment far x (Makes plan) may = tt
+  deed_whole host moment far x (Sends line number wire) may = tt
+  deed_whole host moment far x (Gets line copied wire) may = tt
+  deed_whole host moment far x (Takes line choice) may = tt
+  deed_whole host moment far x (Drops line) may = tt
+  deed_whole host moment far x (Answers line) may = tt
+
+  step_whole : (moment : ℕ) (w : World tcp_shape) (step : Step tcp_shape) → Permitted (tcp h) moment w step → IsWhole step
+  step_whole moment w (Begin line t call) may = tt
+  step_whole moment w (Finish line t answer) may = tt
+  step_whole moment w (Effect t answer) may = tt
+  step_whole moment w (At host d) may = deed_whole host moment (pick w.hosts (other host)).wire (pick w.hosts host) d may
 
 -- ---- all steps
 
 abbrev pub AllSaidSteps : List (Stamped tcp_shape) → Type 0
 AllSaidSteps [] = Unit {0}
 AllSaidSteps (x ∷ xs) = IsSaid x.step × AllSaidSteps xs
+
+-- and name what they copy
+abbrev pub AllWhole : List (Stamped tcp_shape) → Type 0
+AllWhole [] = Unit {0}
+AllWhole (x ∷ xs) = IsWhole x.step × AllWhole xs
+
+pub run_whole : (h : Header) → is_half h.version ≡ false → (w : World tcp_shape) (xs : List (Stamped tcp_shape)) → Lawful (tcp h) w xs → AllWhole xs
+run_whole h both w [] run = tt
+run_whole h both w (x ∷ xs) run = (step_whole h both x.moment w x.step run.0, run_whole h both (after (tcp h) x.moment w x.step) xs run.1)
 
 recorded_less : (n a b : ℕ) (lines : List Line) → a ≤ b → IsRecorded n b lines → IsRecorded n a lines
 recorded_less n a b [] le r = tt
@@ -103,9 +163,9 @@ in_front h n m step xs is r =
 not_in_front : (h : Header) (n : ℕ) (step : Step tcp_shape) (xs : List (Stamped tcp_shape)) → step_line (tcp h) step ≡ None → If (step_line (tcp h) step) (LinesRise (tcp h) n xs) (λ line. (line ≡ n) × LinesRise (tcp h) (suc n) xs) → LinesRise (tcp h) n xs
 not_in_front h n step xs is r = subst (λ (o : Option ℕ). If o (LinesRise (tcp h) n xs) (λ line. (line ≡ n) × LinesRise (tcp h) (suc n) xs)) is r
 
-pub recorded_in : (h : Header) (n b : ℕ) (xs : List (Stamped tcp_shape)) → AllSaidSteps xs → LinesRise (tcp h) n xs → MomentsRise (tcp h) b xs → IsRecorded n b (lines_said xs)
-recorded_in h n b [] s rise moments = tt
-recorded_in h n b (x ∷ xs) s rise moments = go (step_is h x.moment x.step s.0) (λ m r. recorded_in h m x.moment xs s.1 r moments.1)
+pub recorded_in : (h : Header) → is_half h.version ≡ false → (n b : ℕ) (xs : List (Stamped tcp_shape)) → AllSaidSteps xs → AllWhole xs → LinesRise (tcp h) n xs → MomentsRise (tcp h) b xs → IsRecorded n b (lines_said xs)
+recorded_in h both n b [] s w rise moments = tt
+recorded_in h both n b (x ∷ xs) s w rise moments = go (step_is h both x.moment x.step s.0 w.0) (λ m r. recorded_in h both m x.moment xs s.1 w.1 r moments.1)
   where
     go : IsHidden h x.moment x.step ⊎ IsLine h x.moment x.step → ((m : ℕ) → LinesRise (tcp h) m xs → IsRecorded m x.moment (lines_said xs)) → IsRecorded n b (lines_said (x ∷ xs))
     go (inl k) rest =
@@ -116,9 +176,9 @@ recorded_in h n b (x ∷ xs) s rise moments = go (step_is h x.moment x.step s.0)
         subst (λ (o : Option Line). IsRecorded n b (on o (lines_said xs) (λ line. line ∷ lines_said xs))) (sym k.said)
         (f.0, (let le : b ≤ x.moment = moments.0 in let same : k.line.moment ≡ x.moment = k.moment_is in omega (arith, le, same)), subst (λ (m : ℕ). IsRecorded (n + 1) m (lines_said xs)) (sym k.moment_is) (rest (n + 1) f.1))
 
-pub lines_are : (h : Header) (xs : List (Stamped tcp_shape)) → AllSaidSteps xs → map line_told (lines_said xs) ≡ placing.lines_of (tcp h) xs
-lines_are h [] s = refl
-lines_are h (x ∷ xs) s = go (step_is h x.moment x.step s.0) (lines_are h xs s.1)
+pub lines_are : (h : Header) → is_half h.version ≡ false → (xs : List (Stamped tcp_shape)) → AllSaidSteps xs → AllWhole xs → map line_told (lines_said xs) ≡ placing.lines_of (tcp h) xs
+lines_are h both [] s w = refl
+lines_are h both (x ∷ xs) s w = go (step_is h both x.moment x.step s.0 w.0) (lines_are h both xs s.1 w.1)
   where
     go : IsHidden h x.moment x.step ⊎ IsLine h x.moment x.step → map line_told (lines_said xs) ≡ placing.lines_of (tcp h) xs → map line_told (lines_said (x ∷ xs)) ≡ placing.lines_of (tcp h) (x ∷ xs)
     go (inl k) rest =
@@ -151,9 +211,9 @@ finds_rest h all n line lines finds m l at =
     let apart : nat_eq m n ≡ false = grind (arith, nat_tests) in
     finds m l (rw apart at)
 
-pub told_from : (h : Header) (all : List Line) (n : ℕ) (xs : List (Stamped tcp_shape)) → AllSaidSteps xs → LinesRise (tcp h) n xs → Finds h all n (lines_said xs) → (stamped h all (steps_said xs) ≡ xs) × AllTakeWell h all (steps_said xs)
-told_from h all n [] s rise finds = (refl, tt)
-told_from h all n (x ∷ xs) s rise finds = go (step_is h x.moment x.step s.0) (λ m r f. told_from h all m xs s.1 r f)
+pub told_from : (h : Header) → is_half h.version ≡ false → (all : List Line) (n : ℕ) (xs : List (Stamped tcp_shape)) → AllSaidSteps xs → AllWhole xs → LinesRise (tcp h) n xs → Finds h all n (lines_said xs) → (stamped h all (steps_said xs) ≡ xs) × AllTakeWell h all (steps_said xs)
+told_from h both all n [] s w rise finds = (refl, tt)
+told_from h both all n (x ∷ xs) s w rise finds = go (step_is h both x.moment x.step s.0 w.0) (λ m r f. told_from h both all m xs s.1 w.1 r f)
   where
     go : IsHidden h x.moment x.step ⊎ IsLine h x.moment x.step → ((m : ℕ) → LinesRise (tcp h) m xs → Finds h all m (lines_said xs) → (stamped h all (steps_said xs) ≡ xs) × AllTakeWell h all (steps_said xs))
         → (stamped h all (steps_said (x ∷ xs)) ≡ x ∷ xs) × AllTakeWell h all (steps_said (x ∷ xs))
@@ -176,6 +236,7 @@ deed_said names g (Expires line x growth) s = s
 deed_said names g (Makes plan) s = tt
 deed_said names g (Sends line number wire) s = tt
 deed_said names g (Gets line copied wire) s = tt
+deed_said names g (Hears line wire) s = tt
 deed_said names g (Takes line choice) s = tt
 deed_said names g (Drops line) s = tt
 deed_said names g (Answers line) s = tt

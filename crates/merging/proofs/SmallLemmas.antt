@@ -13,7 +13,7 @@ use Rattle.verdict.specs.declared.rule.Rule.{Rule}
 use Rattle.verdict.specs.declared.rule.Rule.TheVariants as rules
 use Rattle.verdict.specs.Rules.{first_broken}
 use Rattle.hosts.specs.Tables.{Both, gone_out, on, other, pick, unsent, waiting, with_host}
-use Rattle.hosts.specs.Hosts.{Deed, Does, Expires, Makes, Sends, Gets, Takes, Drops, Answers, Step, Begin, Finish, Effect, At, HostState, World, Turn, Idle, Called, Answered, turn_of}
+use Rattle.hosts.specs.Hosts.{Deed, Does, Expires, Makes, Sends, Gets, Hears, Takes, Drops, Answers, Step, Begin, Finish, Effect, At, HostState, World, Turn, Idle, Called, Answered, turn_of}
 use Rattle.hosts.specs.HostRules.{Permitted, aim_of, deed_rules, just}
 use Rattle.hosts.specs.HostSteps.{act_made, after, call_after, deed_after, effect_after, makes, start}
 use Rattle.hosts.proofs.Entries.{lookup_insert}
@@ -92,6 +92,10 @@ module _ (h : Header) (me : Host) (moment fresh : ℕ) (far : List (ℕ × Emiss
     small = small;
     bounded = record { made = b.made; inbox = small_changed s.inbox line (lookup (nat_eq copied) far) (λ e. Some e) b.inbox (λ y is. small.0); heard = b.heard };
   }
+  deed_keeps (Hears line wire) may new small = record {
+    small = small;
+    bounded = record { made = b.made; inbox = small_insert s.inbox line (Some ((tcp h).heard moment wire)) b.inbox small; heard = b.heard };
+  }
   deed_keeps (Takes line choice) may new small = record {
     small = small;
     bounded = record { made = b.made; inbox = small_changed s.inbox line (waiting line s.inbox) (λ e. None) b.inbox (λ y is. small); heard = b.heard };
@@ -116,6 +120,7 @@ module _ (h : Header) (me : Host) (moment fresh : ℕ) (far : List (ℕ × Emiss
   deed_small (Makes plan) may own = tt
   deed_small (Sends line number wire) may own = let w = on_passes (lookup (nat_eq number) s.made) rules.NotMade _ may in (own line refl, b.made number w.0 w.1)
   deed_small (Gets line copied wire) may own = let w = on_passes (lookup (nat_eq copied) far) rules.NoEmission _ may in (own line refl, b.heard copied w.0 w.1)
+  deed_small (Hears line wire) may own = own line refl
   deed_small (Takes line choice) may own = waits line _ may
   deed_small (Drops line) may own = waits line _ may
   deed_small (Answers line) may own = waits line _ may

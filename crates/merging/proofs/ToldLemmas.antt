@@ -1,5 +1,5 @@
 -- What says the steps of a placement and a run is explained.
-use Rattle.std.proofs.Common.{◌≡◌, ℕ, ◌+◌, ◌<◌, ◌≤◌, zero, suc, Bool, true, false, List, [], ◌∷◌, map, refl, sym, ap, ◌∙◌, subst, arith, Option, Some, None}
+use Rattle.std.proofs.Common.{◌≡◌, ℕ, ◌+◌, ◌<◌, ◌≤◌, zero, suc, Bool, true, false, if◌then◌else◌, List, [], ◌∷◌, map, refl, sym, ap, ◌∙◌, subst, arith, Option, Some, None}
 use Rattle.std.specs.Prelude.{nat_eq, slice_get}
 use Rattle.std.specs.List.{cons_option, enumerate_from}
 use Rattle.std.specs.Map.{lookup}
@@ -25,6 +25,7 @@ use Rattle.case_forms.specs.declared.steps.Witness.{Witness}
 use Rattle.case_forms.specs.Steps.{extras_count}
 use Rattle.case_forms.specs.TakenLines.{taken_of}
 use Rattle.case_forms.specs.Traces.{first_event_line, line_at, IsRecorded}
+use Rattle.case_forms.specs.Versions.{is_half}
 use Rattle.interval_order.specs.Orders.{Take, Move, taking}
 use Rattle.interval_order.specs.OrderRules.{extras_of}
 use Rattle.interval_order.specs.Placed.{Placed, TakesAt, IsTimely}
@@ -77,10 +78,15 @@ map_at (x ∷ lines) (suc i) line at = map_at lines i line at
 abbrev pub IsTaken : Header → Line → Extras → Type 0
 IsTaken h line x = (t : TakenLine) × (taken_of x line ≡ Some t) × (step_line (tcp h) (line_step t) ≡ Some line.number)
 
-pub is_taken : (h : Header) (line : Line) (x : Extras) → extras_count x ≡ extras_of line.event → IsTaken h line x
+pub is_taken : (h : Header) (line : Line) (x : Extras) → extras_count x ≡ extras_of h.version line.event → IsTaken h line x
 is_taken h line x count = go line.event x count
   where
-    go : (v : Event) (x : Extras) → extras_count x ≡ extras_of v → IsTaken h (record line { event = v }) x
+    -- what came in has at most one number
+    came : (b : Bool) → 2 ≡ (if b then 0 else 1) → ⊥
+    came true c = omega arith
+    came false c = omega arith
+
+    go : (v : Event) (x : Extras) → extras_count x ≡ extras_of h.version v → IsTaken h (record line { event = v }) x
     go (events.CallBegin call) extras.Bare c = (_, refl, refl)
     go (events.CallBegin call) (extras.One n) c = absurd (omega arith)
     go (events.CallBegin call) (extras.Two m n) c = absurd (omega arith)
@@ -90,9 +96,9 @@ is_taken h line x count = go line.event x count
     go (events.Sent host wire) extras.Bare c = absurd (omega arith)
     go (events.Sent host wire) (extras.One n) c = (_, refl, refl)
     go (events.Sent host wire) (extras.Two m n) c = absurd (omega arith)
-    go (events.Came host wire) extras.Bare c = absurd (omega arith)
+    go (events.Came host wire) extras.Bare c = (_, refl, refl)
     go (events.Came host wire) (extras.One n) c = (_, refl, refl)
-    go (events.Came host wire) (extras.Two m n) c = absurd (omega arith)
+    go (events.Came host wire) (extras.Two m n) c = absurd (came (is_half h.version) c)
     go (events.Expired host lport rport timers.Rto) extras.Bare c = absurd (omega arith)
     go (events.Expired host lport rport timers.Rto) (extras.One n) c = absurd (omega arith)
     go (events.Expired host lport rport timers.Rto) (extras.Two m n) c = (_, refl, refl)
@@ -130,11 +136,11 @@ module _ (h : Header) (lines : List Line) where
   module _ (b : ℕ) (r : IsRecorded (first_event_line h) b lines) where
     -- the act of a step that takes line n names line n
     names_line : (s : Step) (x : Stamped tcp_shape) (n e : ℕ) → TakesWell h lines s.label → act_of h lines s ≡ Some x → take_of s.label ≡ Some (record { number = n; extras = e })
-        → (line : Line) × (step_line (tcp h) x.step ≡ Some n) × (line_at h lines n ≡ Some line) × (e ≡ extras_of line.event)
+        → (line : Line) × (step_line (tcp h) x.step ≡ Some n) × (line_at h lines n ≡ Some line) × (e ≡ extras_of h.version line.event)
     names_line s x n e well is takes = go s.label well is takes
       where
         go : (l : Label NamedLine) → TakesWell h lines l → act_of h lines (record { moment = s.moment; label = l; span = s.span }) ≡ Some x → take_of l ≡ Some (record { number = n; extras = e })
-            → (line : Line) × (step_line (tcp h) x.step ≡ Some n) × (line_at h lines n ≡ Some line) × (e ≡ extras_of line.event)
+            → (line : Line) × (step_line (tcp h) x.step ≡ Some n) × (line_at h lines n ≡ Some line) × (e ≡ extras_of h.version line.event)
         go (L named) w is takes =
             let t = is_taken h w.0 named.extras w.2 in
             let same : record { number = named.number; extras = extras_count named.extras } ≡ record { number = n; extras = e } = same_Some (let a : Take = record { number = named.number; extras = extras_count named.extras } in a) (record { number = n; extras = e }) takes in
@@ -243,7 +249,7 @@ module _ (t : Trace) (w : Witness) (told : Tells t w (stamped t.header t.lines w
     moment : act.moment ≡ taken.moment
     names : step_line (tcp t.header) act.step ≡ Some n
     is_line : line_at t.header t.lines n ≡ Some line
-    count : taken.extras ≡ extras_of line.event
+    count : taken.extras ≡ extras_of t.header.version line.event
 
   names_at : (i n : ℕ) (taken : TakesAt (moves w.steps) i n) → Names i n taken
   names_at i n taken =

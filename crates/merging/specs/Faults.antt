@@ -1,20 +1,18 @@
 -- Why two recordings were not merged.
 use Rattle.std.specs.Prelude.{ℕ, ◌⊎◌}
 use Rattle.case_forms.specs.Traces.{first_event_line}
-use Rattle.hosts.specs.Tables.{pick}
-use Rattle.recordings.specs.Recordings.{world_of}
 use Rattle.stack_core.specs.Recordings.{Recorded}
 use Rattle.merging.specs.declared.joining.MergeFault.{MergeFault}
 use Rattle.merging.specs.declared.joining.MergeFault.TheVariants.{Stranger, OutOfMemory}
-use Rattle.merging.specs.Naming.{AllNamed, IsStranger, line_keys}
+use Rattle.merging.specs.Naming.{AllNamed, IsStranger, line_keys, wire_of}
 
 -- each segment that this host's recording brought is one that the other's let out
 abbrev pub NamesAll : Recorded → Recorded → Type 0
-NamesAll mine others = AllNamed (first_event_line others.header) (line_keys others.entries) (pick (world_of others.header others.me others.entries).hosts others.me).wire mine.entries
+NamesAll mine others = AllNamed (first_event_line others.header) (line_keys others.entries) (wire_of others) mine.entries
 
 -- the first that is none was brought where the line to come has this number
 abbrev pub HasStranger : Recorded → Recorded → ℕ → Type 0
-HasStranger mine others n = IsStranger (first_event_line others.header) (line_keys others.entries) (pick (world_of others.header others.me others.entries).hosts others.me).wire mine.entries n
+HasStranger mine others n = IsStranger (first_event_line others.header) (line_keys others.entries) (wire_of others) mine.entries n
 
 -- the line of the first arrival that names no segment, in host 0's recording, else in host 1's
 abbrev pub IsFirstStranger : Recorded → Recorded → ℕ → Type 0

@@ -1,11 +1,14 @@
 -- Which segment of the other host an arrival names.
-use Rattle.std.specs.Prelude.{◌≡◌, ◌≤◌, ◌+◌, ◌-◌, ◌⊎◌, ℕ, nat_eq, if◌then◌else◌, List, [], ◌∷◌, length, Some, true, slice_get, take}
+use Rattle.std.specs.Prelude.{◌≡◌, ◌≤◌, ◌+◌, ◌-◌, ◌⊎◌, ℕ, nat_eq, if◌then◌else◌, List, [], ◌∷◌, length, Some, true}
+use Rattle.std.specs.Prelude.{slice_get, take}
 use Rattle.std.specs.Map.{lookup}
+use Rattle.hosts.specs.Tables.{pick}
 use Rattle.machine.specs.declared.endpoint.Emission.{Emission}
 use Rattle.machine.specs.Machine.{tcp_shape}
 use Rattle.recordings.specs.Books.{Item, Do, Bring, Flying, Key}
 use Rattle.recordings.specs.Keys.{before}
 use Rattle.recordings.specs.Recordings.{TcpEntry}
+use Rattle.stack_core.specs.Recordings.{Recorded, world_left}
 use Rattle.merging.specs.Numbers.{takes_line}
 
 -- the keys of the entries that take lines, line by line
@@ -13,7 +16,12 @@ abbrev pub line_keys : List TcpEntry → List Key
 line_keys [] = []
 line_keys (x ∷ xs) = if takes_line x.item then x.key ∷ line_keys xs else line_keys xs
 
--- a segment is one that went out: the line that it names has its key, and stands on the wire with its emission; `first` is the number of the first line
+-- what a host let out, as its recording says
+abbrev pub wire_of : Recorded → List (ℕ × Emission)
+wire_of r = (pick (world_left r).hosts r.me).wire
+
+-- a segment is one that went out: the line that it names has its key, and stands on the wire with its emission; `first` is the
+-- number of the first line
 pub record IsNamed (first : ℕ) (keys : List Key) (wire : List (ℕ × Emission)) (f : Flying tcp_shape) : Type 0 where
   pub event : first ≤ f.line
   pub key : slice_get keys (f.line - first) ≡ Some f.key
@@ -27,16 +35,19 @@ abbrev pub AllNamed : ℕ → List Key → List (ℕ × Emission) → List TcpEn
 AllNamed first keys wire [] = Unit {0}
 AllNamed first keys wire (x ∷ xs) = NamedItem first keys wire x.item × AllNamed first keys wire xs
 
--- the first segment of these entries that is none that went out was brought where the line to come has number n; their first line has the number `line`
+-- the first segment of these entries that is none that went out was brought where the line to come has number n; their first
+-- line has the number `line`
 abbrev pub StrangerItem : ℕ → List Key → List (ℕ × Emission) → ℕ → ℕ → Item tcp_shape → Type 0 → Type 0
 StrangerItem first keys wire line n (Do step) rest = rest
 StrangerItem first keys wire line n (Bring f) rest = ((IsNamed first keys wire f → ⊥) × (n ≡ line)) ⊎ (IsNamed first keys wire f × rest)
 
 abbrev pub FirstStranger : ℕ → List Key → List (ℕ × Emission) → ℕ → List TcpEntry → ℕ → Type 0
 FirstStranger first keys wire line [] n = ⊥
-FirstStranger first keys wire line (x ∷ xs) n = StrangerItem first keys wire line n x.item (FirstStranger first keys wire (if takes_line x.item then line + 1 else line) xs n)
+FirstStranger first keys wire line (x ∷ xs) n =
+    StrangerItem first keys wire line n x.item (FirstStranger first keys wire (if takes_line x.item then line + 1 else line) xs n)
 
--- the same in places: at this place of the entries a segment was brought that is none that went out; those before it are all; and the line to come there has number n
+-- the same in places: at this place of the entries a segment was brought that is none that went out; those before it are all;
+-- and the line to come there has number n
 pub record StrangerFrom (first : ℕ) (keys : List Key) (wire : List (ℕ × Emission)) (line : ℕ) (xs : List TcpEntry) (n : ℕ) : Type 0 where
   pub place : ℕ
   pub key : Key
@@ -54,7 +65,9 @@ abbrev pub SameMark : Emission → Emission → Type 0
 SameMark a b = (a.maker ≡ b.maker) × (a.knew ≡ b.knew) × (a.pos ≡ b.pos) × (a.ack ≡ b.ack) × (a.answers ≡ b.answers) × (a.moment ≡ b.moment)
 
 abbrev pub SameHead : Emission → Emission → Type 0
-SameHead a b = (a.lport ≡ b.lport) × (a.rport ≡ b.rport) × (a.seq ≡ b.seq) × (a.ack_seq ≡ b.ack_seq) × (a.flags ≡ b.flags) × (a.window ≡ b.window)
+SameHead a b =
+    (a.lport ≡ b.lport) × (a.rport ≡ b.rport) × (a.seq ≡ b.seq) ×
+    (a.ack_seq ≡ b.ack_seq) × (a.flags ≡ b.flags) × (a.window ≡ b.window)
 
 abbrev pub SameOptions : Emission → Emission → Type 0
 SameOptions a b = (a.mss ≡ b.mss) × (a.shift ≡ b.shift) × (a.scaled ≡ b.scaled) × (a.scale ≡ b.scale)

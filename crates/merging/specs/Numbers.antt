@@ -1,8 +1,9 @@
 -- Lines and made segments of two hosts, counted anew.
-use Rattle.std.specs.Prelude.{◌≤◌, ℕ, ◌+◌, ◌-◌, nat_lt, Bool, true, false, if◌then◌else◌, List, [], ◌∷◌, ◌++◌, length, slice_get, unwrap_or}
+use Rattle.std.specs.Prelude.{◌≤◌, ℕ, ◌+◌, ◌-◌, nat_lt, Bool, true, false, if◌then◌else◌}
+use Rattle.std.specs.Prelude.{List, [], ◌∷◌, ◌++◌, length, slice_get, unwrap_or}
 use Rattle.case_forms.specs.declared.calls.Host.{Host}
 use Rattle.case_forms.specs.declared.calls.Host.TheVariants.{Zero, One}
-use Rattle.hosts.specs.Hosts.{Deed, Does, Expires, Makes, Sends, Gets, Takes, Drops, Answers, Step, Begin, Finish, Effect, At}
+use Rattle.hosts.specs.Hosts.{Deed, Does, Expires, Makes, Sends, Gets, Hears, Takes, Drops, Answers, Step, Begin, Finish, Effect, At}
 use Rattle.machine.specs.Machine.{tcp_shape}
 use Rattle.recordings.specs.Books.{Item, Do, Bring}
 use Rattle.recordings.specs.Merging.{Names}
@@ -13,6 +14,7 @@ abbrev pub deed_takes : Deed tcp_shape → Bool
 deed_takes (Expires line x growth) = true
 deed_takes (Sends line number wire) = true
 deed_takes (Gets line copied wire) = true
+deed_takes (Hears line wire) = true
 deed_takes deed = false
 
 abbrev pub step_takes : Step tcp_shape → Bool
@@ -88,6 +90,10 @@ counted c (x ∷ xs) = counted (counted_one c x) xs
 abbrev pub names_in : Counts → Names
 names_in c = record { line = number_in c.lines; made = number_in c.mades }
 
+-- the new numbers, where lines and made segments were counted so
+abbrev pub names_by : Turns → Turns → Names
+names_by lines mades = names_in (record { lines = lines; mades = mades })
+
 -- numbers that are small
 abbrev pub IsSmall : ℕ → Type 0
 IsSmall n = n ≤ 2147483647
@@ -97,6 +103,7 @@ abbrev pub IsSmallDeed : Deed tcp_shape → Type 0
 IsSmallDeed (Expires line x growth) = IsSmall line
 IsSmallDeed (Sends line number wire) = IsSmall line × IsSmall number
 IsSmallDeed (Gets line copied wire) = IsSmall line × IsSmall copied
+IsSmallDeed (Hears line wire) = IsSmall line
 IsSmallDeed (Takes line choice) = IsSmall line
 IsSmallDeed (Drops line) = IsSmall line
 IsSmallDeed (Answers line) = IsSmall line

@@ -14,13 +14,15 @@ use Rattle.case_forms.specs.declared.trace.Event.{Event}
 use Rattle.case_forms.specs.declared.trace.Event.TheVariants as events
 use Rattle.case_forms.specs.declared.trace.Line.{Line}
 use Rattle.hosts.specs.Tables.{on, other}
-use Rattle.hosts.specs.Hosts.{Deed, Does, Expires, Makes, Sends, Gets, Takes, Drops, Answers, Step, Begin, Finish, Effect, At, Stamped}
+use Rattle.hosts.specs.Hosts.{Deed, Does, Expires, Makes, Sends, Gets, Hears, Takes, Drops, Answers, Step, Begin, Finish, Effect, At, Stamped}
 use Rattle.machine.specs.Machine.{tcp_shape}
 use Rattle.recordings.specs.Books.{Item, Do, Bring, Key}
 use Rattle.recordings.specs.Merging.{Names}
 use Rattle.recordings.specs.Keys.{rank}
 use Rattle.recordings.specs.Recordings.{TcpEntry}
 use Rattle.checker.specs.Again.{nowhere}
+use Rattle.merging.specs.Numbers.{counted, names_in, no_counts}
+use Rattle.merging.specs.Order.{in_order}
 
 -- a line of a trace; the threads of segments that go out, that come in, and of timers are the host's own
 abbrev pub said : ℕ → ℕ → ℕ → Event → Line
@@ -30,6 +32,7 @@ abbrev pub deed_line_said : ℕ → Host → Deed tcp_shape → Option Line
 deed_line_said moment host (Expires line x growth) = Some (said line moment (6 + rank host) (events.Expired host x.lport x.rport x.timer))
 deed_line_said moment host (Sends line number wire) = Some (said line moment (8 + rank host) (events.Sent host wire))
 deed_line_said moment host (Gets line copied wire) = Some (said line moment (4 + rank host) (events.Came host wire))
+deed_line_said moment host (Hears line wire) = Some (said line moment (4 + rank host) (events.Came host wire))
 deed_line_said moment host deed = None
 
 -- the line that a step at this moment takes
@@ -53,6 +56,7 @@ deed_said host (Expires line x growth) = names line (growth_said x.timer growth)
 deed_said host (Makes plan) = labels.M host plan
 deed_said host (Sends line number wire) = names line (extras.One number)
 deed_said host (Gets line copied wire) = names line (extras.One copied)
+deed_said host (Hears line wire) = names line extras.Bare
 deed_said host (Takes line choice) = labels.T host line choice
 deed_said host (Drops line) = labels.K host line
 deed_said host (Answers line) = labels.R host line
@@ -83,6 +87,7 @@ deed_renumbered names h (Expires line x growth) = Expires (names.line h line) x 
 deed_renumbered names h (Makes plan) = Makes plan
 deed_renumbered names h (Sends line number wire) = Sends (names.line h line) (names.made h number) wire
 deed_renumbered names h (Gets line copied wire) = Gets (names.line h line) (names.line (other h) copied) wire
+deed_renumbered names h (Hears line wire) = Hears (names.line h line) wire
 deed_renumbered names h (Takes line choice) = Takes (names.line h line) choice
 deed_renumbered names h (Drops line) = Drops (names.line h line)
 deed_renumbered names h (Answers line) = Answers (names.line h line)
@@ -101,6 +106,10 @@ with_renumbered names key (Bring f) xs = xs
 abbrev pub all_renumbered : Names → List TcpEntry → List (Stamped tcp_shape)
 all_renumbered names [] = []
 all_renumbered names (x ∷ xs) = with_renumbered names x.key x.item (all_renumbered names xs)
+
+-- the steps of both hosts' entries in the order of their keys, with lines counted from the first on
+abbrev pub both_renumbered : ℕ → (zeros ones : List TcpEntry) → List (Stamped tcp_shape)
+both_renumbered first zeros ones = all_renumbered (names_in (counted (no_counts first) (in_order zeros ones))) (in_order zeros ones)
 
 -- nothing is chosen at a timer that is no retransmission timer
 abbrev pub IsPlain : Timer → Growth → Type 0

@@ -1,16 +1,17 @@
 //! Two hosts' recordings, merged.
 
-ghost use Rattle.std.specs.Prelude.{◌≡◌, ◌≤◌, ◌+◌, IfOk, IfErr};
+ghost use Rattle.std.specs.Prelude.{◌≡◌, ◌≤◌, ◌+◌, false, IfOk, IfErr};
 ghost use Rattle.case_forms.specs.declared.calls.Host.TheVariants.{Zero, One};
 ghost use Rattle.case_forms.specs.Traces.{first_event_line};
+ghost use Rattle.case_forms.specs.Versions.{is_half};
 ghost use Rattle.recordings.specs.Recordings.{merged};
 ghost use Rattle.stack_core.specs.Entries.{steps_in};
 ghost use Rattle.checker.specs.Explains.{Explains};
 ghost use Rattle.merging.specs.Faults.{IfStranger, IsFirstStranger};
 ghost use Rattle.merging.specs.Naming.{AllAbove};
-ghost use Rattle.merging.specs.Numbers.{AllSmall, counted, names_in, no_counts};
+ghost use Rattle.merging.specs.Numbers.{AllSmall};
 ghost use Rattle.merging.specs.Order.{in_order};
-ghost use Rattle.merging.specs.Saying.{AllSaid, all_renumbered, lines_said, steps_said};
+ghost use Rattle.merging.specs.Saying.{AllSaid, both_renumbered, lines_said, steps_said};
 ghost use Rattle.merging.specs.Told.{Tells};
 
 use crate::laws::what_is_told_explains;
@@ -59,8 +60,10 @@ fn tell(alloc: Global, zero: &Recording, one: &Recording) -> Result<Recorded, Ou
     requires small { AllSmall (in_order zero.now.entries one.now.entries) }
     ensures header { IfOk result (λ r. r.trace.header ≡ zero.now.header) }
     ensures version { IfOk result (λ r. r.witness.version ≡ zero.now.header.version) }
-    ensures lines { IfOk result (λ r. r.trace.lines ≡ lines_said (all_renumbered (names_in (counted (no_counts (first_event_line zero.now.header)) (in_order zero.now.entries one.now.entries))) (in_order zero.now.entries one.now.entries))) }
-    ensures steps { IfOk result (λ r. r.witness.steps ≡ steps_said (all_renumbered (names_in (counted (no_counts (first_event_line zero.now.header)) (in_order zero.now.entries one.now.entries))) (in_order zero.now.entries one.now.entries))) }
+    ensures lines { IfOk result (λ r. r.trace.lines
+        ≡ lines_said (both_renumbered (first_event_line zero.now.header) zero.now.entries one.now.entries)) }
+    ensures steps { IfOk result (λ r. r.witness.steps
+        ≡ steps_said (both_renumbered (first_event_line zero.now.header) zero.now.entries one.now.entries)) }
     ensures said { IfOk result (λ r. AllSaid (in_order zero.now.entries one.now.entries)) }
 {
     let header = *zero.header();
@@ -76,7 +79,8 @@ fn tell(alloc: Global, zero: &Recording, one: &Recording) -> Result<Recorded, Ou
     })
 }
 
-/// The recordings of host 0 and of host 1, merged in the order of their keys, with lines and made segments counted anew.
+/// The recordings of host 0 and of host 1 in a whole case, merged in the order of their keys, with lines and made segments
+/// counted anew.
 pub fn merge_recordings(
     alloc: Global,
     zero: &Recording,
@@ -84,10 +88,12 @@ pub fn merge_recordings(
 ) -> Result<Recorded, MergeFault>
     requires hosts { (zero.now.me ≡ Zero) × (one.now.me ≡ One) }
     requires headers { zero.now.header ≡ one.now.header }
+    requires whole { is_half zero.now.header.version ≡ false }
     requires few { steps_in zero.now.entries + steps_in one.now.entries ≤ 100000000 }
     requires above { AllAbove zero.now.entries × AllAbove one.now.entries }
     ensures header { IfOk result (λ r. r.trace.header ≡ zero.now.header) }
-    ensures told { IfOk result (λ r. Tells r.trace r.witness (merged zero.now.header (first_event_line zero.now.header) zero.now.entries one.now.entries)) }
+    ensures told { IfOk result (λ r.
+        Tells r.trace r.witness (merged zero.now.header (first_event_line zero.now.header) zero.now.entries one.now.entries)) }
     ensures explains { IfOk result (λ r. Explains r.trace r.witness) }
     ensures stranger { IfErr result (λ f. IfStranger f (IsFirstStranger zero.now one.now)) }
 {

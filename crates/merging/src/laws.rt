@@ -22,9 +22,11 @@ pub fn what_is_told_explains()
     ensures steps { (t : Trace) (w : Witness) (steps : List (Stamped tcp_shape))
         → IsPlacedRun (tcp t.header) t.header.skew (first_event_line t.header) (lines_of (tcp t.header) steps) steps → Tells t w steps → Explains t w }
     ensures books { (t : Trace) (w : Witness) (zeros ones : List TcpEntry)
-        → Books (tcp t.header) (first_event_line t.header) zeros ones → Tells t w (merged t.header (first_event_line t.header) zeros ones) → Explains t w }
+        → Books (tcp t.header) (first_event_line t.header) zeros ones
+        → Tells t w (merged t.header (first_event_line t.header) zeros ones) → Explains t w }
     ensures yes { (t : Trace) (w : Witness) (zeros ones : List TcpEntry)
-        → Books (tcp t.header) (first_event_line t.header) zeros ones → Tells t w (merged t.header (first_event_line t.header) zeros ones) → IsYes (verdict t w) }
+        → Books (tcp t.header) (first_event_line t.header) zeros ones
+        → Tells t w (merged t.header (first_event_line t.header) zeros ones) → IsYes (verdict t w) }
 {
     merged_books_are_a_run();
     explained_is_yes();

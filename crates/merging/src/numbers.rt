@@ -120,7 +120,8 @@ impl Counts {
     fn count(&mut self, entry: &Entry) -> Result<(), OutOfMemory>
         requires lines { self.old.lines.next ≤ 2147483647 }
         requires mades { self.old.mades.next ≤ 2147483647 }
-        ensures { OnOk result (record { lines = self.new.lines; mades = self.new.mades } ≡ counted_one (record { lines = self.old.lines; mades = self.old.mades }) entry.now) }
+        ensures { OnOk result (record { lines = self.new.lines; mades = self.new.mades }
+            ≡ counted_one (record { lines = self.old.lines; mades = self.old.mades }) entry.now) }
     {
         let host = entry.key().host;
         if takes_line(entry) {

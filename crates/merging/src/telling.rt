@@ -3,8 +3,9 @@
 ghost use Rattle.std.specs.Prelude.{◌≡◌, ◌≤◌, ◌+◌, ◌++◌, ◌∷◌, [], Some, IfOk, OnOk};
 ghost use Rattle.hosts.specs.Tables.{on, other};
 ghost use Rattle.machine.specs.Steps.{growth_of, line_step, step_of, timer_of};
-ghost use Rattle.merging.specs.Numbers.{AllSmall, IsSmallItem, IsSmallStep, names_in};
-ghost use Rattle.merging.specs.Saying.{AllSaid, IsSaid, IsSaidItem, all_renumbered, growth_said, label_said, line_said, lines_said, names, renumbered, said, steps_said};
+ghost use Rattle.merging.specs.Numbers.{AllSmall, IsSmallItem, IsSmallStep, names_by};
+ghost use Rattle.merging.specs.Saying.{AllSaid, IsSaid, IsSaidItem, all_renumbered, growth_said, label_said, line_said};
+ghost use Rattle.merging.specs.Saying.{lines_said, names, renumbered, said, steps_said};
 ghost use Rattle.checker.specs.Again.{nowhere};
 
 use crate::numbers::Counts;
@@ -72,8 +73,8 @@ fn tell_line(
     requires small { IsSmallStep (line_step taken.now) }
     requires lines { counts.now.lines.next ≤ 2147483647 }
     requires mades { counts.now.mades.next ≤ 2147483647 }
-    ensures label { IfOk result (λ t. t.label ≡ label_said (renumbered (names_in (record { lines = counts.now.lines; mades = counts.now.mades })) host (line_step taken.now))) }
-    ensures line { IfOk result (λ t. t.line ≡ line_said moment (renumbered (names_in (record { lines = counts.now.lines; mades = counts.now.mades })) host (line_step taken.now))) }
+    ensures label { IfOk result (λ t. t.label ≡ label_said (renumbered (names_by counts.now.lines counts.now.mades) host (line_step taken.now))) }
+    ensures line { IfOk result (λ t. t.line ≡ line_said moment (renumbered (names_by counts.now.lines counts.now.mades) host (line_step taken.now))) }
     ensures said { IsSaid (line_step taken.now) }
 {
     Ok(match taken {
@@ -119,6 +120,17 @@ fn tell_line(
             Event::Came(*at, wire.copy()?),
             Extras::One(counts.lines.number(other(host), *copied)),
         ),
+        TakenLine::Heard {
+            line,
+            host: at,
+            wire,
+        } => told_line(
+            counts.lines.number(host, *line),
+            moment,
+            4 + rank(*at),
+            Event::Came(*at, wire.copy()?),
+            Extras::Bare,
+        ),
         TakenLine::Expired {
             line,
             host: at,
@@ -159,8 +171,8 @@ fn tell_step(counts: &Counts, moment: u64, host: Host, label: &Label) -> Result<
     requires small { IsSmallStep (step_of label.now) }
     requires lines { counts.now.lines.next ≤ 2147483647 }
     requires mades { counts.now.mades.next ≤ 2147483647 }
-    ensures label { IfOk result (λ t. t.label ≡ label_said (renumbered (names_in (record { lines = counts.now.lines; mades = counts.now.mades })) host (step_of label.now))) }
-    ensures line { IfOk result (λ t. t.line ≡ line_said moment (renumbered (names_in (record { lines = counts.now.lines; mades = counts.now.mades })) host (step_of label.now))) }
+    ensures label { IfOk result (λ t. t.label ≡ label_said (renumbered (names_by counts.now.lines counts.now.mades) host (step_of label.now))) }
+    ensures line { IfOk result (λ t. t.line ≡ line_said moment (renumbered (names_by counts.now.lines counts.now.mades) host (step_of label.now))) }
     ensures said { IsSaid (step_of label.now) }
 {
     let label = match label {
@@ -218,8 +230,8 @@ fn tell_entry(
     requires small { IsSmallItem entry.now.item }
     requires lines { counts.now.lines.next ≤ 2147483647 }
     requires mades { counts.now.mades.next ≤ 2147483647 }
-    ensures lines { OnOk result (lines.new ≡ lines.old ++ lines_said (all_renumbered (names_in (record { lines = counts.now.lines; mades = counts.now.mades })) (entry.now ∷ []))) }
-    ensures steps { OnOk result (steps.new ≡ steps.old ++ steps_said (all_renumbered (names_in (record { lines = counts.now.lines; mades = counts.now.mades })) (entry.now ∷ []))) }
+    ensures lines { OnOk result (lines.new ≡ lines.old ++ lines_said (all_renumbered (names_by counts.now.lines counts.now.mades) (entry.now ∷ []))) }
+    ensures steps { OnOk result (steps.new ≡ steps.old ++ steps_said (all_renumbered (names_by counts.now.lines counts.now.mades) (entry.now ∷ []))) }
     ensures said { OnOk result (IsSaidItem entry.now.item) }
 {
     let Item::Does(label) = entry.item() else {
@@ -246,8 +258,8 @@ pub(crate) fn tell_all(
     requires small { AllSmall entries }
     requires lines { counts.now.lines.next ≤ 2147483647 }
     requires mades { counts.now.mades.next ≤ 2147483647 }
-    ensures lines { IfOk result (λ r. r.0 ≡ lines_said (all_renumbered (names_in (record { lines = counts.now.lines; mades = counts.now.mades })) entries.entry)) }
-    ensures steps { IfOk result (λ r. r.1 ≡ steps_said (all_renumbered (names_in (record { lines = counts.now.lines; mades = counts.now.mades })) entries.entry)) }
+    ensures lines { IfOk result (λ r. r.0 ≡ lines_said (all_renumbered (names_by counts.now.lines counts.now.mades) entries.entry)) }
+    ensures steps { IfOk result (λ r. r.1 ≡ steps_said (all_renumbered (names_by counts.now.lines counts.now.mades) entries.entry)) }
     ensures said { IfOk result (λ r. AllSaid entries.entry) }
 {
     let mut lines = Lines::new(alloc);

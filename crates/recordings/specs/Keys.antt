@@ -60,7 +60,8 @@ NamesOne k o last ys key (Bring f) =
     EachEntry k (λ y. item_line k y.item ≡ Some f.line → y.key ≡ f.key) ys
 
 -- entries of host h are a book, from this world and line number on, beside what is left of host o's book, which ends in the world `last`
-pub record Book (k : Kernel) (h o : Host) (w : World k.shape) (n : ℕ) (xs : List (Entry k.shape)) (last : World k.shape) (ys : List (Entry k.shape)) : Type 0 where
+pub record Book (k : Kernel) (h o : Host) (w : World k.shape) (n : ℕ) (xs : List (Entry k.shape))
+    (last : World k.shape) (ys : List (Entry k.shape)) : Type 0 where
   pub runs : HostRun k h w xs
   pub numbered : Numbered k n xs
   pub keys : KeysRise k h xs

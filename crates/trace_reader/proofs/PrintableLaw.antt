@@ -1,5 +1,5 @@
 -- A trace is printed as a text that stands for it, with its spans, exactly where it is within the limits.
-use Rattle.std.proofs.Common.{◌≡◌, ◌≤◌, ◌<◌, ◌+◌, ◌^◌, ℕ, List, [], ◌∷◌, ◌++◌, length, take, get_or, suc, Result, Ok, refl, sym, ap, subst, ◌∙◌, inl, arith}
+use Rattle.std.proofs.Common.{◌≡◌, ◌≤◌, ◌<◌, ◌+◌, ◌^◌, ℕ, List, [], ◌∷◌, ◌++◌, length, take, get_or, suc, refl, sym, ap, subst, ◌∙◌, inl, arith}
 use Rattle.std.specs.Prelude.{map, codes}
 use Rattle.std.specs.Fmt.{decimal}
 use Rattle.std.specs.List.{AllByRecursion}
@@ -8,7 +8,7 @@ use Rattle.std.proofs.lemmas.List.Folds.{concat-append}
 use Rattle.case_forms.specs.declared.trace.Header.{Header}
 use Rattle.case_forms.specs.declared.trace.Line.{Line}
 use Rattle.case_forms.specs.declared.trace.Trace.{Trace}
-use Rattle.case_forms.specs.Traces.{IsRecorded, IsTrace}
+use Rattle.case_forms.specs.Traces.{IsRecorded}
 use Rattle.line_fields.specs.Lines.{IsLine}
 use Rattle.line_fields.specs.Folding.{AreSpelled}
 use Rattle.line_fields.specs.Spelling.{printed, printed_line, joined, piece_texts}
@@ -18,7 +18,7 @@ use Rattle.case_forms.specs.declared.version.Version.TheVariants as versions
 use Rattle.case_forms.specs.declared.version.Initial.{Initial}
 use Rattle.case_forms.specs.declared.version.Initial.TheVariants.{Rfc5681, Rfc6928}
 use Rattle.case_forms.specs.Versions.{first_line_of}
-use Rattle.trace_reader.specs.Headers.{IsHeader, AreLines, header_words, first_words, initial_words, initial_number}
+use Rattle.trace_reader.specs.Headers.{IsHeader, AreLines, header_words, first_words, initial_words, initial_number, late_words}
 use Rattle.trace_reader.specs.Events.{event_pieces}
 use Rattle.trace_reader.specs.EventLines.{Place, behind, line_pieces, IsEventLine}
 use Rattle.trace_reader.specs.TraceText.{first_place, IsTraceText}
@@ -38,14 +38,19 @@ number_fed number name n len short lt count = fed number (name ∷ decimal n ∷
 first_printed : (v : Version) → IsLine 1 (joined (first_words v)) (printed (first_words v))
 first_printed versions.One = fed 1 (first_words versions.One) (omega arith) (omega arith)
 first_printed versions.Two = fed 1 (first_words versions.Two) (omega arith) (omega arith)
+first_printed versions.Three = fed 1 (first_words versions.Three) (omega arith) (omega arith)
 
 initial_small : (i : Initial) → initial_number i < 2 ^ 64
 initial_small Rfc5681 = omega arith
 initial_small Rfc6928 = omega arith
 
-initial_printed : (v : Version) (i : Initial) → AreLines 7 (initial_words v i) (map printed (initial_words v i))
-initial_printed versions.One i = tt
-initial_printed versions.Two i = (number_fed 7 (codes "initial") (initial_number i) (omega arith) (omega arith) (initial_small i) (omega arith), tt)
+initial_printed : (i : Initial) → IsLine 7 (joined (initial_words i)) (printed (initial_words i))
+initial_printed i = number_fed 7 (codes "initial") (initial_number i) (omega arith) (omega arith) (initial_small i) (omega arith)
+
+late_printed : (v : Version) (i : Initial) → AreLines 7 (late_words v i) (map printed (late_words v i))
+late_printed versions.One i = tt
+late_printed versions.Two i = (initial_printed i, tt)
+late_printed versions.Three i = (initial_printed i, (number_fed 8 (codes "half") 0 (omega arith) (omega arith) (omega arith) (omega arith), tt))
 
 header_printed : (h : Header) → IsHeader h → AreLines 1 (header_words h) (map printed (header_words h))
 header_printed h limits =
@@ -59,7 +64,7 @@ header_printed h limits =
             number_fed 4 (codes "grain") h.grain (omega arith) (omega arith) (omega arith) (omega arith),
             (
               number_fed 5 (codes "minrto") h.minrto (omega arith) (omega arith) (omega arith) (omega arith),
-              (number_fed 6 (codes "extra") h.extra (omega arith) (omega arith) (omega arith) (omega arith), initial_printed h.version h.initial),
+              (number_fed 6 (codes "extra") h.extra (omega arith) (omega arith) (omega arith) (omega arith), late_printed h.version h.initial),
             ),
           ),
         ),
@@ -68,11 +73,11 @@ header_printed h limits =
 
 -- ---- the event lines
 
-line_printed : (place : Place) (l : Line) → l.number ≡ place.1 → place.0 ≤ l.moment → place.1 ≤ 10000000 → IsPrintableLine l → IsEventLine place (at_columns l) (printed_line (line_pieces l))
-line_printed place l number rises count p = record {
+line_printed : (v : Version) (place : Place) (l : Line) → l.number ≡ place.1 → place.0 ≤ l.moment → place.1 ≤ 10000000 → IsPrintableLine v l → IsEventLine v place (at_columns l) (printed_line (line_pieces l))
+line_printed v place l number rises count p = record {
   texts = piece_texts (line_pieces l);
   written = (refl, (refl, pieces_written (event_pieces l.event) p.bytes));
-  text = fed place.1 (piece_texts (line_pieces l)) (line_short l p.moment p.thread p.event) count;
+  text = fed place.1 (piece_texts (line_pieces l)) (line_short v l p.moment p.thread p.event) count;
   rises = rises;
   moment = p.moment;
   thread = p.thread;
@@ -81,11 +86,11 @@ line_printed place l number rises count p = record {
   span = ap (λ (n : ℕ). record { line = n; start = 0; stop = length (joined (piece_texts (line_pieces l))) }) number;
 }
 
-lines_printed : (place : Place) (lines : List Line) → IsRecorded place.1 place.0 lines → place.1 + length lines ≤ 10000001 → AllByRecursion IsPrintableLine lines
-    → AreSpelled IsEventLine behind place (map at_columns lines) (map (λ l. printed_line (line_pieces l)) lines)
-lines_printed place [] recorded few all = tt
-lines_printed place (l ∷ ls) recorded few all =
-    (line_printed place l recorded.0 recorded.1 (omega arith) all.0, lines_printed (l.moment, place.1 + 1) ls recorded.2 (omega arith) all.1)
+lines_printed : (v : Version) (place : Place) (lines : List Line) → IsRecorded place.1 place.0 lines → place.1 + length lines ≤ 10000001 → AllByRecursion (IsPrintableLine v) lines
+    → AreSpelled (IsEventLine v) behind place (map at_columns lines) (map (λ l. printed_line (line_pieces l)) lines)
+lines_printed v place [] recorded few all = tt
+lines_printed v place (l ∷ ls) recorded few all =
+    (line_printed v place l recorded.0 recorded.1 (omega arith) all.0, lines_printed v (l.moment, place.1 + 1) ls recorded.2 (omega arith) all.1)
 
 -- ---- the whole text
 
@@ -99,24 +104,24 @@ is_printed t p = record {
   events = map (λ l. printed_line (line_pieces l)) t.lines;
   limits = p.header;
   are_headers = header_printed t.header p.header;
-  are_events = lines_printed (first_place t.header) t.lines p.recorded p.few p.lines;
+  are_events = lines_printed t.header.version (first_place t.header) t.lines p.recorded p.few p.lines;
   joined = sym (concat-append (map printed (header_words t.header)) (map (λ l. printed_line (line_pieces l)) t.lines));
 }
 
 -- ---- and nothing else is
 
-record AreWithin (place : Place) (ls : List Line) : Type 0 where
+record AreWithin (v : Version) (place : Place) (ls : List Line) : Type 0 where
   recorded : IsRecorded place.1 place.0 ls
   few : place.1 + length ls ≤ 10000001
-  lines : AllByRecursion IsPrintableLine ls
+  lines : AllByRecursion (IsPrintableLine v) ls
 
-within : (place : Place) (lines : List Line) (raws : List (List ℕ)) → place.1 ≤ 10000001 → AreSpelled IsEventLine behind place (map at_columns lines) raws → AreWithin place lines
-within place [] raws le h = record { recorded = tt; few = omega arith; lines = tt }
-within place (l ∷ ls) [] le h = absurd h
-within place (l ∷ ls) (raw ∷ raws) le h =
+within : (v : Version) (place : Place) (lines : List Line) (raws : List (List ℕ)) → place.1 ≤ 10000001 → AreSpelled (IsEventLine v) behind place (map at_columns lines) raws → AreWithin v place lines
+within v place [] raws le h = record { recorded = tt; few = omega arith; lines = tt }
+within v place (l ∷ ls) [] le h = absurd h
+within v place (l ∷ ls) (raw ∷ raws) le h =
     let own = h.0 in
     let count = own.text.count in
-    let others = within (l.moment, place.1 + 1) ls raws (omega arith) h.1 in
+    let others = within v (l.moment, place.1 + 1) ls raws (omega arith) h.1 in
     let few = others.few in record {
       recorded = (own.number, own.rises, others.recorded);
       few = omega arith;
@@ -126,10 +131,11 @@ within place (l ∷ ls) (raw ∷ raws) le h =
 first_small : (v : Version) → first_line_of v ≤ 10000001
 first_small versions.One = omega arith
 first_small versions.Two = omega arith
+first_small versions.Three = omega arith
 
 pub is_printable : (t : Trace) (text : List ℕ) → IsTraceText (with_columns t) text → IsPrintableTrace t
 is_printable t text s =
-    let own = within (first_place t.header) t.lines s.events (first_small t.header.version) s.are_events in
+    let own = within t.header.version (first_place t.header) t.lines s.events (first_small t.header.version) s.are_events in
     record { header = s.limits; recorded = own.recorded; few = own.few; lines = own.lines }
 
 -- ---- what holds of the elements so far, and of one more
@@ -145,9 +151,9 @@ all_more {X = X} P xs i d lt before here =
 
 -- ---- values in memory
 
-lines_print : (lines : List Line) → AllByRecursion IsWithinLine lines → AllByRecursion HasBytes lines → AllByRecursion IsPrintableLine lines
-lines_print [] p b = tt
-lines_print (l ∷ ls) p b = let own = p.0 in (record { moment = own.moment; thread = own.thread; event = own.event; bytes = b.0 }, lines_print ls p.1 b.1)
+lines_print : (v : Version) (lines : List Line) → AllByRecursion (IsWithinLine v) lines → AllByRecursion HasBytes lines → AllByRecursion (IsPrintableLine v) lines
+lines_print v [] p b = tt
+lines_print v (l ∷ ls) p b = let own = p.0 in (record { moment = own.moment; thread = own.thread; event = own.event; bytes = b.0 }, lines_print v ls p.1 b.1)
 
 pub within_prints : (t : Trace) → IsWithinTrace t → AllByRecursion HasBytes t.lines → IsPrintableTrace t
-within_prints t p b = record { header = p.header; recorded = p.recorded; few = p.few; lines = lines_print t.lines p.lines b }
+within_prints t p b = record { header = p.header; recorded = p.recorded; few = p.few; lines = lines_print t.header.version t.lines p.lines b }

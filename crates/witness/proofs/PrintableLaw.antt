@@ -1,6 +1,6 @@
 -- A witness is printed as a text that stands for it, with its spans, exactly where it is within the limits.
-use Rattle.std.proofs.Common.{◌≡◌, ◌≤◌, ◌<◌, ◌+◌, ◌^◌, ℕ, List, [], ◌∷◌, ◌++◌, Bool, true, false, Option, Some, None, length, take, get_or, suc, subst, Result, Ok, refl, sym, ap, ◌∙◌, inl, arith}
-use Rattle.std.specs.Prelude.{map, codes}
+use Rattle.std.proofs.Common.{◌≡◌, ◌≤◌, ◌<◌, ◌+◌, ℕ, List, [], ◌∷◌, ◌++◌, Bool, true, false, Option, Some, None, length, take, get_or, suc, subst, refl, sym, ap, ◌∙◌, inl, arith}
+use Rattle.std.specs.Prelude.{map}
 use Rattle.std.specs.Fmt.{decimal}
 use Rattle.std.specs.List.{AllByRecursion}
 use Rattle.std.proofs.Math.Seq.{take-suc}
@@ -106,8 +106,8 @@ label_short v (L line) fits = (omega arith, (number_short line.number (let h = f
 label_short v (D thread answer) fits = (omega arith, (number_short thread (let h = fits.0 in omega arith), answer_short answer fits.1))
 label_short v (M host plan) fits =
     let ports = fits.0 in
-    let from = ports.1 in
-    let to = ports.3 in
+    let from = ports.2 in
+    let to = ports.4 in
     let short = fits.2 in
     let small = fits.3 in (
       omega arith,
@@ -123,13 +123,13 @@ label_short v (M host plan) fits =
       ),
     )
 label_short v (T host line choice) fits =
-    (omega arith, (host_short host, (number_short line (let h = fits.0 in omega arith), (number_short choice.cwnd (let h = fits.1 in omega arith), (bit_short choice.keep, (bit_short choice.sample, tt))))))
-label_short v (K host line) fits = (omega arith, (host_short host, (number_short line (omega arith), tt)))
-label_short v (R host line) fits = (omega arith, (host_short host, (number_short line (omega arith), tt)))
+    (omega arith, (host_short host, (number_short line (let h = fits.0.1 in omega arith), (number_short choice.cwnd (let h = fits.1 in omega arith), (bit_short choice.keep, (bit_short choice.sample, tt))))))
+label_short v (K host line) fits = (omega arith, (host_short host, (number_short line (let h = fits.1 in omega arith), tt)))
+label_short v (R host line) fits = (omega arith, (host_short host, (number_short line (let h = fits.1 in omega arith), tt)))
 label_short v (F host recovery) fits =
     let ports = fits.0 in
-    let from = ports.1 in
-    let to = ports.3 in
+    let from = ports.2 in
+    let to = ports.4 in
     let low = fits.1 in
     let high = fits.2 in
     (omega arith, (host_short host, (number_short recovery.lport (omega arith), (number_short recovery.rport (omega arith), (number_short recovery.cwnd (omega arith), (number_short recovery.ssthresh (omega arith), tt))))))
@@ -169,6 +169,7 @@ steps_printed v number (s ∷ steps) few all = (step_printed v number s (omega a
 first_short : (v : Version) → length (first_text v) ≤ 140000
 first_short versions.One = omega arith
 first_short versions.Two = omega arith
+first_short versions.Three = omega arith
 
 pub is_printed : (w : Witness) → IsPrintableWitness w → IsWitnessText (with_columns w) (witness_text w)
 is_printed w p = record {

@@ -1,15 +1,14 @@
 use Rattle.std.proofs.Common.{rules, ◌≡◌, ◌∷◌, ℕ, List, length, map, refl, ap, arith}
 use Rattle.case_forms.specs.Traces.{first_event_line}
-use Rattle.hosts.specs.Tables.{pick}
 use Rattle.recordings.specs.Recordings.{TcpEntry}
 use Rattle.stack_core.specs.Keys.{key_shown}
-use Rattle.stack_core.specs.Recordings.{world_left}
+use Rattle.merging.specs.Naming.{wire_of}
 use Rattle.merging.proofs.Strangers.{named_more, stranger_here, stranger_hidden, stranger_taken}
 use Rattle.merging.proofs.naming.find_stranger.Goals as goal
 
 pub returns-then-not-is_known-clause-some : goal.returns-then-not-is_known-clause-some
 returns-then-not-is_known-clause-some c =
-    c.loop-entry.invariant.first c.loop-entry.line (stranger_here (first_event_line c.args.other.now.header) (map key_shown c.args.keys.now) (pick (world_left c.args.other.now).hosts c.args.other.now.me).wire c.loop-entry.line c.loop-entry.left.now c.in-Some.entry.now c.in-Some.behind.now c.in-Some.ensures.some (λ named. absurd (let known = c.if-not-is_known.ensures.1 named in cc)))
+    c.loop-entry.invariant.first c.loop-entry.line (stranger_here (first_event_line c.args.other.now.header) (map key_shown c.args.keys.now) (wire_of c.args.other.now) c.loop-entry.line c.loop-entry.left.now c.in-Some.entry.now c.in-Some.behind.now c.in-Some.ensures.some (λ named. absurd (let known = c.if-not-is_known.ensures.1 named in cc)))
 
 pub loop-entry-preserved-then-takes_line : goal.loop-entry-preserved-then-takes_line
 loop-entry-preserved-then-takes_line c =
@@ -17,8 +16,8 @@ loop-entry-preserved-then-takes_line c =
     let longer : length c.loop-entry.left.now ≡ length (c.in-Some.entry.now ∷ c.in-Some.behind.now) = ap (λ (es : List TcpEntry). length es) c.in-Some.ensures.some in
     let small = c.loop-entry.invariant.small in record {
       small = omega (arith, longer, small);
-      named = λ rest. c.loop-entry.invariant.named (named_more (first_event_line c.args.other.now.header) (map key_shown c.args.keys.now) (pick (world_left c.args.other.now).hosts c.args.other.now.me).wire c.loop-entry.left.now c.in-Some.entry.now c.in-Some.behind.now c.in-Some.ensures.some known rest);
-      first = λ n s. c.loop-entry.invariant.first n (stranger_taken (first_event_line c.args.other.now.header) (map key_shown c.args.keys.now) (pick (world_left c.args.other.now).hosts c.args.other.now.me).wire c.loop-entry.line n c.loop-entry.left.now c.in-Some.entry.now c.in-Some.behind.now c.in-Some.ensures.some known (search rules) s);
+      named = λ rest. c.loop-entry.invariant.named (named_more (first_event_line c.args.other.now.header) (map key_shown c.args.keys.now) (wire_of c.args.other.now) c.loop-entry.left.now c.in-Some.entry.now c.in-Some.behind.now c.in-Some.ensures.some known rest);
+      first = λ n s. c.loop-entry.invariant.first n (stranger_taken (first_event_line c.args.other.now.header) (map key_shown c.args.keys.now) (wire_of c.args.other.now) c.loop-entry.line n c.loop-entry.left.now c.in-Some.entry.now c.in-Some.behind.now c.in-Some.ensures.some known (search rules) s);
     }
 
 pub loop-entry-preserved : goal.loop-entry-preserved
@@ -27,6 +26,6 @@ loop-entry-preserved c =
     let longer : length c.loop-entry.left.now ≡ length (c.in-Some.entry.now ∷ c.in-Some.behind.now) = ap (λ (es : List TcpEntry). length es) c.in-Some.ensures.some in
     let small = c.loop-entry.invariant.small in record {
       small = omega (arith, longer, small);
-      named = λ rest. c.loop-entry.invariant.named (named_more (first_event_line c.args.other.now.header) (map key_shown c.args.keys.now) (pick (world_left c.args.other.now).hosts c.args.other.now.me).wire c.loop-entry.left.now c.in-Some.entry.now c.in-Some.behind.now c.in-Some.ensures.some known rest);
-      first = λ n s. c.loop-entry.invariant.first n (stranger_hidden (first_event_line c.args.other.now.header) (map key_shown c.args.keys.now) (pick (world_left c.args.other.now).hosts c.args.other.now.me).wire c.loop-entry.line n c.loop-entry.left.now c.in-Some.entry.now c.in-Some.behind.now c.in-Some.ensures.some known (search rules) s);
+      named = λ rest. c.loop-entry.invariant.named (named_more (first_event_line c.args.other.now.header) (map key_shown c.args.keys.now) (wire_of c.args.other.now) c.loop-entry.left.now c.in-Some.entry.now c.in-Some.behind.now c.in-Some.ensures.some known rest);
+      first = λ n s. c.loop-entry.invariant.first n (stranger_hidden (first_event_line c.args.other.now.header) (map key_shown c.args.keys.now) (wire_of c.args.other.now) c.loop-entry.line n c.loop-entry.left.now c.in-Some.entry.now c.in-Some.behind.now c.in-Some.ensures.some known (search rules) s);
     }

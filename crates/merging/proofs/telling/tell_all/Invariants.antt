@@ -1,5 +1,5 @@
 use Rattle.std.proofs.Common.{◌≡◌, ◌++◌, length}
-use Rattle.merging.specs.Numbers.{AllSmall, names_in}
+use Rattle.merging.specs.Numbers.{AllSmall, names_by}
 use Rattle.merging.specs.Saying.{AllSaid, all_renumbered, lines_said, steps_said}
 use Rattle.merging.proofs.telling.tell_all.Given as goal
 
@@ -7,8 +7,10 @@ use Rattle.merging.proofs.telling.tell_all.Given as goal
 abbrev pub invariant-loop-entry : goal.invariant-loop-entry
 invariant-loop-entry l = record {
   small : AllSmall l.entries;
-  lines : l.lines ++ lines_said (all_renumbered (names_in (record { lines = l.fn.counts.lines; mades = l.fn.counts.mades })) l.entries) ≡ lines_said (all_renumbered (names_in (record { lines = l.fn.counts.lines; mades = l.fn.counts.mades })) l.fn.entries);
-  steps : l.steps ++ steps_said (all_renumbered (names_in (record { lines = l.fn.counts.lines; mades = l.fn.counts.mades })) l.entries) ≡ steps_said (all_renumbered (names_in (record { lines = l.fn.counts.lines; mades = l.fn.counts.mades })) l.fn.entries);
+  lines : l.lines ++ lines_said (all_renumbered (names_by l.fn.counts.lines l.fn.counts.mades) l.entries)
+      ≡ lines_said (all_renumbered (names_by l.fn.counts.lines l.fn.counts.mades) l.fn.entries);
+  steps : l.steps ++ steps_said (all_renumbered (names_by l.fn.counts.lines l.fn.counts.mades) l.entries)
+      ≡ steps_said (all_renumbered (names_by l.fn.counts.lines l.fn.counts.mades) l.fn.entries);
   said : AllSaid l.entries → AllSaid l.fn.entries;
 }
 

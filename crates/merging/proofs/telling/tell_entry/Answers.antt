@@ -1,9 +1,10 @@
 use Rattle.std.proofs.Common.{rules}
 use Rattle.stack_core.specs.Keys.{key_shown}
-use Rattle.merging.specs.Numbers.{names_in}
+use Rattle.merging.specs.Numbers.{names_by}
 use Rattle.merging.proofs.TellLemmas.{line_joined}
 use Rattle.merging.proofs.telling.tell_entry.Goals as goal
 
 pub returns-clause-lines : goal.returns-clause-lines
 returns-clause-lines c =
-    line_joined (names_in (record { lines = c.args.counts.now.lines; mades = c.args.counts.now.mades })) c.args.entry.now (key_shown c.key-key.result) _ c.in_ok-told.told.line c.args.lines.now c.push_told.new.lines c.key-key.ensures (search rules) c.in_ok-told.ensures.line (search rules)
+    line_joined (names_by c.args.counts.now.lines c.args.counts.now.mades) c.args.entry.now (key_shown c.key-key.result) _
+    c.in_ok-told.told.line c.args.lines.now c.push_told.new.lines c.key-key.ensures (search rules) c.in_ok-told.ensures.line (search rules)
