@@ -36,3 +36,6 @@ pub use recorder::{Cause, RecFault, Recorder, Unfinished};
 pub use seat::Seat;
 pub use site::Site;
 pub use stack_core::{Answered, CoreConfig, Flying};
+
+#[cfg(test)]
+mod tests;
