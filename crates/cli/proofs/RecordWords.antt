@@ -381,3 +381,57 @@ all_texts told [] d rest asked some first back a b c is = absurd (omega (some, a
 all_texts told (word ∷ words) d rest asked some first back a b c is =
     subst (λ (w : Text). MatchOption asked ((plan : Plan) → ¬ AsksRecord (w ∷ texts words) plan) (AsksRecord (w ∷ texts words))) (sym first)
     (all_words told (texts words) asked a b c (subst (λ (ws : List Text). MatchOption asked ((plan : Plan) → ¬ AsksRest told ws plan) (AsksRest told ws)) back is))
+
+-- ---- words ask for one recording
+
+record IsFirst (words first rest : List Text) : Type 0 where
+  front : first ≡ take (length first) words
+  back : rest ≡ drop (length first) words
+
+first_of : (words first rest : List Text) → words ≡ first ++ rest → IsFirst words first rest
+first_of words first rest whole = record {
+  front = sym (take-append_seam first rest) ∙ ap (λ (ws : List Text). take (length first) ws) (sym whole);
+  back = sym (drop-append_seam first rest) ∙ ap (λ (ws : List Text). drop (length first) ws) (sym whole);
+}
+
+told_alike : (options others : List (Setting × ℕ)) (words : List Text) → TellEach options words → TellEach others words → options ≡ others
+told_alike [] [] words none again = refl
+told_alike [] (other ∷ others) words none (first, rest, whole, tells, each) = absurd (told_some other.0 first rest other.1 tells (sym whole ∙ none))
+told_alike (option ∷ options) [] words (first, rest, whole, tells, each) none = absurd (told_some option.0 first rest option.1 tells (sym whole ∙ none))
+told_alike ((s, m) ∷ options) ((t, n) ∷ others) words (first, rest, whole, tells, each) (front, back, all, also, more) =
+    let at : Some (s, length first) ≡ Some (t, length front) = sym (told_first s first rest m tells) ∙ ap first_option (sym whole ∙ all) ∙ told_first t front back n also in
+    let same : (s, length first) ≡ (t, length front) = cc in
+    let setting : s ≡ t = ap (λ (p : Setting × ℕ). p.0) same in
+    let size : length first ≡ length front = ap (λ (p : Setting × ℕ). p.1) same in
+    let a = first_of words first rest whole in
+    let b = first_of words front back all in
+    let fronts : first ≡ front = a.front ∙ ap (λ (n : ℕ). take n words) size ∙ sym b.front in
+    let backs : rest ≡ back = a.back ∙ ap (λ (n : ℕ). drop n words) size ∙ sym b.back in
+    let number : m ≡ n = told_once t front m n (subst (λ (u : Setting). TellsNumber u front m) setting (subst (λ (ws : List Text). TellsNumber s ws m) fronts tells)) also in
+    let behind : options ≡ others = told_alike options others back (subst (λ (ws : List Text). TellEach options ws) backs each) more in
+    ap (λ (u : Setting). (u, m) ∷ options) setting ∙ ap (λ (k : ℕ). (t, k) ∷ options) number ∙ ap (λ (os : List (Setting × ℕ)). (t, n) ∷ os) behind
+
+same_version : (ns : List ℕ) (v w : Version) → IsVersion ns v → IsVersion ns w → v ≡ w
+same_version ns versions.One versions.One a b = refl
+same_version ns versions.One versions.Two (inl a) b = let bad : 0 ≡ 1 = ap (λ (xs : List ℕ). length xs) (sym a ∙ b) in absurd (omega (bad, arith))
+same_version ns versions.One versions.Two (inr a) b = let bad : 1 ≡ 2 = ap (λ (xs : List ℕ). get_or xs 0 0) (sym a ∙ b) in absurd (omega (bad, arith))
+same_version ns versions.One versions.Three a b = absurd b
+same_version ns versions.Two versions.One a (inl b) = let bad : 0 ≡ 1 = ap (λ (xs : List ℕ). length xs) (sym b ∙ a) in absurd (omega (bad, arith))
+same_version ns versions.Two versions.One a (inr b) = let bad : 1 ≡ 2 = ap (λ (xs : List ℕ). get_or xs 0 0) (sym b ∙ a) in absurd (omega (bad, arith))
+same_version ns versions.Two versions.Two a b = refl
+same_version ns versions.Two versions.Three a b = absurd b
+same_version ns versions.Three w a b = absurd a
+
+pub one_version : (words : List Text) (p q : Plan) → AsksRecord words p → AsksRecord words q → p.version ≡ q.version
+one_version words p q a b =
+    let behind : a.behind ≡ b.behind = ap (λ (ws : List Text). drop 1 ws) (sym a.words_are ∙ b.words_are) in
+    let options : a.options ≡ b.options = told_alike a.options b.options b.behind (subst (λ (ws : List Text). TellEach a.options ws) behind a.told) b.told in
+    same_version (numbers_of Format b.options) p.version q.version (subst (λ (os : List (Setting × ℕ)). IsVersion (numbers_of Format os) p.version) options a.version) b.version
+
+-- ---- and for nothing else
+
+pub not_check : (words : List Text) (p : Plan) → AsksRecord words p → words ≡ codes "check" ∷ [] → ⊥
+not_check words p a is = let bad : codes "record" ≡ codes "check" = ap (λ (ws : List Text). get_or ws 0 []) (sym a.words_are ∙ is) in cc
+
+pub not_segment : (words : List Text) (p : Plan) (text : Text) → AsksRecord words p → words ≡ codes "segment" ∷ text ∷ [] → ⊥
+not_segment words p text a is = let bad : codes "record" ≡ codes "segment" = ap (λ (ws : List Text). get_or ws 0 []) (sym a.words_are ∙ is) in cc

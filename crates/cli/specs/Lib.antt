@@ -7,4 +7,5 @@ pub mod ManyWords
 pub mod Output
 pub mod RecordReading
 pub mod RecordWords
+pub mod Recorded
 pub mod SegmentText

@@ -1,7 +1,12 @@
 //! A recording that is printed as a case.
 
-ghost use Rattle.std.specs.Prelude.{◌<◌, ◌^◌};
-ghost use Rattle.counted.specs.Counting.{failures_of};
+ghost use Rattle.std.specs.Prelude.{◌≡◌, ◌≢◌, ◌<◌, ◌^◌, codes};
+ghost use Rattle.std.specs.Io.KnownBytes.{Appends};
+ghost use Rattle.checker.specs.Explains.{Explains};
+ghost use Rattle.counted.specs.Counting.{left_of, failures_of};
+ghost use Rattle.two_hosts.specs.Plans.{header_of};
+ghost use Rattle.two_hosts.specs.declared.plan.Plan.{Plan};
+ghost use Rattle.cli.specs.Recorded.{EndsRecord};
 
 use crate::lines::{DEVICE, NO, YES, say};
 use crate::running::answer_bad_memory;
@@ -21,6 +26,9 @@ pub fn answer_record<W: Write, H: Threads + Wait + Sync>(
     w: &mut Counted<W>,
 ) -> u8
     requires { failures_of w.old < 2 ^ 50 }
+    ensures recorded { result ≢ 5 → EndsRecord plan result (left_of W.contents w.old) (left_of W.contents w.new) }
+    ensures told { result ≡ 5 → failures_of w.new ≡ failures_of w.old → Appends (left_of W.contents w.old) (left_of W.contents w.new) (codes "bad device\n") }
+    ensures quiet { result ≢ 5 → failures_of w.new ≡ failures_of w.old }
 {
     match record(rt, alloc, plan) {
         Ok(recording) => print(alloc, &recording, w),
@@ -35,6 +43,11 @@ pub fn answer_record<W: Write, H: Threads + Wait + Sync>(
 // Writes what was recorded as a case.
 fn print<W: Write>(alloc: Global, recording: &Recording, w: &mut Counted<W>) -> u8
     requires { failures_of w.old < 2 ^ 50 }
+    requires explains { Explains recording.now.recorded.trace recording.now.recorded.witness }
+    ensures recorded { (plan : Plan) → recording.now.recorded.trace.header ≡ header_of plan.version → recording.now.recorded.witness.version ≡ plan.version → result ≢ 5 →
+        EndsRecord plan result (left_of W.contents w.old) (left_of W.contents w.new) }
+    ensures device { result ≡ 5 → failures_of w.old < failures_of w.new }
+    ensures quiet { result ≢ 5 → failures_of w.new ≡ failures_of w.old }
 {
     let Recording {
         recorded,

@@ -1,5 +1,11 @@
 //! An application thread at its recorder.
 
+ghost use Rattle.std.specs.Prelude.{◌≡◌, IfOk};
+ghost use Rattle.hosts.specs.Tables.{lane};
+ghost use Rattle.machine.specs.Machine.{aim};
+ghost use Rattle.recordings.specs.Books.{Aims};
+ghost use Rattle.stack_core.specs.Cores.{IsCallWithin};
+
 use case_forms::{Answer, Call, OutOfMemory};
 use recorder::{RecFault, Receipt, Recorder, Seat, Site};
 use std::alloc::Global;
@@ -43,7 +49,9 @@ impl<'a, L: Site> Caller<'a, L> {
         alloc: Global,
         recorder: &'a Recorder<L>,
         thread: u32,
-    ) -> Result<Caller<'a, L>, RecFault> {
+    ) -> Result<Caller<'a, L>, RecFault>
+        ensures { IfOk result (λ c. c.seat.thread ≡ thread) }
+    {
         let seat = recorder.seat(rt, thread)?;
         Ok(Caller {
             recorder,
@@ -52,8 +60,19 @@ impl<'a, L: Site> Caller<'a, L> {
         })
     }
 
+    /// Its seat, and what it was answered.
+    pub fn leave(self) -> (Seat<L>, Vec<Receipt>) {
+        let Caller { seat, receipts, .. } = self;
+        (seat, receipts)
+    }
+
     /// Calls, and gives the answer.
-    pub fn ask<R: Wait>(&mut self, rt: &R, call: Call) -> Result<&Answer, Halt> {
+    pub fn ask<R: Wait>(&mut self, rt: &R, call: Call) -> Result<&Answer, Halt>
+        requires lane { lane self.old.seat.thread ≡ L.host }
+        requires aims { Aims L.host (aim call) }
+        requires within { IsCallWithin call }
+        ensures thread { self.new.seat.thread ≡ self.old.seat.thread }
+    {
         self.receipts.reserve(1)?;
         let receipt = self.recorder.call(rt, &mut self.seat, call)?;
         self.receipts.push_reserved(receipt);
@@ -64,7 +83,13 @@ impl<'a, L: Site> Caller<'a, L> {
     }
 
     /// A call that is answered by a socket number of its own host.
-    pub fn socket<R: Wait>(&mut self, rt: &R, call: Call) -> Result<u32, Halt> {
+    pub fn socket<R: Wait>(&mut self, rt: &R, call: Call) -> Result<u32, Halt>
+        requires lane { lane self.old.seat.thread ≡ L.host }
+        requires aims { Aims L.host (aim call) }
+        requires within { IsCallWithin call }
+        ensures thread { self.new.seat.thread ≡ self.old.seat.thread }
+        ensures own { IfOk result (λ socket. lane socket ≡ L.host) }
+    {
         let lane = self.seat.thread() % 2;
         match self.ask(rt, call)? {
             Answer::Given(socket) if *socket % 2 == lane => Ok(*socket),
@@ -73,7 +98,12 @@ impl<'a, L: Site> Caller<'a, L> {
     }
 
     /// A call that is answered `ok`.
-    pub fn done<R: Wait>(&mut self, rt: &R, call: Call) -> Result<(), Halt> {
+    pub fn done<R: Wait>(&mut self, rt: &R, call: Call) -> Result<(), Halt>
+        requires lane { lane self.old.seat.thread ≡ L.host }
+        requires aims { Aims L.host (aim call) }
+        requires within { IsCallWithin call }
+        ensures thread { self.new.seat.thread ≡ self.old.seat.thread }
+    {
         match self.ask(rt, call)? {
             Answer::Done => Ok(()),
             _ => Err(Halt::Refused),

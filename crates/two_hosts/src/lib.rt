@@ -21,4 +21,4 @@ mod wire;
 
 pub use plan::Plan;
 pub use recording::{Books, RecordFault, Recording, record, record_books};
-pub use wire::Wire;
+pub use wire::{Talk, Wire};

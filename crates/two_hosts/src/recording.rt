@@ -3,19 +3,17 @@
 ghost use Rattle.std.specs.Prelude.{◌≡◌, IfOk};
 ghost use Rattle.case_forms.specs.declared.calls.Host.TheVariants.{Zero, One};
 ghost use Rattle.checker.specs.Explains.{Explains};
-ghost use Rattle.two_hosts.specs.Plans.{header_of};
+ghost use Rattle.two_hosts.specs.Plans.{AreBooks, header_of};
 
 use crate::caller::Caller;
 use crate::plan::{
     CLIENT_ISS, CLIENT_THREAD, Plan, SERVER_ISS, SERVER_THREAD, config_of, header_of,
 };
 use crate::threads::{TURNS, Way, run_threads};
-use crate::wire::Wire;
-use case_forms::{Host, OutOfMemory, Version};
-use crossbeam_channel::unbounded;
+use crate::wire::{Talk, Wire};
+use case_forms::{Header, Host, OutOfMemory, Version};
 use recorder::{
-    Cause, Flying, HostBook, MergeFault, RecFault, Receipt, Recorded, Recorder, Seat, Site,
-    WireFate, merge,
+    Cause, HostBook, MergeFault, RecFault, Receipt, Recorded, Recorder, Seat, Site, WireFate, merge,
 };
 use std::alloc::Global;
 use std::marker::Brand;
@@ -85,7 +83,10 @@ fn finish<L: Site, R: Wait>(
     alloc: Global,
     recorder: Recorder<L>,
     seat: Seat<L>,
-) -> Result<HostBook, RecordFault> {
+) -> Result<HostBook, RecordFault>
+    requires { L.parts ≡ 65535 }
+    ensures site { IfOk result (λ b. (b.core.recorded.me ≡ L.host) × (b.core.recorded.header ≡ L.header)) }
+{
     let mut seats = Vec::new(alloc);
     seats.reserve(1)?;
     seats.push_reserved(seat);
@@ -98,7 +99,57 @@ fn finish<L: Site, R: Wait>(
     }
 }
 
-// What two recorders, each of one host, record of the connection.
+// What the applications had in the end.
+#[derive(Drop)]
+struct Talked<L: Site, M: Site> {
+    zero: Seat<L>,
+    one: Seat<M>,
+    receipts: Vec<Receipt>,
+    ended: bool,
+}
+
+// Lets both applications talk, each at its recorder.
+fn let_talk<
+    L: Site + Send + Sync,
+    M: Site + Send + Sync,
+    F: WireFate + Send + Drop,
+    G: WireFate + Send + Drop,
+    R: Threads + Wait + Sync,
+>(
+    rt: &R,
+    alloc: Global,
+    zero: &Recorder<L>,
+    one: &Recorder<M>,
+    talk: Talk<F, G>,
+) -> Result<Talked<L, M>, RecordFault>
+    requires hosts { (L.host ≡ Zero) × (M.host ≡ One) }
+{
+    let Talk {
+        rounds,
+        there,
+        back,
+    } = talk;
+    let there = Way::new(alloc, there)?;
+    let back = Way::new(alloc, back)?;
+    let mut client = Caller::new(rt, alloc, zero, CLIENT_THREAD)?;
+    let mut server = Caller::new(rt, alloc, one, SERVER_THREAD)?;
+    let outcome = run_threads(rt, alloc, rounds, &mut client, &mut server, there, back);
+    let ended = outcome.ok_or(RecordFault::Device)?;
+    let (zero, mut receipts) = client.leave();
+    let (one, others) = server.leave();
+    receipts.reserve(others.len())?;
+    for receipt in others {
+        receipts.push_reserved(receipt);
+    }
+    Ok(Talked {
+        zero,
+        one,
+        receipts,
+        ended,
+    })
+}
+
+// What two new recorders, each of one host, record of the connection.
 fn record_with<
     L: Site + Send + Sync,
     M: Site + Send + Sync,
@@ -108,75 +159,44 @@ fn record_with<
 >(
     rt: &R,
     alloc: Global,
-    rounds: u16,
-    zero: Recorder<L>,
-    one: Recorder<M>,
-    there: Wire<F>,
-    back: Wire<G>,
-) -> Result<Books, RecordFault> {
-    let (to_one, from_zero) = unbounded::<Flying, Global>(alloc)?;
-    let (to_zero, from_one) = unbounded::<Flying, Global>(alloc)?;
-    let there = Way {
-        out: to_one,
-        from: from_zero,
-        wire: there,
-    };
-    let back = Way {
-        out: to_zero,
-        from: from_one,
-        wire: back,
-    };
-    let mut client = Caller::new(rt, alloc, &zero, CLIENT_THREAD)?;
-    let mut server = Caller::new(rt, alloc, &one, SERVER_THREAD)?;
-    let outcome = run_threads(rt, alloc, rounds, &mut client, &mut server, there, back);
-    let Caller {
-        seat: zero_seat,
-        mut receipts,
-        ..
-    } = client;
-    let Caller {
-        seat: one_seat,
-        receipts: others,
-        ..
-    } = server;
-    receipts.reserve(others.len())?;
-    for receipt in others {
-        receipts.push_reserved(receipt);
-    }
-    let ended = outcome.ok_or(RecordFault::Device)?;
+    header: Header,
+    first: Blank,
+    second: Blank,
+    talk: Talk<F, G>,
+) -> Result<Books, RecordFault>
+    requires names { (first.name ≡ L.name) × (second.name ≡ M.name) }
+    requires blanks { (first.parts ≡ L.parts) × (second.parts ≡ M.parts) }
+    requires parts { (L.parts ≡ 65535) × (M.parts ≡ 65535) }
+    requires hosts { (L.host ≡ Zero) × (M.host ≡ One) }
+    requires headers { (L.header ≡ header) × (M.header ≡ header) }
+    ensures { IfOk result (λ b. AreBooks b.zero b.one header) }
+{
+    let client = config_of(CLIENT_ISS);
+    let server = config_of(SERVER_ISS);
+    let zero: Recorder<L> = Recorder::new(alloc, Host::Zero, header, client, first);
+    let one: Recorder<M> = Recorder::new(alloc, Host::One, header, server, second);
+    let talked = let_talk(rt, alloc, &zero, &one, talk)?;
+    let zero = finish(rt, alloc, zero, talked.zero)?;
+    let one = finish(rt, alloc, one, talked.one)?;
     Ok(Books {
-        zero: finish(rt, alloc, zero, zero_seat)?,
-        one: finish(rt, alloc, one, one_seat)?,
-        ended,
-        receipts,
+        zero,
+        one,
+        ended: talked.ended,
+        receipts: talked.receipts,
     })
 }
 
-/// What both hosts record in so many rounds, where their segments go these ways.
+/// What both hosts record where they talk so.
 pub fn record_books<F: WireFate + Send + Drop, G: WireFate + Send + Drop, R: Threads + Wait + Sync>(
     rt: &R,
     alloc: Global,
-    rounds: u16,
     version: Version,
-    there: Wire<F>,
-    back: Wire<G>,
-) -> Result<Books, RecordFault> {
-    let header = header_of(version);
-    let zero: Recorder<Brand> = Recorder::new(
-        alloc,
-        Host::Zero,
-        header,
-        config_of(CLIENT_ISS),
-        Blank::new(65_535),
-    );
-    let one: Recorder<Brand> = Recorder::new(
-        alloc,
-        Host::One,
-        header,
-        config_of(SERVER_ISS),
-        Blank::new(65_535),
-    );
-    record_with::<Brand, Brand, F, G, R>(rt, alloc, rounds, zero, one, there, back)
+    talk: Talk<F, G>,
+) -> Result<Books, RecordFault>
+    ensures { IfOk result (λ b. AreBooks b.zero b.one (header_of version)) }
+{
+    let (first, second) = (Blank::new(65_535), Blank::new(65_535));
+    record_with::<Brand, Brand, F, G, R>(rt, alloc, header_of(version), first, second, talk)
 }
 
 /// Records the connection as it is planned.
@@ -184,24 +204,22 @@ pub fn record<R: Threads + Wait + Sync>(
     rt: &R,
     alloc: Global,
     plan: Plan,
-) -> Result<Recording, RecordFault> {
-    let Plan {
-        rounds,
-        lose,
-        version,
-    } = plan;
-    let wire = Wire::losing(lose, TURNS);
-    let books = record_books(rt, alloc, rounds, version, wire, wire)?;
-    let Books {
-        zero,
-        one,
-        ended,
-        receipts,
-    } = books;
-    let recorded = merge(alloc, zero, one)?;
+) -> Result<Recording, RecordFault>
+    ensures header { IfOk result (λ r. r.recorded.trace.header ≡ header_of plan.version) }
+    ensures version { IfOk result (λ r. r.recorded.witness.version ≡ plan.version) }
+    ensures explains { IfOk result (λ r. Explains r.recorded.trace r.recorded.witness) }
+{
+    let wire = Wire::losing(plan.lose, TURNS);
+    let talk = Talk {
+        rounds: plan.rounds,
+        there: wire,
+        back: wire,
+    };
+    let books = record_books(rt, alloc, plan.version, talk)?;
+    let recorded = merge(alloc, books.zero, books.one)?;
     Ok(Recording {
         recorded,
-        ended,
-        receipts,
+        ended: books.ended,
+        receipts: books.receipts,
     })
 }

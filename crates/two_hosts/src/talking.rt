@@ -1,5 +1,9 @@
 //! What both applications do.
 
+ghost use Rattle.std.specs.Prelude.{◌≡◌, ◌<◌, ◌+◌, IfOk, length};
+ghost use Rattle.case_forms.specs.declared.calls.Host.TheVariants.{Zero, One};
+ghost use Rattle.hosts.specs.Tables.{lane};
+
 use crate::caller::{Caller, Halt};
 use crate::plan::{CLIENT_PORT, ROUND_BYTES, SERVER_PORT};
 use case_forms::{Answer, Call, Host, OutOfMemory};
@@ -9,7 +13,10 @@ use std::alloc::Global;
 use std::sync::Wait;
 
 // The bytes of a round that are not sent yet.
-fn round_bytes(alloc: Global, round: u16, sent: usize) -> Result<Bytes, OutOfMemory> {
+fn round_bytes(alloc: Global, round: u16, sent: usize) -> Result<Bytes, OutOfMemory>
+    requires { sent < 64 }
+    ensures { IfOk result (λ bytes. length bytes + sent ≡ 64) }
+{
     let all = [(round % 256) as u8; ROUND_BYTES];
     Bytes::from_slice(alloc, &all[sent..])
 }
@@ -21,7 +28,11 @@ fn send_round<L: Site, R: Wait>(
     caller: &mut Caller<L>,
     socket: u32,
     round: u16,
-) -> Result<(), Halt> {
+) -> Result<(), Halt>
+    requires lane { lane caller.old.seat.thread ≡ L.host }
+    requires own { lane socket ≡ L.host }
+    ensures { caller.new.seat.thread ≡ caller.old.seat.thread }
+{
     let mut sent = 0;
     for _ in 0..ROUND_BYTES {
         if sent >= ROUND_BYTES {
@@ -37,11 +48,11 @@ fn send_round<L: Site, R: Wait>(
 }
 
 // Receives the bytes of a round, in as many calls as it takes.
-fn receive_round<L: Site, R: Wait>(
-    rt: &R,
-    caller: &mut Caller<L>,
-    socket: u32,
-) -> Result<(), Halt> {
+fn receive_round<L: Site, R: Wait>(rt: &R, caller: &mut Caller<L>, socket: u32) -> Result<(), Halt>
+    requires lane { lane caller.old.seat.thread ≡ L.host }
+    requires own { lane socket ≡ L.host }
+    ensures { caller.new.seat.thread ≡ caller.old.seat.thread }
+{
     let mut left = ROUND_BYTES;
     for _ in 0..ROUND_BYTES {
         if left == 0 {
@@ -61,7 +72,11 @@ pub fn run_client<L: Site, R: Wait>(
     alloc: Global,
     caller: &mut Caller<L>,
     rounds: u16,
-) -> Result<(), Halt> {
+) -> Result<(), Halt>
+    requires lane { lane caller.old.seat.thread ≡ L.host }
+    requires host { L.host ≡ Zero }
+    ensures { caller.new.seat.thread ≡ caller.old.seat.thread }
+{
     let socket = caller.socket(rt, Call::Connect(Host::Zero, CLIENT_PORT, SERVER_PORT))?;
     caller.done(rt, Call::Await(socket))?;
     for round in 0..rounds {
@@ -72,11 +87,11 @@ pub fn run_client<L: Site, R: Wait>(
 }
 
 /// Host 1's application: it listens, accepts, receives all rounds, reads to the end and closes.
-pub fn run_server<L: Site, R: Wait>(
-    rt: &R,
-    caller: &mut Caller<L>,
-    rounds: u16,
-) -> Result<(), Halt> {
+pub fn run_server<L: Site, R: Wait>(rt: &R, caller: &mut Caller<L>, rounds: u16) -> Result<(), Halt>
+    requires lane { lane caller.old.seat.thread ≡ L.host }
+    requires host { L.host ≡ One }
+    ensures { caller.new.seat.thread ≡ caller.old.seat.thread }
+{
     let listener = caller.socket(rt, Call::Listen(Host::One, SERVER_PORT, 1))?;
     let socket = caller.socket(rt, Call::Accept(listener))?;
     for _ in 0..rounds {

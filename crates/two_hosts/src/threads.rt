@@ -1,9 +1,14 @@
 //! Both applications and the loops of both recorders, each in a thread of its own.
 
+ghost use Rattle.std.specs.Prelude.{◌≡◌};
+ghost use Rattle.case_forms.specs.declared.calls.Host.TheVariants.{Zero, One};
+ghost use Rattle.hosts.specs.Tables.{lane};
+
 use crate::caller::Caller;
 use crate::talking::{run_client, run_server};
 use crate::wire::Wire;
-use crossbeam_channel::{Receiver, Sender};
+use case_forms::OutOfMemory;
+use crossbeam_channel::{Receiver, Sender, unbounded};
 use recorder::{Flying, LoopEnd, Recorder, Site, WireFate};
 use std::alloc::Global;
 use std::sync::Wait;
@@ -19,6 +24,14 @@ pub struct Way<F: Drop> {
     pub out: Sender<Flying, Global>,
     pub from: Receiver<Flying, Global>,
     pub wire: Wire<F>,
+}
+
+impl<F: Drop> Way<F> {
+    /// A new way for segments of which this becomes.
+    pub fn new(alloc: Global, wire: Wire<F>) -> Result<Way<F>, OutOfMemory> {
+        let (out, from) = unbounded::<Flying, Global>(alloc)?;
+        Ok(Way { out, from, wire })
+    }
 }
 
 /// Runs both applications and all loops until they end. Whether both applications came to their end; None: a thread could not be
@@ -37,7 +50,10 @@ pub fn run_threads<
     server: &mut Caller<M>,
     there: Way<F>,
     back: Way<G>,
-) -> Option<bool> {
+) -> Option<bool>
+    requires hosts { (L.host ≡ Zero) × (M.host ≡ One) }
+    requires lanes { (lane client.old.seat.thread ≡ Zero) × (lane server.old.seat.thread ≡ One) }
+{
     let (zero, one) = (client.recorder, server.recorder);
     let Way {
         out: to_one,

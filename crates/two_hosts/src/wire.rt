@@ -1,4 +1,4 @@
-//! What becomes of the segments of a host on their way.
+//! What becomes of the segments of both hosts on their way.
 
 use recorder::LoseEach;
 
@@ -19,4 +19,15 @@ impl Wire<LoseEach> {
             taken,
         }
     }
+}
+
+/// How both hosts talk.
+#[derive(Clone, Copy, Debug)]
+pub struct Talk<F, G> {
+    /// How many rounds there are.
+    pub rounds: u16,
+    /// The way of host 0's segments.
+    pub there: Wire<F>,
+    /// The way of host 1's segments.
+    pub back: Wire<G>,
 }
