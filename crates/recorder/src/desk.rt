@@ -1,6 +1,7 @@
 //! What lies under a recorder's lock.
 
-ghost use Rattle.std.specs.Prelude.{◌≡◌, ◌+◌, ◌≤◌, ◌<◌, true, IfNone, IfOk, OnErr, sum_by, length};
+ghost use Rattle.std.specs.Prelude.{◌≡◌, ◌+◌, ◌≤◌, ◌<◌, ◌↔◌, true, false, IsTrue, IfNone, IfOk, IfErr, OnOk, OnErr, sum_by, length};
+ghost use Rattle.std.specs.BTreeSet.{contains};
 ghost use Rattle.std.specs.Option.{IfSome};
 ghost use Rattle.case_forms.specs.declared.calls.Host.{Host};
 ghost use Rattle.hosts.specs.Tables.{lane};
@@ -9,6 +10,8 @@ ghost use Rattle.recordings.specs.Books.{Aims};
 ghost use Rattle.recordings.specs.Keys.{before};
 ghost use Rattle.stack_core.specs.Cores.{IsAfter, IsCallWithin};
 ghost use Rattle.stack_core.specs.Keys.{key_of, key_shown};
+ghost use Rattle.recorder.specs.Seats.{IsReserved, WhyNoSeat};
+ghost use Rattle.recorder.specs.Ticks.{IsOver, tick_after};
 
 use crate::host_book::HostBook;
 use crate::loops::LoopEnd;
@@ -56,9 +59,11 @@ pub(crate) struct Desk<L: Site> {
 
 // The next tick of a book, at this moment and counter or above. None: it would pass the limits, or there were too many events.
 fn next_tick(book: &HostBook, moment: u64, counter: u64) -> Option<Tick>
+    ensures tick { IfSome result (λ t. t ≡ tick_after book.now.core.last moment counter) }
     ensures after { IfSome result (IsAfter book.now.core.last) }
     ensures above { IfSome result (λ t. (moment ≤ t.moment) × (counter < t.counter)) }
     ensures events { IfSome result (λ t. book.now.core.events < 10000000) }
+    ensures none { IfNone result (IsOver book.now.core moment counter) }
 {
     if book.events() >= EVENTS {
         return None;
@@ -111,11 +116,11 @@ impl<L: Site> Desk<L> {
         &self.held.book
     }
 
-    /// How many seats nobody has.
-    pub(crate) fn left(&self) -> u32
-        ensures { result ≡ self.now.left }
+    /// Whether these are all seats that were given out.
+    pub(crate) fn are_all(&self, seats: &[Seat<L>]) -> bool
+        ensures { IsTrue result ↔ (length seats.now + self.now.left ≡ 65535) }
     {
-        self.left
+        seats.len() + self.left as usize == SEATS as usize
     }
 
     /// No event follows.
@@ -125,7 +130,10 @@ impl<L: Site> Desk<L> {
 
     /// A new seat.
     pub(crate) fn seat(&mut self, thread: u32) -> Result<Seat<L>, RecFault>
-        ensures { IfOk result (λ s. (s.thread ≡ thread) × (s.count ≡ 0)) }
+        ensures seat { IfOk result (λ s. (s.thread ≡ thread) × (s.count ≡ 0)) }
+        ensures free { OnOk result ((IsReserved thread → ⊥) × (contains ⟦<u32 as Ord>⟧.cmp self.old.threads thread ≡ false)) }
+        ensures kept { OnOk result (contains ⟦<u32 as Ord>⟧.cmp self.new.threads thread ≡ true) }
+        ensures refused { IfErr result (WhyNoSeat self.old.stopped self.old.left (contains ⟦<u32 as Ord>⟧.cmp self.old.threads thread) thread) }
     {
         if self.stopped {
             return Err(RecFault::Stopped);
@@ -271,7 +279,9 @@ impl<L: Site> Desk<L> {
 }
 
 // The threads of segments that come in, of timers and of segments that go out, of both hosts: 4 to 9.
-fn is_reserved(thread: u32) -> bool {
+fn is_reserved(thread: u32) -> bool
+    ensures { IsTrue result ↔ IsReserved thread }
+{
     (4..=9).contains(&thread)
 }
 

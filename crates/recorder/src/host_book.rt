@@ -7,11 +7,11 @@ ghost use Rattle.hosts.specs.Tables.{lane};
 ghost use Rattle.machine.specs.Machine.{aim};
 ghost use Rattle.recordings.specs.Books.{Aims};
 ghost use Rattle.recordings.specs.Keys.{before};
-ghost use Rattle.stack_core.specs.Cores.{IsAfter, IsCallWithin, world};
+ghost use Rattle.stack_core.specs.Cores.{IsAfter, IsCallWithin, IsRecorded, world};
 ghost use Rattle.stack_core.specs.Entries.{steps_in};
 ghost use Rattle.stack_core.specs.Keys.{key_of};
 ghost use Rattle.merging.specs.Naming.{AllAbove};
-ghost use Rattle.recorder.specs.Books.{IsSameSite};
+ghost use Rattle.recorder.specs.Books.{IsSameSite, ends_in};
 
 use case_forms::{Call, Header, Host, OutOfMemory};
 use stack_core::{Answered, CoreConfig, Flying, HostCore, Recording, Tick};
@@ -74,6 +74,15 @@ impl HostBook {
         ensures { result ≡ self.now.core.events }
     {
         self.core.events()
+    }
+
+    /// What it recorded is a run of its host for its lines, and its total is the number of those that end a call: a call that
+    /// does nothing, whose contract says it.
+    pub fn is_book(&self)
+        ensures run { IsRecorded self.now.core }
+        ensures total { self.now.total ≡ ends_in self.now.core.recorded.entries }
+    {
+        self.core.is_recording();
     }
 
     // What was brought has keys below those of its entries, and the steps are few: a call that does nothing, whose contract

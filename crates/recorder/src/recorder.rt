@@ -5,6 +5,8 @@ ghost use Rattle.hosts.specs.Tables.{lane};
 ghost use Rattle.machine.specs.Machine.{aim};
 ghost use Rattle.recordings.specs.Books.{Aims};
 ghost use Rattle.stack_core.specs.Cores.{IsCallWithin};
+ghost use Rattle.recorder.specs.declared.recorder.Cause.TheVariants.{SeatMissing};
+ghost use Rattle.recorder.specs.Seats.{IsReserved};
 
 use crate::desk::Desk;
 use crate::host_book::HostBook;
@@ -83,7 +85,8 @@ impl<L: Site> Recorder<L> {
 
     /// A seat for a thread of this host: host 0's threads have even numbers, host 1's odd ones.
     pub fn seat<R: Wait>(&self, rt: &R, thread: u32) -> Result<Seat<L>, RecFault>
-        ensures { IfOk result (λ s. (s.thread ≡ thread) × (s.count ≡ 0)) }
+        ensures seat { IfOk result (λ s. (s.thread ≡ thread) × (s.count ≡ 0)) }
+        ensures reserved { OnOk result (IsReserved thread → ⊥) }
     {
         self.desk.lock(rt).seat(thread)
     }
@@ -132,11 +135,12 @@ impl<L: Site> Recorder<L> {
         ensures header { IfOk result (λ b. b.core.recorded.header ≡ L.header) }
         ensures total { IfOk result (λ b. b.total ≡ sum_by (λ s. s.count) seats.items) }
         ensures back { IfErr result (λ u. u.seats.items ≡ seats.items) }
+        ensures cause { IfErr result (λ u. u.cause ≡ SeatMissing) }
     {
         let _ = rt;
         let Recorder { desk, moved, alloc } = self;
         let desk = desk.into_inner();
-        if seats.len() + desk.left() as usize != 65_535 {
+        if !desk.are_all(seats.as_slice()) {
             return Err(Unfinished {
                 recorder: Recorder {
                     desk: Mutex::new(desk),
