@@ -6,5 +6,7 @@ pub mod ManyAnswers
 pub mod ManyLaw
 pub mod ManyWords
 pub mod PlainHex
+pub mod RecordOptions
+pub mod RecordWords
 pub mod SegmentWords
 pub mod TwoTexts

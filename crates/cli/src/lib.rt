@@ -12,7 +12,7 @@
 //! - `file_words`, `files`: the words that ask for a case in two files, and the run on them
 //! - `many_words`, `many`: the words that ask for many cases, and the run that serves them too (`specs/ManyWords`,
 //!   `specs/Many`); it alone starts threads
-//! - `recording`: a recording of two hosts that talk over a connection
+//! - `record_words`, `record`: the words that ask for a recording, and the case that is recorded and printed (`specs/RecordWords`)
 //! - `many_laws`: what the cutting of an input into cases means (`specs/ManyLaw`)
 //!
 //! What a case is answered is told by `checker`, and what is counted as a failure by `counted`.
@@ -26,7 +26,8 @@ mod lines;
 mod many;
 mod many_laws;
 mod many_words;
-mod recording;
+mod record;
+mod record_words;
 mod running;
 mod segment_line;
 mod words;
@@ -36,5 +37,4 @@ pub use files::{answer_bad_device, run_files};
 pub use given::given_words;
 pub use many::run_all;
 pub use many_laws::cases_are_cut_back;
-pub use recording::{Plan, RecordFault, Recording, record};
 pub use running::{answer_bad_memory, run};

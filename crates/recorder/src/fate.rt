@@ -21,13 +21,14 @@ pub trait WireFate {
 
 /// Each `every`-th segment is lost; none where `every` is 0.
 #[derive(Clone, Copy, Debug, PartialEq, Eq)]
-pub(crate) struct LoseEach {
+pub struct LoseEach {
     every: u32,
     left: u32,
 }
 
 impl LoseEach {
-    pub(crate) fn new(every: u32) -> LoseEach {
+    /// The first that is lost is the `every`-th.
+    pub fn new(every: u32) -> LoseEach {
         LoseEach { every, left: every }
     }
 }

@@ -26,7 +26,7 @@ mod recorder;
 mod seat;
 mod site;
 
-pub use fate::{Fate, WireFate};
+pub use fate::{Fate, LoseEach, WireFate};
 pub use host_book::HostBook;
 pub use joining::merge;
 pub use loops::LoopEnd;

@@ -1,0 +1,61 @@
+//! A recording that is printed as a case.
+
+ghost use Rattle.std.specs.Prelude.{◌≡◌, ◌≢◌, ◌<◌, ◌^◌, codes};
+ghost use Rattle.std.specs.Io.KnownBytes.{Appends};
+ghost use Rattle.checker.specs.Explains.{Explains};
+ghost use Rattle.counted.specs.Counting.{left_of, failures_of};
+ghost use Rattle.two_hosts.specs.Plans.{header_of};
+ghost use Rattle.two_hosts.specs.declared.plan.Plan.{Plan};
+ghost use Rattle.cli.specs.Recorded.{EndsRecord};
+
+use crate::lines::{DEVICE, NO, YES, say};
+use crate::running::answer_bad_memory;
+use checker::print_case;
+use counted::Counted;
+use std::alloc::Global;
+use std::io::Write;
+use std::sync::Wait;
+use std::thread::Threads;
+use two_hosts::{Plan, RecordFault, Recording, record};
+
+/// Records what is planned, and prints it.
+pub fn answer_record<W: Write, H: Threads + Wait + Sync>(
+    rt: &H,
+    alloc: Global,
+    plan: Plan,
+    w: &mut Counted<W>,
+) -> u8
+    requires { failures_of w.old < 2 ^ 50 }
+    ensures recorded { result ≢ 5 → EndsRecord plan result (left_of W.contents w.old) (left_of W.contents w.new) }
+    ensures told { result ≡ 5 → failures_of w.new ≡ failures_of w.old → Appends (left_of W.contents w.old) (left_of W.contents w.new) (codes "bad device\n") }
+    ensures quiet { result ≢ 5 → failures_of w.new ≡ failures_of w.old }
+{
+    match record(rt, alloc, plan) {
+        Ok(recording) => print(alloc, &recording, w),
+        Err(RecordFault::Device) => {
+            let _ = say(w, b"bad device\n", DEVICE);
+            DEVICE
+        }
+        Err(RecordFault::OutOfMemory) => answer_bad_memory(w),
+    }
+}
+
+// Writes what was recorded as a case.
+fn print<W: Write>(alloc: Global, recording: &Recording, w: &mut Counted<W>) -> u8
+    requires { failures_of w.old < 2 ^ 50 }
+    requires explains { Explains recording.now.recorded.trace recording.now.recorded.witness }
+    ensures recorded { (plan : Plan) → recording.now.recorded.trace.header ≡ header_of plan.version → recording.now.recorded.witness.version ≡ plan.version → result ≢ 5 →
+        EndsRecord plan result (left_of W.contents w.old) (left_of W.contents w.new) }
+    ensures device { result ≡ 5 → failures_of w.old < failures_of w.new }
+    ensures quiet { result ≢ 5 → failures_of w.new ≡ failures_of w.old }
+{
+    let Recording {
+        recorded,
+        ended,
+        ..
+    } = recording;
+    match print_case(alloc, &recorded.trace, &recorded.witness) {
+        Ok(text) => say(w, text.as_slice(), if *ended { YES } else { NO }),
+        Err(_) => answer_bad_memory(w),
+    }
+}

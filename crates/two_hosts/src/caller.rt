@@ -1,0 +1,112 @@
+//! An application thread at its recorder.
+
+ghost use Rattle.std.specs.Prelude.{◌≡◌, IfOk};
+ghost use Rattle.hosts.specs.Tables.{lane};
+ghost use Rattle.machine.specs.Machine.{aim};
+ghost use Rattle.recordings.specs.Books.{Aims};
+ghost use Rattle.stack_core.specs.Cores.{IsCallWithin};
+
+use case_forms::{Answer, Call, OutOfMemory};
+use recorder::{RecFault, Receipt, Recorder, Seat, Site};
+use std::alloc::Global;
+use std::sync::Wait;
+
+/// Why an application ended before its time.
+#[derive(Clone, Copy, Debug, PartialEq, Eq)]
+pub enum Halt {
+    /// A call was refused, or was answered otherwise than the application goes on with.
+    Refused,
+    OutOfMemory,
+}
+
+impl From<OutOfMemory> for Halt {
+    fn from(_: OutOfMemory) -> Halt {
+        Halt::OutOfMemory
+    }
+}
+
+impl From<RecFault> for Halt {
+    fn from(fault: RecFault) -> Halt {
+        match fault {
+            RecFault::OutOfMemory => Halt::OutOfMemory,
+            RecFault::Stopped | RecFault::SeatTaken => Halt::Refused,
+        }
+    }
+}
+
+/// One application thread at its recorder, with what it was answered.
+#[derive(Drop)]
+pub struct Caller<'a, L: Site> {
+    pub recorder: &'a Recorder<L>,
+    pub seat: Seat<L>,
+    pub receipts: Vec<Receipt>,
+}
+
+impl<'a, L: Site> Caller<'a, L> {
+    /// A thread of that number, which has called nothing yet.
+    pub fn new<R: Wait>(
+        rt: &R,
+        alloc: Global,
+        recorder: &'a Recorder<L>,
+        thread: u32,
+    ) -> Result<Caller<'a, L>, RecFault>
+        ensures { IfOk result (λ c. c.seat.thread ≡ thread) }
+    {
+        let seat = recorder.seat(rt, thread)?;
+        Ok(Caller {
+            recorder,
+            seat,
+            receipts: Vec::new(alloc),
+        })
+    }
+
+    /// Its seat, and what it was answered.
+    pub fn leave(self) -> (Seat<L>, Vec<Receipt>) {
+        let Caller { seat, receipts, .. } = self;
+        (seat, receipts)
+    }
+
+    /// Calls, and gives the answer.
+    pub fn ask<R: Wait>(&mut self, rt: &R, call: Call) -> Result<&Answer, Halt>
+        requires lane { lane self.old.seat.thread ≡ L.host }
+        requires aims { Aims L.host (aim call) }
+        requires within { IsCallWithin call }
+        ensures thread { self.new.seat.thread ≡ self.old.seat.thread }
+    {
+        self.receipts.reserve(1)?;
+        let receipt = self.recorder.call(rt, &mut self.seat, call)?;
+        self.receipts.push_reserved(receipt);
+        match self.receipts.as_slice() {
+            [.., last] => Ok(last.answered.answer()),
+            [] => Err(Halt::Refused),
+        }
+    }
+
+    /// A call that is answered by a socket number of its own host.
+    pub fn socket<R: Wait>(&mut self, rt: &R, call: Call) -> Result<u32, Halt>
+        requires lane { lane self.old.seat.thread ≡ L.host }
+        requires aims { Aims L.host (aim call) }
+        requires within { IsCallWithin call }
+        ensures thread { self.new.seat.thread ≡ self.old.seat.thread }
+        ensures own { IfOk result (λ socket. lane socket ≡ L.host) }
+    {
+        let lane = self.seat.thread() % 2;
+        match self.ask(rt, call)? {
+            Answer::Given(socket) if *socket % 2 == lane => Ok(*socket),
+            _ => Err(Halt::Refused),
+        }
+    }
+
+    /// A call that is answered `ok`.
+    pub fn done<R: Wait>(&mut self, rt: &R, call: Call) -> Result<(), Halt>
+        requires lane { lane self.old.seat.thread ≡ L.host }
+        requires aims { Aims L.host (aim call) }
+        requires within { IsCallWithin call }
+        ensures thread { self.new.seat.thread ≡ self.old.seat.thread }
+    {
+        match self.ask(rt, call)? {
+            Answer::Done => Ok(()),
+            _ => Err(Halt::Refused),
+        }
+    }
+}

@@ -1,0 +1,105 @@
+//! What both applications do.
+
+ghost use Rattle.std.specs.Prelude.{◌≡◌, ◌<◌, ◌+◌, IfOk, length};
+ghost use Rattle.case_forms.specs.declared.calls.Host.TheVariants.{Zero, One};
+ghost use Rattle.hosts.specs.Tables.{lane};
+
+use crate::caller::{Caller, Halt};
+use crate::plan::{CLIENT_PORT, ROUND_BYTES, SERVER_PORT};
+use case_forms::{Answer, Call, Host, OutOfMemory};
+use recorder::Site;
+use segment::Bytes;
+use std::alloc::Global;
+use std::sync::Wait;
+
+// The bytes of a round that are not sent yet.
+fn round_bytes(alloc: Global, round: u16, sent: usize) -> Result<Bytes, OutOfMemory>
+    requires { sent < 64 }
+    ensures { IfOk result (λ bytes. length bytes + sent ≡ 64) }
+{
+    let all = [(round % 256) as u8; ROUND_BYTES];
+    Bytes::from_slice(alloc, &all[sent..])
+}
+
+// Sends the bytes of a round, in as many calls as it takes.
+fn send_round<L: Site, R: Wait>(
+    rt: &R,
+    alloc: Global,
+    caller: &mut Caller<L>,
+    socket: u32,
+    round: u16,
+) -> Result<(), Halt>
+    requires lane { lane caller.old.seat.thread ≡ L.host }
+    requires own { lane socket ≡ L.host }
+    ensures { caller.new.seat.thread ≡ caller.old.seat.thread }
+{
+    let mut sent = 0;
+    for _ in 0..ROUND_BYTES {
+        if sent >= ROUND_BYTES {
+            break;
+        }
+        let bytes = round_bytes(alloc, round, sent)?;
+        match caller.ask(rt, Call::Send(socket, bytes))? {
+            Answer::Given(count) => sent = sent.saturating_add(*count as usize),
+            _ => return Err(Halt::Refused),
+        }
+    }
+    Ok(())
+}
+
+// Receives the bytes of a round, in as many calls as it takes.
+fn receive_round<L: Site, R: Wait>(rt: &R, caller: &mut Caller<L>, socket: u32) -> Result<(), Halt>
+    requires lane { lane caller.old.seat.thread ≡ L.host }
+    requires own { lane socket ≡ L.host }
+    ensures { caller.new.seat.thread ≡ caller.old.seat.thread }
+{
+    let mut left = ROUND_BYTES;
+    for _ in 0..ROUND_BYTES {
+        if left == 0 {
+            break;
+        }
+        match caller.ask(rt, Call::Recv(socket, left as u16))? {
+            Answer::Bytes(bytes) => left = left.saturating_sub(bytes.len()),
+            _ => return Err(Halt::Refused),
+        }
+    }
+    Ok(())
+}
+
+/// Host 0's application: it opens, sends all rounds, ends sending and closes.
+pub fn run_client<L: Site, R: Wait>(
+    rt: &R,
+    alloc: Global,
+    caller: &mut Caller<L>,
+    rounds: u16,
+) -> Result<(), Halt>
+    requires lane { lane caller.old.seat.thread ≡ L.host }
+    requires host { L.host ≡ Zero }
+    ensures { caller.new.seat.thread ≡ caller.old.seat.thread }
+{
+    let socket = caller.socket(rt, Call::Connect(Host::Zero, CLIENT_PORT, SERVER_PORT))?;
+    caller.done(rt, Call::Await(socket))?;
+    for round in 0..rounds {
+        send_round(rt, alloc, caller, socket, round)?;
+    }
+    caller.done(rt, Call::Shut(socket))?;
+    caller.done(rt, Call::Close(socket))
+}
+
+/// Host 1's application: it listens, accepts, receives all rounds, reads to the end and closes.
+pub fn run_server<L: Site, R: Wait>(rt: &R, caller: &mut Caller<L>, rounds: u16) -> Result<(), Halt>
+    requires lane { lane caller.old.seat.thread ≡ L.host }
+    requires host { L.host ≡ One }
+    ensures { caller.new.seat.thread ≡ caller.old.seat.thread }
+{
+    let listener = caller.socket(rt, Call::Listen(Host::One, SERVER_PORT, 1))?;
+    let socket = caller.socket(rt, Call::Accept(listener))?;
+    for _ in 0..rounds {
+        receive_round(rt, caller, socket)?;
+    }
+    match caller.ask(rt, Call::Recv(socket, 1))? {
+        Answer::Eof => {}
+        _ => return Err(Halt::Refused),
+    }
+    caller.done(rt, Call::Close(socket))
+}
