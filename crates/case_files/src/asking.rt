@@ -19,8 +19,8 @@ use witness::begins_witness;
 // How many threads check the cases of one input.
 const WORKERS: &str = "4";
 
-// How many bytes of each of two texts are read at once.
-const PIECES: [usize; 3] = [1, 7, 4096];
+/// How many bytes of each of two texts are read at once.
+pub const PIECES: [usize; 3] = [1, 7, 4096];
 
 // Inputs with lines that end a case and lines that don't, and for each what is printed and the status.
 const ENDS: [(&str, &str); 10] = [
@@ -183,6 +183,16 @@ fn by_check(alloc: Global, text: &[u8]) -> Result<String, AllocError> {
 // What is printed for the trace and the witness of a case as two texts, which are read in pieces, then the status.
 fn by_two_texts(alloc: Global, text: &[u8], size: usize) -> Result<String, AllocError> {
     let (trace, witness) = text.split_at(witness_begins(text));
+    by_pair(alloc, trace, witness, size)
+}
+
+/// What is printed for a trace and a witness as two texts, which are read in pieces, then the status.
+pub fn by_pair(
+    alloc: Global,
+    trace: &[u8],
+    witness: &[u8],
+    size: usize,
+) -> Result<String, AllocError> {
     let (Ok(trace), Ok(witness)) = (
         BufReader::with_capacity(alloc, size, trace),
         BufReader::with_capacity(alloc, size, witness),
@@ -201,8 +211,8 @@ fn by_two_texts(alloc: Global, text: &[u8], size: usize) -> Result<String, Alloc
     format!(in alloc; "{printed}{status}")
 }
 
-// How many bytes of a case stand before its witness.
-fn witness_begins(text: &[u8]) -> usize
+/// How many bytes of a case stand before its witness.
+pub fn witness_begins(text: &[u8]) -> usize
     ensures { result ≤ length text.now }
 {
     let version = version_named(text);

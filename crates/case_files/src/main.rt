@@ -2,7 +2,7 @@
 //!
 //! The case of each name is `data/NAME.case`, and `data/expected.txt` has the line that `tcpwit check` must print for it
 //! (`data/README.md`). Beside the files, each beginning of two of them is asked for, lines of the greatest length, inputs of
-//! several cases, and the command lines of `data/command_lines.txt`.
+//! several cases, pairs of texts that no case would be cut into, and the command lines of `data/command_lines.txt`.
 //! Where all is answered as wanted, one line with the counts is printed. Else each answer that differs has a line on
 //! standard error, with the name of the case, how it was asked, what was wanted and what was found, and the program ends
 //! with status 1.
@@ -10,6 +10,7 @@
 //! - `table`: cases, and those of the files
 //! - `beginnings`: each beginning of a case
 //! - `long_lines`: lines of the greatest length, and one byte longer
+//! - `pairs`: a trace and a witness as two texts, into which no case would be cut
 //! - `asking`: by `check_case`, by the word `check`, as two texts in pieces, and by the words of `many`
 //! - `command_lines`: by words, as the program is given them
 #![tactic(auto)]
@@ -18,6 +19,7 @@ mod asking;
 mod beginnings;
 mod command_lines;
 mod long_lines;
+mod pairs;
 mod table;
 
 use std::process::ExitCode;
@@ -37,6 +39,7 @@ fn main(rt: HostRuntime) -> io::Result<ExitCode> {
     asking::ask_each(alloc, cases.as_slice(), &mut differing)?;
     asking::ask_many(&rt, alloc, cases.as_slice(), &mut differing)?;
     asking::ask_ends(&rt, alloc, &mut differing)?;
+    let pairs = pairs::ask_pairs(&rt, "handshake_and_five_bytes", &mut differing)?;
     let table = fs::read_to_string(&rt, "command_lines.txt")?;
     let rows = command_lines::ask_rows(&rt, alloc, table.as_str(), &mut differing)?;
     for line in &differing {
@@ -47,7 +50,7 @@ fn main(rt: HostRuntime) -> io::Result<ExitCode> {
     }
     let long = cases.len().saturating_sub(files).saturating_sub(others);
     println!(rt;
-        "{files} case files, {others} beginnings of two of them, {long} long lines and {rows} command lines are answered as wanted"
+        "{files} case files, {others} beginnings of two of them, {long} long lines, {pairs} pairs of texts and {rows} command lines are answered as wanted"
     )?;
     Ok(ExitCode::SUCCESS)
 }

@@ -1,0 +1,566 @@
+#!/usr/bin/env python3
+"""Writes a case of one hostile kind and a size to standard output: `hostile_cases.py KIND SIZE`.
+
+Each kind makes much of one thing that a check has to remember or look for: pieces out of order, copies that wait, threads,
+timeouts and so on (the functions that `kind` marks, below). Each case is valid from size 3 on, so that the checker does all its steps, and its
+verdict is `yes`; only where lines are never placed it is `no 0 8 unplaced`, behind the last step. `verdict_of` tells the line.
+
+The texts are of version 2: both hosts give a shift of 14 and an MSS of 65495, so that a million bytes may be outstanding.
+"""
+
+import random
+import sys
+
+HEADER = ["trace 2", "skew 0", "msl 3600000000", "grain 1000", "minrto 1000000", "extra 65535", "initial 6928"]
+FIRST_EVENT_LINE = 1 + len(HEADER)
+MSS = 65_495
+SHIFT = 14
+WINDOW = 65_535
+# Two segments, the first congestion window where they are long (RFC 6928, 2).
+INITIAL_WINDOW = 2 * MSS
+# The retransmission timeout where no round trip is measured, and its greatest value, in microseconds.
+FIRST_TIMEOUT = 1_000_000
+LAST_TIMEOUT = 60_000_000
+MOST_BYTES = 65_535
+LAST_PORT = 65_535
+FLAG_BITS = {"S": 0x02, "A": 0x10, "AS": 0x12, "AF": 0x11, "R": 0x04, "AR": 0x14}
+# Which thread records what goes out or comes in at each host, and timers.
+WIRES = (3, 4)
+TIMERS = (9, 10)
+CALLERS = (2, 1)
+
+KINDS = {}
+
+
+def kind(*sizes):
+    """Marks a function that makes a case of a size, with the three sizes at which it is timed."""
+
+    def marked(function):
+        KINDS[function.__name__.replace("_", " ")] = (function, sizes)
+        return function
+
+    return marked
+
+
+class Connection:
+    """The ports of both ends, by host, and their initial send sequence numbers."""
+
+    def __init__(self, ports=(4000, 80), firsts=(4_294_967_294, 100)):
+        self.ports = ports
+        self.firsts = firsts
+
+    def text(self, host, position, flags, acked, payload=b"", window=WINDOW):
+        """A segment in hex."""
+        other = 1 - host
+        number = (self.firsts[host] + position) % 2**32
+        acknowledgment = 0 if acked is None else (self.firsts[other] + acked) % 2**32
+        options = f"0204{MSS:04x}01{0x0303:04x}{SHIFT:02x}" if "S" in flags else ""
+        offset = 5 + len(options) // 8
+        return (
+            f"{self.ports[host]:04x}{self.ports[other]:04x}{number:08x}{acknowledgment:08x}"
+            f"{offset:x}0{FLAG_BITS[flags]:02x}{window:04x}00000000{options}{payload.hex()}"
+        )
+
+
+class Case:
+    """The event lines and the steps so far, the moment of the last of them, how many segments were made and sockets given."""
+
+    def __init__(self, skew=0):
+        self.header = [f"skew {skew}" if line.startswith("skew") else line for line in HEADER]
+        self.moment = 0
+        self.events = []
+        self.steps = []
+        self.made = 0
+        self.socket = 4
+
+    def line(self, thread, what):
+        """An event line that no step takes yet. Answers its number."""
+        self.moment += 1
+        self.events.append(f"{self.moment} {thread} {what}")
+        return FIRST_EVENT_LINE + len(self.events) - 1
+
+    def step(self, what):
+        self.steps.append(f"{self.moment} {what}")
+
+    def event(self, thread, what, extra=""):
+        """An event line and the step that takes it. Answers its number."""
+        number = self.line(thread, what)
+        self.step(f"L {number}{extra}")
+        return number
+
+    def call(self, thread, call, answer):
+        """A call that has its effect at once."""
+        self.event(thread, f"B {call}")
+        self.step(f"D {thread} {answer}")
+        self.event(thread, f"E {answer}")
+
+    def given(self, thread, call):
+        """A call that is given a new socket number, which is answered."""
+        self.socket += 1
+        self.call(thread, call, f"ok {self.socket}")
+        return self.socket
+
+    def make(self, connection, host, position, size, flags, window=WINDOW):
+        """A segment is made. Answers its number."""
+        ports = connection.ports[host], connection.ports[1 - host]
+        first = f" {connection.firsts[host]} {SHIFT}" if "S" in flags else ""
+        self.step(f"M {host} {ports[0]} {ports[1]} {position} {size} {flags} {window}{first}")
+        self.made += 1
+        return self.made
+
+    def make_again(self, connection, host, position, size, flags):
+        """A segment is made whose SYN went before, if it has one. Answers its number."""
+        ports = connection.ports[host], connection.ports[1 - host]
+        self.step(f"M {host} {ports[0]} {ports[1]} {position} {size} {flags} {WINDOW}")
+        self.made += 1
+        return self.made
+
+    def goes(self, host, text, made):
+        """A made segment goes out. Answers the number of its line."""
+        return self.event(WIRES[host], f"O {host} {text}", f" {made}")
+
+    def comes(self, host, text, out):
+        """A copy comes in at the host. Answers the number of its line."""
+        return self.event(WIRES[host], f"I {host} {text}", f" {out}")
+
+    def carry(self, connection, host, position, flags, acked, payload=b"", window=WINDOW):
+        """A segment is made, goes out and comes in. Answers the number of the line by which it came."""
+        text = connection.text(host, position, flags, acked, payload, window)
+        made = self.make(connection, host, position, len(payload), flags, window)
+        return self.comes(1 - host, text, self.goes(host, text, made))
+
+    def take(self, host, line, window, keep=0, sample=0):
+        self.step(f"T {host} {line} {window} {keep} {sample}")
+
+    def expire(self, connection, host, timer, extra=""):
+        ports = connection.ports[host], connection.ports[1 - host]
+        self.event(TIMERS[host], f"T {host} {ports[0]} {ports[1]} {timer}", extra)
+
+    def write(self, output):
+        for lines in (self.header, self.events, ["witness 2"], self.steps):
+            for line in lines:
+                output.write(line + "\n")
+
+
+def handshake(case, connection, listener):
+    """A connection of host 0 to a listener of host 1. Answers the opener's socket."""
+    opener = case.given(CALLERS[0], f"open 0 {connection.ports[0]} {connection.ports[1]}")
+    case.take(1, case.carry(connection, 0, 0, "S", None), 0)
+    case.take(0, case.carry(connection, 1, 0, "AS", 1), INITIAL_WINDOW)
+    case.take(1, case.carry(connection, 0, 1, "A", 1), INITIAL_WINDOW)
+    return opener
+
+
+def connected(case, connection, room=0):
+    """A connection whose congestion window is at least `room`. Answers both sockets, and how many bytes were sent."""
+    listener = case.given(CALLERS[1], f"listen 1 {connection.ports[1]} 4")
+    opener = handshake(case, connection, listener)
+    child = case.given(CALLERS[1], f"accept {listener}")
+    sent = 0
+    while INITIAL_WINDOW + sent < room:
+        payload = bytes(MSS)
+        case.call(CALLERS[0], f"send {opener} {payload.hex()}", f"ok {MSS}")
+        case.take(1, case.carry(connection, 0, 1 + sent, "A", 1, payload), INITIAL_WINDOW, keep=1)
+        case.call(CALLERS[1], f"recv {child} {MSS}", f"data {payload.hex()}")
+        sent += MSS
+        case.take(0, case.carry(connection, 1, 1, "A", 1 + sent), INITIAL_WINDOW + sent)
+    return opener, child, sent
+
+
+def send_all(case, opener, count):
+    """Host 0 is given so many bytes to send."""
+    for begin in range(0, count, MOST_BYTES):
+        size = min(MOST_BYTES, count - begin)
+        case.call(CALLERS[0], f"send {opener} {bytes(size).hex()}", f"ok {size}")
+
+
+def outstanding(case, connection, sent, count):
+    """Host 0 makes so many segments of one byte, which go out. Answers the text and the line of each."""
+    found = []
+    for position in range(1 + sent, 1 + sent + count):
+        text = connection.text(0, position, "A", 1, b"\0")
+        made = case.make(connection, 0, position, 1, "A")
+        found.append((text, case.goes(0, text, made)))
+    return found
+
+
+def receive_all(case, child, count):
+    """Host 1 reads so many bytes that wait."""
+    for begin in range(0, count, MOST_BYTES):
+        size = min(MOST_BYTES, count - begin)
+        case.call(CALLERS[1], f"recv {child} {size}", f"data {bytes(size).hex()}")
+
+
+def bring_pieces(count, order):
+    case, connection = Case(), Connection()
+    opener, child, sent = connected(case, connection, count)
+    send_all(case, opener, count)
+    pieces = outstanding(case, connection, sent, count)
+    window = INITIAL_WINDOW
+    for index in order:
+        text, out = pieces[index]
+        case.take(1, case.comes(1, text, out), window, keep=1)
+    receive_all(case, child, count)
+    return case
+
+
+@kind(50_000, 100_000, 200_000)
+def pieces_from_the_last_to_the_first(count):
+    return bring_pieces(count, range(count - 1, -1, -1))
+
+
+@kind(50_000, 100_000, 200_000)
+def pieces_with_a_gap_behind_each(count):
+    return bring_pieces(count, [*range(count - 1, -1, -2), *range(count - 2, -1, -2)])
+
+
+@kind(50_000, 100_000, 200_000)
+def pieces_in_any_order(count):
+    order = list(range(count))
+    random.Random(1).shuffle(order)
+    return bring_pieces(count, order)
+
+
+def outstanding_until_a_timeout(count):
+    """A case with so many segments outstanding, and with an expiry of the retransmission timer behind them."""
+    case, connection = Case(), Connection()
+    opener, _, sent = connected(case, connection, count)
+    send_all(case, opener, count)
+    outstanding(case, connection, sent, count)
+    case.moment += FIRST_TIMEOUT
+    case.expire(connection, 0, "rto", f" {MSS} {2 * MSS}")
+    return case, connection, sent
+
+
+@kind(50_000, 100_000, 200_000)
+def made_again_from_the_last_to_the_first(count):
+    case, connection, sent = outstanding_until_a_timeout(count)
+    for position in range(sent + count, sent, -1):
+        case.make_again(connection, 0, position, 1, "A")
+    return case
+
+
+@kind(50_000, 100_000, 200_000)
+def made_again_in_any_order(count):
+    case, connection, sent = outstanding_until_a_timeout(count)
+    positions = list(range(1 + sent, 1 + sent + count))
+    random.Random(1).shuffle(positions)
+    for position in positions:
+        case.make_again(connection, 0, position, 1, "A")
+    return case
+
+
+@kind(50_000, 100_000, 200_000)
+def the_last_byte_made_again_and_again(count):
+    case, connection, sent = outstanding_until_a_timeout(count)
+    for _ in range(count):
+        case.make_again(connection, 0, sent + count, 1, "A")
+    return case
+
+
+@kind(50_000, 100_000, 200_000)
+def acknowledged_one_by_one(count):
+    case, connection = Case(), Connection()
+    opener, _, sent = connected(case, connection, count)
+    send_all(case, opener, count)
+    for text, out in outstanding(case, connection, sent, count):
+        case.take(1, case.comes(1, text, out), INITIAL_WINDOW, keep=1)
+        acked = sent = sent + 1
+        case.take(0, case.carry(connection, 1, 1, "A", 1 + acked), INITIAL_WINDOW, sample=1)
+    return case
+
+
+@kind(50_000, 100_000, 200_000)
+def read_one_by_one(count):
+    case, connection = Case(), Connection()
+    opener, child, sent = connected(case, connection, count)
+    send_all(case, opener, count)
+    for begin in range(0, count, MSS):
+        payload = bytes(min(MSS, count - begin))
+        case.take(1, case.carry(connection, 0, 1 + sent + begin, "A", 1, payload), INITIAL_WINDOW, keep=1)
+    for _ in range(count):
+        case.call(CALLERS[1], f"recv {child} 1", "data 00")
+    return case
+
+
+@kind(50_000, 100_000, 200_000)
+def sent_one_by_one(count):
+    case, connection = Case(), Connection()
+    opener, _, sent = connected(case, connection, count)
+    for _ in range(count):
+        case.call(CALLERS[0], f"send {opener} 00", "ok 1")
+    for begin in range(0, count, MSS):
+        case.make(connection, 0, 1 + sent + begin, min(MSS, count - begin), "A")
+    return case
+
+
+def copied(case, count):
+    """So many copies of one acknowledgment of host 0 wait at host 1. Answers their lines."""
+    connection = Connection()
+    connected(case, connection)
+    text = connection.text(0, 1, "A", 1)
+    out = case.goes(0, text, case.make(connection, 0, 1, 0, "A"))
+    return [case.comes(1, text, out) for _ in range(count)]
+
+
+@kind(75_000, 150_000, 300_000)
+def copies_dropped_from_the_last_to_the_first(count):
+    case = Case()
+    for line in reversed(copied(case, count)):
+        case.step(f"K 1 {line}")
+    return case
+
+
+@kind(75_000, 150_000, 300_000)
+def copies_taken_in_any_order(count):
+    case = Case()
+    lines = copied(case, count)
+    random.Random(1).shuffle(lines)
+    for line in lines:
+        case.take(1, line, INITIAL_WINDOW)
+    return case
+
+
+@kind(75_000, 150_000, 300_000)
+def duplicate_acknowledgments(count):
+    case, connection = Case(), Connection()
+    opener, _, _ = connected(case, connection)
+    send_all(case, opener, 1)
+    case.make(connection, 0, 1, 1, "A")
+    text = connection.text(1, 1, "A", 1)
+    out = case.goes(1, text, case.make(connection, 1, 1, 0, "A"))
+    lines = [case.comes(0, text, out) for _ in range(count)]
+    for line in lines:
+        case.take(0, line, INITIAL_WINDOW)
+    case.step(f"F 0 {connection.ports[0]} {connection.ports[1]} {MSS} {MSS}")
+    return case
+
+
+def callers(count):
+    """The connections of so many ports of host 0 to one listener."""
+    return [Connection((port, 80), (port * 65_537 % 2**32, 100)) for port in range(1, 1 + count)]
+
+
+@kind(7_500, 15_000, 30_000)
+def children_accepted(count):
+    case = Case()
+    listener = case.given(CALLERS[1], "listen 1 80 65535")
+    for connection in callers(count):
+        handshake(case, connection, listener)
+    for _ in range(count):
+        case.given(CALLERS[1], f"accept {listener}")
+    return case
+
+
+@kind(7_500, 15_000, 30_000)
+def children_of_a_closed_listener(count):
+    case = Case()
+    listener = case.given(CALLERS[1], "listen 1 80 65535")
+    found = callers(count)
+    for connection in found:
+        handshake(case, connection, listener)
+    case.call(CALLERS[1], f"close {listener}", "ok")
+    for connection in reversed(found):
+        line = case.carry(connection, 1, 1, "AR", 1)
+        case.take(0, line, INITIAL_WINDOW)
+    return case
+
+
+@kind(10_000, 20_000, 40_000)
+def children_half_open(count):
+    case = Case()
+    listener = case.given(CALLERS[1], "listen 1 80 0")
+    for connection in callers(count):
+        case.given(CALLERS[0], f"open 0 {connection.ports[0]} 80")
+        case.take(1, case.carry(connection, 0, 0, "S", None), 0)
+    case.call(CALLERS[1], f"abort {listener}", "ok")
+    return case
+
+
+@kind(100_000, 200_000, 400_000)
+def threads_in_a_call(count):
+    case = Case()
+    threads = [20 + 3 * index for index in range(count)]
+    for thread in threads:
+        case.event(thread, "B status 5")
+    for thread in reversed(threads):
+        case.step(f"D {thread} badsocket")
+    random.Random(1).shuffle(threads)
+    for thread in threads:
+        case.event(thread, "E badsocket")
+    return case
+
+
+@kind(30_000, 60_000, 120_000)
+def listeners(count):
+    case = Case()
+    places = [(index % 2, 1 + index // 2) for index in range(count)]
+    sockets = [case.given(1, f"listen {host} {port} 1") for host, port in places]
+    for socket in reversed(sockets):
+        case.call(1, f"status {socket}", "state LISTEN")
+    random.Random(1).shuffle(sockets)
+    for socket in sockets:
+        case.call(1, f"close {socket}", "ok")
+    return case
+
+
+@kind(75_000, 150_000, 300_000)
+def listeners_on_one_port(count):
+    case = Case()
+    for _ in range(count):
+        socket = case.given(1, "listen 0 80 1")
+        case.call(1, f"close {socket}", "ok")
+    return case
+
+
+@kind(15_000, 30_000, 60_000)
+def sockets_of_many_ports(count):
+    case = Case()
+    sockets = [case.given(2, f"open 0 {port} 80") for port in range(1, 1 + count)]
+    for socket in reversed(sockets):
+        case.call(2, f"status {socket}", "state SYN-SENT")
+    random.Random(1).shuffle(sockets)
+    for socket in sockets:
+        case.call(2, f"abort {socket}", "ok")
+    return case
+
+
+@kind(50_000, 100_000, 200_000)
+def sockets_of_one_pair_of_ports(count):
+    case = Case()
+    sockets = []
+    for _ in range(count):
+        sockets.append(case.given(2, "open 0 4000 80"))
+        case.call(2, f"abort {sockets[-1]}", "ok")
+    for socket in sockets:
+        case.call(2, f"status {socket}", "badsocket")
+    return case
+
+
+@kind(10_000, 20_000, 40_000)
+def connections_of_one_pair_of_ports(count):
+    case = Case()
+    listener = case.given(CALLERS[1], "listen 1 80 65535")
+    for index in range(count):
+        connection = Connection(firsts=(1000 * index, 500 * index))
+        opener = handshake(case, connection, listener)
+        case.call(CALLERS[0], f"abort {opener}", "ok")
+        case.take(1, case.carry(connection, 0, 1, "AR", 1), INITIAL_WINDOW)
+    return case
+
+
+@kind(75_000, 150_000, 300_000)
+def timeouts_of_a_syn(count):
+    case, connection = Case(), Connection()
+    case.given(2, "open 0 4000 80")
+    text = connection.text(0, 0, "S", None)
+    case.goes(0, text, case.make(connection, 0, 0, 0, "S"))
+    for _ in range(count):
+        case.moment += LAST_TIMEOUT
+        case.expire(connection, 0, "rto", f" 536 {4294967295}")
+        case.goes(0, text, case.make_again(connection, 0, 0, 0, "S"))
+    return case
+
+
+@kind(50_000, 100_000, 200_000)
+def timeouts_over_outstanding_bytes(count):
+    case, connection, sent = outstanding_until_a_timeout(count)
+    for index in range(count):
+        case.moment += LAST_TIMEOUT
+        case.expire(connection, 0, "rto", f" {MSS} {2 * MSS}")
+        case.make_again(connection, 0, sent + count - index, 1, "A")
+    return case
+
+
+@kind(20_000, 40_000, 80_000)
+def windows_of_0_and_probes(count):
+    case, connection = Case(), Connection()
+    opener, _, sent = connected(case, connection)
+    send_all(case, opener, count)
+    case.take(0, case.carry(connection, 1, 1, "A", 1, window=0), INITIAL_WINDOW)
+    for index in range(count):
+        case.moment += FIRST_TIMEOUT
+        case.expire(connection, 0, "persist")
+        case.take(1, case.carry(connection, 0, 1 + index, "A", 1, b"\0"), INITIAL_WINDOW, keep=1)
+        case.take(0, case.carry(connection, 1, 1, "A", 2 + index, window=0), INITIAL_WINDOW)
+    return case
+
+
+@kind(50_000, 100_000, 200_000)
+def windows_closed_and_opened(count):
+    case, connection = Case(), Connection()
+    opener, _, _ = connected(case, connection)
+    send_all(case, opener, count)
+    for index in range(count):
+        window = index % 2
+        case.take(0, case.carry(connection, 1, 1, "A", 1, window=window), INITIAL_WINDOW)
+    return case
+
+
+@kind(50_000, 100_000, 200_000)
+def resets_that_answer(count):
+    case, connection = Case(), Connection()
+    case.given(2, "open 0 4000 80")
+    text = connection.text(0, 0, "S", None)
+    out = case.goes(0, text, case.make(connection, 0, 0, 0, "S"))
+    copies = [case.comes(1, text, out) for _ in range(count)]
+    first = case.made + 1
+    for line in reversed(copies):
+        case.step(f"R 1 {line}")
+    reset = Connection(firsts=(connection.firsts[0], 0)).text(1, 0, "AR", 1, window=0)
+    reset_lines = [case.comes(0, reset, case.goes(1, reset, made)) for made in range(first + count - 1, first - 1, -1)]
+    case.take(0, reset_lines[-1], 0)
+    for line in reset_lines[:-1]:
+        case.step(f"K 0 {line}")
+    return case
+
+
+@kind(100_000, 200_000, 400_000)
+def lines_that_wait_and_are_placed_from_the_last(count):
+    case = Case(skew=1_000_000_000)
+    lines = [case.line(20 + index, "B status 5") for index in range(count)]
+    for line in reversed(lines):
+        case.step(f"L {line}")
+    return case
+
+
+@kind(100_000, 200_000, 400_000)
+def lines_never_placed(count):
+    case = Case(skew=1_000_000_000)
+    for index in range(count):
+        case.line(20 + index, "B status 5")
+    for _ in range(count):
+        case.call(1, "status 5", "badsocket")
+    return case
+
+
+@kind(100_000, 200_000, 400_000)
+def lines_of_one_thread_that_wait(count):
+    case = Case(skew=1_000_000_000)
+    waiting = [case.line(20, f"{letter}") for _ in range(count // 2) for letter in ("B status 5", "E badsocket")]
+    for _ in range(count // 2):
+        case.call(1, "status 5", "badsocket")
+    for place, line in enumerate(waiting):
+        case.step(f"L {line}")
+        if place % 2 == 0:
+            case.step("D 20 badsocket")
+    return case
+
+
+def verdict_of(case):
+    """The line that must be printed: yes with its counts, or no where a line is never placed."""
+    taken = sum(1 for step in case.steps if step.split(" ", 2)[1] == "L")
+    if taken < len(case.events):
+        return f"no 0 {FIRST_EVENT_LINE} unplaced"
+    return f"yes {taken} {len(case.steps) - taken}"
+
+
+def main():
+    if len(sys.argv) != 3 or sys.argv[1] not in KINDS:
+        sys.exit("hostile_cases.py KIND SIZE, where KIND is one of: " + ", ".join(KINDS))
+    function, _ = KINDS[sys.argv[1]]
+    function(int(sys.argv[2])).write(sys.stdout)
+
+
+if __name__ == "__main__":
+    main()
