@@ -1,6 +1,7 @@
 pub mod Appended
 pub mod CheckAlone
 pub mod CutCases
+pub mod FileWords
 pub mod FirstWord
 pub mod ManyAnswers
 pub mod ManyLaw

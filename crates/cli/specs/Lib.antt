@@ -1,4 +1,5 @@
 pub mod CommandLine
+pub mod FileWords
 pub mod GivenWords
 pub mod HexText
 pub mod Many

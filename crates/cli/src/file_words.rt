@@ -1,7 +1,9 @@
 //! The words that ask for a case in two files.
 
-ghost use Rattle.std.specs.Prelude.{◌≤◌, IfSome, length};
+ghost use Rattle.std.specs.Prelude.{◌≡◌, ◌≢◌, ◌++◌, ◌↔◌, ℕ, List, IfOk, MatchOption, codes, map, option_map, string_bytes};
+ghost use Rattle.cli.specs.FileWords.{AreBoth, AsksFiles, BeginsWith};
 
+use crate::words::is_dashed;
 use case_forms::OutOfMemory;
 use std::alloc::Global;
 
@@ -13,19 +15,16 @@ const WITNESS: &str = "--witness";
 
 /// The names of the trace's file and of the witness's, where the words are `check` and both options, each once and in either
 /// order; None where they are other words. An option and its name are two words, of which the name begins with no dash, or
-/// one word with a `=` between.
-pub fn file_names(alloc: Global, words: &[&str]) -> Result<Option<(String, String)>, OutOfMemory> {
-    let [command, rest @ ..] = words else {
-        return Ok(None);
-    };
-    if *command != "check" {
-        return Ok(None);
-    }
-    let named = match both(rest, TRACE, WITNESS) {
-        Some(names) => Some(names),
-        None => both(rest, WITNESS, TRACE).map(|(witness, trace)| (trace, witness)),
-    };
-    let Some((trace, witness)) = named else {
+/// one word with a `=` between. An error means that memory ran out.
+pub fn file_names(
+    alloc: Global,
+    words: &[&str],
+) -> Result<Option<(String, String)>, OutOfMemory>
+    ensures { IfOk result (λ named. (trace witness : List ℕ) →
+        option_map {U = List ℕ × List ℕ} (λ names. (string_bytes names.0, string_bytes names.1)) named ≡ Some (trace, witness)
+            ↔ AsksFiles (map (λ word. word.now) words.now) trace witness) }
+{
+    let Some((trace, witness)) = asked_files(words) else {
         return Ok(None);
     };
     let trace = String::from_str(alloc, trace)?;
@@ -33,22 +32,62 @@ pub fn file_names(alloc: Global, words: &[&str]) -> Result<Option<(String, Strin
     Ok(Some((trace, witness)))
 }
 
-// The values of two options, where the words are these in this order and nothing else.
-fn both<'a>(words: &[&'a str], first: &str, second: &str) -> Option<(&'a str, &'a str)> {
-    let (one, count) = value_first(words, first)?;
-    let (two, more) = value_first(&words[count..], second)?;
-    (count + more == words.len()).then_some((one, two))
+// The two names as they stand in the words.
+fn asked_files<'a>(words: &[&'a str]) -> Option<(&'a str, &'a str)>
+    ensures { MatchOption result
+        ((trace witness : List ℕ) → ¬ AsksFiles (map (λ word. word.now) words.now) trace witness)
+        (λ names. AsksFiles (map (λ word. word.now) words.now) names.0.now names.1.now) }
+{
+    let [command, options @ ..] = words else {
+        return None;
+    };
+    if *command != "check" {
+        return None;
+    }
+    if let Some(names) = both(options, TRACE, WITNESS) {
+        return Some(names);
+    }
+    let (witness, trace) = both(options, WITNESS, TRACE)?;
+    Some((trace, witness))
 }
 
-// The value of an option that stands first, and how many words spell both.
-fn value_first<'a>(words: &[&'a str], name: &str) -> Option<(&'a str, usize)>
-    ensures { IfSome result (λ found. found.1 ≤ length words.now) }
+// The values of two options, where the words are these in this order and nothing else.
+fn both<'a>(words: &[&'a str], first: &str, second: &str) -> Option<(&'a str, &'a str)>
+    ensures { MatchOption result
+        ((one two : List ℕ) → ¬ AreBoth first.now one second.now two (map (λ word. word.now) words.now))
+        (λ values. AreBoth first.now values.0.now second.now values.1.now (map (λ word. word.now) words.now)) }
 {
-    match words {
-        [first, value, ..] if *first == name && !value.as_bytes().starts_with(b"-") => {
-            Some((*value, 2))
-        }
-        [first, ..] => Some((first.strip_prefix(name)?.strip_prefix("=")?, 1)),
-        [] => None,
+    let (one, rest) = take_option(words, first)?;
+    let (two, rest) = take_option(rest, second)?;
+    rest.is_empty().then_some((one, two))
+}
+
+// The value of an option that stands first, and the words behind.
+fn take_option<'a, 'w>(words: &'w [&'a str], option: &str) -> Option<(&'a str, &'w [&'a str])>
+    ensures { MatchOption result
+        ((value : List ℕ) (behind : List (List ℕ)) → ¬ BeginsWith option.now value behind (map (λ word. word.now) words.entry.now))
+        (λ found. BeginsWith option.now found.0.now (map (λ word. word.now) found.1.now) (map (λ word. word.now) words.entry.now)) }
+{
+    let [first, rest @ ..] = words else {
+        return None;
+    };
+    if let Some(value) = joined_value(first, option) {
+        return Some((value, rest));
     }
+    let [value, rest @ ..] = rest else {
+        return None;
+    };
+    if *first != option || is_dashed(value) {
+        return None;
+    }
+    Some((value, rest))
+}
+
+// What stands behind an option and an equals sign in one word.
+fn joined_value<'a>(word: &'a str, option: &str) -> Option<&'a str>
+    ensures { MatchOption result
+        ((value : List ℕ) → word.entry.now ≢ option.now ++ codes "=" ++ value)
+        (λ value. word.entry.now ≡ option.now ++ codes "=" ++ value.now) }
+{
+    word.strip_prefix(option)?.strip_prefix("=")
 }

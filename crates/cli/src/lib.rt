@@ -9,7 +9,7 @@
 //! - `argument`: the segment that a hex text stands for (`specs/HexText`)
 //! - `segment_line`: the line and the status of a segment (`specs/SegmentText`)
 //! - `running`: the whole run, and the answer where memory ran out before it
-//! - `file_words`, `files`: the words that ask for a case in two files, and the run on them
+//! - `file_words`, `files`: the words that ask for a case in two files (`specs/FileWords`), and the run on them
 //! - `many_words`, `many`: the words that ask for many cases, and the run that serves them too (`specs/ManyWords`,
 //!   `specs/Many`); it alone starts threads
 //! - `record_words`, `record`: the words that ask for a recording, and the case that is recorded and printed (`specs/RecordWords`)

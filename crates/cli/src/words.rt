@@ -67,8 +67,8 @@ fn parse<'a>(alloc: Global, words: &'a [&'a str]) -> Result<ArgMatches<'a>, Erro
     tool.try_get_matches_from(words)
 }
 
-// Whether a text begins with a dash.
-fn is_dashed(text: &str) -> bool
+/// Whether a text begins with a dash.
+pub fn is_dashed(text: &str) -> bool
     ensures { result ≡ is_dashed text.now }
 {
     text.as_bytes().first() == Some(&b'-')

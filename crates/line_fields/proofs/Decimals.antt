@@ -1,19 +1,21 @@
 -- Decimal numbers without sign and leading zeros.
-use Rattle.std.proofs.Common.{◌≡◌, ◌≢◌, ℕ, zero, suc, ◌^◌, ◌<◌, ◌≤◌, true, false, eqb, List, length, get_or, Result, Ok, Err, refl, sym, ap, subst, ◌∙◌, arith}
-use Rattle.std.specs.Prelude.{IfSome, IfNone}
-use Rattle.std.specs.Result.{result_ok}
+use Rattle.std.proofs.Common.{◌≡◌, ◌≢◌, ℕ, zero, suc, ◌+◌, ◌-◌, ◌*◌, ◌^◌, ◌<◌, ◌≤◌, Bool, true, false, eqb, nat_eq, List, length, get_or, take, Ok, Err, refl, sym, ap, subst, ◌∙◌, arith}
+use Rattle.std.specs.Char.{digit_value}
 use Rattle.std.specs.Fmt.{decimal}
-use Rattle.std.specs.Str.{IsUtf8, bytes_eq}
-use Rattle.std.specs.Str.Parse.{AllDigits, digits_value, ParsesUnsigned}
-use Rattle.std.proofs.lemmas.Bool.{le-leb, leb-true, and_parts, false_from_ne_true}
+use Rattle.std.specs.Int.{IsInRange}
+use Rattle.std.specs.Str.{bytes_eq}
+use Rattle.std.specs.Str.Parse.{AllDigits, digits_value}
+use Rattle.std.proofs.lemmas.Bool.{eqb-true, eqb-false, le-leb, leb-true, and_parts, false_from_ne_true}
+use Rattle.std.proofs.lemmas.Bool.Decides.{nat_tests}
+use Rattle.std.proofs.lemmas.List.{take_all}
 use Rattle.std.proofs.lemmas.Slice.Eq.{bytes_eq-Decides}
+use Rattle.std.proofs.lemmas.Int.Digits.{digits_value_more}
+use Rattle.std.proofs.Math.Dec.{eqb-suc-zero}
+use Rattle.std.proofs.lemmas.Fmt.{decimal-digits_value, digits_value-decimal, digits_decimal, decimal_nonempty, first_decimal, decimal_digit}
+use Rattle.std.proofs.lemmas.Str.Parse.{IsNumeralModel, numerals_by_value, tells_digits, tells_by_index, digits_value-take-le}
 use Rattle.line_fields.specs.declared.fault.FaultKind.TheVariants.{Number}
 use Rattle.line_fields.specs.Word.{Word}
 use Rattle.line_fields.specs.Reading.{number_value, is_number, fault_at}
-use Rattle.std.proofs.Math.Dec.{eqb-suc-zero}
-use Rattle.std.proofs.lemmas.Fmt.{decimal-digits_value, digits_value-decimal, digits_decimal, decimal_nonempty, first_decimal, decimal_digit, IsAscii-decimal}
-use Rattle.std.proofs.lemmas.Str.{IsUtf8-from_ascii}
-use Rattle.std.proofs.lemmas.Str.Parse.{IsNumeralModel, numerals_by_value, tells_digits, not_in_digits, parse_plain, parse_gives}
 
 own : IsNumeralModel (AllDigits 10) (digits_value 10)
 own = numerals_by_value (AllDigits 10) tells_digits
@@ -21,7 +23,6 @@ own = numerals_by_value (AllDigits 10) tells_digits
 -- how a decimal number begins
 pub record IsPlain (text : List ℕ) : Type 0 where
   pub some : 0 < length text
-  pub no_plus : get_or text 0 0 ≢ 43
   pub no_zero : get_or text 0 0 ≡ 48 → length text ≡ 1
 
 zero_alone : (n : ℕ) → n < 2 ^ 64 → get_or (decimal n) 0 0 ≡ 48 → length (decimal n) ≡ 1
@@ -31,37 +32,70 @@ zero_alone (suc n) lt e = absurd (let first = first_decimal (suc n) (omega arith
 pub IsPlain-decimal : (n : ℕ) → n < 2 ^ 64 → IsPlain (decimal n)
 IsPlain-decimal n lt = record {
   some = decimal_nonempty n lt;
-  no_plus = not_in_digits own (decimal n) 43 (digits_decimal own n lt) (λ h. omega arith) 0 (decimal_nonempty n lt);
   no_zero = zero_alone n lt;
 }
 
 pub plain : (text : List ℕ) (n : ℕ) → n < 2 ^ 64 → text ≡ decimal n → IsPlain text
 plain text n lt e = subst IsPlain (sym e) (IsPlain-decimal n lt)
 
-pub is_text : (text : List ℕ) (n : ℕ) → n < 2 ^ 64 → text ≡ decimal n → IsUtf8 text
-is_text text n lt e = subst IsUtf8 (sym e) (IsUtf8-from_ascii (decimal n) (IsAscii-decimal n lt))
-
-pub parsed : {E : Type 0} (text : List ℕ) (r : Result ℕ E) → IsPlain text → ParsesUnsigned 64 10 text r → IfSome (result_ok r) (λ n. text ≡ decimal n)
-parsed {E = E} text (Ok n) p h =
-    let k = parse_plain own {E = E} 64 text (Ok n) h p.no_plus in
-    rw k.1 (sym (decimal-digits_value own text k.0.0 k.0.1 p.no_zero k.0.2))
-parsed text (Err e) p h = tt
-
-abbrev failed : {E : Type 0} → E → Result ℕ E
-failed e = Err e
-
-pub unparsed : {E : Type 0} (text : List ℕ) (r : Result ℕ E) → ParsesUnsigned 64 10 text r → IfNone (result_ok r) ((n : ℕ) → n < 2 ^ 64 → text ≢ decimal n)
-unparsed text (Ok n) h = tt
-unparsed text (Err e) h = λ n lt is.
-    let digits : AllDigits 10 text = subst (AllDigits 10) (sym is) (digits_decimal own n lt) in
-    let some : 0 < length text = (plain text n lt is).some in
-    let value : digits_value 10 text ≡ n = ap (digits_value 10) is ∙ digits_value-decimal own n lt in
-    let read : failed e ≡ Ok (digits_value 10 text) = parse_gives own 64 text (Err e) h digits some (omega arith) in
-    cc
-
 -- the value of a spelling
 pub value_is : (text : List ℕ) (n : ℕ) → n < 2 ^ 64 → text ≡ decimal n → digits_value 10 text ≡ n
 value_is text n lt e = ap (digits_value 10) e ∙ digits_value-decimal own n lt
+
+-- digits, read one by one
+abbrev AreDigits : List ℕ → Type 0
+AreDigits text = (i : ℕ) → i < length text → IsInRange 48 57 (get_or text i 0)
+
+one_by_one : IsNumeralModel AreDigits (digits_value 10)
+one_by_one = numerals_by_value AreDigits tells_by_index
+
+-- so many digits stand in front, and this is their value
+pub record AreRead (text : List ℕ) (count value : ℕ) : Type 0 where
+  pub digits : (i : ℕ) → i < count → IsInRange 48 57 (get_or text i 0)
+  pub shown : value ≡ digits_value 10 (take count text)
+
+pub none_read : (text : List ℕ) → AreRead text 0 0
+none_read text = record { digits = λ i lt. absurd (omega (lt, arith)); shown = refl }
+
+digit_is : (byte : ℕ) → 48 ≤ byte → byte ≤ 57 → digit_value byte ≡ byte - 48
+digit_is byte low high = grind (arith, nat_tests)
+
+-- one digit more
+pub one_read : (text : List ℕ) (count value : ℕ) → AreRead text count value → count < length text → 48 ≤ get_or text count 0 → get_or text count 0 ≤ 57
+    → AreRead text (count + 1) (value * 10 + (get_or text count 0 - 48))
+one_read text count value a lt low high = record {
+  digits = λ i below. by_case i below (nat_eq i count) refl;
+  shown =
+      let more = digits_value_more 10 text count lt in
+      let so_far = a.shown in
+      let digit = digit_is (get_or text count 0) low high in
+      rw (more, ← so_far, digit) refl;
+}
+  where
+    by_case : (i : ℕ) → i < count + 1 → (b : Bool) → nat_eq i count ≡ b → IsInRange 48 57 (get_or text i 0)
+    by_case i below true same = subst (λ (k : ℕ). IsInRange 48 57 (get_or text k 0)) (sym (eqb-true _ _ same)) (low, high)
+    by_case i below false other = a.digits i (let differs = eqb-false i count other in omega (arith, differs))
+
+-- all of them
+pub all_read : (text : List ℕ) (count value : ℕ) → AreRead text count value → length text ≤ count → 0 < length text → (get_or text 0 0 ≡ 48 → length text ≡ 1)
+    → value < 2 ^ 64 → text ≡ decimal value
+all_read text count value a all some plain fits =
+    let whole : value ≡ digits_value 10 text = a.shown ∙ ap (digits_value 10) (take_all count text all) in
+    let digits : AreDigits text = λ i lt. a.digits i (omega arith) in
+    sym (ap decimal whole ∙ decimal-digits_value one_by_one text digits some plain (subst (λ (n : ℕ). n < 2 ^ 64) whole fits))
+
+-- a decimal number has digits alone
+pub no_digit : (text : List ℕ) (i : ℕ) → i < length text → ¬ IsInRange 48 57 (get_or text i 0) → (n : ℕ) → n < 2 ^ 64 → text ≢ decimal n
+no_digit text i lt other n fits e =
+    let digits : AreDigits text = subst AreDigits (sym e) (digits_decimal one_by_one n fits) in other (digits i lt)
+
+-- digits in front are no greater number than all of them
+pub too_great : (text : List ℕ) (count value : ℕ) → AreRead text count value → ¬ (value < 2 ^ 64) → (n : ℕ) → n < 2 ^ 64 → text ≢ decimal n
+too_great text count value a great n fits e =
+    let whole = value_is text n fits e in
+    let front = digits_value-take-le 10 text count (omega arith) in
+    let shown = a.shown in
+    great (omega (arith, whole, front, shown, fits))
 
 pub some_test : (k : ℕ) → 0 < k → eqb k 0 ≡ false
 some_test zero lt = absurd (omega arith)

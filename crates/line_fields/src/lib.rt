@@ -7,6 +7,7 @@
 //! may be of either case.
 //!
 //! - `fault`: why a text can't be read, and where
+//! - `digits`: numbers in decimal and bytes in hex, digit by digit
 //! - `fields`: the cursor, and the numbers, hosts and bytes that it reads
 //! - `lines`: a line's end and its limits, and lines that have to stand as they are
 //! - `reading`: the next line of a text, of which one line is kept in memory
@@ -16,6 +17,7 @@
 #![tactic(auto)]
 
 mod answers;
+mod digits;
 mod fault;
 mod fields;
 mod lines;

@@ -1,0 +1,20 @@
+-- The words that ask for a case in two files.
+use Rattle.std.specs.Prelude.{◌≡◌, ◌⊎◌, false, ℕ, List, [], ◌∷◌, ◌++◌, codes}
+use Rattle.cli.specs.CommandLine.{is_dashed}
+
+-- the words begin with the option and its value, and these are the words behind; the value is a word of its own, which begins
+-- with no dash, or stands behind an equals sign
+abbrev pub BeginsWith : List ℕ → List ℕ → List (List ℕ) → List (List ℕ) → Type 0
+BeginsWith option value behind words =
+    ((words ≡ option ∷ value ∷ behind) × (is_dashed value ≡ false)) ⊎ (words ≡ (option ++ codes "=" ++ value) ∷ behind)
+
+-- the words are two options with these values, in this order
+abbrev pub AreBoth : List ℕ → List ℕ → List ℕ → List ℕ → List (List ℕ) → Type 0
+AreBoth first one second two words = (behind : List (List ℕ)) × BeginsWith first one behind words × BeginsWith second two [] behind
+
+-- the words are `check` and both options, each once and in either order, and name these two files
+abbrev pub AsksFiles : List (List ℕ) → List ℕ → List ℕ → Type 0
+AsksFiles words trace witness =
+    (options : List (List ℕ))
+    × (words ≡ codes "check" ∷ options)
+    × (AreBoth (codes "--trace") trace (codes "--witness") witness options ⊎ AreBoth (codes "--witness") witness (codes "--trace") trace options)
