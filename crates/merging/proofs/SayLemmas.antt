@@ -75,7 +75,7 @@ expiry_line h moment host line lport rport timers.Msl2 growth plain = record { l
 expiry_line h moment host line lport rport timers.Giveup growth plain = record { line = _; said = refl; number = refl; moment_is = refl; event = refl; act = λ find at. ap (looked_up extras.Bare) at ∙ ap (λ (g : Growth). Some (let d : Deed tcp_shape = Expires line (record { lport = lport; rport = rport; timer = timers.Giveup }) g in At host d)) (sym plain); takes = λ lines at. (_, at, refl) }
 
 -- what comes in names the line that it copies
-abbrev IsWholeDeed : Deed tcp_shape → Type 0
+abbrev pub IsWholeDeed : Deed tcp_shape → Type 0
 IsWholeDeed (Hears line wire) = ⊥
 IsWholeDeed d = Unit {0}
 

@@ -82,9 +82,9 @@ pub is_taken : (h : Header) (line : Line) (x : Extras) → extras_count x ≡ ex
 is_taken h line x count = go line.event x count
   where
     -- what came in has at most one number
-    came : (b : Bool) → 2 ≡ (if b then 0 else 1) → ⊥
-    came true c = omega arith
-    came false c = omega arith
+    came : (b : Bool) (n : ℕ) → n ≡ 2 → n ≡ (if b then 0 else 1) → ⊥
+    came true n two one = omega (arith, two, one)
+    came false n two one = omega (arith, two, one)
 
     go : (v : Event) (x : Extras) → extras_count x ≡ extras_of h.version v → IsTaken h (record line { event = v }) x
     go (events.CallBegin call) extras.Bare c = (_, refl, refl)
@@ -98,7 +98,7 @@ is_taken h line x count = go line.event x count
     go (events.Sent host wire) (extras.Two m n) c = absurd (omega arith)
     go (events.Came host wire) extras.Bare c = (_, refl, refl)
     go (events.Came host wire) (extras.One n) c = (_, refl, refl)
-    go (events.Came host wire) (extras.Two m n) c = absurd (came (is_half h.version) c)
+    go (events.Came host wire) (extras.Two m n) c = absurd (came (is_half h.version) 2 refl c)
     go (events.Expired host lport rport timers.Rto) extras.Bare c = absurd (omega arith)
     go (events.Expired host lport rport timers.Rto) (extras.One n) c = absurd (omega arith)
     go (events.Expired host lport rport timers.Rto) (extras.Two m n) c = (_, refl, refl)
