@@ -203,9 +203,9 @@ two_listen_prints = record {
   recorded = (refl, omega arith, (refl, omega arith, (refl, omega arith, (refl, omega arith, tt))));
   few = omega arith;
   lines = (
-    record { moment = omega arith; thread = omega arith; event = (omega arith, omega arith, omega arith); bytes = (tt, (tt, (tt, (tt, (tt, tt))))) },
+    record { moment = omega arith; thread = omega arith; event = (omega arith, omega arith, omega arith, omega arith); bytes = (tt, (tt, (tt, (tt, (tt, tt))))) },
     (
-      record { moment = omega arith; thread = omega arith; event = (omega arith, omega arith, omega arith); bytes = (tt, (tt, (tt, (tt, (tt, tt))))) },
+      record { moment = omega arith; thread = omega arith; event = (omega arith, omega arith, omega arith, omega arith); bytes = (tt, (tt, (tt, (tt, (tt, tt))))) },
       (
         record { moment = omega arith; thread = omega arith; event = omega arith; bytes = (tt, (tt, (tt, tt))) },
         (record { moment = omega arith; thread = omega arith; event = omega arith; bytes = (tt, (tt, (tt, tt))) }, tt),
