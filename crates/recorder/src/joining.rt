@@ -25,7 +25,7 @@ pub fn merge(alloc: Global, zero: HostBook, one: HostBook) -> Result<Recorded, M
     ensures header { IfOk result (λ r. r.trace.header ≡ zero.core.recorded.header) }
     ensures told { IfOk result (λ r.
         Tells r.trace r.witness (merged zero.core.recorded.header (first_event_line zero.core.recorded.header)
-            zero.core.recorded.entries one.core.recorded.entries)) }
+        zero.core.recorded.entries one.core.recorded.entries)) }
     ensures explains { IfOk result (λ r. Explains r.trace r.witness) }
     ensures yes { IfOk result (λ r. IsYes (verdict r.trace r.witness)) }
     ensures stranger { IfErr result (λ f. IfStranger f (IsFirstStranger zero.core.recorded one.core.recorded)) }
