@@ -42,7 +42,7 @@ pub fn answer_record<W: Write, H: Threads + Wait + Sync>(
 
 // Writes what was recorded as a case.
 fn print<W: Write>(alloc: Global, recording: &Recording, w: &mut Counted<W>) -> u8
-    requires { failures_of w.old < 2 ^ 50 }
+    requires few { failures_of w.old < 2 ^ 50 }
     requires explains { Explains recording.now.recorded.trace recording.now.recorded.witness }
     ensures recorded { (plan : Plan) → recording.now.recorded.trace.header ≡ header_of plan.version → recording.now.recorded.witness.version ≡ plan.version → result ≢ 5 →
         EndsRecord plan result (left_of W.contents w.old) (left_of W.contents w.new) }
