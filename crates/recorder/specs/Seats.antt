@@ -12,4 +12,3 @@ abbrev pub WhyNoSeat : Bool → ℕ → Bool → ℕ → RecFault → Type 0
 WhyNoSeat stopped left has thread Stopped = stopped ≡ true
 WhyNoSeat stopped left has thread OutOfMemory = Unit {0}
 WhyNoSeat stopped left has thread SeatTaken = (left ≡ 0) ⊎ (IsReserved thread ⊎ (has ≡ true))
-

@@ -177,7 +177,8 @@ impl<L: Site> Desk<L> {
     /// Ends the seat's open call where it may have its effect.
     pub(crate) fn attempt(&mut self, seat: &mut Seat<L>) -> Result<Option<Receipt>, RecFault>
         requires lane { lane seat.old.thread ≡ L.host }
-        ensures some { IfOk result (λ o. IfSome o (λ r. (r.answered.thread ≡ seat.old.thread) × (r.index ≡ seat.old.count) × (seat.new.count ≡ seat.old.count + 1))) }
+        ensures some { IfOk result (λ o. IfSome o (λ r.
+            (r.answered.thread ≡ seat.old.thread) × (r.index ≡ seat.old.count) × (seat.new.count ≡ seat.old.count + 1))) }
         ensures none { IfOk result (λ o. IfNone o (seat.new.count ≡ seat.old.count)) }
         ensures err { OnErr result (seat.new.count ≡ seat.old.count) }
         ensures thread { seat.new.thread ≡ seat.old.thread }

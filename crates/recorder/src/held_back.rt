@@ -1,21 +1,20 @@
 //! Segments that are held back until further ones of their host went out.
 
 use case_forms::OutOfMemory;
-use stack_core::Flying;
 use std::alloc::Global;
 use std::collections::BTreeMap;
 
-/// The segments that are held back.
+/// What is held back. `T` is a segment on its way.
 #[derive(Drop)]
-pub(crate) struct HeldBack {
+pub(crate) struct HeldBack<T> {
     // By the count of pumped segments at which each is due, then by that at which it was pumped.
-    waiting: BTreeMap<(u64, u64), Flying, Global>,
+    waiting: BTreeMap<(u64, u64), T, Global>,
     // How many segments were pumped.
     pumped: u64,
 }
 
-impl HeldBack {
-    pub(crate) fn new(alloc: Global) -> HeldBack {
+impl<T: Drop> HeldBack<T> {
+    pub(crate) fn new(alloc: Global) -> HeldBack<T> {
         HeldBack {
             waiting: BTreeMap::new(alloc),
             pumped: 0,
@@ -28,10 +27,10 @@ impl HeldBack {
     }
 
     /// Holds the segment that was pumped last until so many further ones were.
-    pub(crate) fn hold(&mut self, further: u32, flying: Flying) -> Result<(), OutOfMemory> {
+    pub(crate) fn hold(&mut self, further: u32, segment: T) -> Result<(), OutOfMemory> {
         let due = self.pumped.saturating_add(u64::from(further));
         let pumped = self.pumped;
-        self.waiting.insert((due, pumped), flying)?;
+        self.waiting.insert((due, pumped), segment)?;
         Ok(())
     }
 
@@ -41,12 +40,12 @@ impl HeldBack {
     }
 
     /// One that is due. None: none is.
-    pub(crate) fn take_due(&mut self) -> Option<Flying> {
+    pub(crate) fn take_due(&mut self) -> Option<T> {
         let ((due, _), _) = self.waiting.first_key_value()?;
         if *due > self.pumped {
             return None;
         }
-        let (_, flying) = self.waiting.pop_first()?;
-        Some(flying)
+        let (_, segment) = self.waiting.pop_first()?;
+        Some(segment)
     }
 }

@@ -5,6 +5,33 @@
 //! total is the sum of the counts of all seats: the type under the lock says so (`specs/Books`). `finish` takes the seats back and
 //! gives the book; `merge` makes of two books a trace and a witness that explain each other.
 //!
+//! A program with one thread of its own at each host, over two recorders and two channels of `crossbeam_channel`:
+//!
+//! ```text
+//! let (to_one, from_zero) = unbounded::<Flying, Global>(alloc)?;
+//! let (to_zero, from_one) = unbounded::<Flying, Global>(alloc)?;
+//! let zero = Recorder::new(alloc, Host::Zero, header, config, Blank::new(65_535));
+//! let one = Recorder::new(alloc, Host::One, header, other_config, Blank::new(65_535));
+//! let mut client = zero.seat(rt, 2)?;
+//! let mut server = one.seat(rt, 3)?;
+//! thread::scope(thread::scope_env(), rt, |scope| {
+//!     // for each host its loops, here host 0's:
+//!     scope.spawn(|| zero.pump_loop(rt, to_one, 0, TURNS));
+//!     scope.spawn(|| zero.receive_loop(rt, from_one, TURNS));
+//!     scope.spawn(|| zero.timer_loop(rt, TURNS));
+//!     // the application threads, which call and look at what they were answered:
+//!     scope.spawn(|| zero.call(rt, &mut client, Call::Connect(Host::Zero, 4000, 80)));
+//!     scope.spawn(|| one.call(rt, &mut server, Call::Listen(Host::One, 80, 1)));
+//!     // and once they are done: zero.stop(rt), one.stop(rt)
+//! });
+//! let zero = zero.finish(rt, vec![in alloc; client]?)?;
+//! let one = one.finish(rt, vec![in alloc; server]?)?;
+//! let Recorded { trace, witness } = merge(alloc, zero, one)?;
+//! ```
+//!
+//! Host and header of a recorder stand in its type (`Site`): the function that has both recorders is generic over two of them, and who
+//! calls it picks them by `Brand`.
+//!
 //! - `site`: the host and the header of a recorder, known by a type
 //! - `host_book`: what one host recorded, with the count of its answers
 //! - `seat`, `receipt`: a thread's place, and what a call was answered

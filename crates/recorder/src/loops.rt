@@ -35,7 +35,7 @@ fn send<R: Wait>(rt: &R, out: &Sender<Flying, Global>, flying: Flying) -> Result
 fn meet<R: Wait>(
     rt: &R,
     out: &Sender<Flying, Global>,
-    held: &mut HeldBack,
+    held: &mut HeldBack<Flying>,
     flying: Flying,
     fate: Fate,
 ) -> Result<(), LoopEnd> {
@@ -85,7 +85,7 @@ impl<L: Site> Recorder<L> {
         &self,
         rt: &R,
         out: &Sender<Flying, Global>,
-        held: &mut HeldBack,
+        held: &mut HeldBack<Flying>,
         fate: &mut F,
     ) -> Result<bool, LoopEnd> {
         let Some(flying) = self.pump_once(rt)? else {
