@@ -9,5 +9,6 @@ pub mod ManyWords
 pub mod PlainHex
 pub mod RecordOptions
 pub mod RecordWords
+pub mod Recordings
 pub mod SegmentWords
 pub mod TwoTexts

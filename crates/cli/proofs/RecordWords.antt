@@ -10,10 +10,12 @@ use Rattle.two_hosts.specs.declared.plan.Plan.{Plan}
 use Rattle.cli.specs.declared.record_words.Setting.{Setting}
 use Rattle.cli.specs.declared.record_words.Setting.TheVariants.{Rounds, Lose, Format}
 use Rattle.cli.specs.declared.record_words.Told.{Told}
+use Rattle.case_forms.specs.Versions.{is_half}
 use Rattle.case_forms.specs.declared.version.Version.{Version}
 use Rattle.case_forms.specs.declared.version.Version.TheVariants as versions
 use Rattle.std.specs.Str.Parse.{digits_value, without_leading_plus}
 use Rattle.cli.specs.RecordReading.{AsksPlan, AsksRest, apart, first_option, joined, listed, named, number_of, or_else, telling, with_count}
+use Rattle.cli.specs.ManyWords.{AsksMany}
 use Rattle.cli.specs.RecordWords.{AsksRecord, IsVersion, Spells, TellEach, TellsNumber, dashed, equals, numbers_of}
 use Rattle.cli.proofs.RecordOptions.{counted, no_minus}
 
@@ -428,6 +430,14 @@ one_version words p q a b =
     let options : a.options ≡ b.options = told_alike a.options b.options b.behind (subst (λ (ws : List Text). TellEach a.options ws) behind a.told) b.told in
     same_version (numbers_of Format b.options) p.version q.version (subst (λ (os : List (Setting × ℕ)). IsVersion (numbers_of Format os) p.version) options a.version) b.version
 
+whole_version : (ns : List ℕ) (v : Version) → IsVersion ns v → is_half v ≡ false
+whole_version ns versions.One is = refl
+whole_version ns versions.Two is = refl
+whole_version ns versions.Three is = absurd is
+
+pub asks_whole : (words : List Text) (p : Plan) → AsksRecord words p → is_half p.version ≡ false
+asks_whole words p a = whole_version (numbers_of Format a.options) p.version a.version
+
 -- ---- and for nothing else
 
 pub not_check : (words : List Text) (p : Plan) → AsksRecord words p → words ≡ codes "check" ∷ [] → ⊥
@@ -435,3 +445,7 @@ not_check words p a is = let bad : codes "record" ≡ codes "check" = ap (λ (ws
 
 pub not_segment : (words : List Text) (p : Plan) (text : Text) → AsksRecord words p → words ≡ codes "segment" ∷ text ∷ [] → ⊥
 not_segment words p text a is = let bad : codes "record" ≡ codes "segment" = ap (λ (ws : List Text). get_or ws 0 []) (sym a.words_are ∙ is) in cc
+
+pub not_many : (words : List Text) (p : Plan) (n : ℕ) → AsksRecord words p → AsksMany words n → ⊥
+not_many words p n a (text, inl is, spelled) = let bad : codes "record" ≡ codes "many" = ap (λ (ws : List Text). get_or ws 0 []) (sym a.words_are ∙ is) in cc
+not_many words p n a (text, inr is, spelled) = let bad : codes "record" ≡ codes "many" = ap (λ (ws : List Text). get_or ws 0 []) (sym a.words_are ∙ is) in cc

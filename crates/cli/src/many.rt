@@ -17,9 +17,8 @@ ghost use Rattle.cli.specs.Many.{cases_of, ends_case, greatest_status, lines_of_
 
 use crate::lines::{DEVICE, YES, line_of, say, status_of};
 use crate::many_words::asked_workers;
-use crate::record::answer_record;
-use crate::record_words::asked_plan;
-use crate::running::{answer_bad_memory, run};
+use crate::record::record_or_run;
+use crate::running::answer_bad_memory;
 use bstr::ByteSlice;
 use case_forms::OutOfMemory;
 use counted::{Counted, ReadFault};
@@ -65,11 +64,7 @@ pub fn run_all<R: BufRead, W: Write, H: Threads + Wait + Sync>(
 {
     match asked_workers(alloc, words) {
         Ok(Some(workers)) => many(rt, alloc, workers, r, w),
-        Ok(None) => match asked_plan(alloc, words) {
-            Ok(Some(plan)) => answer_record(rt, alloc, plan, w),
-            Ok(None) => run(alloc, words, r, w),
-            Err(_) => answer_bad_memory(w),
-        },
+        Ok(None) => record_or_run(rt, alloc, words, r, w),
         Err(_) => answer_bad_memory(w),
     }
 }

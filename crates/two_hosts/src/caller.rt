@@ -66,8 +66,8 @@ impl<'a, L: Site> Caller<'a, L> {
         (seat, receipts)
     }
 
-    /// Calls, and gives the answer.
-    pub fn ask<R: Wait>(&mut self, rt: &R, call: Call) -> Result<&Answer, Halt>
+    /// Calls.
+    pub fn ask<R: Wait>(&mut self, rt: &R, call: Call) -> Result<(), Halt>
         requires lane { lane self.old.seat.thread ≡ L.host }
         requires aims { Aims L.host (aim call) }
         requires within { IsCallWithin call }
@@ -76,10 +76,13 @@ impl<'a, L: Site> Caller<'a, L> {
         self.receipts.reserve(1)?;
         let receipt = self.recorder.call(rt, &mut self.seat, call)?;
         self.receipts.push_reserved(receipt);
-        match self.receipts.as_slice() {
-            [.., last] => Ok(last.answered.answer()),
-            [] => Err(Halt::Refused),
-        }
+        Ok(())
+    }
+
+    /// What the last call was answered. None: there was no call.
+    pub fn answer(&self) -> Option<&Answer> {
+        let last = self.receipts.last()?;
+        Some(last.answered.answer())
     }
 
     /// A call that is answered by a socket number of its own host.
@@ -90,9 +93,9 @@ impl<'a, L: Site> Caller<'a, L> {
         ensures thread { self.new.seat.thread ≡ self.old.seat.thread }
         ensures own { IfOk result (λ socket. lane socket ≡ L.host) }
     {
-        let lane = self.seat.thread() % 2;
-        match self.ask(rt, call)? {
-            Answer::Given(socket) if *socket % 2 == lane => Ok(*socket),
+        self.ask(rt, call)?;
+        match self.answer() {
+            Some(Answer::Given(socket)) if *socket % 2 == self.seat.thread() % 2 => Ok(*socket),
             _ => Err(Halt::Refused),
         }
     }
@@ -104,8 +107,9 @@ impl<'a, L: Site> Caller<'a, L> {
         requires within { IsCallWithin call }
         ensures thread { self.new.seat.thread ≡ self.old.seat.thread }
     {
-        match self.ask(rt, call)? {
-            Answer::Done => Ok(()),
+        self.ask(rt, call)?;
+        match self.answer() {
+            Some(Answer::Done) => Ok(()),
             _ => Err(Halt::Refused),
         }
     }

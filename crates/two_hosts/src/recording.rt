@@ -1,6 +1,7 @@
 //! The whole recording.
 
-ghost use Rattle.std.specs.Prelude.{◌≡◌, IfOk};
+ghost use Rattle.std.specs.Prelude.{◌≡◌, false, IfOk};
+ghost use Rattle.case_forms.specs.Versions.{is_half};
 ghost use Rattle.case_forms.specs.declared.calls.Host.TheVariants.{Zero, One};
 ghost use Rattle.checker.specs.Explains.{Explains};
 ghost use Rattle.two_hosts.specs.Plans.{AreBooks, header_of};
@@ -199,12 +200,13 @@ pub fn record_books<F: WireFate + Send + Drop, G: WireFate + Send + Drop, R: Thr
     record_with::<Brand, Brand, F, G, R>(rt, alloc, header_of(version), first, second, talk)
 }
 
-/// Records the connection as it is planned.
+/// Records the connection as it is planned, in version 1 or 2.
 pub fn record<R: Threads + Wait + Sync>(
     rt: &R,
     alloc: Global,
     plan: Plan,
 ) -> Result<Recording, RecordFault>
+    requires { is_half plan.version ≡ false }
     ensures header { IfOk result (λ r. r.recorded.trace.header ≡ header_of plan.version) }
     ensures version { IfOk result (λ r. r.recorded.witness.version ≡ plan.version) }
     ensures explains { IfOk result (λ r. Explains r.recorded.trace r.recorded.witness) }

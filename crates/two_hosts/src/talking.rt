@@ -39,8 +39,9 @@ fn send_round<L: Site, R: Wait>(
             break;
         }
         let bytes = round_bytes(alloc, round, sent)?;
-        match caller.ask(rt, Call::Send(socket, bytes))? {
-            Answer::Given(count) => sent = sent.saturating_add(*count as usize),
+        caller.ask(rt, Call::Send(socket, bytes))?;
+        match caller.answer() {
+            Some(Answer::Given(count)) => sent = sent.saturating_add(*count as usize),
             _ => return Err(Halt::Refused),
         }
     }
@@ -58,8 +59,9 @@ fn receive_round<L: Site, R: Wait>(rt: &R, caller: &mut Caller<L>, socket: u32) 
         if left == 0 {
             break;
         }
-        match caller.ask(rt, Call::Recv(socket, left as u16))? {
-            Answer::Bytes(bytes) => left = left.saturating_sub(bytes.len()),
+        caller.ask(rt, Call::Recv(socket, left as u16))?;
+        match caller.answer() {
+            Some(Answer::Bytes(bytes)) => left = left.saturating_sub(bytes.len()),
             _ => return Err(Halt::Refused),
         }
     }
@@ -97,8 +99,9 @@ pub fn run_server<L: Site, R: Wait>(rt: &R, caller: &mut Caller<L>, rounds: u16)
     for _ in 0..rounds {
         receive_round(rt, caller, socket)?;
     }
-    match caller.ask(rt, Call::Recv(socket, 1))? {
-        Answer::Eof => {}
+    caller.ask(rt, Call::Recv(socket, 1))?;
+    match caller.answer() {
+        Some(Answer::Eof) => {}
         _ => return Err(Halt::Refused),
     }
     caller.done(rt, Call::Close(socket))

@@ -9,11 +9,11 @@ use crate::talking::{run_client, run_server};
 use crate::wire::Wire;
 use case_forms::OutOfMemory;
 use crossbeam_channel::{Receiver, Sender, unbounded};
-use recorder::{Flying, LoopEnd, Recorder, Site, WireFate};
+use recorder::{Flying, Recorder, Site, WireFate};
 use std::alloc::Global;
 use std::sync::Wait;
 use std::thread;
-use std::thread::Threads;
+use std::thread::{JoinHandle, Threads};
 
 /// How many turns each loop has.
 pub const TURNS: u64 = 2_000_000;
@@ -21,16 +21,23 @@ pub const TURNS: u64 = 2_000_000;
 /// Both ends of the way of a host's segments, and what becomes of them.
 #[derive(Drop)]
 pub struct Way<F: Drop> {
-    pub out: Sender<Flying, Global>,
-    pub from: Receiver<Flying, Global>,
-    pub wire: Wire<F>,
+    out: Sender<Flying, Global>,
+    from: Receiver<Flying, Global>,
+    fate: F,
+    taken: u64,
 }
 
 impl<F: Drop> Way<F> {
     /// A new way for segments of which this becomes.
     pub fn new(alloc: Global, wire: Wire<F>) -> Result<Way<F>, OutOfMemory> {
         let (out, from) = unbounded::<Flying, Global>(alloc)?;
-        Ok(Way { out, from, wire })
+        let Wire { fate, taken } = wire;
+        Ok(Way {
+            out,
+            from,
+            fate,
+            taken,
+        })
     }
 }
 
@@ -55,82 +62,99 @@ pub fn run_threads<
     requires lanes { (lane client.old.seat.thread ≡ Zero) × (lane server.old.seat.thread ≡ One) }
 {
     let (zero, one) = (client.recorder, server.recorder);
+    let (client, server) = (&mut *client, &mut *server);
     let Way {
         out: to_one,
         from: from_zero,
-        wire: Wire {
-            fate: fate_there,
-            taken: taken_there,
-        },
+        fate: fate_there,
+        taken: taken_there,
     } = there;
     let Way {
         out: to_zero,
         from: from_one,
-        wire: Wire {
-            fate: fate_back,
-            taken: taken_back,
-        },
+        fate: fate_back,
+        taken: taken_back,
     } = back;
     thread::scope(thread::scope_env(), rt, |scope| {
-        let pumps_zero = scope.spawn(move || {
-            end_all(
-                rt,
-                zero,
-                one,
-                zero.pump_loop_by(rt, to_one, fate_there, TURNS),
-            )
-        });
-        let pumps_one = scope.spawn(move || {
-            end_all(
-                rt,
-                zero,
-                one,
-                one.pump_loop_by(rt, to_zero, fate_back, TURNS),
-            )
-        });
-        let takes_zero = scope.spawn(move || {
-            end_all(rt, zero, one, zero.receive_loop(rt, from_one, taken_back))
-        });
-        let takes_one = scope.spawn(move || {
-            end_all(rt, zero, one, one.receive_loop(rt, from_zero, taken_there))
-        });
-        let times_zero = scope.spawn(move || end_all(rt, zero, one, zero.timer_loop(rt, TURNS)));
-        let times_one = scope.spawn(move || end_all(rt, zero, one, one.timer_loop(rt, TURNS)));
-        let serves = scope.spawn(move || run_server(rt, server, rounds).is_ok());
-        let asks = scope.spawn(move || run_client(rt, alloc, client, rounds).is_ok());
-        let outcome = match (asks, serves) {
-            (Ok(a), Ok(b)) => Some(a.join(rt) & b.join(rt)),
-            _ => None,
-        };
-        zero.stop(rt);
-        one.stop(rt);
-        match (
-            pumps_zero, pumps_one, takes_zero, takes_one, times_zero, times_one,
-        ) {
-            (Ok(c), Ok(d), Ok(e), Ok(f), Ok(g), Ok(h)) => {
-                let _ = [
-                    c.join(rt),
-                    d.join(rt),
-                    e.join(rt),
-                    f.join(rt),
-                    g.join(rt),
-                    h.join(rt),
-                ];
-                outcome
-            }
+        let lets_out = scope
+            .spawn(move || let_out(rt, zero, one, to_one, fate_there))
+            .ok();
+        let answers = scope
+            .spawn(move || let_out(rt, one, zero, to_zero, fate_back))
+            .ok();
+        let lets_in = scope
+            .spawn(move || let_in(rt, zero, one, from_one, taken_back))
+            .ok();
+        let hears = scope
+            .spawn(move || let_in(rt, one, zero, from_zero, taken_there))
+            .ok();
+        let times = scope.spawn(move || let_pass(rt, zero, one)).ok();
+        let waits = scope.spawn(move || let_pass(rt, one, zero)).ok();
+        let serves = scope
+            .spawn(move || run_server(rt, server, rounds).is_ok())
+            .ok();
+        let asks = scope
+            .spawn(move || run_client(rt, alloc, client, rounds).is_ok())
+            .ok();
+        let out = lets_out.is_some() && answers.is_some();
+        let into = lets_in.is_some() && hears.is_some();
+        let all = out && into && times.is_some() && waits.is_some();
+        if !all || serves.is_none() || asks.is_none() {
+            stop_both(rt, zero, one);
+        }
+        let asked = joined(rt, asks);
+        let served = joined(rt, serves);
+        stop_both(rt, zero, one);
+        let _ = joined(rt, lets_out);
+        let _ = joined(rt, answers);
+        let _ = joined(rt, lets_in);
+        let _ = joined(rt, hears);
+        let _ = joined(rt, times);
+        let _ = joined(rt, waits);
+        match (asked, served) {
+            (Some(asked), Some(served)) if all => Some(asked && served),
             _ => None,
         }
     })
 }
 
-// A loop ended: all others do.
-fn end_all<L: Site, M: Site, R: Wait>(
-    rt: &R,
-    zero: &Recorder<L>,
-    one: &Recorder<M>,
-    end: LoopEnd,
-) -> LoopEnd {
+// What a thread answered, once it ended. None: it was not started.
+fn joined<T: Drop, R: Threads + Wait>(rt: &R, handle: Option<JoinHandle<T>>) -> Option<T> {
+    let handle = handle?;
+    Some(handle.join(rt))
+}
+
+fn stop_both<L: Site, M: Site, R: Wait>(rt: &R, zero: &Recorder<L>, one: &Recorder<M>) {
     zero.stop(rt);
     one.stop(rt);
-    end
+}
+
+// Lets a host's segments out. As it ends, all else does.
+fn let_out<L: Site, M: Site, F: WireFate + Drop, R: Wait>(
+    rt: &R,
+    mine: &Recorder<L>,
+    other: &Recorder<M>,
+    out: Sender<Flying, Global>,
+    fate: F,
+) {
+    let _ = mine.pump_loop_by(rt, out, fate, TURNS);
+    stop_both(rt, mine, other);
+}
+
+// Lets the other host's segments in, so many of them. As it ends, all else does.
+fn let_in<L: Site, M: Site, R: Wait>(
+    rt: &R,
+    mine: &Recorder<L>,
+    other: &Recorder<M>,
+    from: Receiver<Flying, Global>,
+    turns: u64,
+) {
+    let _ = mine.receive_loop(rt, from, turns);
+    stop_both(rt, mine, other);
+}
+
+// Lets a host's time pass. As it ends, all else does.
+fn let_pass<L: Site, M: Site, R: Wait>(rt: &R, mine: &Recorder<L>, other: &Recorder<M>) {
+    let _ = mine.timer_loop(rt, TURNS);
+    stop_both(rt, mine, other);
 }
