@@ -1,5 +1,5 @@
 -- Writing cells by position, and how far they reach without a gap.
-use Rattle.std.proofs.Common.{ℕ, ◌+◌, ◌<◌, ◌≤◌, List, [], ◌∷◌, ◌++◌, length, drop, set, get_or, Option, None, Some, Bool, true, false, ◌≡◌, refl, sym, ap, ◌∙◌, arith, zero, suc}
+use Rattle.std.proofs.Common.{ℕ, ◌+◌, ◌<◌, ◌≤◌, List, [], ◌∷◌, ◌++◌, length, drop, set, get_or, Option, None, Some, Bool, true, false, ◌≡◌, refl, sym, ap, ap₂, ◌∙◌, arith, zero, suc, length-append}
 use Rattle.std.specs.Option.{is_some}
 use Rattle.std.proofs.lemmas.List.{drop_more}
 use Rattle.streams.specs.declared.cell.Cell.{Cell}
@@ -101,3 +101,13 @@ leading_front (None ∷ xs) = omega arith
 leading_front (Some Syn ∷ xs) = omega arith
 leading_front (Some (Byte v) ∷ xs) = let more = leading_front xs in omega arith
 leading_front (Some Fin ∷ xs) = omega arith
+
+-- a byte behind the last cell
+pub put_all_behind : (xs ys : List (Option Cell)) (i d : ℕ) (bytes : List ℕ) → i < length bytes → ys ≡ xs ++ Some (Byte (get_or bytes i d)) ∷ []
+    → put_all ys (length ys) (cells_of (drop (i + 1) bytes)) ≡ put_all xs (length xs) (cells_of (drop i bytes))
+put_all_behind xs ys i d bytes h e =
+    let all = ap length e in
+    let both = length-append xs (Some (Byte (get_or bytes i d)) ∷ []) in
+    let long : length ys ≡ suc (length xs) = omega (arith, all, both) in
+    rw (drop_more bytes i d h)
+    (ap₂ (λ (zs : List (Option Cell)) (n : ℕ). put_all zs n (cells_of (drop (i + 1) bytes))) (e ∙ sym (put-end xs (length xs) (Byte (get_or bytes i d)) refl)) long)

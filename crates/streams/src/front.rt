@@ -8,6 +8,10 @@ use std::collections::VecDeque;
 pub(crate) fn drop_front<T: Copy>(items: &mut VecDeque<T>, count: usize)
     ensures items { items.new.items ≡ drop count items.old.items }
 {
+    if count >= items.len() {
+        items.clear();
+        return;
+    }
     for _ in 0..count {
         let _ = items.pop_front();
     }

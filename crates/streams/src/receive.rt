@@ -195,8 +195,23 @@ fn place_bytes(cells: &mut VecDeque<Option<Cell>>, at: usize, bytes: &[u8])
     ensures items { cells.new.items ≡ put_all cells.old.items at (cells_of bytes.now) }
     ensures capacity { deque_capacity cells.new ≡ deque_capacity cells.old }
 {
+    if at == cells.len() {
+        append_bytes(cells, bytes);
+        return;
+    }
     for (i, byte) in bytes.iter().enumerate() {
         write_cell(cells, at + i, Cell::Byte(*byte));
+    }
+}
+
+// Writes these bytes behind the last cell, where there is room.
+fn append_bytes(cells: &mut VecDeque<Option<Cell>>, bytes: &[u8])
+    requires { length cells.old.items + length bytes.now ≤ deque_capacity cells.old }
+    ensures items { cells.new.items ≡ put_all cells.old.items (length cells.old.items) (cells_of bytes.now) }
+    ensures capacity { deque_capacity cells.new ≡ deque_capacity cells.old }
+{
+    for byte in bytes {
+        cells.push_back_reserved(Some(Cell::Byte(*byte)));
     }
 }
 
