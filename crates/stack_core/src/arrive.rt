@@ -73,7 +73,7 @@ impl HostCore {
         Before {
             place,
             window: match endpoint {
-                Some(endpoint) => cwnd_at_arrival(self.recording.header().initial, endpoint, m),
+                Some(endpoint) => cwnd_at_arrival(self.recording.header(), endpoint, m),
                 None => 0,
             },
             seen: match endpoint {

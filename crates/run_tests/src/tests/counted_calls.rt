@@ -111,13 +111,14 @@ fn all_is_read_up_to_a_failure(rt: HostRuntime) -> Result<(), Fail> {
     Ok(())
 }
 
-// The answers of three writes of three bytes, then how many failed.
-fn writes(alloc: Global, fails_at: u32) -> Result<String, AllocError> {
+// The answers of three writes of these bytes to a writer that takes so many a call, then how many failed.
+fn writes(alloc: Global, bytes: &[u8], size: usize, fails_at: u32) -> Result<String, AllocError> {
     let mut sink = Sink::new(alloc, fails_at);
+    sink.size = size;
     let mut writer = Counted::new(&mut sink);
     let mut told = String::new(alloc);
     for _ in 0..3 {
-        match writer.write(b"abc") {
+        match writer.write(bytes) {
             Ok(count) => told.push_str(format!(in alloc; "{count} ")?.as_str())?,
             Err(_) => told.push_str("x ")?,
         }
@@ -129,13 +130,15 @@ fn writes(alloc: Global, fails_at: u32) -> Result<String, AllocError> {
 
 #[test]
 fn a_write_is_one_call(rt: HostRuntime) -> Result<(), Fail> {
-    for (fails_at, wanted) in [
-        (0, "2 2 2 0 of 3"),
-        (1, "x 2 2 1 of 3"),
-        (2, "2 x 2 1 of 3"),
-        (3, "2 2 x 1 of 3"),
-    ] {
-        let told = writes(rt.alloc(), fails_at)?;
+    let table: [(&[u8], usize, u32, &str); 5] = [
+        (b"abc", 2, 0, "2 2 2 0 of 3"),
+        (b"abc", 2, 1, "x 2 2 1 of 3"),
+        (b"abc", 2, 2, "2 x 2 1 of 3"),
+        (b"abc", 2, 3, "2 2 x 1 of 3"),
+        (b"a", 0, 0, "x x x 3 of 3"),
+    ];
+    for (bytes, size, fails_at, wanted) in table {
+        let told = writes(rt.alloc(), bytes, size, fails_at)?;
         assert_eq!(rt; told.as_str(), wanted);
     }
     Ok(())

@@ -63,10 +63,11 @@ impl BufRead for Source<'_> {
     }
 }
 
-/// A writer that takes at most two bytes a call.
+/// A writer that takes at most so many bytes a call.
 #[derive(Drop)]
 pub(crate) struct Sink {
     pub(crate) taken: Vec<u8>,
+    pub(crate) size: usize,
     pub(crate) flushes: u32,
     /// How many calls were made, flushes among them.
     pub(crate) calls: u32,
@@ -75,10 +76,11 @@ pub(crate) struct Sink {
 }
 
 impl Sink {
-    /// A writer that has taken nothing yet.
+    /// A writer that has taken nothing yet, and takes two bytes a call.
     pub(crate) fn new(alloc: Global, fails_at: u32) -> Sink {
         Sink {
             taken: Vec::new(alloc),
+            size: 2,
             flushes: 0,
             calls: 0,
             fails_at,
@@ -97,7 +99,7 @@ impl Sink {
 impl Write for Sink {
     fn write(&mut self, buf: &[u8]) -> io::Result<usize> {
         self.one_more()?;
-        let count = buf.len().min(2);
+        let count = buf.len().min(self.size);
         self.taken.extend_from_slice(&buf[..count])?;
         Ok(count)
     }

@@ -113,11 +113,11 @@ fn word<T>(read: &Result<Option<T>, ReadFault>) -> &'static str {
     }
 }
 
-// What is read of a trace of one line, then how many calls failed.
-fn trace_read(alloc: Global, fails_at: u32) -> Result<String, AllocError> {
-    let text = "trace 1\nskew 0\nmsl 1\ngrain 1\nminrto 1\nextra 0\n10 1 B close 5\n";
-    let source = Counted::new(Source::new(text.as_bytes(), 4096, fails_at));
-    let mut reader = TraceReader::new(alloc, source);
+// What is read of a header of version 1 and these lines, then how many of the calls failed.
+fn trace_read(alloc: Global, lines: &str, fails_at: u32) -> Result<String, AllocError> {
+    let text = format!(in alloc; "trace 1\nskew 0\nmsl 1\ngrain 1\nminrto 1\nextra 0\n{lines}")?;
+    let mut source = Source::new(text.as_bytes(), 4096, fails_at);
+    let mut reader = TraceReader::new(alloc, Counted::new(&mut source));
     let mut told = String::new(alloc);
     told.push_str(if reader.header().is_ok() {
         "header "
@@ -127,48 +127,51 @@ fn trace_read(alloc: Global, fails_at: u32) -> Result<String, AllocError> {
     told.push_str(word(&reader.next()))?;
     told.push_str(word(&reader.next()))?;
     let failures = reader.into_source().failures();
-    told.push_str(format!(in alloc; "{failures}")?.as_str())?;
+    told.push_str(format!(in alloc; "{failures} of {}", source.calls)?.as_str())?;
     Ok(told)
 }
 
-// Six calls read the header, one the line, and one the end: nothing is read ahead, and a call that fails is not made again.
+// Six calls read the header, one a line, and one the end: nothing is read ahead, and behind a failure or a fault nothing at all.
 #[test]
 fn a_trace_is_read_up_to_a_failure(rt: HostRuntime) -> Result<(), Fail> {
-    for (fails_at, wanted) in [
-        (1, "x x x 1"),
-        (6, "x x x 1"),
-        (7, "header x x 1"),
-        (8, "header line x 1"),
-        (9, "header line end 0"),
+    for (lines, fails_at, wanted) in [
+        ("10 1 B close 5\n", 1, "x x x 1 of 1"),
+        ("10 1 B close 5\n", 6, "x x x 1 of 6"),
+        ("10 1 B close 5\n", 7, "header x x 1 of 7"),
+        ("10 1 B close 5\n", 8, "header line x 1 of 8"),
+        ("10 1 B close 5\n", 9, "header line end 0 of 8"),
+        ("10 1 B\n10 1 B close 5\n", 9, "header fault fault 0 of 7"),
     ] {
-        let told = trace_read(rt.alloc(), fails_at)?;
+        let told = trace_read(rt.alloc(), lines, fails_at)?;
         assert_eq!(rt; told.as_str(), wanted);
     }
     Ok(())
 }
 
-// What is read of a witness of one step, then how many calls failed.
-fn witness_read(alloc: Global, fails_at: u32) -> Result<String, AllocError> {
-    let source = Counted::new(Source::new(b"witness 1\n10 L 7\n", 4096, fails_at));
-    let mut reader = StepReader::new(alloc, Version::One, source);
+// What is read of this witness of version 1, then how many of the calls failed.
+fn witness_read(alloc: Global, text: &[u8], fails_at: u32) -> Result<String, AllocError> {
+    let mut source = Source::new(text, 4096, fails_at);
+    let mut reader = StepReader::new(alloc, Version::One, Counted::new(&mut source));
     let mut told = String::new(alloc);
     told.push_str(word(&reader.next()))?;
     told.push_str(word(&reader.next()))?;
     let failures = reader.into_source().failures();
-    told.push_str(format!(in alloc; "{failures}")?.as_str())?;
+    told.push_str(format!(in alloc; "{failures} of {}", source.calls)?.as_str())?;
     Ok(told)
 }
 
-// One call reads the first line, one the step, and one the end.
+// One call reads the first line, one a step, and one the end; behind a failure or a fault nothing is read.
 #[test]
 fn a_witness_is_read_up_to_a_failure(rt: HostRuntime) -> Result<(), Fail> {
-    for (fails_at, wanted) in [
-        (1, "x x 1"),
-        (2, "x x 1"),
-        (3, "line x 1"),
-        (4, "line end 0"),
-    ] {
-        let told = witness_read(rt.alloc(), fails_at)?;
+    let table: [(&[u8], u32, &str); 5] = [
+        (b"witness 1\n10 L 7\n", 1, "x x 1 of 1"),
+        (b"witness 1\n10 L 7\n", 2, "x x 1 of 2"),
+        (b"witness 1\n10 L 7\n", 3, "line x 1 of 3"),
+        (b"witness 1\n10 L 7\n", 4, "line end 0 of 3"),
+        (b"witness 1\n10 L x\n10 L 7\n", 4, "fault fault 0 of 2"),
+    ];
+    for (text, fails_at, wanted) in table {
+        let told = witness_read(rt.alloc(), text, fails_at)?;
         assert_eq!(rt; told.as_str(), wanted);
     }
     Ok(())

@@ -102,15 +102,6 @@ fn judged(
     told(alloc, &answer, (trace.failures(), witness.failures()))
 }
 
-#[test]
-fn two_texts_are_judged_in_pieces(rt: HostRuntime) -> Result<(), Fail> {
-    for size in [1, 7, 4096] {
-        let told = judged(rt.alloc(), (TRACE, WITNESS), size, (0, 0))?;
-        assert_eq!(rt; told.as_str(), "yes 18 13 0 0");
-    }
-    Ok(())
-}
-
 // Each line of a text takes one call, and its end one more: 25 of the trace and 33 of the witness. Whichever fails, there
 // is no verdict.
 #[test]
