@@ -12,8 +12,8 @@ const TRACE: &str = "--trace";
 const WITNESS: &str = "--witness";
 
 /// The names of the trace's file and of the witness's, where the words are `check` and both options, each once and in either
-/// order; None where they are other words. An option and its name are two words, of which the name begins with no dash, or
-/// one word with a `=` between.
+/// order; None where they are other words, also where a name has a NUL, as one that was no UTF-8 has (`given_words`). An
+/// option and its name are two words, of which the name begins with no dash, or one word with a `=` between.
 pub fn file_names(alloc: Global, words: &[&str]) -> Result<Option<(String, String)>, OutOfMemory> {
     let [command, rest @ ..] = words else {
         return Ok(None);
@@ -28,6 +28,12 @@ pub fn file_names(alloc: Global, words: &[&str]) -> Result<Option<(String, Strin
     let Some((trace, witness)) = named else {
         return Ok(None);
     };
+    if [trace, witness]
+        .iter()
+        .any(|name| name.as_bytes().contains(&0))
+    {
+        return Ok(None);
+    }
     let trace = String::from_str(alloc, trace)?;
     let witness = String::from_str(alloc, witness)?;
     Ok(Some((trace, witness)))
