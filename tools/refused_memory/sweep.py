@@ -9,8 +9,8 @@ it asks for memory (at most N times are then refused one by one, the default bei
 refused at the n-th call alone, at the n-th and all later ones, at every 2nd, 3rd and 7th, and at all of 2^k bytes and more.
 
 An answer is right where it is the answer without refusal, or the line `bad memory` with status 4. Of many cases each line may
-also be `bad memory` by itself, with status 4. What `record` writes has to be answered yes by `check`. Anything else (another line, a signal, a word on standard error, a run of more
-than 60 seconds) is wrong and is printed. The last line has the counts; the exit status is 1 where any run was wrong.
+also be `bad memory` by itself, with status 4. What `record` writes has to be answered yes by `check`. Anything else (another line,
+a signal, a word on standard error, a run of more than 60 seconds) is wrong and is printed. The last line has the counts; the exit status is 1 where any run was wrong.
 """
 import argparse
 import concurrent.futures
@@ -20,6 +20,10 @@ import sys
 import tempfile
 
 HERE = os.path.dirname(os.path.abspath(__file__))
+sys.path.insert(0, os.path.dirname(HERE))
+
+from commands import commands
+
 BAD_MEMORY = b"bad memory\n"
 
 
@@ -67,41 +71,6 @@ def is_recorded(program, answer):
         return True
     judged = subprocess.run([program, "check"], input=answer[0], capture_output=True)
     return answer[2] in (0, 1) and judged.stdout.startswith(b"yes ")
-
-
-def commands(cases, folder):
-    """The commands that are swept: a name, and the words with the standard input."""
-    expected = dict(line.rstrip("\n").split("\t") for line in open(os.path.join(cases, "expected.txt")))
-
-    def text(name):
-        with open(os.path.join(cases, name + ".case"), "rb") as file:
-            return file.read()
-
-    names = ["examples/handshake_and_five_bytes", "examples/two_threads", "worked-second-child-with-extra-1",
-             "worked-five-thousand-bytes-past-the-congestion-window", "text-a-fault-of-the-trace-before-one-of-the-witness"]
-    names = [name for name in names if name in expected]
-    found = {}
-    for name in names:
-        found["check " + name] = (["check"], text(name)), expected[name]
-    for name in names[:2]:
-        trace, witness = text(name).split(b"witness ", 1)
-        paths = os.path.join(folder, "trace"), os.path.join(folder, "witness")
-        paths = tuple(path + str(len(found)) for path in paths)
-        for path, part in zip(paths, (trace, b"witness " + witness)):
-            with open(path, "wb") as file:
-                file.write(part)
-        found["two files " + name] = (["check", "--trace", paths[0], "--witness", paths[1]], b""), expected[name]
-    joined = b"".join(text(name) + b"end\n" for name in names[:3])
-    lines = "\n".join(expected[name] for name in names[:3])
-    for workers in ("1", "2", "8"):
-        found["many " + workers] = (["many", "--workers", workers], joined), lines
-    hex_text = "00500fa000000064ffffffff6012ffff00000000020403e8"
-    found["segment"] = (["segment", hex_text], b""), "src 80 dst 4000 seq 100 ack 4294967295 flags AS wnd 65535 mss 1000 len 0 first 101"
-    found["segment of no hex"] = (["segment", "x"], b""), "bad segment hex"
-    found["usage"] = (["chck"], b""), "bad usage"
-    for rounds, lose in (("2", "3"), ("3", "0")):
-        found[f"record {rounds} {lose}"] = (["record", "--rounds", rounds, "--lose", lose], b""), None
-    return found
 
 
 def refusals(count, most):

@@ -5,7 +5,7 @@ use Rattle.std.proofs.Math.Seq.{take-length}
 use Rattle.std.specs.Str.{bytes_eq}
 use Rattle.std.proofs.lemmas.Slice.Eq.{bytes_eq-Decides}
 use Rattle.cli.specs.CommandLine.{is_dashed}
-use Rattle.cli.specs.FileWords.{AreBoth, AsksFiles, BeginsWith}
+use Rattle.cli.specs.FileWords.{has_nul, AreBoth, AreNamed, AsksFiles, BeginsWith}
 
 -- an option is no option with an equals sign
 not_joined : (option value : List ℕ) → option ≡ option ++ codes "=" ++ value → ⊥
@@ -82,7 +82,7 @@ one_alone one two front back words t w =
     absurd (omega (arith, is_t, is_w))
 
 -- words that ask for two files name them once
-pub asks_once : (words : List (List ℕ)) (trace witness other more : List ℕ) → AsksFiles words trace witness → AsksFiles words other more
+pub asks_once : (words : List (List ℕ)) (trace witness other more : List ℕ) → AreNamed words trace witness → AreNamed words other more
     → (trace ≡ other) × (witness ≡ more)
 asks_once words trace witness other more (front, e, here) (back, f, there) =
     let both : codes "check" ∷ front ≡ codes "check" ∷ back = sym e ∙ f in
@@ -100,7 +100,7 @@ asks_once words trace witness other more (front, e, here) (back, f, there) =
 pub asks_behind : (words : List (Bor (List ℕ))) (d : Bor (List ℕ)) (trace witness : List ℕ) → 1 ≤ length words → (slice_index_or words 0 d).now ≡ codes "check"
     → (AreBoth (codes "--trace") trace (codes "--witness") witness (map (λ word. word.now) (take (length words - 1) (drop 1 words)))
         ⊎ AreBoth (codes "--witness") witness (codes "--trace") trace (map (λ word. word.now) (take (length words - 1) (drop 1 words))))
-    → AsksFiles (map (λ word. word.now) words) trace witness
+    → AreNamed (map (λ word. word.now) words) trace witness
 asks_behind [] d trace witness some is both = absurd (omega (some, arith))
 asks_behind (a ∷ rest) d trace witness some is both = (map (λ word. word.now) (take (length (a ∷ rest) - 1) (drop 1 (a ∷ rest))),
     ap (λ (w : List ℕ). w ∷ map (λ word. word.now) rest) is ∙ ap (λ (ws : List (Bor (List ℕ))). codes "check" ∷ map (λ word. word.now) ws) (sym (behind_first a rest)), both)
@@ -109,7 +109,7 @@ asks_behind (a ∷ rest) d trace witness some is both = (map (λ word. word.now)
 pub asks_neither : (words : List (Bor (List ℕ))) (trace witness : List ℕ)
     → ((one two : List ℕ) → ¬ AreBoth (codes "--trace") one (codes "--witness") two (map (λ word. word.now) (take (length words - 1) (drop 1 words))))
     → ((one two : List ℕ) → ¬ AreBoth (codes "--witness") one (codes "--trace") two (map (λ word. word.now) (take (length words - 1) (drop 1 words))))
-    → ¬ AsksFiles (map (λ word. word.now) words) trace witness
+    → ¬ AreNamed (map (λ word. word.now) words) trace witness
 asks_neither [] trace witness no_trace no_witness (options, e, both) = cc
 asks_neither (a ∷ rest) trace witness no_trace no_witness (options, e, both) = by_case both
   where
@@ -142,4 +142,14 @@ given_once words trace witness asks other more = (forth, back)
         subst (λ (names : List ℕ × List ℕ). AsksFiles words names.0 names.1) both asks
 
     back : AsksFiles words other more → ◌≡◌ {A = Option (List ℕ × List ℕ)} (Some (trace, witness)) (Some (other, more))
-    back others = let same = asks_once words trace witness other more asks others in ap₂ (λ (t w : List ℕ). Some (t, w)) same.0 same.1
+    back others = let same = asks_once words trace witness other more asks.0 others.0 in ap₂ (λ (t w : List ℕ). Some (t, w)) same.0 same.1
+
+-- where the words name a file with a NUL, they ask for none
+pub named_with_nul : (words : List (List ℕ)) (trace witness : List ℕ) → AreNamed words trace witness → has_nul trace ≡ true ⊎ has_nul witness ≡ true
+    → (other more : List ℕ) → ¬ AsksFiles words other more
+named_with_nul words trace witness named nul other more (again, trace_has_none, witness_has_none) =
+    let same = asks_once words trace witness other more named again in by_case same.0 same.1 nul
+  where
+    by_case : trace ≡ other → witness ≡ more → has_nul trace ≡ true ⊎ has_nul witness ≡ true → ⊥
+    by_case t w (inl bad) = let none : has_nul trace ≡ false = ap has_nul t ∙ trace_has_none in let wrong : true ≡ false = sym bad ∙ none in cc
+    by_case t w (inr bad) = let none : has_nul witness ≡ false = ap has_nul w ∙ witness_has_none in let wrong : true ≡ false = sym bad ∙ none in cc

@@ -1,7 +1,7 @@
 //! The words that ask for a case in two files.
 
 ghost use Rattle.std.specs.Prelude.{◌≡◌, ◌≢◌, ◌++◌, ◌↔◌, ℕ, List, IfOk, MatchOption, codes, map, option_map, string_bytes};
-ghost use Rattle.cli.specs.FileWords.{AreBoth, AsksFiles, BeginsWith};
+ghost use Rattle.cli.specs.FileWords.{has_nul, AreBoth, AreNamed, AsksFiles, BeginsWith};
 
 use crate::words::is_dashed;
 use case_forms::OutOfMemory;
@@ -14,8 +14,9 @@ const TRACE: &str = "--trace";
 const WITNESS: &str = "--witness";
 
 /// The names of the trace's file and of the witness's, where the words are `check` and both options, each once and in either
-/// order; None where they are other words. An option and its name are two words, of which the name begins with no dash, or
-/// one word with a `=` between. An error means that memory ran out.
+/// order; None where they are other words, also where a name has a NUL, as a word that was no UTF-8 has (`given_words`). An
+/// option and its name are two words, of which the name begins with no dash, or one word with a `=` between. An error means
+/// that memory ran out.
 pub fn file_names(
     alloc: Global,
     words: &[&str],
@@ -24,19 +25,29 @@ pub fn file_names(
         option_map {U = List ℕ × List ℕ} (λ names. (string_bytes names.0, string_bytes names.1)) named ≡ Some (trace, witness)
             ↔ AsksFiles (map (λ word. word.now) words.now) trace witness) }
 {
-    let Some((trace, witness)) = asked_files(words) else {
+    let Some((trace, witness)) = named_files(words) else {
         return Ok(None);
     };
+    if has_nul(trace) || has_nul(witness) {
+        return Ok(None);
+    }
     let trace = String::from_str(alloc, trace)?;
     let witness = String::from_str(alloc, witness)?;
     Ok(Some((trace, witness)))
 }
 
+// Whether a name has a NUL.
+fn has_nul(name: &str) -> bool
+    ensures { result ≡ has_nul name.now }
+{
+    name.as_bytes().contains(&0)
+}
+
 // The two names as they stand in the words.
-fn asked_files<'a>(words: &[&'a str]) -> Option<(&'a str, &'a str)>
+fn named_files<'a>(words: &[&'a str]) -> Option<(&'a str, &'a str)>
     ensures { MatchOption result
-        ((trace witness : List ℕ) → ¬ AsksFiles (map (λ word. word.now) words.now) trace witness)
-        (λ names. AsksFiles (map (λ word. word.now) words.now) names.0.now names.1.now) }
+        ((trace witness : List ℕ) → ¬ AreNamed (map (λ word. word.now) words.now) trace witness)
+        (λ names. AreNamed (map (λ word. word.now) words.now) names.0.now names.1.now) }
 {
     let [command, options @ ..] = words else {
         return None;

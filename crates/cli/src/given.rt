@@ -7,25 +7,29 @@ ghost use Rattle.cli.specs.HexText.{segment_in};
 use std::alloc::Global;
 use std::env::{Args, Env, FillError};
 use std::io;
+use std::str::from_utf8;
 
-/// The words of the command line, the program's name first. Each byte of a word that is not ASCII becomes a `?`, so that a
-/// word is text also where it was no UTF-8. Nothing that the program knows is spelled with either, so the answer to the
-/// words stays the same: `segment` with such a word is `bad segment hex`, and other words are `bad usage`. An error means
-/// that memory ran out.
+/// The words of the command line, the program's name first. Where a word is no UTF-8, each of its bytes that is not ASCII
+/// becomes a NUL, which stands in no word that a process is given; so a word is always text. Nothing that the program knows
+/// is spelled with a NUL, so the answer to the words stays the same: `segment` with such a word is `bad segment hex`, and other
+/// words are `bad usage`, as `file_names` has it for a file's name. An error means that memory ran out.
 pub fn given_words<E: Env>(env: &E, alloc: Global) -> io::Result<Args> {
-    std::env::args(&(PlainWords { env }, alloc))
+    std::env::args(&(TextWords { env }, alloc))
 }
 
-// Words of ASCII alone.
+// Words that are text.
 #[derive(Drop)]
-struct PlainWords<'a, E> {
+struct TextWords<'a, E> {
     env: &'a E,
 }
 
-impl<E: Env> Env for PlainWords<'_, E> {
+impl<E: Env> Env for TextWords<'_, E> {
     fn arg(&self, i: usize, buf: &mut [u8]) -> Result<usize, FillError> {
         let length = self.env.arg(i, buf)?;
-        make_plain(&mut buf[..length]);
+        let word = &mut buf[..length];
+        if from_utf8(word).is_err() {
+            make_plain(word);
+        }
         Ok(length)
     }
 
@@ -38,7 +42,7 @@ impl<E: Env> Env for PlainWords<'_, E> {
     }
 }
 
-// Each byte of a word that is not ASCII becomes a `?`. The word stands for the same segment, or has the same fault.
+// Each byte of a word that is not ASCII becomes a NUL. The word stands for the same segment, or has the same fault.
 fn make_plain(word: &mut [u8])
     ensures plain { word.new ≡ map plain word.old }
     ensures segment { segment_in word.new ≡ segment_in word.old }
@@ -51,5 +55,5 @@ fn make_plain(word: &mut [u8])
 fn plain(byte: u8) -> u8
     ensures { result ≡ plain byte }
 {
-    if byte < 128 { byte } else { b'?' }
+    if byte < 128 { byte } else { 0 }
 }

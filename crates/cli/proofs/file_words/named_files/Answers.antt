@@ -1,6 +1,6 @@
 use Rattle.std.proofs.Common.{inl, inr}
 use Rattle.cli.proofs.FileWords.{asks_behind, asks_neither, not_other}
-use Rattle.cli.proofs.file_words.asked_files.Goals as goal
+use Rattle.cli.proofs.file_words.named_files.Goals as goal
 
 pub returns-in-Some : goal.returns-in-Some
 returns-in-Some c = asks_behind c.args.words.now _ _ _ c.in-len1-up.len_at_least (not_other _ _ c.if-ne.ensures) (inl c.in-Some.ensures)

@@ -1,0 +1,86 @@
+"""Ends that the system has: closed, full, directories, files that are not there, a reader that goes away."""
+import os
+import subprocess
+
+BAD_DEVICE = "bad device\n"
+
+
+def shell(program, words, redirections, folder):
+    """Runs the program behind redirections of the shell. Answers its output, its error output and its status."""
+    script = f'exec "$0" "$@" {redirections}'
+    done = subprocess.run(["sh", "-c", script, program, *words], capture_output=True, cwd=folder, timeout=60, stdin=subprocess.DEVNULL)
+    return done.stdout.decode(), done.stderr.decode(), done.returncode
+
+
+def gone(program, words, text, taken):
+    """Runs the program while the reader of its output takes so many bytes and goes away. Answers what it took, and the rest."""
+    child = subprocess.Popen([program, *words], stdin=subprocess.PIPE, stdout=subprocess.PIPE, stderr=subprocess.PIPE)
+    if taken == 0:
+        child.stdout.close()
+    if text:
+        child.stdin.write(text)
+    child.stdin.close()
+    took = b""
+    if taken:
+        took = child.stdout.read(taken)
+        child.stdout.close()
+    error = child.stderr.read()
+    child.stderr.close()
+    return took.decode(), error.decode(), child.wait(timeout=60)
+
+
+def ends(has_record):
+    """What is tried: a name, the words, the redirections, and the output and status that are wanted."""
+    files = ["check", "--trace", "case.trace", "--witness", "case.witness"]
+    segment = ["segment", "0fa00050ffffffff000000005002ffff00000000"]
+    many = ["many", "--workers", "2"]
+    record = ["record", "--rounds", "2", "--lose", "0"]
+    yes, shown = "yes 18 13\n", "src 4000 dst 80 seq 4294967295 ack 0 flags S wnd 65535 mss - len 0 first 0\n"
+    commands = [(["check"], "< case", yes), (many, "< case", yes), (files, "", yes), (segment, "", shown), (["chck"], "", "bad usage\n"),
+                (record, "", None)]
+    for words, given, line in commands:
+        if words == record and not has_record:
+            continue
+        if line is not None:
+            yield words, given, line, 3 if line == "bad usage\n" else 0
+        for output in ("> /dev/full", ">&-", "> /dev/null >&-", "1< case"):
+            yield words, f"{given} {output}", "", 5
+    for words in (["check"], many):
+        for given in ("< .", "<&-", "0> new"):
+            yield words, given, BAD_DEVICE, 5
+            yield words, f"{given} > /dev/full", "", 5
+    missing = [(name, "case.witness") for name in (".", "none", "", "x" * 300, "x/" * 5000, "case/x", "loop")]
+    for trace, witness in [*missing, ("case.trace", "."), ("case.trace", "none"), ("case.trace", "")]:
+        yield ["check", f"--trace={trace}", f"--witness={witness}"], "", BAD_DEVICE, 5
+    yield files, "<&-", yes, 0
+    yield files, "<&- >&-", "", 5
+    yield ["check", "--trace", "/dev/stdin", "--witness", "case.witness"], "< case.trace", yes, 0
+
+
+def tried_devices(program, cases, folder):
+    """How many runs were made, and those that were wrong, as texts."""
+    with open(os.path.join(cases, "examples", "handshake_and_five_bytes.case"), "rb") as file:
+        text = file.read()
+    trace, witness = text.split(b"witness 1\n", 1)
+    for name, part in (("case", text), ("case.trace", trace), ("case.witness", b"witness 1\n" + witness)):
+        with open(os.path.join(folder, name), "wb") as file:
+            file.write(part)
+    os.symlink("loop", os.path.join(folder, "loop"))
+    has_record = subprocess.run([program, "record", "--rounds", "1", "--lose", "0"], capture_output=True).stdout != b"bad usage\n"
+    runs, wrong = 0, []
+    for words, redirections, output, status in ends(has_record):
+        found = shell(program, words, redirections, folder)
+        runs += 1
+        if found != (output, "", status):
+            wrong.append(f"{words} {redirections}: {found}, and not {(output, '', status)}")
+    for name in ("case", "case.trace", "case.witness"):
+        with open(os.path.join(folder, name), "rb") as file:
+            if file.read() != {"case": text, "case.trace": trace, "case.witness": b"witness 1\n" + witness}[name]:
+                wrong.append(f"{name} was changed")
+    for words, given, taken in ((["check"], text, 0), (["many", "--workers", "2"], (text + b"end\n") * 20_000, 0),
+                                (["many", "--workers", "2"], (text + b"end\n") * 20_000, 15), (["segment", "00"], b"", 0)):
+        took, error, status = gone(program, words, given, taken)
+        runs += 1
+        if (error, status) != ("", 5) or took != "yes 18 13\nyes 18 13\n"[:taken]:
+            wrong.append(f"{words}, of whose output {taken} bytes are read: {took!r} {error!r} {status}")
+    return runs, wrong

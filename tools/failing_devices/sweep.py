@@ -1,0 +1,149 @@
+#!/usr/bin/env python3
+"""Runs the built program while its reads and writes fail, and says of each run whether its answer is one that may be given.
+
+    sweep.py PROGRAM CASES [--jobs N]
+
+PROGRAM is the built `tcpwit`, CASES the folder of the case files with its `expected.txt`. `fail.c` beside this script is built
+with `cc` and put before the program by LD_PRELOAD. Each command runs with whole reads and writes, and with pieces of 7 bytes or
+1, so that it makes many of them. Then the Nth read, and the Nth write, fails, is interrupted, moves one byte or moves none, for
+every N up to the last, alone and with all later ones.
+
+A read that fails is `bad device` with status 5. A write that fails, or moves nothing, leaves what was written before it, status
+5, and no write behind it. A read that moves nothing is the end of its text, so the answer is that of the text so far. After an
+interruption the answer is the right one, or as of a failure; after one byte it is the right one. `devices` tries the ends that
+the system has, with no library before the program. Anything else, a signal or a word on standard error is wrong and is printed.
+The last line has the counts; the exit status is 1 where any run was wrong.
+"""
+import argparse
+import concurrent.futures
+import os
+import subprocess
+import sys
+import tempfile
+
+HERE = os.path.dirname(os.path.abspath(__file__))
+sys.path.insert(0, os.path.dirname(HERE))
+
+from commands import commands
+from devices import tried_devices
+
+BAD_DEVICE = (b"bad device\n", 5)
+WAYS = ("error", "interrupted", "short", "nothing")
+
+
+class Run:
+    """One run: what it wrote, its status, and what the library counted."""
+
+    def __init__(self, program, library, command, environment):
+        words, text = command
+        with tempfile.NamedTemporaryFile() as counts:
+            surroundings = {"PATH": os.environ.get("PATH", ""), "LD_PRELOAD": library, "FAIL_COUNT": counts.name, **environment}
+            try:
+                done = subprocess.run([program, *words], input=text, capture_output=True, env=surroundings, timeout=60)
+            except subprocess.TimeoutExpired:
+                self.answer = self.error = None
+                return
+            self.answer, self.error = (done.stdout, done.returncode), done.stderr
+            found = [int(number) for number in counts.read().split()]
+        self.reads, self.writes, self.writes_behind, self.file, self.read_before = found or [0, 0, 0, -1, 0]
+
+
+def cut_answer(program, library, command, run):
+    """The answer where the text of the file that was read ends behind what was read of it, with nothing failing."""
+    words, text = command
+    if "--trace" not in words:
+        return Run(program, library, (words, text[: run.read_before]), {}).answer
+    # the trace was opened first, so its number is the lesser one, 3
+    place = words.index("--trace" if run.file == 3 else "--witness") + 1
+    with tempfile.NamedTemporaryFile() as cut:
+        with open(words[place], "rb") as whole:
+            cut.write(whole.read()[: run.read_before])
+        cut.flush()
+        return Run(program, library, ([*words[:place], cut.name, *words[place + 1 :]], text), {}).answer
+
+
+def is_right(program, library, command, plain, environment):
+    """Whether the run of a command may end as it does, where `plain` is the one in which nothing fails."""
+    run = Run(program, library, command, environment)
+    how = environment["FAIL_HOW"]
+    if run.answer is None or run.error or run.writes_behind:
+        return False, run
+    allowed = [plain.answer] if how in ("short", "interrupted") else []
+    if "FAIL_READ" in environment:
+        if run.file == -1:
+            allowed = [plain.answer]
+        elif how == "nothing":
+            allowed = [cut_answer(program, library, command, run)]
+        elif how != "short":
+            allowed.append(BAD_DEVICE)
+    elif int(environment["FAIL_WRITE"]) > plain.writes:
+        allowed = [plain.answer]
+    elif how != "short":
+        whole = int(environment["FAIL_PIECE"] or len(plain.answer[0]))
+        allowed.append((plain.answer[0][: whole * (int(environment["FAIL_WRITE"]) - 1)], 5))
+    return run.answer in allowed, run
+
+
+def failures(plain, piece):
+    """What fails in turn, as environments."""
+    for place, count in (("FAIL_READ", plain.reads), ("FAIL_WRITE", plain.writes)):
+        for n in range(1, count + 2):
+            for how in WAYS:
+                yield {place: str(n), "FAIL_HOW": how, "FAIL_PIECE": piece}
+                if how != "interrupted":
+                    yield {place: str(n), "FAIL_HOW": how, "FAIL_PIECE": piece, "FAIL_FROM": "1"}
+
+
+def swept(program, library, name, command, line, pool):
+    """The runs of one command and those that were wrong, as texts."""
+    runs, wrong = 0, []
+    for piece in ("", "7", "1"):
+        plain = Run(program, library, command, {"FAIL_PIECE": piece})
+        if plain.answer is None or plain.error or plain.answer[0].decode() != line + "\n":
+            return runs + 1, [*wrong, f"{name}: with nothing failing {plain.answer} {plain.error}"]
+        if piece == "1" and plain.reads > 200:
+            continue
+        asked = list(failures(plain, piece))
+        answers = pool.map(lambda environment: is_right(program, library, command, plain, environment), asked)
+        failed = [
+            f"{name} {environment}: {run.answer} {run.error} {run.__dict__}"
+            for environment, (is_fine, run) in zip(asked, answers)
+            if not is_fine
+        ]
+        print(f"{name}: pieces of {piece or 'any'} bytes, {plain.reads} reads, {plain.writes} writes, {len(asked)} runs, {len(failed)} wrong", flush=True)
+        runs, wrong = runs + len(asked) + 1, wrong + failed
+    return runs, wrong
+
+
+def built_library(folder):
+    library = os.path.join(folder, "fail.so")
+    subprocess.run(["cc", "-O2", "-Wall", "-shared", "-fPIC", "-o", library, os.path.join(HERE, "fail.c")], check=True)
+    return library
+
+
+def main():
+    words = argparse.ArgumentParser(description=__doc__.splitlines()[0])
+    words.add_argument("program")
+    words.add_argument("cases")
+    words.add_argument("--jobs", type=int, default=os.cpu_count())
+    words = words.parse_args()
+    program = os.path.abspath(words.program)
+    runs, wrong = 0, []
+    with tempfile.TemporaryDirectory() as folder, concurrent.futures.ThreadPoolExecutor(words.jobs) as pool:
+        library = built_library(folder)
+        for name, (command, line) in commands(words.cases, folder).items():
+            if line is None:
+                # what is recorded differs from run to run, so it is tried with the ends of the system alone
+                continue
+            done, failed = swept(program, library, name, command, line, pool)
+            runs, wrong = runs + done, wrong + failed
+        done, failed = tried_devices(program, words.cases, folder)
+        runs, wrong = runs + done, wrong + failed
+    for text in wrong:
+        print(text)
+    print(f"{runs} runs, {len(wrong)} wrong")
+    sys.exit(1 if wrong else 0)
+
+
+if __name__ == "__main__":
+    main()
