@@ -2,7 +2,7 @@
 //!
 //! The case of each name is `data/NAME.case`, and `data/expected.txt` has the line that `tcpwit check` must print for it
 //! (`data/README.md`). Beside the files, each beginning of two of them is asked for, lines of the greatest length, inputs of
-//! several cases, and the command lines of `data/command_lines.txt`.
+//! several cases, the command lines of `data/command_lines.txt`, and what `tcpwit_lab` says of some of them (`data/told.txt`).
 //! Where all is answered as wanted, one line with the counts is printed. Else each answer that differs has a line on
 //! standard error, with the name of the case, how it was asked, what was wanted and what was found, and the program ends
 //! with status 1.
@@ -12,6 +12,7 @@
 //! - `long_lines`: lines of the greatest length, and one byte longer
 //! - `asking`: by `check_case`, by the word `check`, as two texts in pieces, and by the words of `many`
 //! - `command_lines`: by words, as the program is given them
+//! - `told`: what `tcpwit_lab` says of a case
 #![tactic(auto)]
 
 mod asking;
@@ -19,6 +20,7 @@ mod beginnings;
 mod command_lines;
 mod long_lines;
 mod table;
+mod told;
 
 use std::process::ExitCode;
 use std::{fs, io};
@@ -39,6 +41,8 @@ fn main(rt: HostRuntime) -> io::Result<ExitCode> {
     asking::ask_ends(&rt, alloc, &mut differing)?;
     let table = fs::read_to_string(&rt, "command_lines.txt")?;
     let rows = command_lines::ask_rows(&rt, alloc, table.as_str(), &mut differing)?;
+    let table = fs::read_to_string(&rt, "told.txt")?;
+    let told = told::ask_told(&rt, alloc, table.as_str(), &mut differing)?;
     for line in &differing {
         eprintln!(rt; "{line}")?;
     }
@@ -47,7 +51,7 @@ fn main(rt: HostRuntime) -> io::Result<ExitCode> {
     }
     let long = cases.len().saturating_sub(files).saturating_sub(others);
     println!(rt;
-        "{files} case files, {others} beginnings of two of them, {long} long lines and {rows} command lines are answered as wanted"
+        "{files} case files, {others} beginnings of two of them, {long} long lines and {rows} command lines are answered as wanted, and {told} cases explained, shown or drawn as wanted"
     )?;
     Ok(ExitCode::SUCCESS)
 }
