@@ -2,7 +2,8 @@
 //!
 //! The case of each name is `data/NAME.case`, and `data/expected.txt` has the line that `tcpwit check` must print for it
 //! (`data/README.md`). Beside the files, each beginning of two of them is asked for, lines of the greatest length, inputs of
-//! several cases, pairs of texts that no case would be cut into, and the command lines of `data/command_lines.txt`.
+//! several cases, pairs of texts that no case would be cut into, the command lines of `data/command_lines.txt`, and what
+//! `tcpwit_lab` says of some cases (`data/told.txt`).
 //! Where all is answered as wanted, one line with the counts is printed. Else each answer that differs has a line on
 //! standard error, with the name of the case, how it was asked, what was wanted and what was found, and the program ends
 //! with status 1.
@@ -13,6 +14,7 @@
 //! - `pairs`: a trace and a witness as two texts, into which no case would be cut
 //! - `asking`: by `check_case`, by the word `check`, as two texts in pieces, and by the words of `many`
 //! - `command_lines`: by words, as the program is given them
+//! - `told`: what `tcpwit_lab` says of a case
 #![tactic(auto)]
 
 mod asking;
@@ -21,6 +23,7 @@ mod command_lines;
 mod long_lines;
 mod pairs;
 mod table;
+mod told;
 
 use std::process::ExitCode;
 use std::{fs, io};
@@ -42,6 +45,8 @@ fn main(rt: HostRuntime) -> io::Result<ExitCode> {
     let pairs = pairs::ask_pairs(&rt, "handshake_and_five_bytes", &mut differing)?;
     let table = fs::read_to_string(&rt, "command_lines.txt")?;
     let rows = command_lines::ask_rows(&rt, alloc, table.as_str(), &mut differing)?;
+    let table = fs::read_to_string(&rt, "told.txt")?;
+    let told = told::ask_told(&rt, alloc, table.as_str(), &mut differing)?;
     for line in &differing {
         eprintln!(rt; "{line}")?;
     }
@@ -50,7 +55,7 @@ fn main(rt: HostRuntime) -> io::Result<ExitCode> {
     }
     let long = cases.len().saturating_sub(files).saturating_sub(others);
     println!(rt;
-        "{files} case files, {others} beginnings of two of them, {long} long lines, {pairs} pairs of texts and {rows} command lines are answered as wanted"
+        "{files} case files, {others} beginnings of two of them, {long} long lines, {pairs} pairs of texts and {rows} command lines are answered as wanted, and {told} cases explained, shown or drawn as wanted"
     )?;
     Ok(ExitCode::SUCCESS)
 }

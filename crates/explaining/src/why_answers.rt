@@ -137,10 +137,7 @@ fn next_bytes(
     let Some(endpoint) = body.endpoint_at(place) else {
         return Ok(());
     };
-    let bytes = endpoint
-        .stream
-        .receive
-        .read(alloc, usize::from(asked.1))?;
+    let bytes = endpoint.stream.receive.read(alloc, usize::from(asked.1))?;
     if bytes.is_empty() {
         return Ok(());
     }

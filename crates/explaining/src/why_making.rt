@@ -198,7 +198,11 @@ fn payload_range(
     say(
         out,
         &[
-            Piece::Word(if plan.flags.fin { ", and a FIN there" } else { "" }),
+            Piece::Word(if plan.flags.fin {
+                ", and a FIN there"
+            } else {
+                ""
+            }),
             Piece::Word("; sends accepted the bytes from 1 up to "),
             Piece::Number(endpoint.stream.accepted.end()),
             Piece::Word(if endpoint.stream.ended {

@@ -48,9 +48,7 @@ fn why_at(
     match asked.1 {
         Rule::State => say(
             out,
-            &[Piece::Word(
-                "in SYN-SENT a segment is taken that has SYN or RST",
-            )],
+            &[Piece::Word("in SYN-SENT a segment is taken that has SYN or RST")],
         ),
         Rule::NotPeer => not_peer(out, scene, host, endpoint, read),
         Rule::Number => number(out, scene.header.version.is_half(), endpoint, read),
@@ -76,9 +74,7 @@ fn why_listening(
     match rule {
         Rule::State => say(
             out,
-            &[Piece::Word(
-                "a listener takes a segment with SYN, without ACK and RST",
-            )],
+            &[Piece::Word("a listener takes a segment with SYN, without ACK and RST")],
         ),
         Rule::Growth => say(
             out,
@@ -292,9 +288,7 @@ fn not_peer(
 ) -> Result<(), OutOfMemory> {
     say(
         out,
-        &[Piece::Word(
-            "endpoints are counted from 0 at each host, in the order of creation",
-        )],
+        &[Piece::Word("endpoints are counted from 0 at each host, in the order of creation")],
     )?;
     let number = scene
         .world
@@ -343,10 +337,7 @@ fn reads(
         ],
     )?;
     match place_read(number, near, base) {
-        Some(place) => add(
-            out,
-            &[Piece::Word(" as position "), Piece::Number(place)],
-        ),
+        Some(place) => add(out, &[Piece::Word(" as position "), Piece::Number(place)]),
         None => add(out, &[Piece::Word(" as no position")]),
     }
 }
@@ -396,10 +387,7 @@ fn meant(out: &mut Vec<u8>, half: bool, position: u64) -> Result<(), OutOfMemory
     }
     say(
         out,
-        &[
-            Piece::Word(", it was meant as "),
-            Piece::Number(position),
-        ],
+        &[Piece::Word(", it was meant as "), Piece::Number(position)],
     )
 }
 
@@ -580,9 +568,7 @@ fn sample(out: &mut Vec<u8>, endpoint: &Endpoint, m: &Arrived<'_>) -> Result<(),
             &[
                 Piece::Word("it acknowledges nothing new: una is "),
                 Piece::Number(una),
-                Piece::Word(
-                    "; a round trip is measured by a new acknowledgment, not by a reset",
-                ),
+                Piece::Word("; a round trip is measured by a new acknowledgment, not by a reset"),
             ],
         );
     }

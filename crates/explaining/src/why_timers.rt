@@ -72,9 +72,7 @@ fn off(out: &mut Vec<u8>, endpoint: &Endpoint, timer: Timer) -> Result<(), OutOf
         Timer::Persist => persist_off(out, endpoint),
         Timer::Msl2 => say(
             out,
-            &[Piece::Word(
-                "the timer is off: it is armed on entering TIME-WAIT",
-            )],
+            &[Piece::Word("the timer is off: it is armed on entering TIME-WAIT")],
         ),
         Timer::Giveup => giveup_off(out, endpoint),
     }
@@ -159,10 +157,7 @@ fn early(
     };
     let since = since.unwrap_or(0);
     let grain = scene.header.grain;
-    let earliest = since
-        .saturating_add(time)
-        .saturating_sub(grain)
-        .max(since);
+    let earliest = since.saturating_add(time).saturating_sub(grain).max(since);
     say(
         out,
         &[

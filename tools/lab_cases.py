@@ -1,0 +1,94 @@
+#!/usr/bin/env python3
+"""Runs tcpwit_lab on the case files: pictures, its words, and which witnesses are found again.
+
+    lab_cases.py TCPWIT TCPWIT_LAB CASES
+
+CASES is crates/case_files/data. Looks whether each picture is XML, lies within its frame and has one red mark exactly where the
+verdict is no; whether bad words are answered by `bad usage`; and looks for a witness of the trace of each case that is
+answered yes. Ends with status 1 where a picture or an answer is wrong; a witness that is not found is only counted.
+"""
+import pathlib
+import subprocess
+import sys
+import xml.etree.ElementTree as ElementTree
+
+USAGE = [
+    [], ["Draw"], ["draw", "--from"], ["draw", "--from", "0"], ["draw", "--from", "+9"], ["draw", "--from", "09"],
+    ["draw", "--from", "9", "--from", "9"], ["draw", "--to", "9", "--to", "9"], ["draw", "--from", "9", "--to"],
+    ["draw", "--from", "9", "--to", "8"], ["draw", "--to", "8", "--from", "9"], ["draw", "--from", "99999999999999999999"],
+    ["draw", "9"], ["draw", "--from", "9", "--to", "9", "--to", "9"], ["find", "x"], ["show", "--from", "9"], ["explain", ""],
+]
+RANGES = [
+    (["--from", "9"], 9, None), (["--to", "12"], None, 12), (["--from", "9", "--to", "12"], 9, 12),
+    (["--to", "12", "--from", "9"], 9, 12),
+]
+
+
+def run(program, words, text):
+    done = subprocess.run([program, *words], input=text, capture_output=True, timeout=120)
+    return done.returncode, done.stdout
+
+
+def points(element):
+    """The points of an element, those of a text too."""
+    names = [("x1", "y1"), ("x2", "y2"), ("cx", "cy"), ("x", "y")]
+    return [(int(element.get(x)), int(element.get(y))) for x, y in names if element.get(x) and element.get(y)]
+
+
+def faults_of_picture(picture, answered):
+    """What is wrong with a picture of a case whose verdict begins with this word."""
+    root = ElementTree.fromstring(picture)
+    width, height = int(root.get("width")), int(root.get("height"))
+    for element in root.iter():
+        for x, y in points(element):
+            if not (0 <= x <= width and 0 <= y <= height):
+                yield f"a point out of the frame: {x} {y}"
+    marks = [element for element in root.iter() if element.get("class") == "refused"]
+    if len(marks) != (1 if answered == "no" else 0):
+        yield f"{len(marks)} red marks, and the answer is {answered}"
+
+
+def lines_drawn(picture):
+    """The numbers of the trace lines that a picture has."""
+    texts = [element for element in ElementTree.fromstring(picture).iter() if element.get("class") == "when"]
+    return [int(element.text.split()[0]) for element in texts]
+
+
+def wrong_words(lab, case):
+    for words in USAGE:
+        if run(lab, words, case) != (3, b"bad usage\n"):
+            yield f"{words}: no `bad usage`"
+    numbers = lines_drawn(run(lab, ["draw"], case)[1])
+    for words, first, last in RANGES:
+        wanted = [n for n in numbers if (first or 0) <= n <= (last or n)]
+        if lines_drawn(run(lab, ["draw", *words], case)[1]) != wanted:
+            yield f"{words}: other lines than {wanted}"
+
+
+def main():
+    if len(sys.argv) != 4:
+        sys.exit(__doc__)
+    tcpwit, lab, folder = sys.argv[1], sys.argv[2], pathlib.Path(sys.argv[3])
+    wrong = list(wrong_words(lab, (folder / "examples/handshake_and_five_bytes.case").read_bytes()))
+    pictures = yes = 0
+    missed = []
+    for row in (folder / "expected.txt").read_text().splitlines():
+        name, answer = row.split("\t")
+        case = (folder / f"{name}.case").read_bytes()
+        status, picture = run(lab, ["draw"], case)
+        if status == 0:
+            pictures += 1
+            wrong += [f"{name}: {fault}" for fault in faults_of_picture(picture, answer.split()[0])]
+        if answer.startswith("yes "):
+            yes += 1
+            trace = case[:case.index(b"\nwitness ") + 1]
+            verdict = run(tcpwit, ["check"], run(lab, ["find"], trace)[1])[1].decode().strip()
+            if not verdict.startswith("yes "):
+                missed.append(f"{name}: {verdict}")
+    print("\n".join(missed + wrong))
+    print(f"{pictures} pictures; of {yes} cases answered yes {yes - len(missed)} are found again; {len(wrong)} wrong answers")
+    sys.exit(1 if wrong else 0)
+
+
+if __name__ == "__main__":
+    main()
