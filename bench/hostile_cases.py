@@ -336,6 +336,39 @@ def duplicate_acknowledgments(count):
     return case
 
 
+def collide(number, groups):
+    """Whether a line number's hash begins in the first quarter of the places of a table with so many groups of them."""
+    product = (0x243F6A8885A308D3 ^ number) * (0x9E3779B97F4A7C15 ^ 16)
+    mixed = (product & (2**64 - 1)) ^ (product >> 64)
+    return ((mixed ^ (mixed >> 32)) & (groups - 1)) < max(groups // 4, 1)
+
+
+@kind(50_000, 100_000, 200_000)
+def copies_on_lines_that_collide(count):
+    """The lines between are calls, so that a copy stands only where the kit's hasher, whose seed is fixed, crowds the table."""
+    case, connection = Case(), Connection()
+    connected(case, connection)
+    text = connection.text(0, 1, "A", 1)
+    out = case.goes(0, text, case.make(connection, 0, 1, 0, "A"))
+    groups = 1
+    while 9 * groups < count:
+        groups *= 2
+    lines, is_open = [], False
+    while len(lines) < count:
+        if collide(FIRST_EVENT_LINE + len(case.events), groups):
+            lines.append(case.comes(1, text, out))
+        elif is_open:
+            case.event(1, "E badsocket")
+            is_open = False
+        else:
+            case.event(1, "B status 1")
+            case.step("D 1 badsocket")
+            is_open = True
+    for line in reversed(lines):
+        case.step(f"K 1 {line}")
+    return case
+
+
 def callers(count):
     """The connections of so many ports of host 0 to one listener."""
     return [Connection((port, 80), (port * 65_537 % 2**32, 100)) for port in range(1, 1 + count)]
