@@ -40,7 +40,11 @@ pub fn answer(alloc: Global, recorded: &Recorded) -> Result<&'static str, AllocE
 }
 
 /// The same of a recording of so many rounds, or what else is wrong with it.
-pub fn judge(alloc: Global, recording: &Recording, rounds: u16) -> Result<&'static str, AllocError> {
+pub fn judge(
+    alloc: Global,
+    recording: &Recording,
+    rounds: u16,
+) -> Result<&'static str, AllocError> {
     let recorded = &recording.recorded;
     if !recording.ended {
         return Ok("a limit was met");
