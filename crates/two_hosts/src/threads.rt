@@ -61,8 +61,10 @@ pub fn run_threads<
     requires hosts { (L.host ≡ Zero) × (M.host ≡ One) }
     requires lanes { (lane client.old.seat.thread ≡ Zero) × (lane server.old.seat.thread ≡ One) }
 {
-    let (zero, one) = (client.recorder, server.recorder);
-    let (client, server) = (&mut *client, &mut *server);
+    let zero = client.recorder;
+    let one = server.recorder;
+    let client = &mut *client;
+    let server = &mut *server;
     let Way {
         out: to_one,
         from: from_zero,
