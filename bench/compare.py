@@ -26,6 +26,7 @@ CASES = [
     ("reading alone", "long_trace.py", None, ["check"]),
     ("colliding threads", "colliding_threads.py", (["73500"], ["147000"]), ["check"]),
     ("bytes made again", "made_again.py", (["32000"], ["64000"]), ["check"]),
+    ("pieces out of order", "out_of_order.py", (["32000"], ["64000"]), ["check"]),
     ("many cases", "many_cases.py", None, ["many", "--workers", "1"]),
 ]
 

@@ -83,13 +83,12 @@ fn text(alloc: Global, witness: &str) -> Result<Vec<u8>, AllocError> {
     Ok(bytes)
 }
 
-// A case of each status.
-fn three_cases(alloc: Global) -> Result<Vec<Vec<u8>>, AllocError> {
-    let mut cases = Vec::new(alloc);
-    cases.push(text(alloc, EXPLAINED)?)?;
-    cases.push(text(alloc, NOT_EXPLAINED)?)?;
-    cases.push(text(alloc, CUT)?)?;
-    Ok(cases)
+// The text of a case of each status.
+fn three_texts(alloc: Global) -> Result<(Vec<u8>, Vec<u8>, Vec<u8>), AllocError> {
+    let explained = text(alloc, EXPLAINED)?;
+    let not_explained = text(alloc, NOT_EXPLAINED)?;
+    let cut = text(alloc, CUT)?;
+    Ok((explained, not_explained, cut))
 }
 
 // Their answers.
@@ -117,10 +116,11 @@ fn three_answers() -> [CaseResult; 3] {
 
 #[test]
 fn two_workers_wait_for_each_other(rt: HostRuntime) -> Result<(), Fail> {
-    let cases = three_cases(rt.alloc())?;
+    let (one, two, three) = three_texts(rt.alloc())?;
+    let cases = [one.as_slice(), two.as_slice(), three.as_slice()];
     for (held, until) in [(1, 2), (2, 1)] {
         let gate = Holds::new(held, until);
-        let answers = check_many(&rt, rt.alloc(), cases.as_slice(), 2, &gate)?;
+        let answers = check_many(&rt, rt.alloc(), &cases, 2, &gate)?;
         assert!(rt;
             answers.as_slice() == three_answers().as_slice(),
             "{held} until {until}"
@@ -139,12 +139,13 @@ fn two_workers_wait_for_each_other(rt: HostRuntime) -> Result<(), Fail> {
 
 #[test]
 fn any_number_of_workers_answers_the_same(rt: HostRuntime) -> Result<(), Fail> {
-    let cases = three_cases(rt.alloc())?;
-    let plain = check_many_plain(rt.alloc(), cases.as_slice())?;
+    let (one, two, three) = three_texts(rt.alloc())?;
+    let cases = [one.as_slice(), two.as_slice(), three.as_slice()];
+    let plain = check_many_plain(rt.alloc(), &cases)?;
     assert!(rt; plain.as_slice() == three_answers().as_slice());
     for workers in [1, 2, 3, 64] {
         let gate = Holds::new(3, 3);
-        let answers = check_many(&rt, rt.alloc(), cases.as_slice(), workers, &gate)?;
+        let answers = check_many(&rt, rt.alloc(), &cases, workers, &gate)?;
         assert!(rt; answers.as_slice() == plain.as_slice(), "{workers} workers");
         for case in 0..3 {
             let calls = gate.calls[case].load(Ordering::SeqCst);
@@ -165,16 +166,15 @@ fn no_case_has_no_answer(rt: HostRuntime) -> Result<(), Fail> {
 
 #[test]
 fn doubled_cases_have_an_answer_each(rt: HostRuntime) -> Result<(), Fail> {
-    let mut cases = three_cases(rt.alloc())?;
-    for case in three_cases(rt.alloc())? {
-        cases.push(case)?;
-    }
+    let (one, two, three) = three_texts(rt.alloc())?;
+    let once = [one.as_slice(), two.as_slice(), three.as_slice()];
+    let cases = [once[0], once[1], once[2], once[0], once[1], once[2]];
     let gate = Holds::new(3, 3);
     for workers in [1, 2, 64] {
-        let answers = check_many(&rt, rt.alloc(), cases.as_slice(), workers, &gate)?;
+        let answers = check_many(&rt, rt.alloc(), &cases, workers, &gate)?;
         assert_eq!(rt; answers.len(), 6, "{workers} workers");
-        let (once, again) = answers.as_slice().split_at(3);
-        assert!(rt; once == three_answers().as_slice(), "{workers} workers");
+        let (first, again) = answers.as_slice().split_at(3);
+        assert!(rt; first == three_answers().as_slice(), "{workers} workers");
         assert!(rt; again == three_answers().as_slice(), "{workers} workers");
     }
     Ok(())
