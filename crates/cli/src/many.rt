@@ -86,7 +86,7 @@ fn many<R: BufRead, W: Write, H: Threads + Wait + Sync>(
 {
     let mut text = Vec::new(alloc);
     match r.append_all(&mut text) {
-        Ok(()) => answer_cases(rt, alloc, text, workers, w),
+        Ok(()) => answer_cases(rt, alloc, text.as_slice(), workers, w),
         Err(ReadFault::Read) => {
             let _ = say(w, b"bad device\n", DEVICE);
             DEVICE
@@ -99,12 +99,12 @@ fn many<R: BufRead, W: Write, H: Threads + Wait + Sync>(
 fn answer_cases<W: Write, H: Threads + Wait + Sync>(
     rt: &H,
     alloc: Global,
-    text: Vec<u8>,
+    text: &[u8],
     workers: usize,
     w: &mut Counted<W>,
 ) -> u8
     requires { failures_of w.old < 2 ^ 50 }
-    ensures many { result ≢ 5 → EndsMany (cases_of text.items) result (left_of W.contents w.old) (left_of W.contents w.new) }
+    ensures many { result ≢ 5 → EndsMany (cases_of text.now) result (left_of W.contents w.old) (left_of W.contents w.new) }
     ensures device { result ≡ 5 → failures_of w.old < failures_of w.new }
     ensures quiet { result ≢ 5 → failures_of w.new ≡ failures_of w.old }
 {
@@ -127,10 +127,10 @@ impl Gate for Unwatched {
 fn answers_to<H: Threads + Wait + Sync>(
     rt: &H,
     alloc: Global,
-    text: Vec<u8>,
+    text: &[u8],
     workers: usize,
 ) -> Result<Vec<CaseResult>, OutOfMemory>
-    ensures { IfOk result (λ answers. AnswersEach (cases_of text.items) answers.items) }
+    ensures { IfOk result (λ answers. AnswersEach (cases_of text.now) answers.items) }
 {
     let cases = cut_cases(alloc, text)?;
     check_many(rt, alloc, cases.as_slice(), workers, &Unwatched)
@@ -144,26 +144,25 @@ fn ends_case(raw: &[u8]) -> bool
     ended && text == "end".as_bytes()
 }
 
-// The cases of a text, each copied once. The text is then discarded.
-fn cut_cases(alloc: Global, text: Vec<u8>) -> Result<Vec<Vec<u8>>, OutOfMemory>
-    ensures { IfOk result (λ cases. map (λ case. case.items) cases.items ≡ cases_of text.items) }
+// The cases of a text, as slices of it.
+fn cut_cases<'a>(alloc: Global, text: &'a [u8]) -> Result<Vec<&'a [u8]>, OutOfMemory>
+    ensures { IfOk result (λ cases. map (λ case. case.now) cases.items ≡ cases_of text.entry.now) }
 {
     let mut cases = Vec::new(alloc);
-    let bytes = text.as_slice();
     let mut start = 0;
     let mut at = 0;
-    for raw in bytes.lines_with_terminator() {
+    for raw in text.lines_with_terminator() {
         let end = at + raw.len();
         if ends_case(raw) {
-            cases.push(Vec::from_slice(alloc, &bytes[start..at])?)?;
+            cases.push(&text[start..at])?;
             start = end;
         }
         at = end;
     }
-    if start >= bytes.len() {
+    if start >= text.len() {
         return Ok(cases);
     }
-    cases.push(Vec::from_slice(alloc, &bytes[start..])?)?;
+    cases.push(&text[start..])?;
     Ok(cases)
 }
 

@@ -12,11 +12,11 @@ use std::alloc::Global;
 /// One answer to each case, in their order: that of a worker, or else its own.
 pub fn gather<C: Cases, G: Gate>(
     alloc: Global,
-    cases: &[Vec<u8>],
+    cases: &[&[u8]],
     parts: Vec<Vec<Done<C>>>,
     gate: &G,
 ) -> Result<Vec<CaseResult>, OutOfMemory>
-    requires { map (λ case. case.items) cases.now ≡ C.cases }
+    requires { map (λ case. case.now) cases.now ≡ C.cases }
     ensures { IfOk result (λ answers. AnswersEach C.cases answers.items) }
 {
     let mut slots = empty_slots(alloc, cases.len())?;
@@ -61,11 +61,11 @@ fn put<C: Cases>(slots: &mut Vec<Option<CaseResult>>, done: Done<C>)
 // Takes the answers out of their slots, and checks the cases that have none.
 fn settle<C: Cases, G: Gate>(
     alloc: Global,
-    cases: &[Vec<u8>],
+    cases: &[&[u8]],
     mut slots: Vec<Option<CaseResult>>,
     gate: &G,
 ) -> Result<Vec<CaseResult>, OutOfMemory>
-    requires cases { map (λ case. case.items) cases.now ≡ C.cases }
+    requires cases { map (λ case. case.now) cases.now ≡ C.cases }
     requires slots { AreSlots C.cases slots.items }
     ensures { IfOk result (λ answers. AnswersEach C.cases answers.items) }
 {
@@ -90,14 +90,9 @@ fn take_slot<C: Cases>(slots: &mut Vec<Option<CaseResult>>, index: usize) -> Opt
 }
 
 // The answer to a case that no worker has checked.
-fn missing<C: Cases, G: Gate>(
-    alloc: Global,
-    cases: &[Vec<u8>],
-    index: usize,
-    gate: &G,
-) -> CaseResult
+fn missing<C: Cases, G: Gate>(alloc: Global, cases: &[&[u8]], index: usize, gate: &G) -> CaseResult
     requires in_range { index < length cases.now }
-    requires cases { map (λ case. case.items) cases.now ≡ C.cases }
+    requires cases { map (λ case. case.now) cases.now ≡ C.cases }
     ensures { IsAnswer (get_or C.cases index []) result }
 {
     let done: Done<C> = check_one(alloc, cases, index, gate);

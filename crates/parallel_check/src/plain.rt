@@ -13,12 +13,12 @@ pub type CaseResult = Result<Verdict, CaseFault>;
 
 /// Checks all cases, on this thread. One for which memory runs out is answered so, and the others as ever; `Err` is want
 /// of memory for the list itself.
-pub fn check_many_plain(alloc: Global, cases: &[Vec<u8>]) -> Result<Vec<CaseResult>, OutOfMemory>
-    ensures { IfOk result (λ answers. AnswersEach (map (λ case. case.items) cases.now) answers.items) }
+pub fn check_many_plain(alloc: Global, cases: &[&[u8]]) -> Result<Vec<CaseResult>, OutOfMemory>
+    ensures { IfOk result (λ answers. AnswersEach (map (λ case. case.now) cases.now) answers.items) }
 {
     let mut answers = Vec::with_capacity(alloc, cases.len())?;
     for text in cases {
-        answers.push(answer_to(alloc, text.as_slice()))?;
+        answers.push(answer_to(alloc, text))?;
     }
     Ok(answers)
 }

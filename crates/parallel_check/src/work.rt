@@ -45,16 +45,16 @@ pub struct Done<C: Cases> {
 /// Checks one case, between the two calls of the gate.
 pub fn check_one<C: Cases, G: Gate>(
     alloc: Global,
-    cases: &[Vec<u8>],
+    cases: &[&[u8]],
     index: usize,
     gate: &G,
 ) -> Done<C>
     requires in_range { index < length cases.now }
-    requires cases { map (λ case. case.items) cases.now ≡ C.cases }
+    requires cases { map (λ case. case.now) cases.now ≡ C.cases }
     ensures { result.index ≡ index }
 {
     gate.before(index);
-    let answer = answer_to(alloc, cases[index].as_slice());
+    let answer = answer_to(alloc, cases[index]);
     gate.after(index);
     Done {
         index,
@@ -80,11 +80,11 @@ fn take<H: Wait>(rt: &H, next: &Mutex<usize>, count: usize) -> Option<usize>
 fn work<C: Cases, G: Gate, H: Wait>(
     rt: &H,
     alloc: Global,
-    cases: &[Vec<u8>],
+    cases: &[&[u8]],
     next: &Mutex<usize>,
     gate: &G,
 ) -> Vec<Done<C>>
-    requires { map (λ case. case.items) cases.now ≡ C.cases }
+    requires { map (λ case. case.now) cases.now ≡ C.cases }
 {
     let mut done = Vec::new(alloc);
     for _ in 0..cases.len() {
@@ -103,11 +103,11 @@ fn work<C: Cases, G: Gate, H: Wait>(
 fn check_named<C: Cases + Send + Sync, G: Gate + Sync, H: Threads + Wait + Sync>(
     rt: &H,
     alloc: Global,
-    cases: &[Vec<u8>],
+    cases: &[&[u8]],
     workers: usize,
     gate: &G,
 ) -> Result<Vec<CaseResult>, OutOfMemory>
-    requires { map (λ case. case.items) cases.now ≡ C.cases }
+    requires { map (λ case. case.now) cases.now ≡ C.cases }
     ensures { IfOk result (λ answers. AnswersEach C.cases answers.items) }
 {
     let next = Mutex::new(0);
@@ -125,11 +125,11 @@ fn check_named<C: Cases + Send + Sync, G: Gate + Sync, H: Threads + Wait + Sync>
 pub fn check_many<G: Gate + Sync, H: Threads + Wait + Sync>(
     rt: &H,
     alloc: Global,
-    cases: &[Vec<u8>],
+    cases: &[&[u8]],
     workers: usize,
     gate: &G,
 ) -> Result<Vec<CaseResult>, OutOfMemory>
-    ensures { IfOk result (λ answers. AnswersEach (map (λ case. case.items) cases.now) answers.items) }
+    ensures { IfOk result (λ answers. AnswersEach (map (λ case. case.now) cases.now) answers.items) }
 {
     check_named::<Brand, G, H>(rt, alloc, cases, workers, gate)
 }
