@@ -1,6 +1,6 @@
 //! What both applications do.
 
-ghost use Rattle.std.specs.Prelude.{◌≡◌, ◌<◌, ◌+◌, IfOk, length};
+ghost use Rattle.std.specs.Prelude.{◌≡◌, ◌<◌, ◌+◌, IfOk, IfSome, length};
 ghost use Rattle.case_forms.specs.declared.calls.Host.TheVariants.{Zero, One};
 ghost use Rattle.hosts.specs.Tables.{lane};
 
@@ -99,18 +99,32 @@ fn talk_as_client<L: Site, R: Wait>(
     caller.done(rt, recorder, Call::Close(socket))
 }
 
-// Host 1's application: it listens, accepts, receives all rounds, reads to the end and closes.
+/// Host 1's application listens. That is answered at once.
+pub fn listen<L: Site, R: Wait>(
+    rt: &R,
+    recorder: &Recorder<L>,
+    caller: &mut Caller<L>,
+) -> Result<u32, Halt>
+    requires lane { lane caller.old.seat.thread ≡ L.host }
+    requires host { L.host ≡ One }
+    ensures thread { caller.new.seat.thread ≡ caller.old.seat.thread }
+    ensures own { IfOk result (λ n. lane n ≡ L.host) }
+{
+    caller.socket(rt, recorder, Call::Listen(Host::One, SERVER_PORT, 1))
+}
+
+// Host 1's application, which listens: it accepts, receives all rounds, reads to the end and closes.
 fn talk_as_server<L: Site, R: Wait>(
     rt: &R,
     recorder: &Recorder<L>,
     caller: &mut Caller<L>,
+    listener: u32,
     rounds: u16,
 ) -> Result<(), Halt>
     requires lane { lane caller.old.seat.thread ≡ L.host }
-    requires host { L.host ≡ One }
+    requires own { lane listener ≡ L.host }
     ensures { caller.new.seat.thread ≡ caller.old.seat.thread }
 {
-    let listener = caller.socket(rt, recorder, Call::Listen(Host::One, SERVER_PORT, 1))?;
     let socket = caller.socket(rt, recorder, Call::Accept(listener))?;
     for _ in 0..rounds {
         receive_round(rt, recorder, caller, socket)?;
@@ -153,19 +167,22 @@ pub fn run_client<L: Site, R: Wait>(
     }
 }
 
-/// Runs host 1's application.
+/// Runs host 1's application, where it listens.
 pub fn run_server<L: Site, R: Wait>(
     rt: &R,
-    alloc: Global,
     recorder: &Recorder<L>,
-    seat: Seat<L>,
+    caller: Caller<L>,
+    listener: Option<u32>,
     rounds: u16,
 ) -> Ended<L>
-    requires lane { lane seat.thread ≡ L.host }
-    requires host { L.host ≡ One }
+    requires lane { lane caller.seat.thread ≡ L.host }
+    requires own { IfSome listener (λ n. lane n ≡ L.host) }
 {
-    let mut caller = Caller::new(alloc, seat);
-    let whole = talk_as_server(rt, recorder, &mut caller, rounds).is_ok();
+    let mut caller = caller;
+    let whole = match listener {
+        Some(listener) => talk_as_server(rt, recorder, &mut caller, listener, rounds).is_ok(),
+        None => false,
+    };
     let (seat, receipts) = caller.leave();
     Ended {
         seat,

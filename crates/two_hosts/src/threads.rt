@@ -4,7 +4,8 @@ ghost use Rattle.std.specs.Prelude.{◌≡◌};
 ghost use Rattle.case_forms.specs.declared.calls.Host.TheVariants.{Zero, One};
 ghost use Rattle.hosts.specs.Tables.{lane};
 
-use crate::talking::{Ended, run_client, run_server};
+use crate::caller::Caller;
+use crate::talking::{Ended, listen, run_client, run_server};
 use crate::wire::Wire;
 use case_forms::OutOfMemory;
 use crossbeam_channel::{Receiver, Sender, unbounded};
@@ -74,6 +75,10 @@ pub fn run_threads<
         recorder: one,
         seat: server,
     } = server;
+
+    // Host 1 listens before host 0 opens.
+    let mut server = Caller::new(alloc, server);
+    let listener = listen(rt, one, &mut server).ok();
     let Way {
         out: to_one,
         from: from_zero,
@@ -102,10 +107,18 @@ pub fn run_threads<
         let times = scope.spawn(move || let_pass(rt, zero, one)).ok();
         let waits = scope.spawn(move || let_pass(rt, one, zero)).ok();
         let serves = scope
-            .spawn(move || run_server(rt, alloc, one, server, rounds))
+            .spawn(move || {
+                let ended = run_server(rt, one, server, listener, rounds);
+                stop_unless(rt, zero, one, ended.whole);
+                ended
+            })
             .ok();
         let asks = scope
-            .spawn(move || run_client(rt, alloc, zero, asker, rounds))
+            .spawn(move || {
+                let ended = run_client(rt, alloc, zero, asker, rounds);
+                stop_unless(rt, zero, one, ended.whole);
+                ended
+            })
             .ok();
         let out = lets_out.is_some() && answers.is_some();
         let into = lets_in.is_some() && hears.is_some();
@@ -138,6 +151,18 @@ fn joined<T: Drop, R: Threads + Wait>(rt: &R, handle: Option<JoinHandle<T>>) -> 
 fn stop_both<L: Site, M: Site, R: Wait>(rt: &R, zero: &Recorder<L>, one: &Recorder<M>) {
     zero.stop(rt);
     one.stop(rt);
+}
+
+// An application that halts ends all else.
+fn stop_unless<L: Site, M: Site, R: Wait>(
+    rt: &R,
+    zero: &Recorder<L>,
+    one: &Recorder<M>,
+    whole: bool,
+) {
+    if !whole {
+        stop_both(rt, zero, one);
+    }
 }
 
 // Lets a host's segments out. As it ends, all else does.
