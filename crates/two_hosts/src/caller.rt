@@ -1,4 +1,4 @@
-//! An application thread at its recorder.
+//! An application thread.
 
 ghost use Rattle.std.specs.Prelude.{◌≡◌, IfOk};
 ghost use Rattle.hosts.specs.Tables.{lane};
@@ -34,47 +34,39 @@ impl From<RecFault> for Halt {
     }
 }
 
-/// One application thread at its recorder, with what it was answered.
+/// One application thread, with what it was answered.
 #[derive(Drop)]
-pub struct Caller<'a, L: Site> {
-    pub recorder: &'a Recorder<L>,
-    pub seat: Seat<L>,
-    pub receipts: Vec<Receipt>,
+pub struct Caller<L: Site> {
+    seat: Seat<L>,
+    receipts: Vec<Receipt>,
 }
 
-impl<'a, L: Site> Caller<'a, L> {
-    /// A thread of that number, which has called nothing yet.
-    pub fn new<R: Wait>(
-        rt: &R,
-        alloc: Global,
-        recorder: &'a Recorder<L>,
-        thread: u32,
-    ) -> Result<Caller<'a, L>, RecFault>
-        ensures { IfOk result (λ c. c.seat.thread ≡ thread) }
+impl<L: Site> Caller<L> {
+    /// A thread with that seat, which has called nothing yet.
+    pub fn new(alloc: Global, seat: Seat<L>) -> Caller<L>
+        ensures { result.seat.thread ≡ seat.thread }
     {
-        let seat = recorder.seat(rt, thread)?;
-        Ok(Caller {
-            recorder,
+        Caller {
             seat,
             receipts: Vec::new(alloc),
-        })
+        }
     }
 
     /// Its seat, and what it was answered.
     pub fn leave(self) -> (Seat<L>, Vec<Receipt>) {
-        let Caller { seat, receipts, .. } = self;
+        let Caller { seat, receipts } = self;
         (seat, receipts)
     }
 
     /// Calls.
-    pub fn ask<R: Wait>(&mut self, rt: &R, call: Call) -> Result<(), Halt>
+    pub fn ask<R: Wait>(&mut self, rt: &R, recorder: &Recorder<L>, call: Call) -> Result<(), Halt>
         requires lane { lane self.old.seat.thread ≡ L.host }
         requires aims { Aims L.host (aim call) }
         requires within { IsCallWithin call }
         ensures thread { self.new.seat.thread ≡ self.old.seat.thread }
     {
         self.receipts.reserve(1)?;
-        let receipt = self.recorder.call(rt, &mut self.seat, call)?;
+        let receipt = recorder.call(rt, &mut self.seat, call)?;
         self.receipts.push_reserved(receipt);
         Ok(())
     }
@@ -86,14 +78,19 @@ impl<'a, L: Site> Caller<'a, L> {
     }
 
     /// A call that is answered by a socket number of its own host.
-    pub fn socket<R: Wait>(&mut self, rt: &R, call: Call) -> Result<u32, Halt>
+    pub fn socket<R: Wait>(
+        &mut self,
+        rt: &R,
+        recorder: &Recorder<L>,
+        call: Call,
+    ) -> Result<u32, Halt>
         requires lane { lane self.old.seat.thread ≡ L.host }
         requires aims { Aims L.host (aim call) }
         requires within { IsCallWithin call }
         ensures thread { self.new.seat.thread ≡ self.old.seat.thread }
         ensures own { IfOk result (λ socket. lane socket ≡ L.host) }
     {
-        self.ask(rt, call)?;
+        self.ask(rt, recorder, call)?;
         match self.answer() {
             Some(Answer::Given(socket)) if *socket % 2 == self.seat.thread() % 2 => Ok(*socket),
             _ => Err(Halt::Refused),
@@ -101,13 +98,13 @@ impl<'a, L: Site> Caller<'a, L> {
     }
 
     /// A call that is answered `ok`.
-    pub fn done<R: Wait>(&mut self, rt: &R, call: Call) -> Result<(), Halt>
+    pub fn done<R: Wait>(&mut self, rt: &R, recorder: &Recorder<L>, call: Call) -> Result<(), Halt>
         requires lane { lane self.old.seat.thread ≡ L.host }
         requires aims { Aims L.host (aim call) }
         requires within { IsCallWithin call }
         ensures thread { self.new.seat.thread ≡ self.old.seat.thread }
     {
-        self.ask(rt, call)?;
+        self.ask(rt, recorder, call)?;
         match self.answer() {
             Some(Answer::Done) => Ok(()),
             _ => Err(Halt::Refused),

@@ -6,11 +6,10 @@ ghost use Rattle.case_forms.specs.declared.calls.Host.TheVariants.{Zero, One};
 ghost use Rattle.checker.specs.Explains.{Explains};
 ghost use Rattle.two_hosts.specs.Plans.{AreBooks, header_of};
 
-use crate::caller::Caller;
 use crate::plan::{
     CLIENT_ISS, CLIENT_THREAD, Plan, SERVER_ISS, SERVER_THREAD, config_of, header_of,
 };
-use crate::threads::{TURNS, Way, run_threads};
+use crate::threads::{Place, TURNS, Way, run_threads};
 use crate::wire::{Talk, Wire};
 use case_forms::{Header, Host, OutOfMemory, Version};
 use recorder::{
@@ -132,19 +131,25 @@ fn let_talk<
     } = talk;
     let there = Way::new(alloc, there)?;
     let back = Way::new(alloc, back)?;
-    let mut client = Caller::new(rt, alloc, zero, CLIENT_THREAD)?;
-    let mut server = Caller::new(rt, alloc, one, SERVER_THREAD)?;
-    let outcome = run_threads(rt, alloc, rounds, &mut client, &mut server, there, back);
-    let ended = outcome.ok_or(RecordFault::Device)?;
-    let (zero, mut receipts) = client.leave();
-    let (one, others) = server.leave();
+    let client = Place {
+        recorder: zero,
+        seat: zero.seat(rt, CLIENT_THREAD)?,
+    };
+    let server = Place {
+        recorder: one,
+        seat: one.seat(rt, SERVER_THREAD)?,
+    };
+    let both = run_threads(rt, alloc, rounds, client, server, there, back);
+    let (asked, served) = both.ok_or(RecordFault::Device)?;
+    let ended = asked.whole && served.whole;
+    let (mut receipts, others) = (asked.receipts, served.receipts);
     receipts.reserve(others.len())?;
     for receipt in others {
         receipts.push_reserved(receipt);
     }
     Ok(Talked {
-        zero,
-        one,
+        zero: asked.seat,
+        one: served.seat,
         receipts,
         ended,
     })

@@ -5,11 +5,11 @@ ghost use Rattle.case_forms.specs.declared.calls.Host.TheVariants.{Zero, One};
 ghost use Rattle.hosts.specs.Tables.{lane};
 
 use crate::caller::Caller;
-use crate::talking::{run_client, run_server};
+use crate::talking::{Ended, listen, run_client, run_server};
 use crate::wire::Wire;
 use case_forms::OutOfMemory;
 use crossbeam_channel::{Receiver, Sender, unbounded};
-use recorder::{Flying, Recorder, Site, WireFate};
+use recorder::{Flying, Recorder, Seat, Site, WireFate};
 use std::alloc::Global;
 use std::sync::Wait;
 use std::thread;
@@ -41,8 +41,14 @@ impl<F: Drop> Way<F> {
     }
 }
 
-/// Runs both applications and all loops until they end. Whether both applications came to their end; None: a thread could not be
-/// started.
+/// The recorder of a host, and the seat of its application.
+#[derive(Drop)]
+pub struct Place<'a, L: Site> {
+    pub recorder: &'a Recorder<L>,
+    pub seat: Seat<L>,
+}
+
+/// Runs both applications and all loops until they end. None: a thread could not be started.
 pub fn run_threads<
     L: Site + Send + Sync,
     M: Site + Send + Sync,
@@ -53,18 +59,26 @@ pub fn run_threads<
     rt: &R,
     alloc: Global,
     rounds: u16,
-    client: &mut Caller<L>,
-    server: &mut Caller<M>,
+    client: Place<L>,
+    server: Place<M>,
     there: Way<F>,
     back: Way<G>,
-) -> Option<bool>
+) -> Option<(Ended<L>, Ended<M>)>
     requires hosts { (L.host ≡ Zero) × (M.host ≡ One) }
-    requires lanes { (lane client.old.seat.thread ≡ Zero) × (lane server.old.seat.thread ≡ One) }
+    requires lanes { (lane client.seat.thread ≡ Zero) × (lane server.seat.thread ≡ One) }
 {
-    let zero = client.recorder;
-    let one = server.recorder;
-    let client = &mut *client;
-    let server = &mut *server;
+    let Place {
+        recorder: zero,
+        seat: asker,
+    } = client;
+    let Place {
+        recorder: one,
+        seat: server,
+    } = server;
+
+    // Host 1 listens before host 0 opens.
+    let mut server = Caller::new(alloc, server);
+    let listener = listen(rt, one, &mut server).ok();
     let Way {
         out: to_one,
         from: from_zero,
@@ -93,10 +107,18 @@ pub fn run_threads<
         let times = scope.spawn(move || let_pass(rt, zero, one)).ok();
         let waits = scope.spawn(move || let_pass(rt, one, zero)).ok();
         let serves = scope
-            .spawn(move || run_server(rt, server, rounds).is_ok())
+            .spawn(move || {
+                let ended = run_server(rt, one, server, listener, rounds);
+                stop_unless(rt, zero, one, ended.whole);
+                ended
+            })
             .ok();
         let asks = scope
-            .spawn(move || run_client(rt, alloc, client, rounds).is_ok())
+            .spawn(move || {
+                let ended = run_client(rt, alloc, zero, asker, rounds);
+                stop_unless(rt, zero, one, ended.whole);
+                ended
+            })
             .ok();
         let out = lets_out.is_some() && answers.is_some();
         let into = lets_in.is_some() && hears.is_some();
@@ -113,10 +135,10 @@ pub fn run_threads<
         let _ = joined(rt, hears);
         let _ = joined(rt, times);
         let _ = joined(rt, waits);
-        match (asked, served) {
-            (Some(asked), Some(served)) if all => Some(asked && served),
-            _ => None,
+        if !all {
+            return None;
         }
+        Some((asked?, served?))
     })
 }
 
@@ -129,6 +151,18 @@ fn joined<T: Drop, R: Threads + Wait>(rt: &R, handle: Option<JoinHandle<T>>) -> 
 fn stop_both<L: Site, M: Site, R: Wait>(rt: &R, zero: &Recorder<L>, one: &Recorder<M>) {
     zero.stop(rt);
     one.stop(rt);
+}
+
+// An application that halts ends all else.
+fn stop_unless<L: Site, M: Site, R: Wait>(
+    rt: &R,
+    zero: &Recorder<L>,
+    one: &Recorder<M>,
+    whole: bool,
+) {
+    if !whole {
+        stop_both(rt, zero, one);
+    }
 }
 
 // Lets a host's segments out. As it ends, all else does.
