@@ -7,8 +7,5 @@ pub mod ManyAnswers
 pub mod ManyLaw
 pub mod ManyWords
 pub mod PlainHex
-pub mod RecordOptions
-pub mod RecordWords
-pub mod Recordings
 pub mod SegmentWords
 pub mod TwoTexts
