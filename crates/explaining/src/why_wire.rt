@@ -200,10 +200,10 @@ fn differ_bytes(out: &mut Vec<u8>, made: &[u8], shown: &[u8]) -> Result<(), OutO
 }
 
 /// The first byte in which two runs of bytes differ: what they are of, and the word for the first of them.
-pub(crate) fn first_difference(
+pub(crate) fn first_difference<'a>(
     out: &mut Vec<u8>,
-    of: &str,
-    word: &str,
+    of: &'a str,
+    word: &'a str,
     one: &[u8],
     shown: &[u8],
 ) -> Result<(), OutOfMemory> {
