@@ -46,7 +46,7 @@ behind_first x xs =
 pub apart : (words : List (Bor (List ℕ))) (option : List ℕ) (d e : Bor (List ℕ)) → 1 ≤ length words → 1 ≤ length (take (length words - 1) (drop 1 words))
     → (slice_index_or words 0 d).now ≡ option → is_dashed (slice_index_or (take (length words - 1) (drop 1 words)) 0 e).now ≡ false
     → BeginsWith option (slice_index_or (take (length words - 1) (drop 1 words)) 0 e).now
-        (map (λ word. word.now) (take (length (take (length words - 1) (drop 1 words)) - 1) (drop 1 (take (length words - 1) (drop 1 words))))) (map (λ word. word.now) words)
+    (map (λ word. word.now) (take (length (take (length words - 1) (drop 1 words)) - 1) (drop 1 (take (length words - 1) (drop 1 words))))) (map (λ word. word.now) words)
 apart [] option d e some more is plain = absurd (omega (some, arith))
 apart (a ∷ []) option d e some more is plain = let none = subst (λ (xs : List (Bor (List ℕ))). 1 ≤ length xs) (behind_first a []) more in absurd (omega (none, arith))
 apart (a ∷ b ∷ rest) option d e some more is plain =
@@ -99,11 +99,14 @@ asks_once words trace witness other more (front, e, here) (back, f, there) =
 -- `check` with options that ask for two files
 pub asks_behind : (words : List (Bor (List ℕ))) (d : Bor (List ℕ)) (trace witness : List ℕ) → 1 ≤ length words → (slice_index_or words 0 d).now ≡ codes "check"
     → (AreBoth (codes "--trace") trace (codes "--witness") witness (map (λ word. word.now) (take (length words - 1) (drop 1 words)))
-        ⊎ AreBoth (codes "--witness") witness (codes "--trace") trace (map (λ word. word.now) (take (length words - 1) (drop 1 words))))
+    ⊎ AreBoth (codes "--witness") witness (codes "--trace") trace (map (λ word. word.now) (take (length words - 1) (drop 1 words))))
     → AreNamed (map (λ word. word.now) words) trace witness
 asks_behind [] d trace witness some is both = absurd (omega (some, arith))
-asks_behind (a ∷ rest) d trace witness some is both = (map (λ word. word.now) (take (length (a ∷ rest) - 1) (drop 1 (a ∷ rest))),
-    ap (λ (w : List ℕ). w ∷ map (λ word. word.now) rest) is ∙ ap (λ (ws : List (Bor (List ℕ))). codes "check" ∷ map (λ word. word.now) ws) (sym (behind_first a rest)), both)
+asks_behind (a ∷ rest) d trace witness some is both = (
+  map (λ word. word.now) (take (length (a ∷ rest) - 1) (drop 1 (a ∷ rest))),
+  ap (λ (w : List ℕ). w ∷ map (λ word. word.now) rest) is ∙ ap (λ (ws : List (Bor (List ℕ))). codes "check" ∷ map (λ word. word.now) ws) (sym (behind_first a rest)),
+  both,
+)
 
 -- and where they ask for none
 pub asks_neither : (words : List (Bor (List ℕ))) (trace witness : List ℕ)

@@ -17,13 +17,10 @@ const WITNESS: &str = "--witness";
 /// order; None where they are other words, also where a name has a NUL, as a word that was no UTF-8 has (`given_words`). An
 /// option and its name are two words, of which the name begins with no dash, or one word with a `=` between. An error means
 /// that memory ran out.
-pub fn file_names(
-    alloc: Global,
-    words: &[&str],
-) -> Result<Option<(String, String)>, OutOfMemory>
+pub fn file_names(alloc: Global, words: &[&str]) -> Result<Option<(String, String)>, OutOfMemory>
     ensures { IfOk result (λ named. (trace witness : List ℕ) →
         option_map {U = List ℕ × List ℕ} (λ names. (string_bytes names.0, string_bytes names.1)) named ≡ Some (trace, witness)
-            ↔ AsksFiles (map (λ word. word.now) words.now) trace witness) }
+        ↔ AsksFiles (map (λ word. word.now) words.now) trace witness) }
 {
     let Some((trace, witness)) = named_files(words) else {
         return Ok(None);
