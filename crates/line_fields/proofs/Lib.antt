@@ -19,3 +19,4 @@ pub mod LeftLemmas
 pub mod ReadsLemmas
 pub mod FieldFaults
 pub mod AnswerFaults
+pub mod LineFaults

@@ -7,3 +7,4 @@ pub mod Steps
 pub mod WitnessText
 pub mod StepsLeft
 pub mod Printed
+pub mod StepForms
