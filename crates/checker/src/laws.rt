@@ -145,6 +145,6 @@ pub fn printed_case()
     ensures yes { (t : Trace) (w : Witness) → t.header.version ≡ w.version → IsPrintableTrace t → IsPrintableWitness w →
         Explains t w → (v : Verdict) × (case_result (trace_text t ++ witness_text w) ≡ Ok v) × IsYes v }
 
-    // Where steps stand in their text is no matter.
+    // Where steps stand in their text does not matter.
     ensures spans { (t : Trace) (v w : Witness) → map without_span v.steps ≡ map without_span w.steps → verdict t v ≡ verdict t w }
 {}

@@ -19,7 +19,7 @@ use bstr::ByteSlice;
 use case_forms::OutOfMemory;
 use counted::{Counted, ReadFault};
 use line_fields::content;
-use parallel_check::{CaseResult, Gate, check_many};
+use parallel_check::{CaseResult, Gate, check_many_slices};
 use std::alloc::Global;
 use std::io::{BufRead, Write};
 use std::sync::Wait;
@@ -122,7 +122,7 @@ fn answers_to<H: Threads + Wait + Sync>(
     ensures { IfOk result (λ answers. AnswersEach (cases_of text.now) answers.items) }
 {
     let cases = cut_cases(alloc, text)?;
-    check_many(rt, alloc, cases.as_slice(), workers, &Unwatched)
+    check_many_slices(rt, alloc, cases.as_slice(), workers, &Unwatched)
 }
 
 // Whether a line, given with its end, ends a case.

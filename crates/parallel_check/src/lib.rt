@@ -14,4 +14,4 @@ mod plain;
 mod work;
 
 pub use plain::{CaseResult, check_many_plain};
-pub use work::{Gate, check_many};
+pub use work::{Gate, check_many, check_many_slices};

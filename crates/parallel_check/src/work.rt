@@ -122,7 +122,7 @@ fn check_named<C: Cases + Send + Sync, G: Gate + Sync, H: Threads + Wait + Sync>
 
 /// Checks all cases by this many threads, 1 to 64 of them. Where a thread can't be started this one does its work. A case
 /// for which memory runs out is answered so, and the others as ever; `Err` says that memory ran out for the list itself.
-pub fn check_many<G: Gate + Sync, H: Threads + Wait + Sync>(
+pub fn check_many_slices<G: Gate + Sync, H: Threads + Wait + Sync>(
     rt: &H,
     alloc: Global,
     cases: &[&[u8]],
@@ -132,4 +132,30 @@ pub fn check_many<G: Gate + Sync, H: Threads + Wait + Sync>(
     ensures { IfOk result (λ answers. AnswersEach (map (λ case. case.now) cases.now) answers.items) }
 {
     check_named::<Brand, G, H>(rt, alloc, cases, workers, gate)
+}
+
+// Each case as a slice.
+#[tactic(auto, using(crate::proofs::Slices::firsts_more))]
+fn slices_of<'c>(alloc: Global, cases: &'c [Vec<u8>]) -> Result<Vec<&'c [u8]>, OutOfMemory>
+    ensures { IfOk result (λ slices. map (λ slice. slice.now) slices.items ≡ map (λ case. case.items) cases.entry.now) }
+{
+    let mut slices = Vec::with_capacity(alloc, cases.len())?;
+    for case in cases {
+        slices.push(case.as_slice())?;
+    }
+    Ok(slices)
+}
+
+/// `check_many_slices` of cases that stand in memory of their own.
+pub fn check_many<G: Gate + Sync, H: Threads + Wait + Sync>(
+    rt: &H,
+    alloc: Global,
+    cases: &[Vec<u8>],
+    workers: usize,
+    gate: &G,
+) -> Result<Vec<CaseResult>, OutOfMemory>
+    ensures { IfOk result (λ answers. AnswersEach (map (λ case. case.items) cases.now) answers.items) }
+{
+    let slices = slices_of(alloc, cases)?;
+    check_many_slices(rt, alloc, slices.as_slice(), workers, gate)
 }

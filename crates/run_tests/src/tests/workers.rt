@@ -83,12 +83,13 @@ fn text(alloc: Global, witness: &str) -> Result<Vec<u8>, AllocError> {
     Ok(bytes)
 }
 
-// The text of a case of each status.
-fn three_texts(alloc: Global) -> Result<(Vec<u8>, Vec<u8>, Vec<u8>), AllocError> {
-    let explained = text(alloc, EXPLAINED)?;
-    let not_explained = text(alloc, NOT_EXPLAINED)?;
-    let cut = text(alloc, CUT)?;
-    Ok((explained, not_explained, cut))
+// A case of each status.
+fn three_cases(alloc: Global) -> Result<Vec<Vec<u8>>, AllocError> {
+    let mut cases = Vec::new(alloc);
+    cases.push(text(alloc, EXPLAINED)?)?;
+    cases.push(text(alloc, NOT_EXPLAINED)?)?;
+    cases.push(text(alloc, CUT)?)?;
+    Ok(cases)
 }
 
 // Their answers.
@@ -116,13 +117,12 @@ fn three_answers() -> [CaseResult; 3] {
 
 #[test]
 fn two_workers_wait_for_each_other(rt: HostRuntime) -> Result<(), Fail> {
-    let (one, two, three) = three_texts(rt.alloc())?;
-    let cases = [one.as_slice(), two.as_slice(), three.as_slice()];
-    let plain = check_many_plain(rt.alloc(), &cases)?;
+    let cases = three_cases(rt.alloc())?;
+    let plain = check_many_plain(rt.alloc(), cases.as_slice())?;
     assert!(rt; plain.as_slice() == three_answers().as_slice());
     for (held, until) in [(1, 2), (2, 1)] {
         let gate = Holds::new(held, until);
-        let answers = check_many(&rt, rt.alloc(), &cases, 2, &gate)?;
+        let answers = check_many(&rt, rt.alloc(), cases.as_slice(), 2, &gate)?;
         assert!(rt;
             answers.as_slice() == three_answers().as_slice(),
             "{held} until {until}"
