@@ -9,7 +9,7 @@
 //! - `scene`: the world before the step that is refused
 //! - `text`: lines of plain words; `described`: an endpoint in words
 //! - `why_order`, `why_calls`, `why_making`, `why_wire`, `why_taking`, `why_reset`, `why_timers`: what each rule compares
-//! - `why_answers`: the answers that a call may have
+//! - `why_answers`: the answers that a call may have; `why_inbox`: what waits in an inbox; `why_numbers`: numbers read as positions
 //! - `causes`: what usually causes a rule to be broken
 //! - `whole`: a case that is shown; `numbers`: numbers on the wire as positions; `words`: segments, calls and steps in words
 //! - `showing`: a case as text
@@ -32,7 +32,9 @@ mod verdict_in_words;
 mod whole;
 mod why_answers;
 mod why_calls;
+mod why_inbox;
 mod why_making;
+mod why_numbers;
 mod why_order;
 mod why_reset;
 mod why_taking;

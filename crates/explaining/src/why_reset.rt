@@ -2,7 +2,8 @@
 
 use crate::scene::Scene;
 use crate::text::{Piece, say};
-use crate::why_taking::{ack_of_syn, describe_waiting, nothing_waits};
+use crate::why_inbox::{describe_waiting, nothing_waits};
+use crate::why_numbers::ack_of_syn;
 use case_forms::{Host, OutOfMemory};
 use endpoint_state::Endpoint;
 use line_fields::state_name;
@@ -18,7 +19,7 @@ pub(crate) fn why(
     let Some(m) = scene.world.waiting(host, line) else {
         return nothing_waits(out, scene, host, line);
     };
-    describe_waiting(out, scene, host, line, m)?;
+    describe_waiting(out, scene, host, m)?;
     if m.flags.rst {
         return say(out, &[Piece::Word("no reset answers a reset")]);
     }

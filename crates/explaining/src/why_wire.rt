@@ -5,9 +5,9 @@ use crate::numbers::other;
 use crate::scene::Scene;
 use crate::text::{Piece, say};
 use crate::{why_calls, why_timers};
-use case_forms::{Event, Extras, Host, Label, Line, NamedLine, OutOfMemory, Wire};
+use case_forms::{Event, Extras, Flags, Host, Label, Line, NamedLine, OutOfMemory, Wire};
 use machine::Emission;
-use segment::Flag;
+use segment::{Flag, Segment};
 use verdict::Rule;
 
 /// What the rule compares at a line.
@@ -121,61 +121,35 @@ fn is_going_out(scene: &Scene<'_>, number: u64) -> bool {
 fn differences(out: &mut Vec<u8>, m: &Emission, wire: &Wire) -> Result<(), OutOfMemory> {
     let seg = &wire.seg;
     differ(out, "source port", u64::from(m.lport), u64::from(seg.src))?;
-    differ(
-        out,
-        "destination port",
-        u64::from(m.rport),
-        u64::from(seg.dst),
-    )?;
-    differ(
-        out,
-        "sequence number",
-        u64::from(m.seq.0),
-        u64::from(seg.seq.0),
-    )?;
+    let (made, shown) = (u64::from(m.rport), u64::from(seg.dst));
+    differ(out, "destination port", made, shown)?;
+    let (made, shown) = (u64::from(m.seq.0), u64::from(seg.seq.0));
+    differ(out, "sequence number", made, shown)?;
     if m.flags.ack {
-        differ(
-            out,
-            "acknowledgment number",
-            u64::from(m.ack_seq.0),
-            u64::from(seg.ack.0),
-        )?;
+        let (made, shown) = (u64::from(m.ack_seq.0), u64::from(seg.ack.0));
+        differ(out, "acknowledgment number", made, shown)?;
     }
-    differ(
-        out,
-        "ACK",
-        u64::from(m.flags.ack),
-        u64::from(seg.has(Flag::Ack)),
-    )?;
-    differ(
-        out,
-        "RST",
-        u64::from(m.flags.rst),
-        u64::from(seg.has(Flag::Rst)),
-    )?;
-    differ(
-        out,
-        "SYN",
-        u64::from(m.flags.syn),
-        u64::from(seg.has(Flag::Syn)),
-    )?;
-    differ(
-        out,
-        "FIN",
-        u64::from(m.flags.fin),
-        u64::from(seg.has(Flag::Fin)),
-    )?;
+    differ_flags(out, m.flags, seg)?;
     if !m.answers {
         differ(out, "window", u64::from(m.window), u64::from(seg.window))?;
     }
-    differ(
-        out,
-        "bytes",
-        m.payload.len() as u64,
-        seg.payload.len() as u64,
-    )?;
+    let (made, shown) = (m.payload.len() as u64, seg.payload.len() as u64);
+    differ(out, "bytes", made, shown)?;
     differ_bytes(out, m.payload.as_slice(), seg.payload.as_slice())?;
     differ_shift(out, m, wire)
+}
+
+fn differ_flags(out: &mut Vec<u8>, made: Flags, shown: &Segment) -> Result<(), OutOfMemory> {
+    let flags = [
+        ("ACK", made.ack, Flag::Ack),
+        ("RST", made.rst, Flag::Rst),
+        ("SYN", made.syn, Flag::Syn),
+        ("FIN", made.fin, Flag::Fin),
+    ];
+    for (name, made, flag) in flags {
+        differ(out, name, u64::from(made), u64::from(shown.has(flag)))?;
+    }
+    Ok(())
 }
 
 fn differ(out: &mut Vec<u8>, name: &str, made: u64, shown: u64) -> Result<(), OutOfMemory> {

@@ -1,6 +1,6 @@
 //! Segments, calls, answers and steps in words.
 
-use crate::numbers::Numbers;
+use crate::numbers::{Numbers, other};
 use crate::text::{Piece, add};
 use case_forms::{
     Answer, Call, Event, Flags, Host, Label, Line, NamedLine, OutOfMemory, SegmentPlan,
@@ -125,6 +125,28 @@ pub(crate) fn push_told(out: &mut Vec<u8>, answer: &Answer) -> Result<(), OutOfM
     }
 }
 
+// Writes a segment that passes the wire at a host. The other word is the verb.
+fn push_passing(
+    out: &mut Vec<u8>,
+    numbers: &Numbers,
+    (at, verb, sender): (Host, &str, Host),
+    seg: &Segment,
+) -> Result<(), OutOfMemory> {
+    use Piece::{At, Number, Word};
+    add(
+        out,
+        &[
+            At(at),
+            Word(verb),
+            Number(u64::from(seg.src)),
+            Word(" to "),
+            Number(u64::from(seg.dst)),
+            Word(": "),
+        ],
+    )?;
+    push_segment(out, numbers, sender, seg)
+}
+
 /// Writes what a line tells.
 pub(crate) fn push_event(
     out: &mut Vec<u8>,
@@ -132,58 +154,19 @@ pub(crate) fn push_event(
     line: &Line,
 ) -> Result<(), OutOfMemory> {
     use Piece::{At, Number, Word};
+    let thread = Number(u64::from(line.thread));
     match &line.event {
         Event::CallBegin(call) => {
-            add(
-                out,
-                &[
-                    Word("thread "),
-                    Number(u64::from(line.thread)),
-                    Word(" calls "),
-                ],
-            )?;
+            add(out, &[Word("thread "), thread, Word(" calls ")])?;
             push_call(out, call)
         }
         Event::CallEnd(answer) => {
-            add(
-                out,
-                &[
-                    Word("thread "),
-                    Number(u64::from(line.thread)),
-                    Word(" is told"),
-                ],
-            )?;
+            add(out, &[Word("thread "), thread, Word(" is told")])?;
             push_told(out, answer)
         }
-        Event::Sent(host, wire) => {
-            let (src, dst) = (u64::from(wire.seg.src), u64::from(wire.seg.dst));
-            add(
-                out,
-                &[
-                    At(*host),
-                    Word(" sends "),
-                    Number(src),
-                    Word(" to "),
-                    Number(dst),
-                    Word(": "),
-                ],
-            )?;
-            push_segment(out, numbers, *host, &wire.seg)
-        }
+        Event::Sent(host, wire) => push_passing(out, numbers, (*host, " sends ", *host), &wire.seg),
         Event::Came(host, wire) => {
-            let (src, dst) = (u64::from(wire.seg.src), u64::from(wire.seg.dst));
-            add(
-                out,
-                &[
-                    At(*host),
-                    Word(" gets "),
-                    Number(src),
-                    Word(" to "),
-                    Number(dst),
-                    Word(": "),
-                ],
-            )?;
-            push_segment(out, numbers, crate::numbers::other(*host), &wire.seg)
+            push_passing(out, numbers, (*host, " gets ", other(*host)), &wire.seg)
         }
         Event::Expired(host, lport, rport, timer) => add(
             out,
