@@ -156,6 +156,9 @@ def connected(case, connection, room=0):
     listener = case.given(CALLERS[1], f"listen 1 {connection.ports[1]} 4")
     opener = handshake(case, connection, listener)
     child = case.given(CALLERS[1], f"accept {listener}")
+    if room > WINDOW:
+        # The windows of a handshake are not scaled (RFC 7323, 2.2).
+        case.take(0, case.carry(connection, 1, 1, "A", 1), INITIAL_WINDOW)
     sent = 0
     while INITIAL_WINDOW + sent < room:
         payload = bytes(MSS)

@@ -9,9 +9,11 @@ above 2.3, or of memory above 2.3, and a verdict that is not the wanted one are 
 """
 
 import argparse
+import multiprocessing
 import os
 import sys
 import tempfile
+from concurrent.futures import ProcessPoolExecutor
 
 from compare import MOST_GROWTH, Cost, parted
 from hostile_cases import KINDS, verdict_of
@@ -40,6 +42,20 @@ class Growth:
         return found + [f"{time:.2f} / {memory:.2f}"], max(time, memory) > MOST_GROWTH
 
 
+def write_case(name, size, path):
+    """Writes the case of one kind and size, and answers its verdict."""
+    case = KINDS[name][0](size)
+    with open(path, "w") as text:
+        case.write(text)
+    return verdict_of(case)
+
+
+def written_apart(name, size, path):
+    """The same in a process of its own: the memory of the process that starts a program counts as the program's."""
+    with ProcessPoolExecutor(1, mp_context=multiprocessing.get_context("spawn")) as pool:
+        return pool.submit(write_case, name, size, path).result()
+
+
 def run_size(growths, path, wanted, runs):
     """Adds what one size costs each way. Answers the verdicts that differ from the wanted one."""
     files = parted(path)
@@ -66,15 +82,13 @@ def main():
     print("| kind | size | half | once | twice | time / memory |\n|" + "---|" * 6)
     with tempfile.TemporaryDirectory() as folder:
         path = os.path.join(folder, "case")
-        for name, (function, sizes) in KINDS.items():
+        for name, (_, sizes) in KINDS.items():
             if given.only not in name:
                 continue
             growths = [Growth(program, name), Growth(program, name + ", two files")]
             for size in sizes:
-                case = function(size)
-                with open(path, "w") as text:
-                    case.write(text)
-                told += run_size(growths, path, verdict_of(case), given.runs)
+                wanted = written_apart(name, size, path)
+                told += run_size(growths, path, wanted, given.runs)
             for growth in growths:
                 cells, is_steep = growth.cells()
                 told += [f"{growth.name} grows faster than its size"] if is_steep else []
