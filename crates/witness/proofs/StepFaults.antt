@@ -14,6 +14,7 @@ use Rattle.case_forms.specs.declared.steps.Label.TheVariants.{L, D, M, T, K, R, 
 use Rattle.case_forms.specs.declared.steps.Step.{Step}
 use Rattle.case_forms.specs.declared.version.Version.{Version}
 use Rattle.line_fields.specs.AnswerFields.{answer_field}
+use Rattle.line_fields.specs.AnswerForms.{answer_last}
 use Rattle.line_fields.specs.Choice.{kind_field}
 use Rattle.line_fields.specs.Forms.{Form, End, Maybe, Then, numeric, unknown, then_form, choice}
 use Rattle.line_fields.specs.Hosts.{host_field}
@@ -101,13 +102,25 @@ line_then f on v r = assoc (number_field 0 4294967295 r) _ f ∙ number_then 0 4
 
 effect_then : {Y : Type 0} (f : Label NamedLine × Rest → Result Y TextFault) → Onward End f → (v : Version) (r : Rest) → failing (effect_label r >>= f) ≡ first_fault (label_form v words.Effect) r
 unfolding effect_label
-effect_then f on v r = assoc (number_field 0 4294967295 r) _ f ∙ number_then 0 4294967295 _ _ (λ n more. assoc (answer_field more) _ f ∙ answer_then _ (λ x rest. on (D n x) rest) more) r
+effect_then f on v r = assoc (number_field 0 4294967295 r) _ f ∙ number_then 0 4294967295 answer_last _ (λ n more. assoc (answer_field more) _ f ∙ answer_then _ (λ x rest. on (D n x) rest) more) r
 
 segment_then : {Y : Type 0} (v : Version) (f : Label NamedLine × Rest → Result Y TextFault) → Onward End f → (r : Rest) → failing (segment_label v r >>= f) ≡ first_fault (label_form v words.Making) r
 unfolding segment_label
-segment_then v f on r = assoc (endpoint_field v r) _ f ∙ endpoint_then v _ _ (λ at more. assoc (number_field 0 1000000000000000000 more) _ f ∙ number_then 0 1000000000000000000 _ _ (λ position more. assoc (number_field 0 65515 more) _ f ∙ number_then 0 65515 _ _
-    (λ len more. assoc (flags_field more) _ f ∙ flags_then _ _ (λ flags more. assoc (number_field 0 65535 more) _ f ∙ number_then 0 65535 _ _ (λ window more. assoc (start_field v more) _ f
+segment_then {Y} v f on r = assoc (endpoint_field v r) _ f ∙ endpoint_then v placed _ (λ at more. assoc (number_field 0 1000000000000000000 more) _ f ∙ number_then 0 1000000000000000000 counted _ (λ position more. assoc (number_field 0 65515 more) _ f ∙ number_then 0 65515 flagged _
+    (λ len more. assoc (flags_field more) _ f ∙ flags_then offered _ (λ flags more. assoc (number_field 0 65535 more) _ f ∙ number_then 0 65535 (start_form v) _ (λ window more. assoc (start_field v more) _ f
     ∙ start_then v _ (λ start rest. on (M at.0 (record { lport = at.1; rport = at.2; pos = position; len = len; flags = flags; window = window; iss = start.0; shift = start.1 })) rest) more) more) more) more) more) r
+  where
+    offered : Form
+    offered = then_form (numeric 0 65535) (start_form v)
+
+    flagged : Form
+    flagged = then_form lettered offered
+
+    counted : Form
+    counted = then_form (numeric 0 65515) flagged
+
+    placed : Form
+    placed = then_form (numeric 0 1000000000000000000) counted
 
 taking_then : {Y : Type 0} (v : Version) (f : Label NamedLine × Rest → Result Y TextFault) → Onward End f → (r : Rest) → failing (taking_label v r >>= f) ≡ first_fault (label_form v words.Taking) r
 unfolding taking_label
