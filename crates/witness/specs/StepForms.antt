@@ -1,15 +1,16 @@
--- The form of a step, and its first fault.
-use Rattle.std.specs.Prelude.{◌≡◌, ℕ, if◌then◌else◌, List, [], ◌∷◌, ◌++◌, None, codes}
+-- The form of a step, its first fault, and the first fault of a witness.
+use Rattle.std.specs.Prelude.{◌≡◌, ℕ, if◌then◌else◌, List, ◌∷◌, None, codes}
 use Rattle.std.specs.Str.{bytes_eq}
+use Rattle.bstr.specs.Text.{lines_of}
 use Rattle.case_forms.specs.Versions.{scales}
-use Rattle.case_forms.specs.declared.steps.Step.{Step}
 use Rattle.case_forms.specs.declared.version.Version.{Version}
 use Rattle.line_fields.specs.AnswerForms.{answer_last}
-use Rattle.line_fields.specs.Folding.{AreSpelled}
 use Rattle.line_fields.specs.Forms.{Want, Form, End, Maybe, numeric, unknown, then_form, choice}
 use Rattle.line_fields.specs.Hosts.{greatest_host}
-use Rattle.line_fields.specs.LineFaults.{IsFaultOf}
+use Rattle.line_fields.specs.LineFaults.{IsFaultOf, IsTextFaultOf, IsNextFault, IsFaultAmong}
+use Rattle.line_fields.specs.Lines.{IsLine}
 use Rattle.line_fields.specs.declared.fault.TextFault.{TextFault}
+use Rattle.witness.specs.FirstLine.{first_text}
 use Rattle.witness.specs.Flags.{letters_named}
 use Rattle.witness.specs.Labels.{label_name, all_label_words}
 use Rattle.witness.specs.Steps.{IsStepText}
@@ -61,17 +62,12 @@ step_form v = then_form (numeric 0 1000000000000000000) (choice label_name all_l
 abbrev pub IsStepFault : Version → ℕ → List ℕ → TextFault → Type 0
 IsStepFault v number raw e = IsFaultOf (step_form v) number raw e
 
--- the number of the line behind these steps
-abbrev pub number_behind : ℕ → List Step → ℕ
-number_behind number [] = number
-number_behind number (s ∷ steps) = number_behind (number_after number s) steps
+-- the first fault of steps from the line of that number on
+abbrev pub IsStepsFault : Version → ℕ → List (List ℕ) → TextFault → Type 0
+IsStepsFault v number raws e = IsFaultAmong (IsStepText v) (IsStepFault v) number_after number raws e
 
--- the first fault of steps from a line on: the steps before are spelled, and it is that of the next one
-pub record IsStepsFault (v : Version) (number : ℕ) (raws : List (List ℕ)) (e : TextFault) : Type 0 where
-  pub front : List (List ℕ)
-  pub steps : List Step
-  pub raw : List ℕ
-  pub rest : List (List ℕ)
-  pub split : raws ≡ front ++ raw ∷ rest
-  pub spelled : AreSpelled (IsStepText v) number_after number steps front
-  pub fault : IsStepFault v (number_behind number steps) raw e
+-- the first fault of a witness: of its first line, which has to name the version; or that line is there, and it is that of the steps
+pub data IsWitnessFault (v : Version) (text : List ℕ) (e : TextFault) : Type 0 where
+  First : IsNextFault (IsTextFaultOf (λ line. line ≡ first_text v)) 1 (lines_of text) e → IsWitnessFault v text e
+  Steps : (first : List ℕ) (raws : List (List ℕ)) → lines_of text ≡ first ∷ raws → IsLine 1 (first_text v) first → IsStepsFault v 2 raws e
+      → IsWitnessFault v text e
