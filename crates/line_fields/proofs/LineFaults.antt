@@ -38,7 +38,7 @@ abbrev good_rest : Rest → Result Rest TextFault
 good_rest r = Ok r
 
 -- the line as a whole
-whole_is : (number : ℕ) (raw : List ℕ) (e : TextFault) → (line_rest number raw ≡ Err e) ↔ IsWholeFault number raw e
+pub whole_is : (number : ℕ) (raw : List ℕ) (e : TextFault) → (line_rest number raw ≡ Err e) ↔ IsWholeFault number raw e
 unfolding line_rest line_text
 whole_is number raw e = go (nat_lt 140000 (length (without_terminator raw))) refl (is_ended raw) refl (nat_lt 10000000 number) refl
   where

@@ -1,10 +1,7 @@
 -- What the reader of an event line answers is the first fault by its form.
-use Rattle.std.proofs.Common.{◌≡◌, ◌<◌, ◌≤◌, ℕ, Bool, true, false, List, length, Some, None, Result, Ok, Err, refl, ap, sym, subst, ◌∙◌, inl, inr, arith}
-use Rattle.std.specs.Prelude.{if◌then◌else◌, ◌==◌, ◌↔◌, nat_lt, not}
+use Rattle.std.proofs.Common.{◌≡◌, ℕ, Bool, true, false, List, length, Some, None, Result, Ok, Err, refl, ◌∙◌}
+use Rattle.std.specs.Prelude.{if◌then◌else◌, ◌==◌, ◌↔◌, nat_lt}
 use Rattle.std.specs.Str.Parse.{digits_value}
-use Rattle.std.proofs.lemmas.Bool.Decides.{nat_tests}
-use Rattle.std.proofs.lemmas.Option.{same_Some}
-use Rattle.bstr.specs.Text.{without_terminator}
 use Rattle.hex.specs.Hex.{decode_of}
 use Rattle.hex.specs.declared.error.FromHexError.{FromHexError}
 use Rattle.segment.specs.Reading.{segment_of}
@@ -20,13 +17,12 @@ use Rattle.case_forms.specs.declared.trace.Wire.{Wire}
 use Rattle.case_forms.specs.declared.version.Version.{Version}
 use Rattle.line_fields.specs.AnswerFields.{answer_field}
 use Rattle.line_fields.specs.Choice.{kind_field}
-use Rattle.line_fields.specs.Forms.{Form, End, Then, numeric, named, digits, then_form, choice, IsFirstFault}
+use Rattle.line_fields.specs.Forms.{Form, End, Then, numeric, named, digits, then_form, choice}
 use Rattle.line_fields.specs.HexFields.{or_bad, hex_value, hex_field}
 use Rattle.line_fields.specs.Hosts.{host_field}
-use Rattle.line_fields.specs.Lines.{is_ended, whole_line, line_text, line_rest}
 use Rattle.line_fields.specs.Reading.{◌>>=◌, fault_at, is_number, number_value, number_field, no_more}
 use Rattle.line_fields.specs.Timers.{timer_name, all_timers}
-use Rattle.line_fields.specs.Word.{Word, Rest, rest_of}
+use Rattle.line_fields.specs.Word.{Word, Rest}
 use Rattle.line_fields.specs.declared.fault.FaultKind.TheVariants as kinds
 use Rattle.line_fields.specs.declared.fault.TextFault.{TextFault}
 use Rattle.line_fields.proofs.AnswerFaults.{answer_then}

@@ -1,5 +1,5 @@
 -- The form of an event line, and its first fault.
-use Rattle.std.specs.Prelude.{◌≡◌, ℕ, nat_lt, if◌then◌else◌, List, [], ◌∷◌, ◌++◌, Option, None, Some, Result, Ok, Err}
+use Rattle.std.specs.Prelude.{ℕ, nat_lt, if◌then◌else◌, List, Option, None, Some, Result, Ok, Err}
 use Rattle.std.specs.Str.Parse.{digits_value}
 use Rattle.hex.specs.Hex.{decode_of}
 use Rattle.hex.specs.declared.error.FromHexError.{FromHexError}
@@ -10,7 +10,7 @@ use Rattle.case_forms.specs.declared.version.Version.{Version}
 use Rattle.line_fields.specs.AnswerForms.{answer_last}
 use Rattle.line_fields.specs.Forms.{Want, Form, End, unless_empty, numeric, named, digits, then_form, choice}
 use Rattle.line_fields.specs.Hosts.{greatest_host}
-use Rattle.line_fields.specs.LineFaults.{IsFaultOf}
+use Rattle.line_fields.specs.LineFaults.{IsFaultOf, IsFaultAmong}
 use Rattle.line_fields.specs.Reading.{is_number}
 use Rattle.line_fields.specs.Timers.{timer_name, all_timers}
 use Rattle.line_fields.specs.declared.fault.FaultKind.{FaultKind}
@@ -22,8 +22,6 @@ use Rattle.trace_reader.specs.declared.events.Letter.{Letter}
 use Rattle.trace_reader.specs.declared.events.Letter.TheVariants as letters
 use Rattle.trace_reader.specs.Calls.{call_name, all_call_words}
 use Rattle.trace_reader.specs.Events.{letter_name, all_letters}
-use Rattle.case_forms.specs.declared.trace.Line.{Line}
-use Rattle.line_fields.specs.Folding.{AreSpelled}
 use Rattle.trace_reader.specs.EventLines.{Place, behind, IsEventLine}
 
 -- a moment that is not below the one before
@@ -83,17 +81,6 @@ line_form v before = then_form (rising before) (word32 (choice letter_name all_l
 abbrev pub IsLineFault : Version → Place → List ℕ → TextFault → Type 0
 IsLineFault v place raw e = IsFaultOf (line_form v place.0) place.1 raw e
 
--- the place behind these lines
-abbrev pub behind_all : Place → List Line → Place
-behind_all place [] = place
-behind_all place (line ∷ lines) = behind_all (behind place line) lines
-
--- the first fault of event lines from a place on: the lines before are spelled, and it is that of the next one
-pub record IsEventsFault (v : Version) (place : Place) (raws : List (List ℕ)) (e : TextFault) : Type 0 where
-  pub front : List (List ℕ)
-  pub lines : List Line
-  pub raw : List ℕ
-  pub rest : List (List ℕ)
-  pub split : raws ≡ front ++ raw ∷ rest
-  pub spelled : AreSpelled (IsEventLine v) behind place lines front
-  pub fault : IsLineFault v (behind_all place lines) raw e
+-- the first fault of event lines from a place on
+abbrev pub IsEventsFault : Version → Place → List (List ℕ) → TextFault → Type 0
+IsEventsFault v place raws e = IsFaultAmong (IsEventLine v) (IsLineFault v) behind place raws e

@@ -8,7 +8,7 @@ use Rattle.case_forms.specs.declared.version.Version.{Version}
 use Rattle.line_fields.specs.Faults.{missing_line}
 use Rattle.line_fields.specs.Folding.{read_lines}
 use Rattle.line_fields.specs.LineFaults.{IsTextFaultOf, IsNextFault}
-use Rattle.line_fields.specs.Lines.{IsLine, exact_line, next_raw}
+use Rattle.line_fields.specs.Lines.{exact_line}
 use Rattle.line_fields.specs.Reading.{◌>>=◌}
 use Rattle.line_fields.specs.declared.fault.TextFault.{TextFault}
 use Rattle.line_fields.proofs.LineFaults.{exact_faults, faults_among}
