@@ -72,7 +72,7 @@ value_then {X} {Y} value want next f agree on r = go r.words
     go (w ∷ ws) = by w ws (value w) (want w) refl (agree w)
 
 -- numbers
-number_agrees : (least most : ℕ) (w : Word) → Agrees (number_value least most w) (numeric least most w) w
+pub number_agrees : (least most : ℕ) (w : Word) → Agrees (number_value least most w) (numeric least most w) w
 unfolding number_value
 number_agrees least most w = go (length w.text == 0) (is_number least most w.text (digits_value 10 w.text))
   where

@@ -22,3 +22,4 @@ pub mod RowLemmas
 pub mod Slices
 pub mod Texts
 pub mod Written
+pub mod LineFaults

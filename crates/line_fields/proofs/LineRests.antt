@@ -1,14 +1,15 @@
 -- A line's text and fields are read exactly where the bytes are a line within the limits.
-use Rattle.std.proofs.Common.{◌≡◌, ℕ, List, [], ◌∷◌, Bool, true, false, cond, length, Result, Ok, Err, refl, sym, ap, subst, ◌∙◌}
-use Rattle.std.specs.Prelude.{nat_lt, not}
-use Rattle.std.specs.List.{AllByRecursion}
+use Rattle.std.proofs.Common.{◌≡◌, ℕ, List, [], ◌∷◌, Bool, true, false, cond, length, Result, Ok, Err, refl, sym, ap, subst, ◌∙◌, arith}
+use Rattle.std.specs.Prelude.{nat_lt, not, map, ◌==◌}
+use Rattle.std.specs.List.{AllByRecursion, slice_split}
 use Rattle.std.specs.Str.{bytes_eq}
 use Rattle.std.proofs.lemmas.Bool.{ltb-false, le-ltb}
+use Rattle.std.proofs.lemmas.List.Splits.{length-slice_split}
 use Rattle.std.proofs.lemmas.Slice.Eq.{bytes_eq-Decides}
 use Rattle.bstr.specs.Text.{without_terminator}
 use Rattle.line_fields.specs.declared.fault.TextFault.{TextFault}
 use Rattle.line_fields.specs.declared.fault.FaultKind.TheVariants.{LineTooLong, Cut, TooManyLines}
-use Rattle.line_fields.specs.Word.{Rest, rest_of}
+use Rattle.line_fields.specs.Word.{Word, Rest, words_of, rest_of}
 use Rattle.line_fields.specs.Reading.{◌>>=◌}
 use Rattle.line_fields.specs.Lines.{NoReturn, IsRaw, IsLine, is_ended, whole_line, line_text, line_rest, exact_text, exact_line}
 use Rattle.line_fields.specs.Reader.{texts}
@@ -78,6 +79,16 @@ fields_taken number raw r e =
       line = subst (λ (t : List ℕ). IsLine number t raw) (sym (joined_is number p.text)) p.line;
       stop = ap length (sym (joined_is number p.text));
     })
+
+-- a line has one field at least
+pub some_word : (number : ℕ) (raw : List ℕ) (r : Rest) → line_rest number raw ≡ Ok r → r.words ≡ [] → ⊥
+some_word number raw r e none =
+    let p = rest_takes number raw r e in
+    let words : words_of number p.text ≡ [] = ap (λ (q : Rest). q.words) (sym p.is) ∙ none in
+    let parts : slice_split (λ b. b == 32) p.text ≡ [] = sym (texts-words_of number p.text) ∙ ap (λ (ws : List Word). map (λ w. w.text) ws) words in
+    let count = length-slice_split (λ b. b == 32) p.text in
+    let zero = ap length parts in
+    omega (arith, count, zero)
 
 -- clean fields that are joined to a line are read again
 pub fields_again : (number : ℕ) (raw w : List ℕ) (ws : List (List ℕ)) → AllByRecursion IsClean (w ∷ ws) → IsLine number (joined (w ∷ ws)) raw

@@ -17,3 +17,4 @@ pub mod Answers
 pub mod AnswerFields
 pub mod Forms
 pub mod AnswerForms
+pub mod LineFaults

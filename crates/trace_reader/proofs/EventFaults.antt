@@ -1,10 +1,7 @@
 -- What the reader of an event line answers is the first fault by its form.
-use Rattle.std.proofs.Common.{◌≡◌, ◌<◌, ◌≤◌, ℕ, Bool, true, false, List, length, Some, None, Result, Ok, Err, refl, ap, sym, subst, ◌∙◌, inl, inr, arith}
-use Rattle.std.specs.Prelude.{if◌then◌else◌, ◌==◌, ◌↔◌, nat_lt, not}
+use Rattle.std.proofs.Common.{◌≡◌, ℕ, Bool, true, false, List, length, Some, None, Result, Ok, Err, refl, ◌∙◌}
+use Rattle.std.specs.Prelude.{if◌then◌else◌, ◌==◌, ◌↔◌, nat_lt}
 use Rattle.std.specs.Str.Parse.{digits_value}
-use Rattle.std.proofs.lemmas.Bool.Decides.{nat_tests}
-use Rattle.std.proofs.lemmas.Option.{same_Some}
-use Rattle.bstr.specs.Text.{without_terminator}
 use Rattle.hex.specs.Hex.{decode_of}
 use Rattle.hex.specs.declared.error.FromHexError.{FromHexError}
 use Rattle.segment.specs.Reading.{segment_of}
@@ -20,17 +17,17 @@ use Rattle.case_forms.specs.declared.trace.Wire.{Wire}
 use Rattle.case_forms.specs.declared.version.Version.{Version}
 use Rattle.line_fields.specs.AnswerFields.{answer_field}
 use Rattle.line_fields.specs.Choice.{kind_field}
-use Rattle.line_fields.specs.Forms.{Form, End, Then, numeric, named, digits, then_form, choice, IsFirstFault}
+use Rattle.line_fields.specs.Forms.{Form, End, Then, numeric, named, digits, then_form, choice}
 use Rattle.line_fields.specs.HexFields.{or_bad, hex_value, hex_field}
 use Rattle.line_fields.specs.Hosts.{host_field}
-use Rattle.line_fields.specs.Lines.{is_ended, whole_line, line_text, line_rest}
 use Rattle.line_fields.specs.Reading.{◌>>=◌, fault_at, is_number, number_value, number_field, no_more}
 use Rattle.line_fields.specs.Timers.{timer_name, all_timers}
-use Rattle.line_fields.specs.Word.{Word, Rest, rest_of}
+use Rattle.line_fields.specs.Word.{Word, Rest}
 use Rattle.line_fields.specs.declared.fault.FaultKind.TheVariants as kinds
 use Rattle.line_fields.specs.declared.fault.TextFault.{TextFault}
 use Rattle.line_fields.proofs.AnswerFaults.{answer_then}
-use Rattle.line_fields.proofs.FieldFaults.{failing, first_fault, Onward, Agrees, assoc, value_then, number_then, host_then, kind_then, choice_then, hex_then, end_then, first_is}
+use Rattle.line_fields.proofs.FieldFaults.{failing, first_fault, Onward, Agrees, assoc, value_then, number_then, host_then, kind_then, choice_then, hex_then, end_then}
+use Rattle.line_fields.proofs.LineFaults.{faults_of}
 use Rattle.trace_reader.specs.declared.calls.CallWord.{CallWord}
 use Rattle.trace_reader.specs.declared.calls.CallWord.TheVariants as words
 use Rattle.trace_reader.specs.declared.events.Letter.{Letter}
@@ -39,7 +36,7 @@ use Rattle.trace_reader.specs.Calls.{call_name, all_call_words}
 use Rattle.trace_reader.specs.CallFields.{listen_fields, open_fields, send_fields, recv_fields, socket_field, call_behind, call_field}
 use Rattle.trace_reader.specs.Events.{letter_name, all_letters}
 use Rattle.trace_reader.specs.EventFields.{host_wire, expired_fields, event_behind, event_field}
-use Rattle.trace_reader.specs.EventForms.{port, word32, rising, segment_kind, wire_kind, segment_digits, call_form, event_form, line_form, IsWholeFault, TooLong, Cut, TooMany, IsLineFault}
+use Rattle.trace_reader.specs.EventForms.{port, word32, rising, segment_kind, wire_kind, segment_digits, call_form, event_form, line_form, IsLineFault}
 use Rattle.trace_reader.specs.EventLines.{Place, moment_value, moment_field, event_fields, line_of}
 use Rattle.trace_reader.specs.Wires.{with_segment, wire_value, wire_field}
 
@@ -120,88 +117,9 @@ unfolding event_field
 fields_then v before r = moment_then before (word32 (choice letter_name all_letters (event_form v))) _ (λ moment more. number_then 0 4294967295 (choice letter_name all_letters (event_form v)) _ (λ thread more. assoc (kind_field letter_name all_letters more) (λ letter. event_behind v letter.0 letter.1) _
     ∙ choice_then letter_name all_letters (event_form v) _ (λ k rest. event_then v (λ event. no_more event.1 >>= λ end. Ok (moment, thread, event.0)) (λ event rest. end_then (moment, thread, event) rest) k rest) more) more) r
 
-failing_map : {A B : Type 0} (m : Result A TextFault) (g : A → B) → failing (m >>= λ x. Ok (g x)) ≡ failing m
-failing_map (Ok x) g = refl
-failing_map (Err e) g = refl
-
-is_err : {A : Type 0} (m : Result A TextFault) (e : TextFault) → (m ≡ Err e) ↔ (failing m ≡ Some e)
-is_err (Ok x) e = (λ is. absurd cc, λ is. absurd cc)
-is_err (Err f) e = (λ is. let same : f ≡ e = cc in ap (λ (x : TextFault). Some x) same, λ is. ap (λ (x : TextFault). Err x) (same_Some f e is))
-
-not_less : (m n : ℕ) → nat_lt m n ≡ false → n ≤ m
-not_less m n is = grind (arith, nat_tests)
-
-less : (m n : ℕ) → nat_lt m n ≡ true → m < n
-less m n is = grind (arith, nat_tests)
-
-abbrev bad_rest : TextFault → Result Rest TextFault
-bad_rest e = Err e
-
-abbrev good_rest : Rest → Result Rest TextFault
-good_rest r = Ok r
-
-abbrev bad_line : TextFault → Result Line TextFault
-bad_line e = Err e
-
--- the line as a whole
-whole_is : (number : ℕ) (raw : List ℕ) (e : TextFault) → (line_rest number raw ≡ Err e) ↔ IsWholeFault number raw e
-unfolding line_rest line_text
-whole_is number raw e = go (nat_lt 140000 (length (without_terminator raw))) refl (is_ended raw) refl (nat_lt 10000000 number) refl
-  where
-    text : List ℕ
-    text = without_terminator raw
-
-    go : (b : Bool) → nat_lt 140000 (length text) ≡ b → (c : Bool) → is_ended raw ≡ c → (d : Bool) → nat_lt 10000000 number ≡ d
-        → (((if b then Err (record { kind = kinds.LineTooLong; span = whole_line number text }) else if not c then Err (record { kind = kinds.Cut; span = whole_line number text }) else if d then Err (record { kind = kinds.TooManyLines; span = whole_line number text }) else Ok text) >>= λ t. Ok (rest_of number t)) ≡ Err e) ↔ IsWholeFault number raw e
-    go true long c ended d many = (λ is. TooLong (less 140000 (length text) long) cc, λ g. back g)
-      where
-        back : IsWholeFault number raw e → bad_rest (record { kind = kinds.LineTooLong; span = whole_line number text }) ≡ Err e
-        back (TooLong l same) = ap (λ (x : TextFault). Err x) (sym same)
-        back (Cut l open' same) = absurd (omega (arith, l, less 140000 (length text) long))
-        back (TooMany l shut m same) = absurd (omega (arith, l, less 140000 (length text) long))
-    go false short false ended d many = (λ is. Cut (not_less 140000 (length text) short) ended cc, λ g. back g)
-      where
-        back : IsWholeFault number raw e → bad_rest (record { kind = kinds.Cut; span = whole_line number text }) ≡ Err e
-        back (TooLong l same) = absurd (omega (arith, l, not_less 140000 (length text) short))
-        back (Cut l open' same) = ap (λ (x : TextFault). Err x) (sym same)
-        back (TooMany l shut m same) = let clash : false ≡ true = sym ended ∙ shut in absurd cc
-    go false short true ended true many = (λ is. TooMany (not_less 140000 (length text) short) ended (less 10000000 number many) cc, λ g. back g)
-      where
-        back : IsWholeFault number raw e → bad_rest (record { kind = kinds.TooManyLines; span = whole_line number text }) ≡ Err e
-        back (TooLong l same) = absurd (omega (arith, l, not_less 140000 (length text) short))
-        back (Cut l open' same) = let clash : true ≡ false = sym ended ∙ open' in absurd cc
-        back (TooMany l shut m same) = ap (λ (x : TextFault). Err x) (sym same)
-    go false short true ended false many = (λ is. absurd cc, λ g. back g)
-      where
-        back : IsWholeFault number raw e → good_rest (rest_of number text) ≡ Err e
-        back (TooLong l same) = absurd (omega (arith, l, not_less 140000 (length text) short))
-        back (Cut l open' same) = let clash : true ≡ false = sym ended ∙ open' in absurd cc
-        back (TooMany l shut m same) = absurd (omega (arith, m, not_less 10000000 number many))
-
 pub line_faults : (v : Version) (place : Place) (raw : List ℕ) (e : TextFault) → (line_of v place raw ≡ Err e) ↔ IsLineFault v place raw e
 unfolding line_of
-line_faults v place raw e = go (line_rest place.1 raw) refl
+line_faults v place raw e = faults_of (line_form v place.0) (event_fields v place.0) line (fields_then v place.0) place.1 raw e
   where
     line : Rest → ℕ × ℕ × Event → Line
     line r f = record { number = place.1; moment = f.0; thread = f.1; event = f.2; span = record { line = place.1; start = 0; stop = r.stop } }
-
-    go : (o : Result Rest TextFault) → line_rest place.1 raw ≡ o → ((o >>= λ r. event_fields v place.0 r >>= λ f. Ok (line r f)) ≡ Err e) ↔ IsLineFault v place raw e
-    go (Err f) is = (λ same. inl ((whole_is place.1 raw e).0 (is ∙ again same)), λ g. back g)
-      where
-        again : bad_line f ≡ Err e → bad_rest f ≡ Err e
-        again same = let one : f ≡ e = cc in ap (λ (x : TextFault). bad_rest x) one
-
-        back : IsLineFault v place raw e → bad_line f ≡ Err e
-        back (inl whole) = let same : bad_rest f ≡ Err e = sym is ∙ (whole_is place.1 raw e).1 whole in let one : f ≡ e = cc in ap (λ (x : TextFault). bad_line x) one
-        back (inr x) = let clash : bad_rest f ≡ Ok x.0 = sym is ∙ x.1 in absurd cc
-    go (Ok r) is = (
-      λ same. inr (r, is, (first_is (line_form v place.0) r e).0 (sym (fields_then v place.0 r) ∙ (sym (failing_map (event_fields v place.0 r) (line r)) ∙ (is_err (event_fields v place.0 r >>= λ f. Ok (line r f)) e).0 same))),
-      λ g. back g,
-    )
-      where
-        back : IsLineFault v place raw e → (event_fields v place.0 r >>= λ f. Ok (line r f)) ≡ Err e
-        back (inl whole) = let clash : good_rest r ≡ Err e = sym is ∙ (whole_is place.1 raw e).1 whole in absurd cc
-        back (inr x) =
-            let same : good_rest x.0 ≡ Ok r = sym x.1 ∙ is in
-            let one : x.0 ≡ r = cc in
-            (is_err (event_fields v place.0 r >>= λ f. Ok (line r f)) e).1 (failing_map (event_fields v place.0 r) (line r) ∙ (fields_then v place.0 r ∙ (first_is (line_form v place.0) r e).1 (subst (λ (y : Rest). IsFirstFault (line_form v place.0) y e) one x.2)))

@@ -284,23 +284,23 @@ version_by text fault v false true c one two three e = ap (is_first text) (sym (
 version_by text fault v false false true one two three e = ap (is_first text) (sym (ok_is Three v e)) ∙ three
 version_by text fault v false false false one two three e = absurd cc
 
-version_taken : (text : List ℕ) (v : Version) → version_in text ≡ Ok v → text ≡ joined (first_words v)
+pub version_taken : (text : List ℕ) (v : Version) → version_in text ≡ Ok v → text ≡ joined (first_words v)
 version_taken text v e =
     let found = version_by text (record { kind = kinds.Header; span = whole_line 1 text }) v (is_first text One) (is_first text Two) (is_first text Three) refl refl refl e in
     (bytes_eq-Decides text (joined (first_words v))).0 found
 
-version_given : (v : Version) → version_in (joined (first_words v)) ≡ Ok v
+pub version_given : (v : Version) → version_in (joined (first_words v)) ≡ Ok v
 version_given One = refl
 version_given Two = refl
 version_given Three = refl
 
-version_takes : (raw : List ℕ) (v : Version) → first_version raw ≡ Ok v → IsLine 1 (joined (first_words v)) raw
+pub version_takes : (raw : List ℕ) (v : Version) → first_version raw ≡ Ok v → IsLine 1 (joined (first_words v)) raw
 unfolding first_version
 version_takes raw v e =
     let b = bind_ok (line_text 1 raw) version_in v e in
     subst (λ (t : List ℕ). IsLine 1 t raw) (version_taken b.0 v b.2) (text_takes 1 raw b.0 b.1)
 
-version_again : (v : Version) (raw : List ℕ) → IsLine 1 (joined (first_words v)) raw → first_version raw ≡ Ok v
+pub version_again : (v : Version) (raw : List ℕ) → IsLine 1 (joined (first_words v)) raw → first_version raw ≡ Ok v
 unfolding first_version
 version_again v raw line =
     ap (λ (x : Result (List ℕ) TextFault). x >>= version_in) (text_again 1 raw (joined (first_words v)) (joined_no_return (first_words v) (first_clean v)) line) ∙ version_given v

@@ -11,3 +11,4 @@ pub mod EventFaults
 pub mod TextFaults
 pub mod ShortLines
 pub mod PrintableLaw
+pub mod HeaderFaults

@@ -1,7 +1,6 @@
 -- The form of an event line, and its first fault.
-use Rattle.std.specs.Prelude.{◌≡◌, ◌⊎◌, ◌<◌, ◌≤◌, ℕ, nat_lt, if◌then◌else◌, false, true, List, [], ◌∷◌, ◌++◌, length, Option, None, Some, Result, Ok, Err}
+use Rattle.std.specs.Prelude.{ℕ, nat_lt, if◌then◌else◌, List, Option, None, Some, Result, Ok, Err}
 use Rattle.std.specs.Str.Parse.{digits_value}
-use Rattle.bstr.specs.Text.{without_terminator}
 use Rattle.hex.specs.Hex.{decode_of}
 use Rattle.hex.specs.declared.error.FromHexError.{FromHexError}
 use Rattle.segment.specs.Reading.{segment_of}
@@ -9,12 +8,11 @@ use Rattle.segment.specs.declared.fault.SegFault.{SegFault}
 use Rattle.segment.specs.declared.fields.Segment.{Segment}
 use Rattle.case_forms.specs.declared.version.Version.{Version}
 use Rattle.line_fields.specs.AnswerForms.{answer_last}
-use Rattle.line_fields.specs.Forms.{Want, Form, End, unless_empty, numeric, named, digits, then_form, choice, IsFirstFault}
+use Rattle.line_fields.specs.Forms.{Want, Form, End, unless_empty, numeric, named, digits, then_form, choice}
 use Rattle.line_fields.specs.Hosts.{greatest_host}
-use Rattle.line_fields.specs.Lines.{is_ended, whole_line, line_rest}
+use Rattle.line_fields.specs.LineFaults.{IsFaultOf, IsFaultAmong}
 use Rattle.line_fields.specs.Reading.{is_number}
 use Rattle.line_fields.specs.Timers.{timer_name, all_timers}
-use Rattle.line_fields.specs.Word.{Rest}
 use Rattle.line_fields.specs.declared.fault.FaultKind.{FaultKind}
 use Rattle.line_fields.specs.declared.fault.FaultKind.TheVariants as kinds
 use Rattle.line_fields.specs.declared.fault.TextFault.{TextFault}
@@ -24,8 +22,6 @@ use Rattle.trace_reader.specs.declared.events.Letter.{Letter}
 use Rattle.trace_reader.specs.declared.events.Letter.TheVariants as letters
 use Rattle.trace_reader.specs.Calls.{call_name, all_call_words}
 use Rattle.trace_reader.specs.Events.{letter_name, all_letters}
-use Rattle.case_forms.specs.declared.trace.Line.{Line}
-use Rattle.line_fields.specs.Folding.{AreSpelled}
 use Rattle.trace_reader.specs.EventLines.{Place, behind, IsEventLine}
 
 -- a moment that is not below the one before
@@ -81,30 +77,10 @@ event_form v letters.T = host v (port (port (then_form (named timer_name all_tim
 abbrev pub line_form : Version → ℕ → Form
 line_form v before = then_form (rising before) (word32 (choice letter_name all_letters (event_form v)))
 
--- a fault of the line as a whole: it is too long; or else it isn't ended; or else it is one line too many
-pub data IsWholeFault (number : ℕ) (raw : List ℕ) (e : TextFault) : Type 0 where
-  TooLong : 140000 < length (without_terminator raw) → e
-      ≡ record { kind = kinds.LineTooLong; span = whole_line number (without_terminator raw) } → IsWholeFault number raw e
-  Cut : length (without_terminator raw) ≤ 140000 → is_ended raw ≡ false → e
-      ≡ record { kind = kinds.Cut; span = whole_line number (without_terminator raw) } → IsWholeFault number raw e
-  TooMany : length (without_terminator raw) ≤ 140000 → is_ended raw ≡ true → 10000000 < number → e
-      ≡ record { kind = kinds.TooManyLines; span = whole_line number (without_terminator raw) } → IsWholeFault number raw e
-
--- the first fault of an event line: that of the line as a whole, or else that of the first of its fields that doesn't fit the form
+-- the first fault of an event line
 abbrev pub IsLineFault : Version → Place → List ℕ → TextFault → Type 0
-IsLineFault v place raw e = IsWholeFault place.1 raw e ⊎ ((r : Rest) × (line_rest place.1 raw ≡ Ok r) × IsFirstFault (line_form v place.0) r e)
+IsLineFault v place raw e = IsFaultOf (line_form v place.0) place.1 raw e
 
--- the place behind these lines
-abbrev pub behind_all : Place → List Line → Place
-behind_all place [] = place
-behind_all place (line ∷ lines) = behind_all (behind place line) lines
-
--- the first fault of event lines from a place on: the lines before are spelled, and it is that of the next one
-pub record IsEventsFault (v : Version) (place : Place) (raws : List (List ℕ)) (e : TextFault) : Type 0 where
-  pub front : List (List ℕ)
-  pub lines : List Line
-  pub raw : List ℕ
-  pub rest : List (List ℕ)
-  pub split : raws ≡ front ++ raw ∷ rest
-  pub spelled : AreSpelled (IsEventLine v) behind place lines front
-  pub fault : IsLineFault v (behind_all place lines) raw e
+-- the first fault of event lines from a place on
+abbrev pub IsEventsFault : Version → Place → List (List ℕ) → TextFault → Type 0
+IsEventsFault v place raws e = IsFaultAmong (IsEventLine v) (IsLineFault v) behind place raws e

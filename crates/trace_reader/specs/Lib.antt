@@ -17,3 +17,5 @@ pub mod TraceLeft
 pub mod Printed
 pub mod EventForms
 pub mod Printable
+pub mod HeaderForms
+pub mod TraceFaults

@@ -12,8 +12,8 @@
 //! - `stream`: the reader of a text whose lines are read as they are asked for
 //! - `reading`: the reader of a whole text, by the same reader
 //! - `printing`: the printer of a trace
-//! - `laws`: the fault of event lines that is answered is the first one, by a table of what each field has to be
-//!   (`specs/EventForms`); of the header that is not said
+//! - `laws`: the fault that is answered is the first one, by tables of what each field has to be (`specs/HeaderForms`,
+//!   `specs/EventForms`)
 #![tactic(auto)]
 
 mod calls;
@@ -31,7 +31,7 @@ pub use case_forms::{
 pub use counted::Counted;
 pub use events::event_line;
 pub use header::version_named;
-pub use laws::{event_line_faults, first_event_fault};
+pub use laws::{event_line_faults, first_event_fault, header_faults, trace_faults};
 pub use line_fields::{FaultKind, ReadFault, SegFault, Span, TextFault, Token};
 pub use printing::{event_bytes, print_law, print_trace, printable_law};
 pub use reading::read_trace;

@@ -8,3 +8,4 @@ pub mod WitnessText
 pub mod StepsLeft
 pub mod Printed
 pub mod Printable
+pub mod StepForms

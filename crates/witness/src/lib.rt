@@ -18,6 +18,7 @@
 mod first_line;
 mod flags;
 mod labels;
+mod laws;
 mod parts;
 mod printing;
 mod reading;
@@ -29,6 +30,7 @@ pub use case_forms::{
 };
 pub use counted::Counted;
 pub use first_line::begins_witness;
+pub use laws::{step_faults, witness_faults};
 pub use line_fields::{FaultKind, ReadFault, TextFault};
 pub use printing::{label_bytes, print_law, print_witness, printable_law};
 pub use reading::{read_step, read_witness, read_witness_for};

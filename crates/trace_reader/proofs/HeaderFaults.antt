@@ -1,0 +1,409 @@
+-- What the reader of a header answers is its first fault.
+use Rattle.std.proofs.Common.{◌≡◌, ℕ, ◌+◌, Bool, true, false, List, [], ◌∷◌, ◌++◌, length, Option, Some, None, Result, Ok, Err, refl, ap, sym, subst, ◌∙◌, inl, inr, ◌⊎◌, arith}
+use Rattle.std.specs.Prelude.{if◌then◌else◌, ◌==◌, ◌||◌, ◌&&◌, ◌↔◌, nat_le, codes}
+use Rattle.std.specs.Fmt.{decimal, digits}
+use Rattle.std.specs.Str.{bytes_eq}
+use Rattle.std.specs.Str.Parse.{digits_value}
+use Rattle.std.proofs.lemmas.Bool.{eqb-true}
+use Rattle.std.proofs.lemmas.Slice.Eq.{bytes_eq-Decides}
+use Rattle.case_forms.specs.declared.version.Version.{Version}
+use Rattle.case_forms.specs.declared.version.Version.TheVariants.{One, Two, Three}
+use Rattle.case_forms.specs.declared.version.Initial.{Initial}
+use Rattle.case_forms.specs.declared.version.Initial.TheVariants.{Rfc5681, Rfc6928}
+use Rattle.line_fields.specs.Faults.{missing_line}
+use Rattle.line_fields.specs.Forms.{numeric}
+use Rattle.line_fields.specs.LineFaults.{IsTextFaultOf, IsNextFault}
+use Rattle.line_fields.specs.Lines.{line_rest}
+use Rattle.line_fields.specs.Reading.{◌>>=◌, fault_at, missing, first_of, next_field, is_number, number_value, number_field}
+use Rattle.line_fields.specs.Spelling.{joined}
+use Rattle.line_fields.specs.Word.{Word, Rest}
+use Rattle.line_fields.specs.declared.fault.FaultKind.{FaultKind}
+use Rattle.line_fields.specs.declared.fault.FaultKind.TheVariants as kinds
+use Rattle.line_fields.specs.declared.fault.TextFault.{TextFault}
+use Rattle.line_fields.proofs.FieldFaults.{Agrees, number_agrees}
+use Rattle.line_fields.proofs.LineFaults.{whole_is, other_text, text_faults}
+use Rattle.line_fields.proofs.LineRests.{some_word}
+use Rattle.line_fields.proofs.Readers.{field_by}
+use Rattle.trace_reader.specs.HeaderForms.{IsFirstText, Row, row, initial_want, late_rows, header_rows, Fits, IsNamed, Breaks, Other, Bad, More, IsRow, IsRowFault, AreRows, IsRowsFault, IsHeaderFault, First, Rows}
+use Rattle.trace_reader.specs.Headers.{initial_number, first_words, header_fault, some_left, named_rest, alone, value_line, next_value, version_in, first_version, first_line, initial_of, initial_value, initial_field, initial_line, half_line, late_lines, header_of}
+use Rattle.trace_reader.proofs.HeaderLaw.{Raws, Headed, version_taken, version_given, version_takes, version_again, with_first, with_skew, with_msl, with_grain, with_minrto, with_extra, header_with}
+
+abbrev bad : {A : Type 0} → TextFault → Result A TextFault
+bad e = Err e
+
+abbrev good : {A : Type 0} → A → Result A TextFault
+good a = Ok a
+
+-- ---- a value and its kind of fault
+
+agrees_ok : {A : Type 0} (v : Result A TextFault) (k : Option FaultKind) (w : Word) → Agrees v k w → k ≡ None → (x : A) × (v ≡ Ok x)
+agrees_ok (Ok x) k w agree is = (x, refl)
+agrees_ok (Err e) None w agree is = absurd agree
+agrees_ok (Err e) (Some kind) w agree is = absurd cc
+
+agrees_err : {A : Type 0} (v : Result A TextFault) (k : Option FaultKind) (w : Word) (kind : FaultKind) → Agrees v k w → k ≡ Some kind → v ≡ Err (fault_at kind w)
+agrees_err (Ok x) None w kind agree is = absurd cc
+agrees_err (Ok x) (Some other) w kind agree is = absurd agree
+agrees_err (Err e) None w kind agree is = absurd agree
+agrees_err (Err e) (Some other) w kind agree is = let same : other ≡ kind = cc in ap bad agree ∙ ap (λ (k : FaultKind). bad (fault_at k w)) same
+
+ok_agrees : {A : Type 0} (x : A) (k : Option FaultKind) (w : Word) → Agrees (Ok x) k w → k ≡ None
+ok_agrees x None w agree = refl
+ok_agrees x (Some kind) w agree = absurd agree
+
+err_agrees : (A : Type 0) (e : TextFault) (k : Option FaultKind) (w : Word) → Agrees (bad {A = A} e) k w → (kind : FaultKind) × (k ≡ Some kind) × (e ≡ fault_at kind w)
+err_agrees A e None w agree = absurd agree
+err_agrees A e (Some kind) w agree = (kind, refl, agree)
+
+-- ---- a line of a name and a value
+
+module _ {A : Type 0} (value : Word → Result A TextFault) (r : Row) (agree : (w : Word) → Agrees (value w) (r.value w) w) where
+  abbrev behind_name : TextFault → Word × Rest → Result (Rest × TextFault) TextFault
+  behind_name header w = if bytes_eq w.0.text r.name then some_left header w.1.words w.1 else Err header
+
+  abbrev last : Rest × TextFault → Result A TextFault
+  last line = field_by value line.0 >>= λ a. alone line.1 a.0 a.1.words
+
+  -- the fields of a line, of which these two are the first
+  abbrev fields_in : TextFault → ℕ → ℕ → Word → Word → List Word → Result A TextFault
+  fields_in header line stop name u more = behind_name header (name, record { line = line; stop = stop; words = u ∷ more }) >>= last
+
+  alone_read : (header : TextFault) (line stop : ℕ) (name u : Word) (x : A) → name.text ≡ r.name → value u ≡ Ok x → fields_in header line stop name u [] ≡ Ok x
+  alone_read header line stop name u x named is =
+      let test = (bytes_eq-Decides name.text r.name).1 named in
+      rw (test, is) refl
+
+  fits_read : (header : TextFault) (line stop : ℕ) (name u : Word) → name.text ≡ r.name → r.value u ≡ None → (x : A) × (fields_in header line stop name u [] ≡ Ok x)
+  fits_read header line stop name u named fits =
+      let x = agrees_ok (value u) (r.value u) u (agree u) fits in
+      (x.0, alone_read header line stop name u x.0 named x.1)
+
+  bad_read : (header : TextFault) (line stop : ℕ) (name u : Word) (more : List Word) (kind : FaultKind) → name.text ≡ r.name → r.value u ≡ Some kind → fields_in header line stop name u more ≡ Err (fault_at kind u)
+  bad_read header line stop name u more kind named is =
+      let test = (bytes_eq-Decides name.text r.name).1 named in
+      let fails = agrees_err (value u) (r.value u) u kind (agree u) is in
+      rw (test, fails) refl
+
+  more_read : (header : TextFault) (line stop : ℕ) (name u w : Word) (more : List Word) → name.text ≡ r.name → r.value u ≡ None → fields_in header line stop name u (w ∷ more) ≡ Err header
+  more_read header line stop name u w more named fits =
+      let test = (bytes_eq-Decides name.text r.name).1 named in
+      let x = agrees_ok (value u) (r.value u) u (agree u) fits in
+      let is = x.1 in rw (test, is) refl
+
+  -- what was read of them
+  abbrev Outcome : TextFault → List Word → Result A TextFault → Type 0
+  Outcome header ws (Ok x) = Fits r ws
+  Outcome header ws (Err e) = Breaks r header ws e
+
+  outcome : (header : TextFault) (line stop : ℕ) (name u : Word) (more : List Word) → Outcome header (name ∷ u ∷ more) (fields_in header line stop name u more)
+  outcome header line stop name u more = named (bytes_eq name.text r.name) refl
+    where
+      misnamed : bytes_eq name.text r.name ≡ false → IsNamed r (name ∷ u ∷ more) → ⊥
+      misnamed is x =
+          let split = x.3 in
+          let same : name ≡ x.0 = cc in
+          let clash : false ≡ true = sym is ∙ (bytes_eq-Decides name.text r.name).1 (ap (λ (w : Word). w.text) same ∙ x.4) in
+          absurd cc
+
+      valued : bytes_eq name.text r.name ≡ true → (v : Result A TextFault) → value u ≡ v → Agrees v (r.value u) u → (ws : List Word) → Outcome header (name ∷ u ∷ ws) ((v >>= λ x. good {A = A × Rest} (x, record { line = line; stop = stop; words = ws })) >>= λ a. alone header a.0 a.1.words)
+      valued test (Err e) is fails ws = let kind = err_agrees A e (r.value u) u fails in Bad name u ws kind.0 refl ((bytes_eq-Decides name.text r.name).0 test) kind.1 kind.2
+      valued test (Ok x) is fits [] = (name, u, refl, (bytes_eq-Decides name.text r.name).0 test, ok_agrees x (r.value u) u fits)
+      valued test (Ok x) is fits (w ∷ ws) = More name u w ws refl ((bytes_eq-Decides name.text r.name).0 test) (ok_agrees x (r.value u) u fits) refl
+
+      named : (b : Bool) → bytes_eq name.text r.name ≡ b → Outcome header (name ∷ u ∷ more) ((if b then Ok (record { line = line; stop = stop; words = u ∷ more }, header) else Err header) >>= last)
+      named false is = Other (misnamed is) refl
+      named true is = valued is (value u) refl (agree u) more
+
+  abbrev words_in : TextFault → TextFault → ℕ → ℕ → List Word → Result A TextFault
+  words_in none header line stop ws = (first_of none line stop ws >>= behind_name header) >>= last
+
+  lone_read : (none header : TextFault) (line stop : ℕ) (w : Word) → words_in none header line stop (w ∷ []) ≡ Err header
+  lone_read none header line stop w = go (bytes_eq w.text r.name)
+    where
+      go : (b : Bool) → ((if b then Err header else Err header) >>= last) ≡ Err header
+      go true = refl
+      go false = refl
+
+  lone_wrong : (w : Word) → IsNamed r (w ∷ []) → ⊥
+  lone_wrong w x = let split = x.3 in absurd cc
+
+  all_outcomes : (none header : TextFault) (line stop : ℕ) (ws : List Word) → (ws ≡ [] → ⊥) → Outcome header ws (words_in none header line stop ws)
+  all_outcomes none header line stop [] some = absurd (some refl)
+  all_outcomes none header line stop (w ∷ []) some = subst (Outcome header (w ∷ [])) (sym (lone_read none header line stop w)) (Other (lone_wrong w) refl)
+  all_outcomes none header line stop (w ∷ u ∷ more) some = outcome header line stop w u more
+
+  breaks_read : (none header : TextFault) (line stop : ℕ) (ws : List Word) (e : TextFault) → (ws ≡ [] → ⊥) → Breaks r header ws e → words_in none header line stop ws ≡ Err e
+  breaks_read none header line stop ws e some (Bad name u more kind split named is same) =
+      ap (words_in none header line stop) split ∙ bad_read header line stop name u more kind named is ∙ ap bad (sym same)
+  breaks_read none header line stop ws e some (More name u w more split named fits same) =
+      ap (words_in none header line stop) split ∙ more_read header line stop name u w more named fits ∙ ap bad (sym same)
+  breaks_read none header line stop [] e some (Other wrong same) = absurd (some refl)
+  breaks_read none header line stop (w ∷ []) e some (Other wrong same) = lone_read none header line stop w ∙ ap bad (sym same)
+  breaks_read none header line stop (w ∷ u ∷ more) e some (Other wrong same) = go (bytes_eq w.text r.name) refl
+    where
+      go : (b : Bool) → bytes_eq w.text r.name ≡ b → ((if b then Ok (record { line = line; stop = stop; words = u ∷ more }, header) else Err header) >>= last) ≡ Err e
+      go false is = ap bad (sym same)
+      go true is = absurd (wrong (w, u, more, refl, (bytes_eq-Decides w.text r.name).0 is))
+
+  fits_in : (none header : TextFault) (line stop : ℕ) (ws : List Word) → Fits r ws → (x : A) × (words_in none header line stop ws ≡ Ok x)
+  fits_in none header line stop ws fits =
+      let x = fits_read header line stop fits.0 fits.1 fits.3 fits.4 in
+      (x.0, ap (words_in none header line stop) fits.2 ∙ x.1)
+
+  -- the line itself
+  abbrev line_read : ℕ → List ℕ → Result A TextFault
+  line_read number raw = value_line number r.name (field_by value) raw
+
+  abbrev rest_read : ℕ → Result Rest TextFault → Result A TextFault
+  rest_read number o = (o >>= λ q. next_field q >>= behind_name (header_fault number q)) >>= last
+
+  line_is : (number : ℕ) (raw : List ℕ) → line_read number raw ≡ rest_read number (line_rest number raw)
+  unfolding value_line named_rest
+  line_is number raw = refl
+
+  row_fits : (number : ℕ) (raw : List ℕ) (x : A) → line_read number raw ≡ Ok x → IsRow r number raw
+  row_fits number raw x same = go (line_rest number raw) refl (sym (line_is number raw) ∙ same)
+    where
+      go : (o : Result Rest TextFault) → line_rest number raw ≡ o → rest_read number o ≡ Ok x → IsRow r number raw
+      go (Err f) is same = absurd cc
+      go (Ok q) is same = (q, is, subst (Outcome (header_fault number q) q.words) same (all_outcomes (missing q) (header_fault number q) q.line q.stop q.words (some_word number raw q is)))
+
+  row_read : (number : ℕ) (raw : List ℕ) → IsRow r number raw → (x : A) × (line_read number raw ≡ Ok x)
+  row_read number raw g =
+      let x = fits_in (missing g.0) (header_fault number g.0) g.0.line g.0.stop g.0.words g.2 in
+      (x.0, line_is number raw ∙ ap (rest_read number) g.1 ∙ x.1)
+
+  row_faults : (number : ℕ) (raw : List ℕ) (e : TextFault) → (line_read number raw ≡ Err e) ↔ IsRowFault r number raw e
+  row_faults number raw e = (λ same. there (line_rest number raw) refl (sym (line_is number raw) ∙ same), λ g. line_is number raw ∙ back g)
+    where
+      there : (o : Result Rest TextFault) → line_rest number raw ≡ o → rest_read number o ≡ Err e → IsRowFault r number raw e
+      there (Err f) is same = let one : f ≡ e = cc in inl ((whole_is number raw e).0 (is ∙ ap bad one))
+      there (Ok q) is same = inr (q, is, subst (Outcome (header_fault number q) q.words) same (all_outcomes (missing q) (header_fault number q) q.line q.stop q.words (some_word number raw q is)))
+
+      back : IsRowFault r number raw e → rest_read number (line_rest number raw) ≡ Err e
+      back (inl whole) = ap (rest_read number) ((whole_is number raw e).1 whole)
+      back (inr x) = ap (rest_read number) x.1 ∙ breaks_read (missing x.0) (header_fault number x.0) x.0.line x.0.stop x.0.words e (some_word number raw x.0 x.1) x.2
+
+-- ---- lines of the header
+
+-- the first fault of lines that have to have these forms, line by line
+abbrev Faulty : ℕ → List Row → Raws → TextFault → Type 0
+Faulty number [] raws e = ⊥
+Faulty number (r ∷ rows) [] e = e ≡ missing_line number
+Faulty number (r ∷ rows) (raw ∷ raws) e = IsRowFault r number raw e ⊎ (IsRow r number raw × Faulty (number + 1) rows raws e)
+
+faulty_rows : (number : ℕ) (rows : List Row) (raws : Raws) (e : TextFault) → Faulty number rows raws e → IsRowsFault number rows raws e
+faulty_rows number [] raws e g = absurd g
+faulty_rows number (r ∷ rows) [] e g = record { done = []; next = r; left = rows; front = []; rest = []; forms = refl; split = refl; good = tt; fault = subst (λ (n : ℕ). e ≡ missing_line n) (omega arith) g }
+faulty_rows number (r ∷ rows) (raw ∷ raws) e (inl g) = record { done = []; next = r; left = rows; front = []; rest = raw ∷ raws; forms = refl; split = refl; good = tt; fault = subst (λ (n : ℕ). IsRowFault r n raw e) (omega arith) g }
+faulty_rows number (r ∷ rows) (raw ∷ raws) e (inr g) =
+    let x = faulty_rows (number + 1) rows raws e g.1 in
+    record {
+      done = r ∷ x.done;
+      next = x.next;
+      left = x.left;
+      front = raw ∷ x.front;
+      rest = x.rest;
+      forms = ap (λ (rs : List Row). r ∷ rs) x.forms;
+      split = ap (λ (us : Raws). raw ∷ us) x.split;
+      good = (g.0, x.good);
+      fault = subst (λ (n : ℕ). IsNextFault (IsRowFault x.next) n x.rest e) (omega arith) x.fault;
+    }
+
+rows_faulty : (number : ℕ) (done left : List Row) (next : Row) (front rest : Raws) (e : TextFault) → AreRows number done front → IsNextFault (IsRowFault next) (number + length done) rest e → Faulty number (done ++ next ∷ left) (front ++ rest) e
+rows_faulty number [] left next [] [] e good fault = subst (λ (n : ℕ). e ≡ missing_line n) (omega arith) fault
+rows_faulty number [] left next [] (raw ∷ rest) e good fault = inl (subst (λ (n : ℕ). IsRowFault next n raw e) (omega arith) fault)
+rows_faulty number [] left next (raw ∷ front) rest e good fault = absurd good
+rows_faulty number (r ∷ done) left next [] rest e good fault = absurd good
+rows_faulty number (r ∷ done) left next (raw ∷ front) rest e good fault =
+    inr (good.0, rows_faulty (number + 1) done left next front rest e good.1 (subst (λ (n : ℕ). IsNextFault (IsRowFault next) n rest e) (omega arith) fault))
+
+-- what reads these lines has their first fault
+abbrev Heads : {B : Type 0} → ℕ → List Row → (Raws → Result B TextFault) → Type 0
+Heads number rows read = (raws : Raws) (e : TextFault) → (read raws ≡ Err e) ↔ Faulty number rows raws e
+
+row_then : {A B : Type 0} (value : Word → Result A TextFault) (r : Row) → ((w : Word) → Agrees (value w) (r.value w) w) → (number : ℕ) (rows : List Row) (next : A × Raws → Result B TextFault)
+    → ((a : A) → Heads (number + 1) rows (λ raws. next (a, raws))) → Heads number (r ∷ rows) (λ raws. next_value number r.name (field_by value) raws >>= next)
+unfolding next_value
+row_then {A} {B} value r agree number rows next on [] e = (λ same. cc, λ same. ap (λ (x : TextFault). bad {A = B} x) (sym same))
+row_then {A} {B} value r agree number rows next on (raw ∷ raws) e = go (value_line number r.name (field_by value) raw) refl
+  where
+    go : (o : Result A TextFault) → value_line number r.name (field_by value) raw ≡ o → (((o >>= λ a. good (a, raws)) >>= next) ≡ Err e) ↔ Faulty number (r ∷ rows) (raw ∷ raws) e
+    go (Err f) is = (
+      λ same. let one : f ≡ e = cc in inl ((row_faults value r agree number raw e).0 (is ∙ ap (λ (x : TextFault). bad {A = A} x) one)),
+      λ g. back g,
+    )
+      where
+        back : Faulty number (r ∷ rows) (raw ∷ raws) e → bad {A = B} f ≡ Err e
+        back (inl g) = let same : bad {A = A} f ≡ Err e = sym is ∙ (row_faults value r agree number raw e).1 g in let one : f ≡ e = cc in ap (λ (x : TextFault). bad {A = B} x) one
+        back (inr g) = let x = row_read value r agree number raw g.0 in let clash : bad {A = A} f ≡ Ok x.0 = sym is ∙ x.1 in absurd cc
+    go (Ok a) is = (λ same. inr (row_fits value r agree number raw a is, (on a raws e).0 same), λ g. back g)
+      where
+        back : Faulty number (r ∷ rows) (raw ∷ raws) e → next (a, raws) ≡ Err e
+        back (inl g) = let clash : good a ≡ Err e = sym is ∙ (row_faults value r agree number raw e).1 g in absurd cc
+        back (inr g) = (on a raws e).1 g.1
+
+number_then : {B : Type 0} (name : List ℕ) (least most : ℕ) (number : ℕ) (rows : List Row) (next : ℕ × Raws → Result B TextFault)
+    → ((n : ℕ) → Heads (number + 1) rows (λ raws. next (n, raws))) → Heads number (row name (numeric least most) ∷ rows) (λ raws. next_value number name (number_field least most) raws >>= next)
+unfolding number_field
+number_then name least most number rows next on = row_then (number_value least most) (row name (numeric least most)) (number_agrees least most) number rows next on
+
+-- the RFC of the first congestion window
+abbrev value_at : Word → List ℕ → Result Initial TextFault
+value_at w t =
+    (if length t == 0 then Err (fault_at kinds.Field w) else if is_number 5681 6928 t (digits_value 10 t) then Ok (digits_value 10 t) else Err (fault_at kinds.Number w)) >>= initial_of w
+
+abbrev want_at : List ℕ → Option FaultKind
+want_at t = if length t == 0 then Some kinds.Field else (if bytes_eq t (codes "5681") || bytes_eq t (codes "6928") then None else Some kinds.Number)
+
+abbrev spells : Initial → List ℕ
+spells Rfc5681 = codes "5681"
+spells Rfc6928 = codes "6928"
+
+written : (i : Initial) → decimal (initial_number i) ≡ spells i
+unfolding digits
+written Rfc5681 = refl
+written Rfc6928 = refl
+
+given : (w : Word) (i : Initial) → Agrees (value_at w (spells i)) (want_at (spells i)) w
+unfolding digits
+given w Rfc5681 = tt
+given w Rfc6928 = tt
+
+all_three : (a b c : Bool) → (a && b && c) ≡ true → a ≡ true
+all_three true b c is = refl
+all_three false b c is = cc
+
+initial_at : (w : Word) (t : List ℕ) → Agrees (value_at w t) (want_at t) w
+initial_at w t = go (bytes_eq t (codes "5681")) refl (bytes_eq t (codes "6928")) refl
+  where
+    n : ℕ
+    n = digits_value 10 t
+
+    spelled : (i : Initial) → is_number 5681 6928 t n ≡ true → (n == initial_number i) ≡ true → bytes_eq t (spells i) ≡ true
+    spelled i is same =
+        let text : t ≡ decimal n = (bytes_eq-Decides t (decimal n)).0 (all_three (bytes_eq t (decimal n)) (nat_le 5681 n) (nat_le n 6928) is) in
+        (bytes_eq-Decides t (spells i)).1 (text ∙ ap decimal (eqb-true n (initial_number i) same) ∙ written i)
+
+    neither : bytes_eq t (codes "5681") ≡ false → bytes_eq t (codes "6928") ≡ false → (d c : Bool) → is_number 5681 6928 t n ≡ c
+        → Agrees ((if d then Err (fault_at kinds.Field w) else if c then Ok n else Err (fault_at kinds.Number w)) >>= initial_of w) (if d then Some kinds.Field else Some kinds.Number) w
+    neither x y true c is = refl
+    neither x y false false is = refl
+    neither x y false true is = numbers (n == 5681) refl (n == 6928) refl
+      where
+        numbers : (f : Bool) → (n == 5681) ≡ f → (g : Bool) → (n == 6928) ≡ g → Agrees (if f then Ok Rfc5681 else if g then Ok Rfc6928 else Err (fault_at kinds.Number w)) (Some kinds.Number) w
+        numbers true same g other = let clash : false ≡ true = sym x ∙ spelled Rfc5681 is same in absurd cc
+        numbers false same true other = let clash : false ≡ true = sym y ∙ spelled Rfc6928 is other in absurd cc
+        numbers false same false other = refl
+
+    go : (a : Bool) → bytes_eq t (codes "5681") ≡ a → (b : Bool) → bytes_eq t (codes "6928") ≡ b → Agrees (value_at w t) (want_at t) w
+    go true is b other = subst (λ (s : List ℕ). Agrees (value_at w s) (want_at s) w) (sym ((bytes_eq-Decides t (codes "5681")).0 is)) (given w Rfc5681)
+    go false is true other = subst (λ (s : List ℕ). Agrees (value_at w s) (want_at s) w) (sym ((bytes_eq-Decides t (codes "6928")).0 other)) (given w Rfc6928)
+    go false is false other = rw (is, other) (neither is other (length t == 0) (is_number 5681 6928 t n) refl)
+
+initial_agrees : (w : Word) → Agrees (initial_value w) (initial_want w) w
+unfolding number_value
+initial_agrees w = initial_at w w.text
+
+initial_then : {B : Type 0} (rows : List Row) (next : Initial × Raws → Result B TextFault) → ((i : Initial) → Heads 8 rows (λ raws. next (i, raws))) → Heads 7 (row (codes "initial") initial_want ∷ rows) (λ raws. initial_line raws >>= next)
+unfolding initial_field
+initial_then rows next on = row_then initial_value (row (codes "initial") initial_want) initial_agrees 7 rows next on
+
+regroup : {A B C : Type 0} (m : Result A TextFault) (g : A → Result B TextFault) (f : B → Result C TextFault) → ((m >>= g) >>= f) ≡ (m >>= λ x. g x >>= f)
+regroup (Ok x) g f = refl
+regroup (Err e) g f = refl
+
+late_then : {B : Type 0} (v : Version) (f : Initial × Raws → B) → Heads 7 (late_rows v) (λ raws. late_lines v raws >>= λ x. Ok (f x))
+late_then One f raws e = (λ same. absurd cc, λ g. absurd g)
+late_then Two f raws e = initial_then [] (λ x. Ok (f x)) (λ i raws e. (λ same. absurd cc, λ g. absurd g)) raws e
+late_then {B} Three f raws e = (λ same. (split raws e).0 (sym (both raws) ∙ same), λ g. both raws ∙ (split raws e).1 g)
+  where
+    half : Initial → Raws → Result B TextFault
+    half i raws = half_line raws >>= λ h. Ok (f (i, h.1))
+
+    split : Heads 7 (late_rows Three) (λ raws. initial_line raws >>= λ i. half i.0 i.1)
+    split = initial_then (row (codes "half") (numeric 0 0) ∷ []) (λ i. half i.0 i.1) (λ i. number_then (codes "half") 0 0 8 [] (λ h. Ok (f (i, h.1))) (λ n raws e. (λ same. absurd cc, λ g. absurd g)))
+
+    both : (raws : Raws) → (late_lines Three raws >>= λ x. good (f x)) ≡ (initial_line raws >>= λ i. half i.0 i.1)
+    both raws = regroup (initial_line raws) (λ i. half_line i.1 >>= λ h. Ok (i.0, h.1)) (λ x. good (f x)) ∙ behind (initial_line raws)
+      where
+        behind : (m : Result (Initial × Raws) TextFault) → (m >>= λ i. (half_line i.1 >>= λ h. good (i.0, h.1)) >>= λ x. good (f x)) ≡ (m >>= λ i. half i.0 i.1)
+        behind (Err e) = refl
+        behind (Ok i) = regroup (half_line i.1) (λ h. Ok (i.0, h.1)) (λ x. good (f x))
+
+abbrev from_extra : Version → List Row
+from_extra v = row (codes "extra") (numeric 0 65535) ∷ late_rows v
+
+abbrev from_minrto : Version → List Row
+from_minrto v = row (codes "minrto") (numeric 0 60000000) ∷ from_extra v
+
+abbrev from_grain : Version → List Row
+from_grain v = row (codes "grain") (numeric 0 60000000) ∷ from_minrto v
+
+abbrev from_msl : Version → List Row
+from_msl v = row (codes "msl") (numeric 1 3600000000) ∷ from_grain v
+
+others_then : (v : Version) → Heads 2 (header_rows v) (λ raws. with_first (v, raws))
+others_then v = number_then (codes "skew") 0 1000000000 2 (from_msl v) (with_skew v)
+    (λ s. number_then (codes "msl") 1 3600000000 3 (from_grain v) (with_msl v s)
+    (λ m. number_then (codes "grain") 0 60000000 4 (from_minrto v) (with_grain v s m)
+    (λ g. number_then (codes "minrto") 0 60000000 5 (from_extra v) (with_minrto v s m g)
+    (λ i. number_then (codes "extra") 0 65535 6 (late_rows v) (with_extra v s m g i)
+    (λ x. late_then v (λ n. (header_with v s m g i x n.0, n.1)))))))
+
+-- ---- the first line
+
+version_err : (text : List ℕ) (e : TextFault) → version_in text ≡ Err e → e ≡ other_text 1 text
+version_err text e = go (bytes_eq text (joined (first_words One))) (bytes_eq text (joined (first_words Two))) (bytes_eq text (joined (first_words Three)))
+  where
+    go : (a b c : Bool) → (if a then good One else if b then Ok Two else if c then Ok Three else Err (other_text 1 text)) ≡ Err e → e ≡ other_text 1 text
+    go true b c same = absurd cc
+    go false true c same = absurd cc
+    go false false true same = absurd cc
+    go false false false same = cc
+
+version_agrees : (text : List ℕ) (e : TextFault) → (version_in text ≡ Err e) ↔ ((IsFirstText text → ⊥) × (e ≡ other_text 1 text))
+version_agrees text e = (λ same. (wrong same, version_err text e same), λ g. back (version_in text) refl g)
+  where
+    wrong : version_in text ≡ Err e → IsFirstText text → ⊥
+    wrong same x = let clash : bad e ≡ Ok x.0 = sym same ∙ ap version_in x.1 ∙ version_given x.0 in absurd cc
+
+    back : (o : Result Version TextFault) → version_in text ≡ o → ((IsFirstText text → ⊥) × (e ≡ other_text 1 text)) → version_in text ≡ Err e
+    back (Ok v) is g = absurd (g.0 (v, version_taken text v is))
+    back (Err f) is g = is ∙ ap (λ (x : TextFault). bad {A = Version} x) (version_err text f is ∙ sym g.1)
+
+first_faults : (raw : List ℕ) (e : TextFault) → (first_version raw ≡ Err e) ↔ IsTextFaultOf IsFirstText 1 raw e
+unfolding first_version
+first_faults raw e = text_faults IsFirstText 1 version_in version_agrees raw e
+
+-- ---- the header
+
+pub header_faults : (raws : List (List ℕ)) (e : TextFault) → (header_of raws ≡ Err e) ↔ IsHeaderFault raws e
+unfolding header_of first_line
+header_faults [] e = (λ same. First cc, λ g. back g)
+  where
+    back : IsHeaderFault [] e → bad {A = Headed} (missing_line 1) ≡ Err e
+    back (First fault) = ap (λ (x : TextFault). bad {A = Headed} x) (sym fault)
+    back (Rows v first others split line fault) = absurd cc
+header_faults (raw ∷ raws) e = go (first_version raw) refl
+  where
+    go : (o : Result Version TextFault) → first_version raw ≡ o → (((o >>= λ v. good (v, raws)) >>= with_first) ≡ Err e) ↔ IsHeaderFault (raw ∷ raws) e
+    go (Err f) is = (λ same. let one : f ≡ e = cc in First ((first_faults raw e).0 (is ∙ ap (λ (x : TextFault). bad {A = Version} x) one)), λ g. back g)
+      where
+        back : IsHeaderFault (raw ∷ raws) e → bad {A = Headed} f ≡ Err e
+        back (First fault) = let same : bad {A = Version} f ≡ Err e = sym is ∙ (first_faults raw e).1 fault in let one : f ≡ e = cc in ap (λ (x : TextFault). bad {A = Headed} x) one
+        back (Rows v first others split line fault) =
+            let one : first ≡ raw = cc in
+            let clash : bad {A = Version} f ≡ Ok v = sym is ∙ ap first_version (sym one) ∙ version_again v first line in absurd cc
+    go (Ok v) is = (λ same. Rows v raw raws refl (version_takes raw v is) (faulty_rows 2 (header_rows v) raws e ((others_then v raws e).0 same)), λ g. back g)
+      where
+        back : IsHeaderFault (raw ∷ raws) e → with_first (v, raws) ≡ Err e
+        back (First fault) = let clash : good v ≡ Err e = sym is ∙ (first_faults raw e).1 fault in absurd cc
+        back (Rows u first others split line g) =
+            let one : first ≡ raw = cc in
+            let rest : others ≡ raws = cc in
+            let same : good u ≡ Ok v = sym (version_again u first line) ∙ ap first_version one ∙ is in
+            let named : u ≡ v = cc in
+            let faulty = rows_faulty 2 g.done g.left g.next g.front g.rest e g.good g.fault in
+            let all : Faulty 2 (header_rows v) raws e = subst (λ (us : Raws). Faulty 2 (header_rows v) us e) (sym g.split ∙ rest) (subst (λ (rs : List Row). Faulty 2 rs (g.front ++ g.rest) e) (sym g.forms ∙ ap header_rows named) faulty) in
+            (others_then v raws e).1 all

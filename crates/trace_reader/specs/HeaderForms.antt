@@ -1,0 +1,97 @@
+-- The forms of a header's lines, and its first fault.
+use Rattle.std.specs.Prelude.{◌≡◌, ◌⊎◌, ℕ, ◌+◌, ◌||◌, if◌then◌else◌, List, [], ◌∷◌, ◌++◌, length, Some, None, Ok, codes}
+use Rattle.std.specs.Str.{bytes_eq}
+use Rattle.case_forms.specs.declared.version.Version.{Version}
+use Rattle.case_forms.specs.declared.version.Version.TheVariants.{One, Two, Three}
+use Rattle.line_fields.specs.Forms.{Want, unless_empty, numeric}
+use Rattle.line_fields.specs.LineFaults.{IsWholeFault, IsTextFaultOf, IsNextFault}
+use Rattle.line_fields.specs.Lines.{IsLine, line_rest}
+use Rattle.line_fields.specs.Reading.{fault_at}
+use Rattle.line_fields.specs.Spelling.{joined}
+use Rattle.line_fields.specs.Word.{Word, Rest}
+use Rattle.line_fields.specs.declared.fault.FaultKind.{FaultKind}
+use Rattle.line_fields.specs.declared.fault.FaultKind.TheVariants as kinds
+use Rattle.line_fields.specs.declared.fault.TextFault.{TextFault}
+use Rattle.trace_reader.specs.Headers.{first_words, header_fault}
+
+-- the text of the first line, in some version
+abbrev pub IsFirstText : List ℕ → Type 0
+IsFirstText text = (v : Version) × (text ≡ joined (first_words v))
+
+-- each other line is a name, and what stands behind it
+pub record Row : Type 0 where
+  pub name : List ℕ
+  pub value : Want
+
+abbrev pub row : List ℕ → Want → Row
+row name value = record { name = name; value = value }
+
+-- 5681 or 6928
+abbrev pub initial_want : Want
+initial_want w = unless_empty w (if bytes_eq w.text (codes "5681") || bytes_eq w.text (codes "6928") then None else Some kinds.Number)
+
+-- the lines that version 1 doesn't have
+abbrev pub late_rows : Version → List Row
+late_rows One = []
+late_rows Two = row (codes "initial") initial_want ∷ []
+late_rows Three = row (codes "initial") initial_want ∷ row (codes "half") (numeric 0 0) ∷ []
+
+-- the lines from line 2 on
+abbrev pub header_rows : Version → List Row
+header_rows v =
+    row (codes "skew") (numeric 0 1000000000)
+    ∷ row (codes "msl") (numeric 1 3600000000)
+    ∷ row (codes "grain") (numeric 0 60000000)
+    ∷ row (codes "minrto") (numeric 0 60000000)
+    ∷ row (codes "extra") (numeric 0 65535)
+    ∷ late_rows v
+
+-- the fields are this name and one more, which is as wanted
+abbrev pub Fits : Row → List Word → Type 0
+Fits r words = (name : Word) × (value : Word) × (words ≡ name ∷ value ∷ []) × (name.text ≡ r.name) × (r.value value ≡ None)
+
+-- the fields begin with this name, and one field at least is behind it
+abbrev pub IsNamed : Row → List Word → Type 0
+IsNamed r words = (name : Word) × (value : Word) × (more : List Word) × (words ≡ name ∷ value ∷ more) × (name.text ≡ r.name)
+
+-- the first fault of the fields: they aren't so named, which is Header; or what is behind the name is bad; or a field more is there, which is Header
+pub data Breaks (r : Row) (header : TextFault) (words : List Word) (e : TextFault) : Type 0 where
+  Other : (IsNamed r words → ⊥) → e ≡ header → Breaks r header words e
+  Bad : (name value : Word) (more : List Word) (kind : FaultKind) → words ≡ name ∷ value ∷ more → name.text ≡ r.name → r.value value ≡ Some kind
+      → e ≡ fault_at kind value → Breaks r header words e
+  More : (name value next : Word) (more : List Word) → words ≡ name ∷ value ∷ next ∷ more → name.text ≡ r.name → r.value value ≡ None → e ≡ header
+      → Breaks r header words e
+
+-- the line of that number has this form
+abbrev pub IsRow : Row → ℕ → List ℕ → Type 0
+IsRow r number raw = (rest : Rest) × (line_rest number raw ≡ Ok rest) × Fits r rest.words
+
+-- its first fault: that of the line as a whole, or else that of its fields, where Header stands at the whole line
+abbrev pub IsRowFault : Row → ℕ → List ℕ → TextFault → Type 0
+IsRowFault r number raw e = IsWholeFault number raw e ⊎ ((rest : Rest) × (line_rest number raw ≡ Ok rest) × Breaks r (header_fault number rest) rest.words e)
+
+-- these lines have these forms, from the line of that number on
+abbrev pub AreRows : ℕ → List Row → List (List ℕ) → Type 0
+AreRows number [] [] = Unit {0}
+AreRows number [] (raw ∷ raws) = ⊥
+AreRows number (r ∷ rows) [] = ⊥
+AreRows number (r ∷ rows) (raw ∷ raws) = IsRow r number raw × AreRows (number + 1) rows raws
+
+-- the first fault of lines that have to have these forms, from the line of that number on: those before have theirs, and the next one is
+-- missing or has this fault
+pub record IsRowsFault (number : ℕ) (rows : List Row) (raws : List (List ℕ)) (e : TextFault) : Type 0 where
+  pub done : List Row
+  pub next : Row
+  pub left : List Row
+  pub front : List (List ℕ)
+  pub rest : List (List ℕ)
+  pub forms : rows ≡ done ++ next ∷ left
+  pub split : raws ≡ front ++ rest
+  pub good : AreRows number done front
+  pub fault : IsNextFault (IsRowFault next) (number + length done) rest e
+
+-- the first fault of the header with which these lines begin: of the first line; or that names a version, and it is that of the others
+pub data IsHeaderFault (raws : List (List ℕ)) (e : TextFault) : Type 0 where
+  First : IsNextFault (IsTextFaultOf IsFirstText) 1 raws e → IsHeaderFault raws e
+  Rows : (v : Version) (first : List ℕ) (others : List (List ℕ)) → raws ≡ first ∷ others → IsLine 1 (joined (first_words v)) first
+      → IsRowsFault 2 (header_rows v) others e → IsHeaderFault raws e
