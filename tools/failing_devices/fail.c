@@ -7,7 +7,8 @@
 //   FAIL_FROM=1                 all later ones, too
 //   FAIL_PIECE=N                each moves at most N bytes
 //   FAIL_COUNT=F                writes to the file F at the end: how many reads and writes there were, how many writes came behind
-//                               one that failed, which file the Nth read was of, and how many bytes of it were read before
+//                               one that failed, which file the Nth read was of, how many bytes of it were read before, and how
+//                               many were read of the files 3 and 4
 #define _GNU_SOURCE
 #include <errno.h>
 #include <fcntl.h>
@@ -77,8 +78,9 @@ ssize_t write(int file, const void *bytes, size_t size) {
 // The program ends by `_exit`, which runs no destructor.
 void _exit(int status) {
     if (count_file) {
-        char text[160];
-        int length = snprintf(text, sizeof text, "%lu %lu %lu %d %lu\n", reads, writes, writes_behind, file_of, read_before);
+        char text[200];
+        int length = snprintf(text, sizeof text, "%lu %lu %lu %d %lu %lu %lu\n", reads, writes, writes_behind, file_of, read_before,
+                              read_of[3], read_of[4]);
         int file = open(count_file, O_WRONLY | O_CREAT | O_TRUNC, 0644);
         if (file < 0 || syscall(SYS_write, file, text, length) != length) syscall(SYS_exit_group, 99);
     }

@@ -16,6 +16,7 @@ The last line has the counts; the exit status is 1 where any run was wrong.
 """
 import argparse
 import concurrent.futures
+import contextlib
 import os
 import subprocess
 import sys
@@ -45,21 +46,26 @@ class Run:
                 return
             self.answer, self.error = (done.stdout, done.returncode), done.stderr
             found = [int(number) for number in counts.read().split()]
-        self.reads, self.writes, self.writes_behind, self.file, self.read_before = found or [0, 0, 0, -1, 0]
+        self.reads, self.writes, self.writes_behind, self.file, self.read_before, *self.read_of = found or [0, 0, 0, -1, 0, 0, 0]
 
 
-def cut_answer(program, library, command, run):
-    """The answer where the text of the file that was read ends behind what was read of it, with nothing failing."""
+def cut_answer(program, library, command, run, is_from):
+    """The answer where each file of which a read moved nothing ends behind what was read of it, with nothing failing."""
     words, text = command
     if "--trace" not in words:
         return Run(program, library, (words, text[: run.read_before]), {}).answer
     # the trace was opened first, so its number is the lesser one, 3
-    place = words.index("--trace" if run.file == 3 else "--witness") + 1
-    with tempfile.NamedTemporaryFile() as cut:
-        with open(words[place], "rb") as whole:
-            cut.write(whole.read()[: run.read_before])
-        cut.flush()
-        return Run(program, library, ([*words[:place], cut.name, *words[place + 1 :]], text), {}).answer
+    ends = dict(zip((3, 4), run.read_of)) if is_from else {run.file: run.read_before}
+    words = list(words)
+    with contextlib.ExitStack() as files:
+        for file, end in ends.items():
+            place = words.index("--trace" if file == 3 else "--witness") + 1
+            cut = files.enter_context(tempfile.NamedTemporaryFile())
+            with open(words[place], "rb") as whole:
+                cut.write(whole.read()[:end])
+            cut.flush()
+            words[place] = cut.name
+        return Run(program, library, (words, text), {}).answer
 
 
 def is_right(program, library, command, plain, environment):
@@ -73,7 +79,7 @@ def is_right(program, library, command, plain, environment):
         if run.file == -1:
             allowed = [plain.answer]
         elif how == "nothing":
-            allowed = [cut_answer(program, library, command, run)]
+            allowed = [cut_answer(program, library, command, run, "FAIL_FROM" in environment)]
         elif how != "short":
             allowed.append(BAD_DEVICE)
     elif int(environment["FAIL_WRITE"]) > plain.writes:
