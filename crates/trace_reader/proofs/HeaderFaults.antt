@@ -24,7 +24,7 @@ use Rattle.line_fields.proofs.FieldFaults.{Agrees, number_agrees}
 use Rattle.line_fields.proofs.LineFaults.{whole_is, other_text, text_faults}
 use Rattle.line_fields.proofs.LineRests.{some_word}
 use Rattle.line_fields.proofs.Readers.{field_by}
-use Rattle.trace_reader.specs.HeaderForms.{IsFirstText, Row, row, initial_want, late_rows, header_rows, Fits, IsNamed, Breaks, Other, Bad, More, IsRow, IsRowFault, AreRows, IsRowsFault, IsHeaderFault, First, Rows}
+use Rattle.trace_reader.specs.HeaderForms.{IsFirstText, Row, row, initial_want, late_rows, header_rows, AreNamed, Fits, Breaks, Other, Bad, More, IsRow, IsRowFault, AreRows, IsRowsFault, IsHeaderFault, First, Rows}
 use Rattle.trace_reader.specs.Headers.{initial_number, first_words, header_fault, some_left, named_rest, alone, value_line, next_value, version_in, first_version, first_line, initial_of, initial_value, initial_field, initial_line, half_line, late_lines, header_of}
 use Rattle.trace_reader.proofs.HeaderLaw.{Raws, Headed, version_taken, version_given, version_takes, version_again, with_first, with_skew, with_msl, with_grain, with_minrto, with_extra, header_with}
 
@@ -98,17 +98,17 @@ module _ {A : Type 0} (value : Word → Result A TextFault) (r : Row) (agree : (
   outcome : (header : TextFault) (line stop : ℕ) (name u : Word) (more : List Word) → Outcome header (name ∷ u ∷ more) (fields_in header line stop name u more)
   outcome header line stop name u more = named (bytes_eq name.text r.name) refl
     where
-      misnamed : bytes_eq name.text r.name ≡ false → IsNamed r (name ∷ u ∷ more) → ⊥
-      misnamed is x =
-          let split = x.3 in
+      misnamed : bytes_eq name.text r.name ≡ false → (v : Word) (rest : List Word) → AreNamed r (name ∷ u ∷ more) v rest → ⊥
+      misnamed is v rest x =
+          let split = x.1 in
           let same : name ≡ x.0 = cc in
-          let clash : false ≡ true = sym is ∙ (bytes_eq-Decides name.text r.name).1 (ap (λ (w : Word). w.text) same ∙ x.4) in
+          let clash : false ≡ true = sym is ∙ (bytes_eq-Decides name.text r.name).1 (ap (λ (w : Word). w.text) same ∙ x.2) in
           absurd cc
 
       valued : bytes_eq name.text r.name ≡ true → (v : Result A TextFault) → value u ≡ v → Agrees v (r.value u) u → (ws : List Word) → Outcome header (name ∷ u ∷ ws) ((v >>= λ x. good {A = A × Rest} (x, record { line = line; stop = stop; words = ws })) >>= λ a. alone header a.0 a.1.words)
-      valued test (Err e) is fails ws = let kind = err_agrees A e (r.value u) u fails in Bad name u ws kind.0 refl ((bytes_eq-Decides name.text r.name).0 test) kind.1 kind.2
-      valued test (Ok x) is fits [] = (name, u, refl, (bytes_eq-Decides name.text r.name).0 test, ok_agrees x (r.value u) u fits)
-      valued test (Ok x) is fits (w ∷ ws) = More name u w ws refl ((bytes_eq-Decides name.text r.name).0 test) (ok_agrees x (r.value u) u fits) refl
+      valued test (Err e) is fails ws = let kind = err_agrees A e (r.value u) u fails in Bad u ws kind.0 (name, refl, (bytes_eq-Decides name.text r.name).0 test) kind.1 kind.2
+      valued test (Ok x) is fits [] = (u, (name, refl, (bytes_eq-Decides name.text r.name).0 test), ok_agrees x (r.value u) u fits)
+      valued test (Ok x) is fits (w ∷ ws) = More u w ws (name, refl, (bytes_eq-Decides name.text r.name).0 test) (ok_agrees x (r.value u) u fits) refl
 
       named : (b : Bool) → bytes_eq name.text r.name ≡ b → Outcome header (name ∷ u ∷ more) ((if b then Ok (record { line = line; stop = stop; words = u ∷ more }, header) else Err header) >>= last)
       named false is = Other (misnamed is) refl
@@ -124,8 +124,8 @@ module _ {A : Type 0} (value : Word → Result A TextFault) (r : Row) (agree : (
       go true = refl
       go false = refl
 
-  lone_wrong : (w : Word) → IsNamed r (w ∷ []) → ⊥
-  lone_wrong w x = let split = x.3 in absurd cc
+  lone_wrong : (w v : Word) (rest : List Word) → AreNamed r (w ∷ []) v rest → ⊥
+  lone_wrong w v rest x = let split = x.1 in absurd cc
 
   all_outcomes : (none header : TextFault) (line stop : ℕ) (ws : List Word) → (ws ≡ [] → ⊥) → Outcome header ws (words_in none header line stop ws)
   all_outcomes none header line stop [] some = absurd (some refl)
@@ -133,22 +133,22 @@ module _ {A : Type 0} (value : Word → Result A TextFault) (r : Row) (agree : (
   all_outcomes none header line stop (w ∷ u ∷ more) some = outcome header line stop w u more
 
   breaks_read : (none header : TextFault) (line stop : ℕ) (ws : List Word) (e : TextFault) → (ws ≡ [] → ⊥) → Breaks r header ws e → words_in none header line stop ws ≡ Err e
-  breaks_read none header line stop ws e some (Bad name u more kind split named is same) =
-      ap (words_in none header line stop) split ∙ bad_read header line stop name u more kind named is ∙ ap bad (sym same)
-  breaks_read none header line stop ws e some (More name u w more split named fits same) =
-      ap (words_in none header line stop) split ∙ more_read header line stop name u w more named fits ∙ ap bad (sym same)
+  breaks_read none header line stop ws e some (Bad u more kind named is same) =
+      ap (words_in none header line stop) named.1 ∙ bad_read header line stop named.0 u more kind named.2 is ∙ ap bad (sym same)
+  breaks_read none header line stop ws e some (More u w more named fits same) =
+      ap (words_in none header line stop) named.1 ∙ more_read header line stop named.0 u w more named.2 fits ∙ ap bad (sym same)
   breaks_read none header line stop [] e some (Other wrong same) = absurd (some refl)
   breaks_read none header line stop (w ∷ []) e some (Other wrong same) = lone_read none header line stop w ∙ ap bad (sym same)
   breaks_read none header line stop (w ∷ u ∷ more) e some (Other wrong same) = go (bytes_eq w.text r.name) refl
     where
       go : (b : Bool) → bytes_eq w.text r.name ≡ b → ((if b then Ok (record { line = line; stop = stop; words = u ∷ more }, header) else Err header) >>= last) ≡ Err e
       go false is = ap bad (sym same)
-      go true is = absurd (wrong (w, u, more, refl, (bytes_eq-Decides w.text r.name).0 is))
+      go true is = absurd (wrong u more (w, refl, (bytes_eq-Decides w.text r.name).0 is))
 
   fits_in : (none header : TextFault) (line stop : ℕ) (ws : List Word) → Fits r ws → (x : A) × (words_in none header line stop ws ≡ Ok x)
   fits_in none header line stop ws fits =
-      let x = fits_read header line stop fits.0 fits.1 fits.3 fits.4 in
-      (x.0, ap (words_in none header line stop) fits.2 ∙ x.1)
+      let x = fits_read header line stop fits.1.0 fits.0 fits.1.2 fits.2 in
+      (x.0, ap (words_in none header line stop) fits.1.1 ∙ x.1)
 
   -- the line itself
   abbrev line_read : ℕ → List ℕ → Result A TextFault

@@ -46,21 +46,20 @@ header_rows v =
     ∷ row (codes "extra") (numeric 0 65535)
     ∷ late_rows v
 
--- the fields are this name and one more, which is as wanted
+-- the fields are the name, this value, and these behind it
+abbrev pub AreNamed : Row → List Word → Word → List Word → Type 0
+AreNamed r words value more = (name : Word) × (words ≡ name ∷ value ∷ more) × (name.text ≡ r.name)
+
+-- the fields are the name and a value, which is as wanted
 abbrev pub Fits : Row → List Word → Type 0
-Fits r words = (name : Word) × (value : Word) × (words ≡ name ∷ value ∷ []) × (name.text ≡ r.name) × (r.value value ≡ None)
+Fits r words = (value : Word) × AreNamed r words value [] × (r.value value ≡ None)
 
--- the fields begin with this name, and one field at least is behind it
-abbrev pub IsNamed : Row → List Word → Type 0
-IsNamed r words = (name : Word) × (value : Word) × (more : List Word) × (words ≡ name ∷ value ∷ more) × (name.text ≡ r.name)
-
--- the first fault of the fields: they aren't so named, which is Header; or what is behind the name is bad; or a field more is there, which is Header
+-- the first fault of the fields: another name, or no value behind it, which is Header; or a bad value; or a field too many, which is Header
 pub data Breaks (r : Row) (header : TextFault) (words : List Word) (e : TextFault) : Type 0 where
-  Other : (IsNamed r words → ⊥) → e ≡ header → Breaks r header words e
-  Bad : (name value : Word) (more : List Word) (kind : FaultKind) → words ≡ name ∷ value ∷ more → name.text ≡ r.name → r.value value ≡ Some kind
-      → e ≡ fault_at kind value → Breaks r header words e
-  More : (name value next : Word) (more : List Word) → words ≡ name ∷ value ∷ next ∷ more → name.text ≡ r.name → r.value value ≡ None → e ≡ header
+  Other : ((value : Word) (more : List Word) → AreNamed r words value more → ⊥) → e ≡ header → Breaks r header words e
+  Bad : (value : Word) (more : List Word) (kind : FaultKind) → AreNamed r words value more → r.value value ≡ Some kind → e ≡ fault_at kind value
       → Breaks r header words e
+  More : (value next : Word) (more : List Word) → AreNamed r words value (next ∷ more) → r.value value ≡ None → e ≡ header → Breaks r header words e
 
 -- the line of that number has this form
 abbrev pub IsRow : Row → ℕ → List ℕ → Type 0

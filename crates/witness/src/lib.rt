@@ -13,6 +13,7 @@
 //! - `stream`: the reader of a text whose steps are read as they are asked for
 //! - `reading`: one step, and a whole witness, by the same reader
 //! - `printing`: the text of a witness, which is read again as the same witness
+//! - `laws`: the fault that is answered is the first one, by tables of what each field has to be (`specs/StepForms`)
 #![tactic(auto)]
 
 mod first_line;
