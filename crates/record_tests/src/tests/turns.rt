@@ -1,0 +1,208 @@
+//! Resets, a refused connection, children in a queue, a stranger.
+
+ghost use Rattle.std.specs.Prelude.{◌≡◌, IfSome};
+ghost use Rattle.case_forms.specs.declared.calls.Host.TheVariants.{Zero, One};
+ghost use Rattle.hosts.specs.Tables.{lane};
+ghost use Rattle.two_hosts.specs.Plans.{AreBooks};
+ghost use Rattle.record_tests.specs.Scenes.{test_header};
+
+use crate::tests::pair::{Pair, Side};
+use crate::tests::verdicts::answer;
+use case_forms::{Answer, Call, Header, Host, Initial, Version};
+use recorder::{CoreConfig, HostBook, MergeFault, Recorder, Site, merge};
+use std::alloc::Global;
+use std::marker::Brand;
+use std::sync::Wait;
+use std::sync::ledger::Blank;
+use std::test::Fail;
+
+// What happens.
+#[derive(Clone, Copy, Debug, PartialEq, Eq)]
+enum Scene {
+    // Nobody listens.
+    Refused,
+    // The accepted endpoint is aborted.
+    Reset,
+    // Two children wait in a queue for one.
+    TwoChildren,
+    // One connection, between these ports.
+    Connected(u16, u16),
+}
+
+// The header of these recordings.
+fn header() -> Header
+    ensures { result ≡ test_header }
+{
+    Header {
+        version: Version::One,
+        skew: 0,
+        msl: 120_000_000,
+        grain: 1_000,
+        minrto: 200_000,
+        extra: 1,
+        initial: Initial::Rfc5681,
+    }
+}
+
+// Host 0 opens where nobody listens, and awaits.
+fn refused<L: Site, M: Site, R: Wait>(rt: &R, alloc: Global, pair: &mut Pair<L, M>) -> Option<bool>
+    requires lanes { (lane pair.old.zero.seat.thread ≡ L.host) × (lane pair.old.one.seat.thread ≡ M.host) }
+    requires hosts { (L.host ≡ Zero) × (M.host ≡ One) }
+{
+    let socket = pair.zero.socket(rt, Call::Connect(Host::Zero, 4_000, 80))?;
+    pair.exchange(rt, alloc, 1)?;
+    let told = pair.zero.call(rt, Call::Await(socket))?;
+    Some(matches!(told, Answer::Refused))
+}
+
+// Host 1 accepts and aborts; host 0 reads.
+fn reset<L: Site, M: Site, R: Wait>(rt: &R, alloc: Global, pair: &mut Pair<L, M>) -> Option<bool>
+    requires lanes { (lane pair.old.zero.seat.thread ≡ L.host) × (lane pair.old.one.seat.thread ≡ M.host) }
+    requires hosts { (L.host ≡ Zero) × (M.host ≡ One) }
+{
+    let listener = pair.one.socket(rt, Call::Listen(Host::One, 80, 1))?;
+    let socket = pair.zero.socket(rt, Call::Connect(Host::Zero, 4_000, 80))?;
+    pair.exchange(rt, alloc, 2)?;
+    let child = pair.one.socket(rt, Call::Accept(listener))?;
+    let aborted = pair.one.call(rt, Call::Abort(child))?;
+    pair.exchange(rt, alloc, 1)?;
+    let told = pair.zero.call(rt, Call::Recv(socket, 1))?;
+    Some(matches!((aborted, told), (Answer::Done, Answer::Reset)))
+}
+
+// Host 0 opens twice before host 1, which listens with a queue for one, accepts.
+fn two_children<L: Site, M: Site, R: Wait>(
+    rt: &R,
+    alloc: Global,
+    pair: &mut Pair<L, M>,
+) -> Option<bool>
+    requires lanes { (lane pair.old.zero.seat.thread ≡ L.host) × (lane pair.old.one.seat.thread ≡ M.host) }
+    requires hosts { (L.host ≡ Zero) × (M.host ≡ One) }
+{
+    let listener = pair.one.socket(rt, Call::Listen(Host::One, 80, 1))?;
+    let _ = pair.zero.socket(rt, Call::Connect(Host::Zero, 4_000, 80))?;
+    let _ = pair.zero.socket(rt, Call::Connect(Host::Zero, 4_001, 80))?;
+    pair.exchange(rt, alloc, 3)?;
+    let first = pair.one.socket(rt, Call::Accept(listener))?;
+    let second = pair.one.socket(rt, Call::Accept(listener))?;
+    Some(first != second)
+}
+
+// One handshake.
+fn connected<L: Site, M: Site, R: Wait>(
+    rt: &R,
+    alloc: Global,
+    pair: &mut Pair<L, M>,
+    lport: u16,
+    rport: u16,
+) -> Option<bool>
+    requires lanes { (lane pair.old.zero.seat.thread ≡ L.host) × (lane pair.old.one.seat.thread ≡ M.host) }
+    requires hosts { (L.host ≡ Zero) × (M.host ≡ One) }
+{
+    let _ = pair.one.socket(rt, Call::Listen(Host::One, rport, 1))?;
+    let socket = pair
+        .zero
+        .socket(rt, Call::Connect(Host::Zero, lport, rport))?;
+    pair.exchange(rt, alloc, 1)?;
+    let told = pair.zero.call(rt, Call::Await(socket))?;
+    Some(matches!(told, Answer::Done))
+}
+
+// Both books of a scene, and whether it went as it should.
+fn play<L: Site, M: Site, R: Wait>(
+    rt: &R,
+    alloc: Global,
+    first: Blank,
+    second: Blank,
+    scene: Scene,
+) -> Option<(HostBook, HostBook, bool)>
+    requires names { (first.name ≡ L.name) × (second.name ≡ M.name) }
+    requires blanks { (first.parts ≡ L.parts) × (second.parts ≡ M.parts) }
+    requires parts { (L.parts ≡ 65535) × (M.parts ≡ 65535) }
+    requires hosts { (L.host ≡ Zero) × (M.host ≡ One) }
+    requires headers { (L.header ≡ test_header) × (M.header ≡ test_header) }
+    ensures { IfSome result (λ b. AreBooks b.0 b.1 test_header) }
+{
+    let config = CoreConfig {
+        mss: 536,
+        ring: 4_096,
+        first_iss: 7,
+        shift: None,
+    };
+    let zero: Recorder<L> = Recorder::new(alloc, Host::Zero, header(), config, first);
+    let one: Recorder<M> = Recorder::new(alloc, Host::One, header(), config, second);
+    let zero_seat = zero.seat(rt, 2).ok()?;
+    let one_seat = one.seat(rt, 3).ok()?;
+    let mut pair = Pair {
+        zero: Side {
+            recorder: zero,
+            seat: zero_seat,
+        },
+        one: Side {
+            recorder: one,
+            seat: one_seat,
+        },
+    };
+    let went = match scene {
+        Scene::Refused => refused(rt, alloc, &mut pair)?,
+        Scene::Reset => reset(rt, alloc, &mut pair)?,
+        Scene::TwoChildren => two_children(rt, alloc, &mut pair)?,
+        Scene::Connected(lport, rport) => connected(rt, alloc, &mut pair, lport, rport)?,
+    };
+    let Pair { zero, one } = pair;
+    let zero = zero.finish(rt, alloc)?;
+    let one = one.finish(rt, alloc)?;
+    Some((zero, one, went))
+}
+
+// The same, of new recorders.
+fn books<R: Wait>(rt: &R, alloc: Global, scene: Scene) -> Option<(HostBook, HostBook, bool)>
+    ensures { IfSome result (λ b. AreBooks b.0 b.1 test_header) }
+{
+    let (first, second) = (Blank::new(65_535), Blank::new(65_535));
+    play::<Brand, Brand, R>(rt, alloc, first, second, scene)
+}
+
+// What is wrong with a scene; `yes` where nothing is.
+fn seen<R: Wait>(rt: &R, alloc: Global, scene: Scene) -> &'static str {
+    let Some((zero, one, went)) = books(rt, alloc, scene) else {
+        return "a call was refused";
+    };
+    if !went {
+        return "another answer";
+    }
+    match merge(alloc, zero, one) {
+        Ok(recorded) => answer(alloc, &recorded).unwrap_or("out of memory"),
+        Err(_) => "not merged",
+    }
+}
+
+#[test]
+fn scenes_are_explained(rt: HostRuntime) -> Result<(), Fail> {
+    for scene in [
+        Scene::Refused,
+        Scene::Reset,
+        Scene::TwoChildren,
+        Scene::Connected(4_000, 80),
+    ] {
+        assert_eq!(rt; seen(&rt, rt.alloc(), scene), "yes", "{scene:?}");
+    }
+    Ok(())
+}
+
+// The line of the first stranger of two books.
+fn stranger<R: Wait>(rt: &R, alloc: Global) -> Option<u64> {
+    let (zero, _, _) = books(rt, alloc, Scene::Connected(4_000, 80))?;
+    let (_, one, _) = books(rt, alloc, Scene::Connected(4_001, 81))?;
+    match merge(alloc, zero, one) {
+        Err(MergeFault::Stranger { arrival_line }) => Some(arrival_line),
+        _ => None,
+    }
+}
+
+// Host 0's lines are the call, its answer, the SYN that goes out, and behind it what comes in.
+#[test]
+fn books_of_two_runs_are_strangers(rt: HostRuntime) -> Result<(), Fail> {
+    assert_eq!(rt; stranger(&rt, rt.alloc()), Some(10));
+    Ok(())
+}
