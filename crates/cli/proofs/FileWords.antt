@@ -1,11 +1,11 @@
 -- Words that begin with an option and its value do so in one way.
-use Rattle.std.proofs.Common.{◌↔◌, Bool, Option, not, Some, None, ap₂, rules, ◌≡◌, ◌⊎◌, ◌+◌, ◌-◌, ◌≤◌, ℕ, true, false, List, [], ◌∷◌, ◌++◌, Bor, codes, inl, inr, refl, sym, subst, ap, ◌∙◌, arith, length, length-append, map, drop, take, get_or, slice_index_or}
+use Rattle.std.proofs.Common.{◌↔◌, Bool, Option, not, Some, ap₂, rules, ◌≡◌, ◌⊎◌, ◌-◌, ◌≤◌, ℕ, true, false, List, [], ◌∷◌, ◌++◌, Bor, codes, inl, inr, refl, sym, subst, ap, ◌∙◌, arith, length, length-append, map, drop, take, get_or, slice_index_or}
 use Rattle.std.proofs.lemmas.List.{append_cancel_left}
 use Rattle.std.proofs.Math.Seq.{take-length}
 use Rattle.std.specs.Str.{bytes_eq}
 use Rattle.std.proofs.lemmas.Slice.Eq.{bytes_eq-Decides}
 use Rattle.cli.specs.CommandLine.{is_dashed}
-use Rattle.cli.specs.FileWords.{has_nul, AreBoth, AreNamed, AsksFiles, BeginsWith}
+use Rattle.cli.specs.FileWords.{AreBoth, AreNamed, AsksFiles, BeginsWith}
 
 -- an option is no option with an equals sign
 not_joined : (option value : List ℕ) → option ≡ option ++ codes "=" ++ value → ⊥
@@ -146,13 +146,3 @@ given_once words trace witness asks other more = (forth, back)
 
     back : AsksFiles words other more → ◌≡◌ {A = Option (List ℕ × List ℕ)} (Some (trace, witness)) (Some (other, more))
     back others = let same = asks_once words trace witness other more asks.0 others.0 in ap₂ (λ (t w : List ℕ). Some (t, w)) same.0 same.1
-
--- where the words name a file with a NUL, they ask for none
-pub named_with_nul : (words : List (List ℕ)) (trace witness : List ℕ) → AreNamed words trace witness → has_nul trace ≡ true ⊎ has_nul witness ≡ true
-    → (other more : List ℕ) → ¬ AsksFiles words other more
-named_with_nul words trace witness named nul other more (again, trace_has_none, witness_has_none) =
-    let same = asks_once words trace witness other more named again in by_case same.0 same.1 nul
-  where
-    by_case : trace ≡ other → witness ≡ more → has_nul trace ≡ true ⊎ has_nul witness ≡ true → ⊥
-    by_case t w (inl bad) = let none : has_nul trace ≡ false = ap has_nul t ∙ trace_has_none in let wrong : true ≡ false = sym bad ∙ none in cc
-    by_case t w (inr bad) = let none : has_nul witness ≡ false = ap has_nul w ∙ witness_has_none in let wrong : true ≡ false = sym bad ∙ none in cc

@@ -34,6 +34,17 @@ impl From<RecFault> for Halt {
     }
 }
 
+// A socket number of the thread's own host.
+#[tactic(auto, using(crate::proofs::Lanes::same_lane))]
+fn own_socket(thread: u32, socket: u32) -> Result<u32, Halt>
+    ensures { IfOk result (λ n. lane n ≡ lane thread) }
+{
+    if socket % 2 != thread % 2 {
+        return Err(Halt::Refused);
+    }
+    Ok(socket)
+}
+
 /// One application thread, with what it was answered.
 #[derive(Drop)]
 pub struct Caller<L: Site> {
@@ -91,8 +102,14 @@ impl<L: Site> Caller<L> {
         ensures own { IfOk result (λ socket. lane socket ≡ L.host) }
     {
         self.ask(rt, recorder, call)?;
+        let socket = self.number()?;
+        own_socket(self.seat.thread(), socket)
+    }
+
+    /// The number that the last call was answered.
+    pub fn number(&self) -> Result<u32, Halt> {
         match self.answer() {
-            Some(Answer::Given(socket)) if *socket % 2 == self.seat.thread() % 2 => Ok(*socket),
+            Some(Answer::Given(number)) => Ok(*number),
             _ => Err(Halt::Refused),
         }
     }

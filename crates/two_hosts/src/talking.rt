@@ -41,12 +41,17 @@ fn send_round<L: Site, R: Wait>(
         }
         let bytes = round_bytes(alloc, round, sent)?;
         caller.ask(rt, recorder, Call::Send(socket, bytes))?;
-        match caller.answer() {
-            Some(Answer::Given(count)) => sent = sent.saturating_add(*count as usize),
-            _ => return Err(Halt::Refused),
-        }
+        sent = sent.saturating_add(caller.number()? as usize);
     }
     Ok(())
+}
+
+// How many bytes a call asks for where so many are left.
+fn most_of(left: usize) -> u16
+    requires { 0 < left }
+    ensures { 0 < result }
+{
+    left.min(ROUND_BYTES) as u16
 }
 
 // Receives the bytes of a round, in as many calls as it takes.
@@ -65,7 +70,7 @@ fn receive_round<L: Site, R: Wait>(
         if left == 0 {
             break;
         }
-        caller.ask(rt, recorder, Call::Recv(socket, left as u16))?;
+        caller.ask(rt, recorder, Call::Recv(socket, most_of(left)))?;
         match caller.answer() {
             Some(Answer::Bytes(bytes)) => left = left.saturating_sub(bytes.len()),
             _ => return Err(Halt::Refused),

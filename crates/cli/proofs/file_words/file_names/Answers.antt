@@ -1,5 +1,5 @@
 -- file_names
-use Rattle.cli.proofs.FileWords.{given_once, named_with_nul}
+use Rattle.cli.proofs.FileWords.{given_once}
 use Rattle.cli.proofs.file_words.file_names.Goals as goal
 
 pub returns-in_default : goal.returns-in_default
