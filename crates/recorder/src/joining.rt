@@ -15,25 +15,6 @@ use checker::explained_is_yes;
 use merging::{MergeFault, Recorded, merge_recordings};
 use std::alloc::Global;
 
-// The same of books that are lent.
-fn merge_lent(alloc: Global, zero: &HostBook, one: &HostBook) -> Result<Recorded, MergeFault>
-    requires hosts { (zero.now.core.recorded.me ≡ Zero) × (one.now.core.recorded.me ≡ One) }
-    requires headers { zero.now.core.recorded.header ≡ one.now.core.recorded.header }
-    requires whole { is_half zero.now.core.recorded.header.version ≡ false }
-    ensures header { IfOk result (λ r. r.trace.header ≡ zero.now.core.recorded.header) }
-    ensures told { IfOk result (λ r.
-        Tells r.trace r.witness (merged zero.now.core.recorded.header (first_event_line zero.now.core.recorded.header)
-        zero.now.core.recorded.entries one.now.core.recorded.entries)) }
-    ensures explains { IfOk result (λ r. Explains r.trace r.witness) }
-    ensures yes { IfOk result (λ r. IsYes (verdict r.trace r.witness)) }
-    ensures stranger { IfErr result (λ f. IfStranger f (IsFirstStranger zero.now.core.recorded one.now.core.recorded)) }
-{
-    explained_is_yes();
-    zero.few_steps();
-    one.few_steps();
-    merge_recordings(alloc, zero.recording(), one.recording())
-}
-
 /// The finished books of host 0 and of host 1 in a whole case, merged in the order of their keys: a trace and a witness that
 /// explains it, so `check` answers yes. The error is that of the first segment which came to a host and is none that the other let
 /// out, or that memory ran out.
@@ -49,5 +30,11 @@ pub fn merge(alloc: Global, zero: HostBook, one: HostBook) -> Result<Recorded, M
     ensures yes { IfOk result (λ r. IsYes (verdict r.trace r.witness)) }
     ensures stranger { IfErr result (λ f. IfStranger f (IsFirstStranger zero.core.recorded one.core.recorded)) }
 {
-    merge_lent(alloc, &zero, &one)
+    explained_is_yes();
+    zero.few_steps();
+    one.few_steps();
+    let merged = merge_recordings(alloc, zero.recording(), one.recording());
+    drop(zero);
+    drop(one);
+    merged
 }
