@@ -7,5 +7,8 @@ pub mod ManyAnswers
 pub mod ManyLaw
 pub mod ManyWords
 pub mod PlainHex
+pub mod RecordOptions
+pub mod RecordWords
+pub mod Recordings
 pub mod SegmentWords
 pub mod TwoTexts

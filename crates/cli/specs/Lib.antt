@@ -6,4 +6,7 @@ pub mod Many
 pub mod ManyLaw
 pub mod ManyWords
 pub mod Output
+pub mod RecordReading
+pub mod RecordWords
+pub mod Recorded
 pub mod SegmentText

@@ -8,13 +8,17 @@ ghost use Rattle.counted.specs.Counting.{left_of, failures_of};
 ghost use Rattle.cli.specs.CommandLine.{AsksCheck, AsksNothing, AsksSegment};
 ghost use Rattle.cli.specs.HexText.{segment_in};
 ghost use Rattle.cli.specs.ManyWords.{AsksMany};
+ghost use Rattle.cli.specs.RecordWords.{AsksRecord};
+ghost use Rattle.cli.specs.Recorded.{EndsRecord};
+ghost use Rattle.two_hosts.specs.declared.plan.Plan.{Plan};
 ghost use Rattle.cli.specs.Output.{Ends, line_of, status_of};
 ghost use Rattle.cli.specs.SegmentText.{segment_line, segment_status};
 ghost use Rattle.cli.specs.Many.{cases_of, ends_case, greatest_status, lines_of_all, EndsMany};
 
 use crate::lines::{DEVICE, YES, line_of, say, status_of};
 use crate::many_words::asked_workers;
-use crate::running::{answer_bad_memory, run};
+use crate::record::record_or_run;
+use crate::running::answer_bad_memory;
 use bstr::ByteSlice;
 use case_forms::OutOfMemory;
 use counted::{Counted, ReadFault};
@@ -27,7 +31,9 @@ use std::thread::Threads;
 
 /// Does what the words behind the program's name ask for: where they ask for many cases, those of the input are checked by
 /// so many threads, a line is written for each in their order, and the greatest of their statuses is answered, 0 for none.
-/// For all other words it is `run`. Both counts of failures have to be below 2^50 before, as those of new ends are.
+/// Where they ask for a recording, two hosts talk, and what was recorded is written as a case; the status is 0 where all rounds
+/// ended, and 1 where a limit was met. For all other words it is `run`. Both counts of failures have to be below 2^50 before, as
+/// those of new ends are.
 pub fn run_all<R: BufRead, W: Write, H: Threads + Wait + Sync>(
     rt: &H,
     alloc: Global,
@@ -42,18 +48,23 @@ pub fn run_all<R: BufRead, W: Write, H: Threads + Wait + Sync>(
         IfSome (left_of R.remaining r.old) (λ text. Ends (status_of (case_result text)) (line_of (case_result text)) result (left_of W.contents w.old) (left_of W.contents w.new)) }
     ensures segment { (text : List ℕ) → AsksSegment (map (λ word. word.now) words.now) text → result ≢ 5 →
         Ends (segment_status (segment_in text)) (segment_line (segment_in text)) result (left_of W.contents w.old) (left_of W.contents w.new) }
-    ensures usage { AsksNothing (map (λ word. word.now) words.now) → ((n : ℕ) → ¬ AsksMany (map (λ word. word.now) words.now) n) → result ≢ 5 →
+    ensures recorded { (plan : Plan) → AsksRecord (map (λ word. word.now) words.now) plan → result ≢ 5 →
+        EndsRecord plan result (left_of W.contents w.old) (left_of W.contents w.new) }
+    ensures usage { AsksNothing (map (λ word. word.now) words.now) → ((n : ℕ) → ¬ AsksMany (map (λ word. word.now) words.now) n) →
+        ((plan : Plan) → ¬ AsksRecord (map (λ word. word.now) words.now) plan) → result ≢ 5 →
         Ends 3 (codes "bad usage\n") result (left_of W.contents w.old) (left_of W.contents w.new) }
     ensures unread { ¬ AsksCheck (map (λ word. word.now) words.now) → ((n : ℕ) → ¬ AsksMany (map (λ word. word.now) words.now) n) → r.new ≡ r.old }
 
-    // The status is 5 only where a count of failures grew. That is said where no write failed.
-    ensures device { result ≡ 5 → (failures_of r.old < failures_of r.new) ⊎ (failures_of w.old < failures_of w.new) }
+    // But for a recording, which may also find no thread, the status is 5 only where a count of failures grew. That is said where
+    // no write failed.
+    ensures device { ((plan : Plan) → ¬ AsksRecord (map (λ word. word.now) words.now) plan) → result ≡ 5 →
+        (failures_of r.old < failures_of r.new) ⊎ (failures_of w.old < failures_of w.new) }
     ensures told { result ≡ 5 → failures_of w.new ≡ failures_of w.old → Appends (left_of W.contents w.old) (left_of W.contents w.new) (codes "bad device\n") }
     ensures quiet { result ≢ 5 → (failures_of r.new ≡ failures_of r.old) × (failures_of w.new ≡ failures_of w.old) }
 {
     match asked_workers(alloc, words) {
         Ok(Some(workers)) => many(rt, alloc, workers, r, w),
-        Ok(None) => run(alloc, words, r, w),
+        Ok(None) => record_or_run(rt, alloc, words, r, w),
         Err(_) => answer_bad_memory(w),
     }
 }

@@ -1,0 +1,143 @@
+//! Two recorders whose turns one thread does.
+
+ghost use Rattle.std.specs.Prelude.{◌≡◌, IfSome};
+ghost use Rattle.case_forms.specs.declared.calls.Host.TheVariants.{Zero, One};
+ghost use Rattle.hosts.specs.Tables.{lane};
+ghost use Rattle.machine.specs.Machine.{aim};
+ghost use Rattle.recordings.specs.Books.{Aims};
+ghost use Rattle.stack_core.specs.Cores.{IsCallWithin};
+
+use case_forms::{Answer, Call, Header, Host};
+use crossbeam_channel::unbounded;
+use recorder::{CoreConfig, Flying, HostBook, Recorder, Seat, Site};
+use std::alloc::Global;
+use std::sync::Wait;
+use std::sync::ledger::Blank;
+
+// A socket number of the thread's own host.
+#[tactic(auto, using(crate::proofs::Lanes::same_lane))]
+fn own_socket(thread: u32, socket: u32) -> Option<u32>
+    ensures { IfSome result (λ n. lane n ≡ lane thread) }
+{
+    if socket % 2 != thread % 2 {
+        return None;
+    }
+    Some(socket)
+}
+
+/// The recorder of a host, with the seat of its one application thread.
+#[derive(Drop)]
+pub struct Side<L: Site> {
+    pub recorder: Recorder<L>,
+    pub seat: Seat<L>,
+}
+
+impl<L: Site> Side<L> {
+    /// A host that recorded nothing yet, with that thread. None: the thread can have no seat, or memory ran out.
+    pub fn new<R: Wait>(
+        rt: &R,
+        alloc: Global,
+        host: Host,
+        header: Header,
+        blank: Blank,
+        thread: u32,
+    ) -> Option<Side<L>>
+        requires name { blank.name ≡ L.name }
+        requires parts { (blank.parts ≡ L.parts) × (L.parts ≡ 65535) }
+        requires host { host ≡ L.host }
+        requires header { header ≡ L.header }
+        ensures { IfSome result (λ s. s.seat.thread ≡ thread) }
+    {
+        let config = CoreConfig {
+            mss: 536,
+            ring: 4_096,
+            first_iss: 7,
+            shift: None,
+        };
+        let recorder: Recorder<L> = Recorder::new(alloc, host, header, config, blank);
+        match recorder.seat(rt, thread) {
+            Ok(seat) => Some(Side { recorder, seat }),
+            Err(_) => {
+                drop(recorder);
+                None
+            }
+        }
+    }
+
+    /// Calls, and gives the answer. None: the call was refused, or memory ran out.
+    pub fn call<R: Wait>(&mut self, rt: &R, call: Call) -> Option<Answer>
+        requires lane { lane self.old.seat.thread ≡ L.host }
+        requires aims { Aims L.host (aim call) }
+        requires within { IsCallWithin call }
+        ensures { self.new.seat.thread ≡ self.old.seat.thread }
+    {
+        let Ok(receipt) = self.recorder.call(rt, &mut self.seat, call) else {
+            return None;
+        };
+        receipt.answered.answer().copy().ok()
+    }
+
+    /// A call that gives a socket number of the own host.
+    pub fn socket<R: Wait>(&mut self, rt: &R, call: Call) -> Option<u32>
+        requires lane { lane self.old.seat.thread ≡ L.host }
+        requires aims { Aims L.host (aim call) }
+        requires within { IsCallWithin call }
+        ensures thread { self.new.seat.thread ≡ self.old.seat.thread }
+        ensures own { IfSome result (λ n. lane n ≡ L.host) }
+    {
+        match self.call(rt, call)? {
+            Answer::Given(socket) => own_socket(self.seat.thread(), socket),
+            _ => None,
+        }
+    }
+
+    /// The book, in the end.
+    pub fn finish<R: Wait>(self, rt: &R, alloc: Global) -> Option<HostBook>
+        requires { L.parts ≡ 65535 }
+        ensures { IfSome result (λ b. (b.core.recorded.me ≡ L.host) × (b.core.recorded.header ≡ L.header)) }
+    {
+        let Side { recorder, seat } = self;
+        let mut seats = Vec::new(alloc);
+        seats.reserve(1).ok()?;
+        seats.push_reserved(seat);
+        match recorder.finish(rt, seats) {
+            Ok(book) => Some(book),
+            Err(unfinished) => {
+                drop(unfinished);
+                None
+            }
+        }
+    }
+}
+
+/// As many segments of one host as go out in so many turns come in at the other. None: memory ran out.
+pub fn carry<L: Site, M: Site, R: Wait>(
+    rt: &R,
+    alloc: Global,
+    from: &Recorder<L>,
+    to: &Recorder<M>,
+    turns: u64,
+) -> Option<()> {
+    let (out, into) = unbounded::<Flying, Global>(alloc).ok()?;
+    let _ = from.pump_loop(rt, out, 0, turns);
+    let _ = to.receive_loop(rt, into, turns);
+    Some(())
+}
+
+/// Both hosts.
+#[derive(Drop)]
+pub struct Pair<L: Site, M: Site> {
+    pub zero: Side<L>,
+    pub one: Side<M>,
+}
+
+impl<L: Site, M: Site> Pair<L, M> {
+    /// So often the segments of host 0 come in at host 1, and then those of host 1 at host 0.
+    pub fn exchange<R: Wait>(&self, rt: &R, alloc: Global, times: u8) -> Option<()> {
+        for _ in 0..times {
+            carry(rt, alloc, &self.zero.recorder, &self.one.recorder, 4)?;
+            carry(rt, alloc, &self.one.recorder, &self.zero.recorder, 4)?;
+        }
+        Some(())
+    }
+}

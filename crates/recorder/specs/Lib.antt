@@ -1,0 +1,5 @@
+pub mod Books
+pub mod Views
+pub mod Receipts
+pub mod Ticks
+pub mod Seats

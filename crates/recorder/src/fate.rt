@@ -1,0 +1,45 @@
+//! What becomes of segments on their way.
+
+/// What becomes of a segment.
+#[derive(Clone, Copy, Debug, PartialEq, Eq)]
+pub enum Fate {
+    /// It is sent.
+    Pass,
+    /// It is lost.
+    Lose,
+    /// It is sent twice.
+    Twice,
+    /// It is sent behind so many further ones of its host, or never where the loop ends first.
+    Hold(u32),
+}
+
+/// Says of each segment what becomes of it.
+pub trait WireFate {
+    /// The fate of the next segment.
+    fn next(&mut self) -> Fate;
+}
+
+/// Each `every`-th segment is lost; none where `every` is 0.
+#[derive(Clone, Copy, Debug, PartialEq, Eq)]
+pub struct LoseEach {
+    every: u32,
+    left: u32,
+}
+
+impl LoseEach {
+    /// The first that is lost is the `every`-th.
+    pub fn new(every: u32) -> LoseEach {
+        LoseEach { every, left: every }
+    }
+}
+
+impl WireFate for LoseEach {
+    fn next(&mut self) -> Fate {
+        if self.left == 1 {
+            self.left = self.every;
+            return Fate::Lose;
+        }
+        self.left = self.left.saturating_sub(1);
+        Fate::Pass
+    }
+}

@@ -1,0 +1,51 @@
+//! Segments that are held back until further ones of their host went out.
+
+use case_forms::OutOfMemory;
+use std::alloc::Global;
+use std::collections::BTreeMap;
+
+/// What is held back. `T` is a segment on its way.
+#[derive(Drop)]
+pub(crate) struct HeldBack<T> {
+    // By the count of pumped segments at which each is due, then by that at which it was pumped.
+    waiting: BTreeMap<(u64, u64), T, Global>,
+    // How many segments were pumped.
+    pumped: u64,
+}
+
+impl<T: Drop> HeldBack<T> {
+    pub(crate) fn new(alloc: Global) -> HeldBack<T> {
+        HeldBack {
+            waiting: BTreeMap::new(alloc),
+            pumped: 0,
+        }
+    }
+
+    /// One more segment was pumped.
+    pub(crate) fn count(&mut self) {
+        self.pumped = self.pumped.saturating_add(1);
+    }
+
+    /// Holds the segment that was pumped last until so many further ones were.
+    pub(crate) fn hold(&mut self, further: u32, segment: T) -> Result<(), OutOfMemory> {
+        let due = self.pumped.saturating_add(u64::from(further));
+        let pumped = self.pumped;
+        self.waiting.insert((due, pumped), segment)?;
+        Ok(())
+    }
+
+    /// How many are held.
+    pub(crate) fn len(&self) -> usize {
+        self.waiting.len()
+    }
+
+    /// One that is due. None: none is.
+    pub(crate) fn take_due(&mut self) -> Option<T> {
+        let ((due, _), _) = self.waiting.first_key_value()?;
+        if *due > self.pumped {
+            return None;
+        }
+        let (_, segment) = self.waiting.pop_first()?;
+        Some(segment)
+    }
+}

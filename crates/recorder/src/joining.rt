@@ -1,0 +1,40 @@
+//! The books of both hosts, merged.
+
+ghost use Rattle.std.specs.Prelude.{◌≡◌, false, IfOk, IfErr};
+ghost use Rattle.case_forms.specs.declared.calls.Host.TheVariants.{Zero, One};
+ghost use Rattle.case_forms.specs.Traces.{first_event_line};
+ghost use Rattle.case_forms.specs.Versions.{is_half};
+ghost use Rattle.recordings.specs.Recordings.{merged};
+ghost use Rattle.checker.specs.Explains.{Explains, IsYes};
+ghost use Rattle.checker.specs.Verdicts.{verdict};
+ghost use Rattle.merging.specs.Faults.{IfStranger, IsFirstStranger};
+ghost use Rattle.merging.specs.Told.{Tells};
+
+use crate::host_book::HostBook;
+use checker::explained_is_yes;
+use merging::{MergeFault, Recorded, merge_recordings};
+use std::alloc::Global;
+
+/// The finished books of host 0 and of host 1 in a whole case, merged in the order of their keys: a trace and a witness that
+/// explains it, so `check` answers yes. The error is that of the first segment which came to a host and is none that the other let
+/// out, or that memory ran out.
+pub fn merge(alloc: Global, zero: HostBook, one: HostBook) -> Result<Recorded, MergeFault>
+    requires hosts { (zero.core.recorded.me ≡ Zero) × (one.core.recorded.me ≡ One) }
+    requires headers { zero.core.recorded.header ≡ one.core.recorded.header }
+    requires whole { is_half zero.core.recorded.header.version ≡ false }
+    ensures header { IfOk result (λ r. r.trace.header ≡ zero.core.recorded.header) }
+    ensures told { IfOk result (λ r.
+        Tells r.trace r.witness (merged zero.core.recorded.header (first_event_line zero.core.recorded.header)
+        zero.core.recorded.entries one.core.recorded.entries)) }
+    ensures explains { IfOk result (λ r. Explains r.trace r.witness) }
+    ensures yes { IfOk result (λ r. IsYes (verdict r.trace r.witness)) }
+    ensures stranger { IfErr result (λ f. IfStranger f (IsFirstStranger zero.core.recorded one.core.recorded)) }
+{
+    explained_is_yes();
+    zero.few_steps();
+    one.few_steps();
+    let merged = merge_recordings(alloc, zero.recording(), one.recording());
+    drop(zero);
+    drop(one);
+    merged
+}

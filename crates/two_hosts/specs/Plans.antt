@@ -1,0 +1,35 @@
+-- What both hosts of a recording begin with.
+use Rattle.std.specs.Prelude.{◌≡◌}
+use Rattle.case_forms.specs.declared.calls.Host.TheVariants as hosts
+use Rattle.case_forms.specs.declared.trace.Header.{Header}
+use Rattle.case_forms.specs.declared.version.Initial.{Initial}
+use Rattle.case_forms.specs.declared.version.Initial.TheVariants.{Rfc5681, Rfc6928}
+use Rattle.case_forms.specs.declared.version.Version.{Version}
+use Rattle.case_forms.specs.declared.version.Version.TheVariants.{One, Two, Three}
+use Rattle.recorder.specs.Views.{BookView}
+
+-- which RFC gives the first congestion window: version 1 has that of RFC 5681 alone
+abbrev pub initial_of : Version → Initial
+initial_of One = Rfc5681
+initial_of Two = Rfc6928
+initial_of Three = Rfc6928
+
+-- times in microseconds: no skew, a segment lives an hour at most, timers may be a millisecond early, and RTO is 200 milliseconds at least
+abbrev pub header_of : Version → Header
+header_of version =
+    record {
+      version = version;
+      skew = 0;
+      msl = 3600000000;
+      grain = 1000;
+      minrto = 200000;
+      extra = 1;
+      initial = initial_of version;
+    }
+
+-- the books of host 0 and of host 1, under one header
+pub record AreBooks (zero one : BookView) (header : Header) : Type 0 where
+  pub zero_is : zero.core.recorded.me ≡ hosts.Zero
+  pub one_is : one.core.recorded.me ≡ hosts.One
+  pub zero_header : zero.core.recorded.header ≡ header
+  pub one_header : one.core.recorded.header ≡ header

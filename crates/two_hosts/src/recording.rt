@@ -1,0 +1,232 @@
+//! The whole recording.
+
+ghost use Rattle.std.specs.Prelude.{◌≡◌, false, IfOk};
+ghost use Rattle.case_forms.specs.Versions.{is_half};
+ghost use Rattle.case_forms.specs.declared.calls.Host.TheVariants.{Zero, One};
+ghost use Rattle.checker.specs.Explains.{Explains};
+ghost use Rattle.two_hosts.specs.Plans.{AreBooks, header_of};
+
+use crate::plan::{
+    CLIENT_ISS, CLIENT_THREAD, Plan, SERVER_ISS, SERVER_THREAD, config_of, header_of,
+};
+use crate::threads::{Place, TURNS, Way, run_threads};
+use crate::wire::{Talk, Wire};
+use case_forms::{Header, Host, OutOfMemory, Version};
+use recorder::{
+    Cause, HostBook, MergeFault, RecFault, Receipt, Recorded, Recorder, Seat, Site, WireFate, merge,
+};
+use std::alloc::Global;
+use std::marker::Brand;
+use std::sync::Wait;
+use std::sync::ledger::Blank;
+use std::thread::Threads;
+use thiserror::Error;
+
+/// What was recorded.
+#[derive(Drop)]
+pub struct Recording {
+    pub recorded: Recorded,
+    /// Whether all rounds ended, and both applications came to their end.
+    pub ended: bool,
+    /// The receipts of host 0's thread, and behind them those of host 1's.
+    pub receipts: Vec<Receipt>,
+}
+
+/// What both hosts recorded, before it is merged.
+#[derive(Drop)]
+pub struct Books {
+    pub zero: HostBook,
+    pub one: HostBook,
+    /// Whether all rounds ended, and both applications came to their end.
+    pub ended: bool,
+    /// The receipts of host 0's thread, and behind them those of host 1's.
+    pub receipts: Vec<Receipt>,
+}
+
+/// Why there is no recording.
+#[derive(Clone, Copy, Debug, PartialEq, Eq, Error)]
+pub enum RecordFault {
+    /// A thread could not be started, or the books could not be finished or merged for another cause than memory.
+    #[error("the recording can't be made")]
+    Device,
+    #[error("out of memory")]
+    OutOfMemory,
+}
+
+impl From<OutOfMemory> for RecordFault {
+    fn from(_: OutOfMemory) -> RecordFault {
+        RecordFault::OutOfMemory
+    }
+}
+
+impl From<RecFault> for RecordFault {
+    fn from(fault: RecFault) -> RecordFault {
+        match fault {
+            RecFault::OutOfMemory => RecordFault::OutOfMemory,
+            RecFault::Stopped | RecFault::SeatTaken => RecordFault::Device,
+        }
+    }
+}
+
+impl From<MergeFault> for RecordFault {
+    fn from(fault: MergeFault) -> RecordFault {
+        match fault {
+            MergeFault::OutOfMemory => RecordFault::OutOfMemory,
+            MergeFault::Stranger { .. } => RecordFault::Device,
+        }
+    }
+}
+
+// The book of a recorder of which one seat was given.
+fn finish<L: Site, R: Wait>(
+    rt: &R,
+    alloc: Global,
+    recorder: Recorder<L>,
+    seat: Seat<L>,
+) -> Result<HostBook, RecordFault>
+    requires { L.parts ≡ 65535 }
+    ensures site { IfOk result (λ b. (b.core.recorded.me ≡ L.host) × (b.core.recorded.header ≡ L.header)) }
+{
+    let mut seats = Vec::new(alloc);
+    seats.reserve(1)?;
+    seats.push_reserved(seat);
+    match recorder.finish(rt, seats) {
+        Ok(book) => Ok(book),
+        Err(unfinished) => match unfinished.cause {
+            Cause::SeatMissing => Err(RecordFault::Device),
+            Cause::OutOfMemory => Err(RecordFault::OutOfMemory),
+        },
+    }
+}
+
+// What the applications had in the end.
+#[derive(Drop)]
+struct Talked<L: Site, M: Site> {
+    zero: Seat<L>,
+    one: Seat<M>,
+    receipts: Vec<Receipt>,
+    ended: bool,
+}
+
+// Lets both applications talk, each at its recorder.
+fn let_talk<
+    L: Site + Send + Sync,
+    M: Site + Send + Sync,
+    F: WireFate + Send + Drop,
+    G: WireFate + Send + Drop,
+    R: Threads + Wait + Sync,
+>(
+    rt: &R,
+    alloc: Global,
+    zero: &Recorder<L>,
+    one: &Recorder<M>,
+    talk: Talk<F, G>,
+) -> Result<Talked<L, M>, RecordFault>
+    requires hosts { (L.host ≡ Zero) × (M.host ≡ One) }
+{
+    let Talk {
+        rounds,
+        there,
+        back,
+    } = talk;
+    let there = Way::new(alloc, there)?;
+    let back = Way::new(alloc, back)?;
+    let client = Place {
+        recorder: zero,
+        seat: zero.seat(rt, CLIENT_THREAD)?,
+    };
+    let server = Place {
+        recorder: one,
+        seat: one.seat(rt, SERVER_THREAD)?,
+    };
+    let both = run_threads(rt, alloc, rounds, client, server, there, back);
+    let (asked, served) = both.ok_or(RecordFault::Device)?;
+    let ended = asked.whole && served.whole;
+    let (mut receipts, others) = (asked.receipts, served.receipts);
+    receipts.reserve(others.len())?;
+    for receipt in others {
+        receipts.push_reserved(receipt);
+    }
+    Ok(Talked {
+        zero: asked.seat,
+        one: served.seat,
+        receipts,
+        ended,
+    })
+}
+
+// What two new recorders, each of one host, record of the connection.
+fn record_with<
+    L: Site + Send + Sync,
+    M: Site + Send + Sync,
+    F: WireFate + Send + Drop,
+    G: WireFate + Send + Drop,
+    R: Threads + Wait + Sync,
+>(
+    rt: &R,
+    alloc: Global,
+    header: Header,
+    first: Blank,
+    second: Blank,
+    talk: Talk<F, G>,
+) -> Result<Books, RecordFault>
+    requires names { (first.name ≡ L.name) × (second.name ≡ M.name) }
+    requires blanks { (first.parts ≡ L.parts) × (second.parts ≡ M.parts) }
+    requires parts { (L.parts ≡ 65535) × (M.parts ≡ 65535) }
+    requires hosts { (L.host ≡ Zero) × (M.host ≡ One) }
+    requires headers { (L.header ≡ header) × (M.header ≡ header) }
+    ensures { IfOk result (λ b. AreBooks b.zero b.one header) }
+{
+    let client = config_of(CLIENT_ISS);
+    let server = config_of(SERVER_ISS);
+    let zero: Recorder<L> = Recorder::new(alloc, Host::Zero, header, client, first);
+    let one: Recorder<M> = Recorder::new(alloc, Host::One, header, server, second);
+    let talked = let_talk(rt, alloc, &zero, &one, talk)?;
+    let zero = finish(rt, alloc, zero, talked.zero)?;
+    let one = finish(rt, alloc, one, talked.one)?;
+    Ok(Books {
+        zero,
+        one,
+        ended: talked.ended,
+        receipts: talked.receipts,
+    })
+}
+
+/// What both hosts record where they talk so.
+pub fn record_books<F: WireFate + Send + Drop, G: WireFate + Send + Drop, R: Threads + Wait + Sync>(
+    rt: &R,
+    alloc: Global,
+    version: Version,
+    talk: Talk<F, G>,
+) -> Result<Books, RecordFault>
+    ensures { IfOk result (λ b. AreBooks b.zero b.one (header_of version)) }
+{
+    let (first, second) = (Blank::new(65_535), Blank::new(65_535));
+    record_with::<Brand, Brand, F, G, R>(rt, alloc, header_of(version), first, second, talk)
+}
+
+/// Records the connection as it is planned, in version 1 or 2.
+pub fn record<R: Threads + Wait + Sync>(
+    rt: &R,
+    alloc: Global,
+    plan: Plan,
+) -> Result<Recording, RecordFault>
+    requires { is_half plan.version ≡ false }
+    ensures header { IfOk result (λ r. r.recorded.trace.header ≡ header_of plan.version) }
+    ensures version { IfOk result (λ r. r.recorded.witness.version ≡ plan.version) }
+    ensures explains { IfOk result (λ r. Explains r.recorded.trace r.recorded.witness) }
+{
+    let wire = Wire::losing(plan.lose, TURNS);
+    let talk = Talk {
+        rounds: plan.rounds,
+        there: wire,
+        back: wire,
+    };
+    let books = record_books(rt, alloc, plan.version, talk)?;
+    let recorded = merge(alloc, books.zero, books.one)?;
+    Ok(Recording {
+        recorded,
+        ended: books.ended,
+        receipts: books.receipts,
+    })
+}

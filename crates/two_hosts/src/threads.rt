@@ -1,0 +1,196 @@
+//! Both applications and the loops of both recorders, each in a thread of its own.
+
+ghost use Rattle.std.specs.Prelude.{◌≡◌};
+ghost use Rattle.case_forms.specs.declared.calls.Host.TheVariants.{Zero, One};
+ghost use Rattle.hosts.specs.Tables.{lane};
+
+use crate::caller::Caller;
+use crate::talking::{Ended, listen, run_client, run_server};
+use crate::wire::Wire;
+use case_forms::OutOfMemory;
+use crossbeam_channel::{Receiver, Sender, unbounded};
+use recorder::{Flying, Recorder, Seat, Site, WireFate};
+use std::alloc::Global;
+use std::sync::Wait;
+use std::thread;
+use std::thread::{JoinHandle, Threads};
+
+/// How many turns each loop has.
+pub const TURNS: u64 = 2_000_000;
+
+/// Both ends of the way of a host's segments, and what becomes of them.
+#[derive(Drop)]
+pub struct Way<F: Drop> {
+    out: Sender<Flying, Global>,
+    from: Receiver<Flying, Global>,
+    fate: F,
+    taken: u64,
+}
+
+impl<F: Drop> Way<F> {
+    /// A new way for segments of which this becomes.
+    pub fn new(alloc: Global, wire: Wire<F>) -> Result<Way<F>, OutOfMemory> {
+        let (out, from) = unbounded::<Flying, Global>(alloc)?;
+        let Wire { fate, taken } = wire;
+        Ok(Way {
+            out,
+            from,
+            fate,
+            taken,
+        })
+    }
+}
+
+/// The recorder of a host, and the seat of its application.
+#[derive(Drop)]
+pub struct Place<'a, L: Site> {
+    pub recorder: &'a Recorder<L>,
+    pub seat: Seat<L>,
+}
+
+/// Runs both applications and all loops until they end. None: a thread could not be started.
+pub fn run_threads<
+    L: Site + Send + Sync,
+    M: Site + Send + Sync,
+    F: WireFate + Send + Drop,
+    G: WireFate + Send + Drop,
+    R: Threads + Wait + Sync,
+>(
+    rt: &R,
+    alloc: Global,
+    rounds: u16,
+    client: Place<L>,
+    server: Place<M>,
+    there: Way<F>,
+    back: Way<G>,
+) -> Option<(Ended<L>, Ended<M>)>
+    requires hosts { (L.host ≡ Zero) × (M.host ≡ One) }
+    requires lanes { (lane client.seat.thread ≡ Zero) × (lane server.seat.thread ≡ One) }
+{
+    let Place {
+        recorder: zero,
+        seat: asker,
+    } = client;
+    let Place {
+        recorder: one,
+        seat: server,
+    } = server;
+
+    // Host 1 listens before host 0 opens.
+    let mut server = Caller::new(alloc, server);
+    let listener = listen(rt, one, &mut server).ok();
+    let Way {
+        out: to_one,
+        from: from_zero,
+        fate: fate_there,
+        taken: taken_there,
+    } = there;
+    let Way {
+        out: to_zero,
+        from: from_one,
+        fate: fate_back,
+        taken: taken_back,
+    } = back;
+    thread::scope(thread::scope_env(), rt, |scope| {
+        let lets_out = scope
+            .spawn(move || let_out(rt, zero, one, to_one, fate_there))
+            .ok();
+        let answers = scope
+            .spawn(move || let_out(rt, one, zero, to_zero, fate_back))
+            .ok();
+        let lets_in = scope
+            .spawn(move || let_in(rt, zero, one, from_one, taken_back))
+            .ok();
+        let hears = scope
+            .spawn(move || let_in(rt, one, zero, from_zero, taken_there))
+            .ok();
+        let times = scope.spawn(move || let_pass(rt, zero, one)).ok();
+        let waits = scope.spawn(move || let_pass(rt, one, zero)).ok();
+        let serves = scope
+            .spawn(move || {
+                let ended = run_server(rt, one, server, listener, rounds);
+                stop_unless(rt, zero, one, ended.whole);
+                ended
+            })
+            .ok();
+        let asks = scope
+            .spawn(move || {
+                let ended = run_client(rt, alloc, zero, asker, rounds);
+                stop_unless(rt, zero, one, ended.whole);
+                ended
+            })
+            .ok();
+        let out = lets_out.is_some() && answers.is_some();
+        let into = lets_in.is_some() && hears.is_some();
+        let all = out && into && times.is_some() && waits.is_some();
+        if !all || serves.is_none() || asks.is_none() {
+            stop_both(rt, zero, one);
+        }
+        let asked = joined(rt, asks);
+        let served = joined(rt, serves);
+        stop_both(rt, zero, one);
+        let _ = joined(rt, lets_out);
+        let _ = joined(rt, answers);
+        let _ = joined(rt, lets_in);
+        let _ = joined(rt, hears);
+        let _ = joined(rt, times);
+        let _ = joined(rt, waits);
+        if !all {
+            return None;
+        }
+        Some((asked?, served?))
+    })
+}
+
+// What a thread answered, once it ended. None: it was not started.
+fn joined<T: Drop, R: Threads + Wait>(rt: &R, handle: Option<JoinHandle<T>>) -> Option<T> {
+    let handle = handle?;
+    Some(handle.join(rt))
+}
+
+fn stop_both<L: Site, M: Site, R: Wait>(rt: &R, zero: &Recorder<L>, one: &Recorder<M>) {
+    zero.stop(rt);
+    one.stop(rt);
+}
+
+// An application that halts ends all else.
+fn stop_unless<L: Site, M: Site, R: Wait>(
+    rt: &R,
+    zero: &Recorder<L>,
+    one: &Recorder<M>,
+    whole: bool,
+) {
+    if !whole {
+        stop_both(rt, zero, one);
+    }
+}
+
+// Lets a host's segments out. As it ends, all else does.
+fn let_out<L: Site, M: Site, F: WireFate + Drop, R: Wait>(
+    rt: &R,
+    mine: &Recorder<L>,
+    other: &Recorder<M>,
+    out: Sender<Flying, Global>,
+    fate: F,
+) {
+    let _ = mine.pump_loop_by(rt, out, fate, TURNS);
+    stop_both(rt, mine, other);
+}
+
+// Lets the other host's segments in, so many of them. As it ends, all else does.
+fn let_in<L: Site, M: Site, R: Wait>(
+    rt: &R,
+    mine: &Recorder<L>,
+    other: &Recorder<M>,
+    from: Receiver<Flying, Global>,
+    turns: u64,
+) {
+    let _ = mine.receive_loop(rt, from, turns);
+    stop_both(rt, mine, other);
+}
+
+// Lets a host's time pass. As it ends, all else does.
+fn let_pass<L: Site, M: Site, R: Wait>(rt: &R, mine: &Recorder<L>, other: &Recorder<M>) {
+    let _ = mine.timer_loop(rt, TURNS);
+    stop_both(rt, mine, other);
+}

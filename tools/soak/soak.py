@@ -1,0 +1,116 @@
+#!/usr/bin/env python3
+"""Records with many words, checks each case, and counts what happened in them.
+
+    soak.py PROGRAM [--minutes M] [--seed S]
+
+Each run takes a count of rounds from 1 to 1000, a K of 0 or 2 to 50, and a version, all by chance. It fails where `record` ends with another
+status than 0 or 1, and where `check` of what it printed does not say yes.
+"""
+import argparse
+import random
+import subprocess
+import sys
+import time
+from collections import Counter
+
+
+def segment_of(words):
+    """Host, ports, sequence number, flags, window and payload's length of an O line's words."""
+    data = bytes.fromhex(words[4])
+    offset = (data[12] >> 4) * 4
+    return (
+        int(words[3]),
+        int.from_bytes(data[0:2], "big"),
+        int.from_bytes(data[2:4], "big"),
+        int.from_bytes(data[4:8], "big"),
+        data[13],
+        int.from_bytes(data[14:16], "big"),
+        len(data) - offset,
+    )
+
+
+def features_of(text):
+    """What a case shows."""
+    found = Counter()
+    trace, _, witness = text.partition("\nwitness ")
+    made = set()
+    ended = set()
+    heard = set()
+    windows = {0: None, 1: None}
+    for line in trace.split("\n"):
+        words = line.split(" ")
+        if len(words) < 3:
+            continue
+        if words[2] == "O":
+            host, source, target, number, flags, window, length = segment_of(words)
+            taken = length + (flags & 1) + (flags >> 1 & 1)
+            if taken > 0:
+                if (host, source, target, number) in made:
+                    found["retransmissions"] += 1
+                made.add((host, source, target, number))
+            if window == 0 and flags & 16:
+                found["windows of 0"] += 1
+                windows[host] = 0
+            elif flags & 16:
+                windows[host] = window
+            if length == 1 and windows[1 - host] == 0:
+                found["probes of a window of 0"] += 1
+            if flags & 1 and host not in heard:
+                ended.add(host)
+            if flags & 4:
+                found["resets"] += 1
+        elif words[2] == "I":
+            host, _, _, _, flags, _, _ = segment_of(words)
+            if flags & 1:
+                heard.add(host)
+        elif words[2] == "T":
+            found[f"{words[-1]} lines"] += 1
+    if len(ended) == 2:
+        found["simultaneous closes"] += 1
+    for line in witness.split("\n"):
+        words = line.split(" ")
+        if len(words) > 1 and words[1] == "F":
+            found["fast recoveries"] += 1
+    return found
+
+
+def run(words, data=None):
+    return subprocess.run(words, input=data, stdout=subprocess.PIPE, stderr=subprocess.PIPE, check=False)
+
+
+def main():
+    parser = argparse.ArgumentParser()
+    parser.add_argument("program")
+    parser.add_argument("--minutes", type=float, default=1)
+    parser.add_argument("--seed", type=int, default=1)
+    given = parser.parse_args()
+    chance = random.Random(given.seed)
+    end = time.time() + 60 * given.minutes
+    counts = Counter()
+    while time.time() < end:
+        rounds = chance.randint(1, 1000)
+        lose = chance.choice([0] + list(range(2, 51)))
+        version = chance.choice([1, 2])
+        words = ["record", "--rounds", str(rounds), "--lose", str(lose), "--format", str(version)]
+        recorded = run([given.program] + words)
+        if recorded.returncode not in (0, 1) or recorded.stderr:
+            print("failed:", *words, "status", recorded.returncode, recorded.stdout[:80])
+            return 1
+        answer = run([given.program, "check"], recorded.stdout)
+        if answer.returncode != 0 or not answer.stdout.startswith(b"yes "):
+            print("not yes:", *words, answer.stdout.decode().strip())
+            with open("not_yes.case", "wb") as case:
+                case.write(recorded.stdout)
+            return 1
+        counts["runs"] += 1
+        counts[f"runs of version {version}"] += 1
+        counts["runs that met a limit"] += recorded.returncode
+        counts["event lines"] += int(answer.stdout.split()[1])
+        counts.update(features_of(recorded.stdout.decode()))
+    for name in sorted(counts):
+        print(f"{counts[name]:>10}  {name}")
+    return 0
+
+
+if __name__ == "__main__":
+    sys.exit(main())
