@@ -50,7 +50,7 @@ impl Body {
     pub fn is_given(&self, number: u32) -> bool
         ensures { result ≡ given self.now number }
     {
-        self.sockets.contains(number)
+        self.sockets.contains(u64::from(number))
     }
 
     /// How many socket numbers were given at this host.
@@ -64,7 +64,7 @@ impl Body {
     pub fn thing(&self, number: u32) -> Option<Thing>
         ensures { result ≡ thing_of self.now number }
     {
-        match self.sockets.get(number) {
+        match self.sockets.get(u64::from(number)) {
             Some(socket) => if_live(*socket),
             None => None,
         }

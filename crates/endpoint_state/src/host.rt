@@ -36,6 +36,7 @@ use machine::{Emission, Name};
 use segment::OutOfMemory;
 use std::alloc::Global;
 use std::marker::Model;
+use tables::Table;
 use verdict::Rule;
 
 /// What one host has: its endpoints, listeners and sockets, the segments that it made by their numbers, those that it
@@ -44,8 +45,8 @@ use verdict::Rule;
 pub(crate) struct HostState {
     body: Body,
     made: IndexMap<u32, Made>,
-    wire: IndexMap<u64, Emission>,
-    inbox: IndexMap<u64, Option<Emission>>,
+    wire: Table<Emission>,
+    inbox: Table<Option<Emission>>,
 }
 
 impl Model for HostState {
@@ -233,8 +234,8 @@ impl HostState {
         HostState {
             body: Body::new(alloc),
             made: IndexMap::new(alloc),
-            wire: IndexMap::new(alloc),
-            inbox: IndexMap::new(alloc),
+            wire: Table::new(alloc),
+            inbox: Table::new(alloc),
         }
     }
 
@@ -242,7 +243,7 @@ impl HostState {
     pub(crate) fn sent(&self, line: u64) -> Option<&Emission>
         ensures { option_copied result ≡ lookup (nat_eq line) self.now.wire }
     {
-        self.wire.get(&line)
+        self.wire.get(line)
     }
 
     /// The segment that was made under this number.

@@ -167,7 +167,7 @@ pub(crate) fn answered(
 fn place_in(threads: &Table<Turn>, thread: u32) -> Option<&Place>
     ensures { option_map (λ place. turn_shown place.now) result ≡ lookup (nat_eq thread) threads.now.entries }
 {
-    match threads.get(thread) {
+    match threads.get(u64::from(thread)) {
         Some(turn) => Some(turn.place()),
         None => None,
     }
@@ -178,7 +178,7 @@ fn put(threads: &mut Table<Turn>, thread: u32, place: Place) -> Result<(), OutOf
     ensures err { OnErr result (threads.new.entries ≡ threads.old.entries) }
     ensures absent { OnErr result (is_some (lookup (nat_eq thread) threads.old.entries) ≡ false) }
 {
-    threads.insert(thread, Turn::at(place))?;
+    threads.insert(u64::from(thread), Turn::at(place))?;
     Ok(())
 }
 

@@ -3,7 +3,7 @@
 //! An entry is found in the logarithm of their number, whatever the numbers are: a table with hashes would let a text choose
 //! numbers that collide. Entries stay in the order in which they were added.
 //!
-//! - `table`: a table by 32-bit numbers
+//! - `table`: a table by 64-bit numbers
 #![tactic(auto)]
 
 mod table;

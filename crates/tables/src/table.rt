@@ -1,4 +1,4 @@
-//! A table by 32-bit numbers, whose entries stay in the order in which they were added.
+//! A table by numbers, whose entries stay in the order in which they were added.
 
 ghost use Rattle.std.specs.Prelude.{◌≡◌, ◌≢◌, ℕ, [], is_some, length, nat_eq, OnOk, OnErr, None, Some, IsSome};
 ghost use Rattle.std.specs.Map.{lookup};
@@ -15,11 +15,11 @@ use std::marker::Model;
 /// Entries by number. None is ever taken out.
 #[derive(Drop)]
 pub struct Table<V> {
-    entries: Vec<(u32, V)>,
+    entries: Vec<(u64, V)>,
     /// Where the entry of each number stands, or none where a number has its room but no entry yet.
-    places: BTreeMap<u32, Option<usize>>,
+    places: BTreeMap<u64, Option<usize>>,
     /// The number for which room was made last.
-    ready: Option<u32>,
+    ready: Option<u64>,
 }
 
 impl<V> Model for Table<V> {
@@ -47,7 +47,7 @@ impl<V: Drop> Table<V> {
     }
 
     /// The value of a number. None: the table has no entry of it.
-    pub fn get(&self, number: u32) -> Option<&V>
+    pub fn get(&self, number: u64) -> Option<&V>
         ensures { option_copied result ≡ lookup (nat_eq number) self.now.entries }
     {
         match place_in(&self.places, number) {
@@ -64,14 +64,14 @@ impl<V: Drop> Table<V> {
     }
 
     /// Whether the table has an entry of a number.
-    pub fn contains(&self, number: u32) -> bool
+    pub fn contains(&self, number: u64) -> bool
         ensures { result ≡ is_some (lookup (nat_eq number) self.now.entries) }
     {
         self.get(number).is_some()
     }
 
     /// Makes room for an entry of a number. No entry changes.
-    pub fn reserve(&mut self, number: u32) -> Result<(), AllocError>
+    pub fn reserve(&mut self, number: u64) -> Result<(), AllocError>
         ensures entries { self.new.entries ≡ self.old.entries }
         ensures room { OnOk result (self.new.ready ≡ Some number) }
     {
@@ -84,7 +84,7 @@ impl<V: Drop> Table<V> {
 
     /// The value of a number becomes this one: an entry that is there keeps its place, and a new one goes last. Where memory
     /// runs out nothing is changed; it doesn't where there is an entry of the number, or room for it.
-    pub fn insert(&mut self, number: u32, value: V) -> Result<(), AllocError>
+    pub fn insert(&mut self, number: u64, value: V) -> Result<(), AllocError>
         ensures ok { OnOk result (self.new.entries ≡ insert_entry nat_eq self.old.entries number value) }
         ensures err { OnErr result (self.new.entries ≡ self.old.entries) }
         ensures absent { OnErr result (lookup (nat_eq number) self.old.entries ≡ None) }
@@ -104,7 +104,7 @@ impl<V: Drop> Table<V> {
     }
 }
 
-fn place_in(places: &BTreeMap<u32, Option<usize>>, number: u32) -> Option<usize>
+fn place_in(places: &BTreeMap<u64, Option<usize>>, number: u64) -> Option<usize>
     ensures { result ≡ place_in places.now.entries number }
 {
     match places.get(&number) {
@@ -114,7 +114,7 @@ fn place_in(places: &BTreeMap<u32, Option<usize>>, number: u32) -> Option<usize>
 }
 
 // A number has its place in the map then. No number is led elsewhere.
-fn make_room(places: &mut BTreeMap<u32, Option<usize>>, number: u32) -> Result<(), AllocError>
+fn make_room(places: &mut BTreeMap<u64, Option<usize>>, number: u64) -> Result<(), AllocError>
     ensures same { (n : ℕ) → place_in places.new.entries n ≡ place_in places.old.entries n }
     ensures there { OnOk result (IsSome (get nat_cmp places.new number)) }
 {

@@ -92,9 +92,10 @@ impl Body {
             is_open: true,
             queue: Queue::new(alloc),
         };
-        self.sockets.reserve(number)?;
+        self.sockets.reserve(u64::from(number))?;
         self.listeners.add(listener)?;
-        self.sockets.insert(number, live(Thing::Listens(place)))?;
+        self.sockets
+            .insert(u64::from(number), live(Thing::Listens(place)))?;
         Ok(())
     }
 
@@ -114,9 +115,10 @@ impl Body {
     {
         let place = self.endpoints.len() as u32;
         let endpoint = Endpoint::new(alloc, lport, rport, None, State::SynSent);
-        self.sockets.reserve(number)?;
+        self.sockets.reserve(u64::from(number))?;
         self.endpoints.add(alloc, endpoint)?;
-        self.sockets.insert(number, live(Thing::Ends(place)))?;
+        self.sockets
+            .insert(u64::from(number), live(Thing::Ends(place)))?;
         Ok(())
     }
 
@@ -219,7 +221,8 @@ impl Body {
         let Some(child) = self.first_child(place) else {
             return Ok(());
         };
-        self.sockets.insert(child_number, live(Thing::Ends(child)))?;
+        self.sockets
+            .insert(u64::from(child_number), live(Thing::Ends(child)))?;
         self.endpoints.accept(child);
         self.listeners.leave(place);
         Ok(())
@@ -340,12 +343,12 @@ fn live(thing: Thing) -> Socket
 fn retire(sockets: &mut Table<Socket>, number: u32)
     ensures { sockets.new.entries ≡ dead sockets.old.entries number }
 {
-    if let Some(socket) = sockets.get(number).copied() {
+    if let Some(socket) = sockets.get(u64::from(number)).copied() {
         let ended = Socket {
             live: false,
             ..socket
         };
-        match sockets.insert(number, ended) {
+        match sockets.insert(u64::from(number), ended) {
             Ok(_) => {}
             Err(_) => unreachable!(),
         }

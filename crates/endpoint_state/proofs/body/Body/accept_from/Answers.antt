@@ -1,4 +1,4 @@
-use Rattle.std.proofs.Common.{◌∙◌, true, drop, None, nat_eq, sym, subst, ap}
+use Rattle.std.proofs.Common.{◌∙◌, ℕ, true, drop, None, nat_eq, sym, subst, ap}
 use Rattle.std.specs.List.{All}
 use Rattle.machine.specs.declared.endpoint.Endpoint.{Endpoint}
 use Rattle.machine.specs.declared.endpoint.Listener.{Listener}
@@ -25,4 +25,5 @@ returns-clause-ok c =
     accepted_first c.args.self.now c.args.place c.args.child_number c.in-Some.child c.accept.new.self c.leave.new.self c.insert.new.self.entries (sym c.first_child.ensures ∙ c.in-Some.is)
     (c.accept.ensures ∙ ap (λ (b : Body). changed b.endpoints c.in-Some.child (λ (e : Endpoint). let accepted : Endpoint = record e { listener = None } in accepted)) c.self.view_is)
     (c.leave.ensures ∙ ap (λ (b : Body). modify b.listeners c.args.place (λ (x : Listener). let y : Listener = record x { queue = drop 1 x.queue } in y)) c.self.view_is)
-    (c.in_ok-insert.ensures.ok ∙ (ap (λ (s : Socket). insert_entry nat_eq c.self.inside.sockets.entries c.args.child_number s) c.live.ensures ∙ ap (λ (b : Body). insert_entry nat_eq b.sockets c.args.child_number (record { thing = Ends c.in-Some.child; live = true })) c.self.view_is))
+    (c.in_ok-insert.ensures.ok ∙ (ap (λ (n : ℕ). insert_entry nat_eq c.self.inside.sockets.entries n c.live.result) c.from.ensures
+    ∙ ap (λ (s : Socket). insert_entry nat_eq c.self.inside.sockets.entries c.args.child_number s) c.live.ensures ∙ ap (λ (b : Body). insert_entry nat_eq b.sockets c.args.child_number (record { thing = Ends c.in-Some.child; live = true })) c.self.view_is))
