@@ -1,11 +1,11 @@
 -- What each event leaves of a book.
-use Rattle.std.proofs.Common.{◌≡◌, ◌⊎◌, inl, inr, ℕ, ◌+◌, ◌≤◌, ◌<◌, suc, Bool, true, false, List, [], ◌∷◌, ◌++◌, Option, None, Some, refl, sym, ap, ◌∙◌, subst, arith}
+use Rattle.std.proofs.Common.{◌≡◌, inl, inr, ℕ, ◌+◌, ◌≤◌, ◌<◌, suc, Bool, true, false, List, [], ◌∷◌, ◌++◌, Option, None, Some, refl, sym, ap, subst, arith}
 use Rattle.case_forms.specs.declared.calls.Answer.{Answer}
 use Rattle.case_forms.specs.declared.calls.Call.{Call}
 use Rattle.case_forms.specs.declared.trace.Wire.{Wire}
 use Rattle.hosts.specs.Hosts.{Answers, At, Begin, Does, Drops, Effect, Finish, Gets, Makes, Sends, Step, Takes}
 use Rattle.machine.specs.Machine.{tcp_shape}
-use Rattle.recordings.specs.Books.{Bring, Do, Flying, Item, Key}
+use Rattle.recordings.specs.Books.{Bring, Do, Flying, Item}
 use Rattle.recordings.specs.Keys.{before}
 use Rattle.recordings.specs.Recordings.{TcpEntry}
 use Rattle.stack_core.specs.declared.answered.Answered.{Answered}
