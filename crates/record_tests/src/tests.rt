@@ -3,7 +3,7 @@
 //! - `pair`: two recorders whose turns one thread does
 //! - `turns`: resets, a refused connection, children in a queue, a stranger
 
+mod endings;
 mod pair;
-mod talks;
 mod turns;
 mod verdicts;

@@ -6,10 +6,11 @@ ghost use Rattle.hosts.specs.Tables.{lane};
 ghost use Rattle.two_hosts.specs.Plans.{AreBooks};
 ghost use Rattle.record_tests.specs.Scenes.{test_header};
 
+use crate::tests::endings::{close_at_once, lose_the_first, probe_a_window};
 use crate::tests::pair::{Pair, Side};
 use crate::tests::verdicts::answer;
-use case_forms::{Answer, Call, Header, Host, Initial, Version};
-use recorder::{CoreConfig, HostBook, MergeFault, Recorder, Site, merge};
+use case_forms::{Answer, Call, Event, Header, Host, Initial, Label, Timer, Version};
+use recorder::{CoreConfig, HostBook, MergeFault, Recorded, Recorder, Site, merge};
 use std::alloc::Global;
 use std::marker::Brand;
 use std::sync::Wait;
@@ -27,6 +28,12 @@ enum Scene {
     TwoChildren,
     // One connection, between these ports.
     Connected(u16, u16),
+    // Both hosts close at once.
+    CloseAtOnce,
+    // The window of 0 is probed.
+    Probe,
+    // A segment is lost, and fast recovery begins.
+    Recovery,
 }
 
 // The header of these recordings.
@@ -148,6 +155,9 @@ fn play<L: Site, M: Site, R: Wait>(
         Scene::Reset => reset(rt, alloc, &mut pair)?,
         Scene::TwoChildren => two_children(rt, alloc, &mut pair)?,
         Scene::Connected(lport, rport) => connected(rt, alloc, &mut pair, lport, rport)?,
+        Scene::CloseAtOnce => close_at_once(rt, alloc, &mut pair)?,
+        Scene::Probe => probe_a_window(rt, alloc, &mut pair)?,
+        Scene::Recovery => lose_the_first(rt, alloc, &mut pair)?,
     };
     let Pair { zero, one } = pair;
     let zero = zero.finish(rt, alloc)?;
@@ -163,6 +173,32 @@ fn books<R: Wait>(rt: &R, alloc: Global, scene: Scene) -> Option<(HostBook, Host
     play::<Brand, Brand, R>(rt, alloc, first, second, scene)
 }
 
+// How often a timer expired.
+fn expiries(recorded: &Recorded, timer: Timer) -> usize {
+    recorded
+        .trace
+        .lines
+        .as_slice()
+        .iter()
+        .filter(|line| matches!(&line.event, Event::Expired(_, _, _, expired) if *expired == timer))
+        .count()
+}
+
+// Whether what was recorded shows what a scene is for.
+fn shows(recorded: &Recorded, scene: Scene) -> bool {
+    match scene {
+        Scene::CloseAtOnce => expiries(recorded, Timer::Msl2) == 2,
+        Scene::Probe => expiries(recorded, Timer::Persist) > 0,
+        Scene::Recovery => recorded
+            .witness
+            .steps
+            .as_slice()
+            .iter()
+            .any(|step| matches!(&step.label, Label::F { .. })),
+        Scene::Refused | Scene::Reset | Scene::TwoChildren | Scene::Connected(_, _) => true,
+    }
+}
+
 // What is wrong with a scene; `yes` where nothing is.
 fn seen<R: Wait>(rt: &R, alloc: Global, scene: Scene) -> &'static str {
     let Some((zero, one, went)) = books(rt, alloc, scene) else {
@@ -172,6 +208,7 @@ fn seen<R: Wait>(rt: &R, alloc: Global, scene: Scene) -> &'static str {
         return "another answer";
     }
     match merge(alloc, zero, one) {
+        Ok(recorded) if !shows(&recorded, scene) => "another recording",
         Ok(recorded) => answer(alloc, &recorded).unwrap_or("out of memory"),
         Err(_) => "not merged",
     }
@@ -184,6 +221,9 @@ fn scenes_are_explained(rt: HostRuntime) -> Result<(), Fail> {
         Scene::Reset,
         Scene::TwoChildren,
         Scene::Connected(4_000, 80),
+        Scene::CloseAtOnce,
+        Scene::Probe,
+        Scene::Recovery,
     ] {
         assert_eq!(rt; seen(&rt, rt.alloc(), scene), "yes", "{scene:?}");
     }
