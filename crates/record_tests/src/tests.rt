@@ -1,7 +1,7 @@
-//! - `verdicts`: what is wrong with a recording
-//! - `talks`: whole recordings, with segments lost, doubled, held back, and with a channel that closes
+//! - `verdicts`: what the checker says of a recording
 //! - `pair`: two recorders whose turns one thread does
 //! - `turns`: resets, a refused connection, children in a queue, a stranger
+//! - `endings`: a close at both ends at once, a window of 0 that is probed, a loss that fast recovery mends
 
 mod endings;
 mod pair;

@@ -7,11 +7,12 @@ ghost use Rattle.machine.specs.Machine.{aim};
 ghost use Rattle.recordings.specs.Books.{Aims};
 ghost use Rattle.stack_core.specs.Cores.{IsCallWithin};
 
-use case_forms::{Answer, Call};
+use case_forms::{Answer, Call, Header, Host};
 use crossbeam_channel::unbounded;
-use recorder::{Flying, HostBook, Recorder, Seat, Site};
+use recorder::{CoreConfig, Flying, HostBook, Recorder, Seat, Site};
 use std::alloc::Global;
 use std::sync::Wait;
+use std::sync::ledger::Blank;
 
 /// The recorder of a host, with the seat of its one application thread.
 #[derive(Drop)]
@@ -21,6 +22,37 @@ pub struct Side<L: Site> {
 }
 
 impl<L: Site> Side<L> {
+    /// A host that recorded nothing yet, with that thread. None: the thread can have no seat, or memory ran out.
+    pub fn new<R: Wait>(
+        rt: &R,
+        alloc: Global,
+        host: Host,
+        header: Header,
+        blank: Blank,
+        thread: u32,
+    ) -> Option<Side<L>>
+        requires name { blank.name ≡ L.name }
+        requires parts { (blank.parts ≡ L.parts) × (L.parts ≡ 65535) }
+        requires host { host ≡ L.host }
+        requires header { header ≡ L.header }
+        ensures { IfSome result (λ s. s.seat.thread ≡ thread) }
+    {
+        let config = CoreConfig {
+            mss: 536,
+            ring: 4_096,
+            first_iss: 7,
+            shift: None,
+        };
+        let recorder: Recorder<L> = Recorder::new(alloc, host, header, config, blank);
+        match recorder.seat(rt, thread) {
+            Ok(seat) => Some(Side { recorder, seat }),
+            Err(_) => {
+                drop(recorder);
+                None
+            }
+        }
+    }
+
     /// Calls, and gives the answer. None: the call was refused, or memory ran out.
     pub fn call<R: Wait>(&mut self, rt: &R, call: Call) -> Option<Answer>
         requires lane { lane self.old.seat.thread ≡ L.host }

@@ -3,14 +3,13 @@
 ghost use Rattle.std.specs.Prelude.{◌≡◌, IfSome};
 ghost use Rattle.case_forms.specs.declared.calls.Host.TheVariants.{Zero, One};
 ghost use Rattle.hosts.specs.Tables.{lane};
-ghost use Rattle.two_hosts.specs.Plans.{AreBooks};
 ghost use Rattle.record_tests.specs.Scenes.{test_header};
 
 use crate::tests::endings::{close_at_once, lose_the_first, probe_a_window};
 use crate::tests::pair::{Pair, Side};
 use crate::tests::verdicts::answer;
-use case_forms::{Answer, Call, Event, Header, Host, Initial, Label, Timer, Version};
-use recorder::{CoreConfig, HostBook, MergeFault, Recorded, Recorder, Site, merge};
+use case_forms::{Answer, Call, Event, Header, Host, Initial, Label, Line, Step, Timer, Version};
+use recorder::{HostBook, MergeFault, Recorded, Site, merge};
 use std::alloc::Global;
 use std::marker::Brand;
 use std::sync::Wait;
@@ -30,7 +29,7 @@ enum Scene {
     Connected(u16, u16),
     // Both hosts close at once.
     CloseAtOnce,
-    // The window of 0 is probed.
+    // A window of 0 is probed.
     Probe,
     // A segment is lost, and fast recovery begins.
     Recovery,
@@ -115,6 +114,27 @@ fn connected<L: Site, M: Site, R: Wait>(
     Some(matches!(told, Answer::Done))
 }
 
+// Whether a scene goes as it should. None: a call was refused, or memory ran out.
+fn act<L: Site, M: Site, R: Wait>(
+    rt: &R,
+    alloc: Global,
+    pair: &mut Pair<L, M>,
+    scene: Scene,
+) -> Option<bool>
+    requires lanes { (lane pair.old.zero.seat.thread ≡ L.host) × (lane pair.old.one.seat.thread ≡ M.host) }
+    requires hosts { (L.host ≡ Zero) × (M.host ≡ One) }
+{
+    match scene {
+        Scene::Refused => refused(rt, alloc, pair),
+        Scene::Reset => reset(rt, alloc, pair),
+        Scene::TwoChildren => two_children(rt, alloc, pair),
+        Scene::Connected(lport, rport) => connected(rt, alloc, pair, lport, rport),
+        Scene::CloseAtOnce => close_at_once(rt, alloc, pair),
+        Scene::Probe => probe_a_window(rt, alloc, pair),
+        Scene::Recovery => lose_the_first(rt, alloc, pair),
+    }
+}
+
 // Both books of a scene, and whether it went as it should.
 fn play<L: Site, M: Site, R: Wait>(
     rt: &R,
@@ -128,90 +148,81 @@ fn play<L: Site, M: Site, R: Wait>(
     requires parts { (L.parts ≡ 65535) × (M.parts ≡ 65535) }
     requires hosts { (L.host ≡ Zero) × (M.host ≡ One) }
     requires headers { (L.header ≡ test_header) × (M.header ≡ test_header) }
-    ensures { IfSome result (λ b. AreBooks b.0 b.1 test_header) }
+    ensures hosts { IfSome result (λ b. (b.0.core.recorded.me ≡ Zero) × (b.1.core.recorded.me ≡ One)) }
+    ensures headers { IfSome result (λ b.
+        (b.0.core.recorded.header ≡ test_header) × (b.1.core.recorded.header ≡ test_header)) }
 {
-    let config = CoreConfig {
-        mss: 536,
-        ring: 4_096,
-        first_iss: 7,
-        shift: None,
-    };
-    let zero: Recorder<L> = Recorder::new(alloc, Host::Zero, header(), config, first);
-    let one: Recorder<M> = Recorder::new(alloc, Host::One, header(), config, second);
-    let zero_seat = zero.seat(rt, 2).ok()?;
-    let one_seat = one.seat(rt, 3).ok()?;
-    let mut pair = Pair {
-        zero: Side {
-            recorder: zero,
-            seat: zero_seat,
-        },
-        one: Side {
-            recorder: one,
-            seat: one_seat,
-        },
-    };
-    let went = match scene {
-        Scene::Refused => refused(rt, alloc, &mut pair)?,
-        Scene::Reset => reset(rt, alloc, &mut pair)?,
-        Scene::TwoChildren => two_children(rt, alloc, &mut pair)?,
-        Scene::Connected(lport, rport) => connected(rt, alloc, &mut pair, lport, rport)?,
-        Scene::CloseAtOnce => close_at_once(rt, alloc, &mut pair)?,
-        Scene::Probe => probe_a_window(rt, alloc, &mut pair)?,
-        Scene::Recovery => lose_the_first(rt, alloc, &mut pair)?,
-    };
+    let zero: Option<Side<L>> = Side::new(rt, alloc, Host::Zero, header(), first, 2);
+    let one: Option<Side<M>> = Side::new(rt, alloc, Host::One, header(), second, 3);
+    let (zero, one) = zero.zip(one)?;
+    let mut pair = Pair { zero, one };
+    let went = act(rt, alloc, &mut pair, scene).unwrap_or(false);
     let Pair { zero, one } = pair;
-    let zero = zero.finish(rt, alloc)?;
-    let one = one.finish(rt, alloc)?;
+    let (zero, one) = zero.finish(rt, alloc).zip(one.finish(rt, alloc))?;
     Some((zero, one, went))
 }
 
 // The same, of new recorders.
 fn books<R: Wait>(rt: &R, alloc: Global, scene: Scene) -> Option<(HostBook, HostBook, bool)>
-    ensures { IfSome result (λ b. AreBooks b.0 b.1 test_header) }
+    ensures hosts { IfSome result (λ b. (b.0.core.recorded.me ≡ Zero) × (b.1.core.recorded.me ≡ One)) }
+    ensures headers { IfSome result (λ b.
+        (b.0.core.recorded.header ≡ test_header) × (b.1.core.recorded.header ≡ test_header)) }
 {
     let (first, second) = (Blank::new(65_535), Blank::new(65_535));
     play::<Brand, Brand, R>(rt, alloc, first, second, scene)
 }
 
 // How often a timer expired.
-fn expiries(recorded: &Recorded, timer: Timer) -> usize {
-    recorded
-        .trace
-        .lines
-        .as_slice()
-        .iter()
-        .filter(|line| matches!(&line.event, Event::Expired(_, _, _, expired) if *expired == timer))
-        .count()
+fn expiries(lines: &[Line], timer: Timer) -> u32 {
+    let mut count: u32 = 0;
+    for line in lines {
+        if matches!(&line.event, Event::Expired(_, _, _, expired) if *expired == timer) {
+            count = count.saturating_add(1);
+        }
+    }
+    count
+}
+
+// Whether fast recovery begins.
+fn recovers(steps: &[Step]) -> bool {
+    for step in steps {
+        if matches!(&step.label, Label::F { .. }) {
+            return true;
+        }
+    }
+    false
 }
 
 // Whether what was recorded shows what a scene is for.
 fn shows(recorded: &Recorded, scene: Scene) -> bool {
+    let lines = recorded.trace.lines.as_slice();
     match scene {
-        Scene::CloseAtOnce => expiries(recorded, Timer::Msl2) == 2,
-        Scene::Probe => expiries(recorded, Timer::Persist) > 0,
-        Scene::Recovery => recorded
-            .witness
-            .steps
-            .as_slice()
-            .iter()
-            .any(|step| matches!(&step.label, Label::F { .. })),
+        Scene::CloseAtOnce => expiries(lines, Timer::Msl2) == 2,
+        Scene::Probe => expiries(lines, Timer::Persist) > 0,
+        Scene::Recovery => recovers(recorded.witness.steps.as_slice()),
         Scene::Refused | Scene::Reset | Scene::TwoChildren | Scene::Connected(_, _) => true,
+    }
+}
+
+// What the checker says of the two books of a scene, merged.
+fn merged(alloc: Global, zero: HostBook, one: HostBook, scene: Scene) -> &'static str
+    requires hosts { (zero.core.recorded.me ≡ Zero) × (one.core.recorded.me ≡ One) }
+    requires headers { (zero.core.recorded.header ≡ test_header) × (one.core.recorded.header ≡ test_header) }
+{
+    match merge(alloc, zero, one) {
+        Ok(recorded) if !shows(&recorded, scene) => "another recording",
+        Ok(recorded) => answer(alloc, &recorded).unwrap_or("out of memory"),
+        Err(_) => "not merged",
     }
 }
 
 // What is wrong with a scene; `yes` where nothing is.
 fn seen<R: Wait>(rt: &R, alloc: Global, scene: Scene) -> &'static str {
     let Some((zero, one, went)) = books(rt, alloc, scene) else {
-        return "a call was refused";
+        return "no books";
     };
-    if !went {
-        return "another answer";
-    }
-    match merge(alloc, zero, one) {
-        Ok(recorded) if !shows(&recorded, scene) => "another recording",
-        Ok(recorded) => answer(alloc, &recorded).unwrap_or("out of memory"),
-        Err(_) => "not merged",
-    }
+    let said = merged(alloc, zero, one, scene);
+    if went { said } else { "another answer" }
 }
 
 #[test]
@@ -232,8 +243,11 @@ fn scenes_are_explained(rt: HostRuntime) -> Result<(), Fail> {
 
 // The line of the first stranger of two books.
 fn stranger<R: Wait>(rt: &R, alloc: Global) -> Option<u64> {
-    let (zero, _, _) = books(rt, alloc, Scene::Connected(4_000, 80))?;
-    let (_, one, _) = books(rt, alloc, Scene::Connected(4_001, 81))?;
+    let first = books(rt, alloc, Scene::Connected(4_000, 80));
+    let second = books(rt, alloc, Scene::Connected(4_001, 81));
+    let ((zero, own, _), (other, one, _)) = first.zip(second)?;
+    drop(own);
+    drop(other);
     match merge(alloc, zero, one) {
         Err(MergeFault::Stranger { arrival_line }) => Some(arrival_line),
         _ => None,
