@@ -14,6 +14,17 @@ use std::alloc::Global;
 use std::sync::Wait;
 use std::sync::ledger::Blank;
 
+// A socket number of the thread's own host.
+#[tactic(auto, using(crate::proofs::Lanes::same_lane))]
+fn own_socket(thread: u32, socket: u32) -> Option<u32>
+    ensures { IfSome result (λ n. lane n ≡ lane thread) }
+{
+    if socket % 2 != thread % 2 {
+        return None;
+    }
+    Some(socket)
+}
+
 /// The recorder of a host, with the seat of its one application thread.
 #[derive(Drop)]
 pub struct Side<L: Site> {
@@ -75,7 +86,7 @@ impl<L: Site> Side<L> {
         ensures own { IfSome result (λ n. lane n ≡ L.host) }
     {
         match self.call(rt, call)? {
-            Answer::Given(socket) if socket % 2 == self.seat.thread() % 2 => Some(socket),
+            Answer::Given(socket) => own_socket(self.seat.thread(), socket),
             _ => None,
         }
     }
@@ -89,7 +100,13 @@ impl<L: Site> Side<L> {
         let mut seats = Vec::new(alloc);
         seats.reserve(1).ok()?;
         seats.push_reserved(seat);
-        recorder.finish(rt, seats).ok()
+        match recorder.finish(rt, seats) {
+            Ok(book) => Some(book),
+            Err(unfinished) => {
+                drop(unfinished);
+                None
+            }
+        }
     }
 }
 

@@ -152,14 +152,26 @@ fn play<L: Site, M: Site, R: Wait>(
     ensures headers { IfSome result (λ b.
         (b.0.core.recorded.header ≡ test_header) × (b.1.core.recorded.header ≡ test_header)) }
 {
-    let zero: Option<Side<L>> = Side::new(rt, alloc, Host::Zero, header(), first, 2);
-    let one: Option<Side<M>> = Side::new(rt, alloc, Host::One, header(), second, 3);
-    let (zero, one) = zero.zip(one)?;
+    let zero: Side<L> = Side::new(rt, alloc, Host::Zero, header(), first, 2)?;
+    let other: Option<Side<M>> = Side::new(rt, alloc, Host::One, header(), second, 3);
+    let Some(one) = other else {
+        drop(zero);
+        return None;
+    };
     let mut pair = Pair { zero, one };
     let went = act(rt, alloc, &mut pair, scene).unwrap_or(false);
     let Pair { zero, one } = pair;
-    let (zero, one) = zero.finish(rt, alloc).zip(one.finish(rt, alloc))?;
-    Some((zero, one, went))
+    let Some(zero) = zero.finish(rt, alloc) else {
+        drop(one);
+        return None;
+    };
+    match one.finish(rt, alloc) {
+        Some(one) => Some((zero, one, went)),
+        None => {
+            drop(zero);
+            None
+        }
+    }
 }
 
 // The same, of new recorders.
@@ -241,16 +253,44 @@ fn scenes_are_explained(rt: HostRuntime) -> Result<(), Fail> {
     Ok(())
 }
 
+// The book of host 0 of one connection between these ports.
+fn book_of_zero<R: Wait>(rt: &R, alloc: Global, lport: u16, rport: u16) -> Option<HostBook>
+    ensures { IfSome result (λ b. (b.core.recorded.me ≡ Zero) × (b.core.recorded.header ≡ test_header)) }
+{
+    let (zero, one, _) = books(rt, alloc, Scene::Connected(lport, rport))?;
+    drop(one);
+    Some(zero)
+}
+
+// That of host 1.
+fn book_of_one<R: Wait>(rt: &R, alloc: Global, lport: u16, rport: u16) -> Option<HostBook>
+    ensures { IfSome result (λ b. (b.core.recorded.me ≡ One) × (b.core.recorded.header ≡ test_header)) }
+{
+    let (zero, one, _) = books(rt, alloc, Scene::Connected(lport, rport))?;
+    drop(zero);
+    Some(one)
+}
+
 // The line of the first stranger of two books.
-fn stranger<R: Wait>(rt: &R, alloc: Global) -> Option<u64> {
-    let first = books(rt, alloc, Scene::Connected(4_000, 80));
-    let second = books(rt, alloc, Scene::Connected(4_001, 81));
-    let ((zero, own, _), (other, one, _)) = first.zip(second)?;
-    drop(own);
-    drop(other);
+fn stranger_in(alloc: Global, zero: HostBook, one: HostBook) -> Option<u64>
+    requires hosts { (zero.core.recorded.me ≡ Zero) × (one.core.recorded.me ≡ One) }
+    requires headers { (zero.core.recorded.header ≡ test_header) × (one.core.recorded.header ≡ test_header) }
+{
     match merge(alloc, zero, one) {
         Err(MergeFault::Stranger { arrival_line }) => Some(arrival_line),
         _ => None,
+    }
+}
+
+// The line of the first stranger of books of two runs.
+fn stranger<R: Wait>(rt: &R, alloc: Global) -> Option<u64> {
+    let zero = book_of_zero(rt, alloc, 4_000, 80)?;
+    match book_of_one(rt, alloc, 4_001, 81) {
+        Some(one) => stranger_in(alloc, zero, one),
+        None => {
+            drop(zero);
+            None
+        }
     }
 }
 
