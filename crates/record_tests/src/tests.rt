@@ -1,7 +1,9 @@
 //! - `verdicts`: what the checker says of a recording
 //! - `pair`: two recorders whose turns one thread does
 //! - `turns`: resets, a refused connection, children in a queue, a stranger
+//! - `endings`: a close at both ends at once, a window of 0 that is probed, a loss that fast recovery mends
 
+mod endings;
 mod pair;
 mod turns;
 mod verdicts;

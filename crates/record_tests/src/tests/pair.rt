@@ -140,4 +140,15 @@ impl<L: Site, M: Site> Pair<L, M> {
         }
         Some(())
     }
+
+    /// The segments of both hosts pass each other.
+    pub fn cross<R: Wait>(&self, rt: &R, alloc: Global) -> Option<()> {
+        let (to_one, from_zero) = unbounded::<Flying, Global>(alloc).ok()?;
+        let (to_zero, from_one) = unbounded::<Flying, Global>(alloc).ok()?;
+        let _ = self.zero.recorder.pump_loop(rt, to_one, 0, 4);
+        let _ = self.one.recorder.pump_loop(rt, to_zero, 0, 4);
+        let _ = self.one.recorder.receive_loop(rt, from_zero, 4);
+        let _ = self.zero.recorder.receive_loop(rt, from_one, 4);
+        Some(())
+    }
 }

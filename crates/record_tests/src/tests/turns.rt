@@ -5,10 +5,11 @@ ghost use Rattle.case_forms.specs.declared.calls.Host.TheVariants.{Zero, One};
 ghost use Rattle.hosts.specs.Tables.{lane};
 ghost use Rattle.record_tests.specs.Scenes.{test_header};
 
+use crate::tests::endings::{close_at_once, lose_the_first, probe_a_window};
 use crate::tests::pair::{Pair, Side};
 use crate::tests::verdicts::answer;
-use case_forms::{Answer, Call, Header, Host, Initial, Version};
-use recorder::{HostBook, MergeFault, Site, merge};
+use case_forms::{Answer, Call, Event, Header, Host, Initial, Label, Line, Step, Timer, Version};
+use recorder::{HostBook, MergeFault, Recorded, Site, merge};
 use std::alloc::Global;
 use std::marker::Brand;
 use std::sync::Wait;
@@ -26,6 +27,12 @@ enum Scene {
     TwoChildren,
     // One connection, between these ports.
     Connected(u16, u16),
+    // Both hosts close at once.
+    CloseAtOnce,
+    // A window of 0 is probed.
+    Probe,
+    // A segment is lost, and fast recovery begins.
+    Recovery,
 }
 
 // The header of these recordings.
@@ -122,6 +129,9 @@ fn act<L: Site, M: Site, R: Wait>(
         Scene::Reset => reset(rt, alloc, pair),
         Scene::TwoChildren => two_children(rt, alloc, pair),
         Scene::Connected(lport, rport) => connected(rt, alloc, pair, lport, rport),
+        Scene::CloseAtOnce => close_at_once(rt, alloc, pair),
+        Scene::Probe => probe_a_window(rt, alloc, pair),
+        Scene::Recovery => lose_the_first(rt, alloc, pair),
     }
 }
 
@@ -174,12 +184,45 @@ fn books<R: Wait>(rt: &R, alloc: Global, scene: Scene) -> Option<(HostBook, Host
     play::<Brand, Brand, R>(rt, alloc, first, second, scene)
 }
 
-// What the checker says of two books, merged.
-fn merged(alloc: Global, zero: HostBook, one: HostBook) -> &'static str
+// How often a timer expired.
+fn expiries(lines: &[Line], timer: Timer) -> u32 {
+    let mut count: u32 = 0;
+    for line in lines {
+        if matches!(&line.event, Event::Expired(_, _, _, expired) if *expired == timer) {
+            count = count.saturating_add(1);
+        }
+    }
+    count
+}
+
+// Whether fast recovery begins.
+fn recovers(steps: &[Step]) -> bool {
+    for step in steps {
+        if matches!(&step.label, Label::F { .. }) {
+            return true;
+        }
+    }
+    false
+}
+
+// Whether what was recorded shows what a scene is for.
+fn shows(recorded: &Recorded, scene: Scene) -> bool {
+    let lines = recorded.trace.lines.as_slice();
+    match scene {
+        Scene::CloseAtOnce => expiries(lines, Timer::Msl2) == 2,
+        Scene::Probe => expiries(lines, Timer::Persist) > 0,
+        Scene::Recovery => recovers(recorded.witness.steps.as_slice()),
+        Scene::Refused | Scene::Reset | Scene::TwoChildren | Scene::Connected(_, _) => true,
+    }
+}
+
+// What the checker says of the two books of a scene, merged.
+fn merged(alloc: Global, zero: HostBook, one: HostBook, scene: Scene) -> &'static str
     requires hosts { (zero.core.recorded.me ≡ Zero) × (one.core.recorded.me ≡ One) }
     requires headers { (zero.core.recorded.header ≡ test_header) × (one.core.recorded.header ≡ test_header) }
 {
     match merge(alloc, zero, one) {
+        Ok(recorded) if !shows(&recorded, scene) => "another recording",
         Ok(recorded) => answer(alloc, &recorded).unwrap_or("out of memory"),
         Err(_) => "not merged",
     }
@@ -190,7 +233,7 @@ fn seen<R: Wait>(rt: &R, alloc: Global, scene: Scene) -> &'static str {
     let Some((zero, one, went)) = books(rt, alloc, scene) else {
         return "no books";
     };
-    let said = merged(alloc, zero, one);
+    let said = merged(alloc, zero, one, scene);
     if went { said } else { "another answer" }
 }
 
@@ -201,6 +244,9 @@ fn scenes_are_explained(rt: HostRuntime) -> Result<(), Fail> {
         Scene::Reset,
         Scene::TwoChildren,
         Scene::Connected(4_000, 80),
+        Scene::CloseAtOnce,
+        Scene::Probe,
+        Scene::Recovery,
     ] {
         assert_eq!(rt; seen(&rt, rt.alloc(), scene), "yes", "{scene:?}");
     }
