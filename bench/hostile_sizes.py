@@ -9,6 +9,7 @@ above 2.3, or of memory above 2.3, and a verdict that is not the wanted one are 
 """
 
 import argparse
+import multiprocessing
 import os
 import sys
 import tempfile
@@ -40,6 +41,20 @@ class Growth:
         return found + [f"{time:.2f} / {memory:.2f}"], max(time, memory) > MOST_GROWTH
 
 
+def write_case(name, size, path):
+    """Writes the case of a kind and a size. Answers the verdict that it must have."""
+    case = KINDS[name][0](size)
+    with open(path, "w") as text:
+        case.write(text)
+    return verdict_of(case)
+
+
+def written_apart(name, size, path):
+    """The same in a process of its own, since the memory of this one would count as the program's."""
+    with multiprocessing.Pool(1) as pool:
+        return pool.apply(write_case, (name, size, path))
+
+
 def run_size(growths, path, wanted, runs):
     """Adds what one size costs each way. Answers the verdicts that differ from the wanted one."""
     files = parted(path)
@@ -66,15 +81,12 @@ def main():
     print("| kind | size | half | once | twice | time / memory |\n|" + "---|" * 6)
     with tempfile.TemporaryDirectory() as folder:
         path = os.path.join(folder, "case")
-        for name, (function, sizes) in KINDS.items():
+        for name, (_, sizes) in KINDS.items():
             if given.only not in name:
                 continue
             growths = [Growth(program, name), Growth(program, name + ", two files")]
             for size in sizes:
-                case = function(size)
-                with open(path, "w") as text:
-                    case.write(text)
-                told += run_size(growths, path, verdict_of(case), given.runs)
+                told += run_size(growths, path, written_apart(name, size, path), given.runs)
             for growth in growths:
                 cells, is_steep = growth.cells()
                 told += [f"{growth.name} grows faster than its size"] if is_steep else []
