@@ -339,26 +339,33 @@ def duplicate_acknowledgments(count):
     return case
 
 
-def collide(number, groups):
-    """Whether a line number's hash begins in the first quarter of the places of a table with so many groups of them."""
-    product = (0x243F6A8885A308D3 ^ number) * (0x9E3779B97F4A7C15 ^ 16)
+def crowds(number, size, groups):
+    """Whether the hash of a number of `size` bytes begins in the first quarter of the places of a table with so many groups of them."""
+    words = number if size == 8 else number | number << 32
+    product = (0x243F6A8885A308D3 ^ words) * (0x9E3779B97F4A7C15 ^ 2 * size)
     mixed = (product & (2**64 - 1)) ^ (product >> 64)
     return ((mixed ^ (mixed >> 32)) & (groups - 1)) < max(groups // 4, 1)
 
 
+def groups_for(count):
+    """How many groups of places a table of the kit has for so many entries."""
+    groups = 1
+    while 9 * groups < count:
+        groups *= 2
+    return groups
+
+
 @kind(50_000, 100_000, 200_000)
 def copies_on_lines_that_collide(count):
-    """The lines between are calls, so that a copy stands only where the kit's hasher, whose seed is fixed, crowds the table."""
+    """The lines between are calls, so that a copy stands only where the kit's hasher, whose seed is fixed, would crowd a table."""
     case, connection = Case(), Connection()
     connected(case, connection)
     text = connection.text(0, 1, "A", 1)
     out = case.goes(0, text, case.make(connection, 0, 1, 0, "A"))
-    groups = 1
-    while 9 * groups < count:
-        groups *= 2
+    groups = groups_for(count)
     lines, is_open = [], False
     while len(lines) < count:
-        if collide(FIRST_EVENT_LINE + len(case.events), groups):
+        if crowds(FIRST_EVENT_LINE + len(case.events), 8, groups):
             lines.append(case.comes(1, text, out))
         elif is_open:
             case.event(1, "E badsocket")
@@ -369,6 +376,20 @@ def copies_on_lines_that_collide(count):
             is_open = True
     for line in reversed(lines):
         case.step(f"K 1 {line}")
+    return case
+
+
+@kind(50_000, 100_000, 200_000)
+def made_under_numbers_that_collide(count):
+    """The segments between are host 1's, so that host 0 makes one only where its number would crowd a table with hashes."""
+    case, connection = Case(), Connection()
+    connected(case, connection)
+    groups = groups_for(count)
+    crowded = 0
+    while crowded < count:
+        host = 0 if crowds(case.made + 1, 4, groups) else 1
+        case.make(connection, host, 1, 0, "A")
+        crowded += 1 - host
     return case
 
 

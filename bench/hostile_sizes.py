@@ -13,7 +13,6 @@ import multiprocessing
 import os
 import sys
 import tempfile
-from concurrent.futures import ProcessPoolExecutor
 
 from compare import MOST_GROWTH, Cost, parted
 from hostile_cases import KINDS, verdict_of
@@ -43,7 +42,7 @@ class Growth:
 
 
 def write_case(name, size, path):
-    """Writes the case of one kind and size, and answers its verdict."""
+    """Writes the case of a kind and a size. Answers the verdict that it must have."""
     case = KINDS[name][0](size)
     with open(path, "w") as text:
         case.write(text)
@@ -51,9 +50,9 @@ def write_case(name, size, path):
 
 
 def written_apart(name, size, path):
-    """The same in a process of its own: the memory of the process that starts a program counts as the program's."""
-    with ProcessPoolExecutor(1, mp_context=multiprocessing.get_context("spawn")) as pool:
-        return pool.submit(write_case, name, size, path).result()
+    """The same in a process of its own, since the memory of this one would count as the program's."""
+    with multiprocessing.Pool(1) as pool:
+        return pool.apply(write_case, (name, size, path))
 
 
 def run_size(growths, path, wanted, runs):
@@ -87,8 +86,7 @@ def main():
                 continue
             growths = [Growth(program, name), Growth(program, name + ", two files")]
             for size in sizes:
-                wanted = written_apart(name, size, path)
-                told += run_size(growths, path, wanted, given.runs)
+                told += run_size(growths, path, written_apart(name, size, path), given.runs)
             for growth in growths:
                 cells, is_steep = growth.cells()
                 told += [f"{growth.name} grows faster than its size"] if is_steep else []

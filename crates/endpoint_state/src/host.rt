@@ -31,7 +31,6 @@ use case_forms::{
     Answer, Call, Expired, Header, Host, Ports, Recovery, SegmentPlan, TakeChoice, Wire,
 };
 use endpoint::reset_of;
-use indexmap::IndexMap;
 use machine::{Emission, Name};
 use segment::OutOfMemory;
 use std::alloc::Global;
@@ -44,7 +43,7 @@ use verdict::Rule;
 #[derive(Drop)]
 pub(crate) struct HostState {
     body: Body,
-    made: IndexMap<u32, Made>,
+    made: Table<Made>,
     wire: Table<Emission>,
     inbox: Table<Option<Emission>>,
 }
@@ -76,11 +75,11 @@ pub(crate) fn make(
     ensures err { OnErr result (host.new ≡ host.old) }
 {
     let number = host.body.admitted_making(plan)?;
-    host.made.reserve(1)?;
+    host.made.reserve(u64::from(fresh))?;
     let me = Name { host: me, number };
     let emission = host.body.make_at(alloc, me, plan, moment)?;
     // There is room for it.
-    host.made.insert(fresh, Made::unsent(emission))?;
+    host.made.insert(u64::from(fresh), Made::unsent(emission))?;
     Ok(())
 }
 
@@ -180,7 +179,7 @@ pub(crate) fn answer(
     };
     host.body.admits_reset(m)?;
     let reset = reset_of(alloc, m);
-    host.made.insert(fresh, Made::unsent(reset))?;
+    host.made.insert(u64::from(fresh), Made::unsent(reset))?;
     settle(&mut host.inbox, line);
     Ok(())
 }
@@ -233,7 +232,7 @@ impl HostState {
     {
         HostState {
             body: Body::new(alloc),
-            made: IndexMap::new(alloc),
+            made: Table::new(alloc),
             wire: Table::new(alloc),
             inbox: Table::new(alloc),
         }
@@ -250,7 +249,7 @@ impl HostState {
     pub(crate) fn made(&self, number: u32) -> Option<&Made>
         ensures { option_copied result ≡ lookup (nat_eq number) self.now.made }
     {
-        self.made.get(&number)
+        self.made.get(u64::from(number))
     }
 
     /// The segment that came in with this line, and waits.

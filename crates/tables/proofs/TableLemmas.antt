@@ -3,11 +3,11 @@ use Rattle.std.proofs.Common.{◌≡◌, ℕ, zero, suc, ◌<◌, Bool, true, fa
 use Rattle.std.proofs.lemmas.Bool.Decides.{nat_tests}
 use Rattle.std.specs.Prelude.{nat_eq, slice_set, if◌then◌else◌}
 use Rattle.std.specs.Map.{lookup}
-use Rattle.std.specs.Option.{option_map, option_flatten}
+use Rattle.std.specs.Option.{option_map, option_map_or, option_flatten}
 use Rattle.std.specs.Ordering.{nat_cmp}
 use Rattle.std.specs.BTreeMap.{is_at}
 use Rattle.indexmap.specs.IndexMap.{insert_entry}
-use Rattle.tables.specs.Tables.{place_of, place_in}
+use Rattle.tables.specs.Tables.{changed_at, place_of, place_in}
 
 equal : (k n : ℕ) → nat_eq k n ≡ true → k ≡ n
 equal k n is = grind (arith, nat_tests, is)
@@ -60,6 +60,12 @@ module _ {V : Type 0} where
   found (x ∷ es) k zero e at is = rw (first x es k at) (ap (λ (y : ℕ × V). Some y.1) is)
   found (x ∷ es) k (suc q) e at is = let rest = later x es k q at in rw rest.0 (found es k q e rest.1 is)
 
+  -- it stands there under its number
+  pub keyed : (es : List (ℕ × V)) (k p : ℕ) (e : ℕ × V) → place_of es k ≡ Some p → e ≡ get_or es p e → e.0 ≡ k
+  keyed [] k p e at is = absurd cc
+  keyed (x ∷ es) k zero e at is = ap (λ (y : ℕ × V). y.0) is ∙ sym (equal k x.0 (first x es k at))
+  keyed (x ∷ es) k (suc q) e at is = keyed es k q e (later x es k q at).1 is
+
   -- where no entry has a place none is found
   pub none_found : (es : List (ℕ × V)) (k : ℕ) → place_of es k ≡ None → lookup (nat_eq k) es ≡ None
   none_found [] k at = refl
@@ -97,6 +103,19 @@ module _ {V : Type 0} where
           let other : nat_eq n x.0 ≡ false = subst (λ (m : ℕ). nat_eq m x.0 ≡ false) (equal k n is) apart in
           rw (is, other) (ap (option_map (λ (place : ℕ). suc place)) (rw is at rest))
       by false is apart rest = rw is (ap (λ (o : Option ℕ). if nat_eq n x.0 then Some 0 else option_map (λ place. suc place) o) (rw is at rest))
+
+-- what stands at a number's place is changed there
+pub change_is : {V : Type 0} (f : V → V) (es : List (ℕ × V)) (k p : ℕ) (e : ℕ × V) (v : V) → place_of es k ≡ Some p → e ≡ get_or es p e → v ≡ f e.1
+    → slice_set es p (e.0, v) ≡ changed_at f es k
+change_is {V} f es k p e v at is new =
+    ap (λ (n : ℕ). slice_set es p (n, v)) (keyed es k p e at is)
+    ∙ set_is es k p v at
+    ∙ ap (λ (w : V). insert_entry nat_eq es k w) new
+    ∙ ap (λ (o : Option V). option_map_or (λ w. insert_entry nat_eq es k (f w)) o es) (found es k p e at is)
+
+-- and nothing is where no entry has it
+pub no_change : {V : Type 0} (f : V → V) (es : List (ℕ × V)) (k : ℕ) → lookup (nat_eq k) es ≡ None → es ≡ changed_at f es k
+no_change {V} f es k none = sym (ap (λ (o : Option V). option_map_or (λ w. insert_entry nat_eq es k (f w)) o es) none)
 
 at_is : (n k : ℕ) → is_at (nat_cmp n) k ≡ nat_eq n k
 at_is n k = search rules

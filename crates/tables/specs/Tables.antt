@@ -1,9 +1,10 @@
 -- Tables by number: their entries in the order in which they were added, and where each number stands.
 use Rattle.std.specs.Prelude.{◌≡◌, ℕ, suc, ◌<◌, nat_eq, if◌then◌else◌, List, [], ◌∷◌, Option, None, Some, IsSome, IfSome}
-use Rattle.std.specs.Option.{option_map, option_flatten}
+use Rattle.std.specs.Option.{option_map, option_map_or, option_flatten}
 use Rattle.std.specs.Ordering.{nat_cmp}
 use Rattle.std.specs.Map.{lookup}
 use Rattle.std.specs.BTreeMap.{is_at}
+use Rattle.indexmap.specs.IndexMap.{insert_entry}
 
 -- A table as contracts see it.
 pub record Table (V : Type 0) : Type 0 where
@@ -11,6 +12,10 @@ pub record Table (V : Type 0) : Type 0 where
   pub entries : List (ℕ × V)
   -- the number for whose entry there is room
   pub ready : Option ℕ
+
+-- entries with another value for a number, made of the value that it has
+abbrev pub changed_at : {V : Type 0} → (V → V) → List (ℕ × V) → ℕ → List (ℕ × V)
+changed_at change entries number = option_map_or (λ v. insert_entry nat_eq entries number (change v)) (lookup (nat_eq number) entries) entries
 
 -- the place of a number's entry
 abbrev pub place_of : {V : Type 0} → List (ℕ × V) → ℕ → Option ℕ

@@ -8,4 +8,4 @@
 
 mod table;
 
-pub use table::Table;
+pub use table::{Mark, Table};

@@ -6,7 +6,7 @@ ghost use Rattle.std.specs.Option.{option_copied};
 ghost use Rattle.std.specs.Ordering.{nat_cmp};
 ghost use Rattle.std.specs.BTreeMap.{get};
 ghost use Rattle.indexmap.specs.IndexMap.{insert_entry};
-ghost use Rattle.tables.specs.Tables.{place_in};
+ghost use Rattle.tables.specs.Tables.{changed_at, place_in};
 
 use std::alloc::{AllocError, Global};
 use std::collections::BTreeMap;
@@ -101,6 +101,28 @@ impl<V: Drop> Table<V> {
         self.entries.push_reserved((number, value));
         self.ready = None;
         Ok(())
+    }
+}
+
+/// A value that can be marked where it stands.
+pub trait Mark {
+    /// The value once it is marked.
+    ghost marked: { Self → Self };
+
+    /// Marks it.
+    fn mark(&mut self)
+        ensures { self.new ≡ marked self.old };
+}
+
+impl<V: Drop + Mark> Table<V> {
+    /// The value of a number is marked. Where the table has no entry of it nothing is changed.
+    pub fn mark(&mut self, number: u64)
+        ensures { self.new.entries ≡ changed_at V.marked self.old.entries number }
+    {
+        if let Some(place) = place_in(&self.places, number) {
+            self.ready = None;
+            self.entries[place].1.mark();
+        }
     }
 }
 
