@@ -5,7 +5,7 @@ use Rattle.cli.proofs.Recordings.{ends_alike}
 use Rattle.cli.proofs.record.record_or_run.Goals as goal
 
 pub answer_record-requires-clause-whole : goal.answer_record-requires-clause-whole
-answer_record-requires-clause-whole g c κs =
+answer_record-requires-clause-whole g c κs lives =
     let asked = rw c.in-Ok-Some.field-0-is at c.in-Ok-Some.ensures in asks_whole (map (λ word. word.now) c.args.words.now) c.in-Ok-Some.plan asked
 
 pub returns-in-Ok-Some-clause-check : goal.returns-in-Ok-Some-clause-check
