@@ -29,7 +29,7 @@ use Rattle.line_fields.proofs.Endings.{ending_again}
 use Rattle.line_fields.proofs.Loop.{spelled_raws}
 use Rattle.line_fields.proofs.Texts.{lines_of-concat}
 use Rattle.line_fields.proofs.Written.{first_plain, written_clean}
-use Rattle.trace_reader.specs.Headers.{IsHeader, AreLines, first_words, late_words, header_words, version_named}
+use Rattle.trace_reader.specs.Headers.{AreLines, first_words, late_words, header_words}
 use Rattle.trace_reader.specs.Events.{event_pieces}
 use Rattle.trace_reader.specs.EventLines.{Place, behind, line_pieces, IsEventLine}
 use Rattle.trace_reader.specs.TraceText.{first_place, IsTraceText, trace_of}
@@ -46,7 +46,7 @@ use Rattle.witness.specs.Printable as witnesses
 use Rattle.witness.proofs.TextLaw.{first_ends, text_raws, text_again}
 use Rattle.witness.proofs.PrintableLaw as witness_law
 use Rattle.verdict.specs.declared.report.Verdict.{Verdict}
-use Rattle.verdict.specs.declared.report.Verdict.TheVariants.{Yes, No}
+use Rattle.verdict.specs.declared.report.Verdict.TheVariants.{Yes}
 use Rattle.checker.specs.declared.case.CaseFault.{CaseFault}
 use Rattle.checker.specs.Cases.{trace_part, witness_part, judged, case_of, case_result}
 use Rattle.checker.specs.Verdicts.{verdict}

@@ -1,21 +1,18 @@
 -- Two recordings beside each other, merged.
-use Rattle.std.proofs.Common.{◌≡◌, ℕ, ◌+◌, ◌-◌, ◌<◌, ◌≤◌, zero, suc, Bool, true, false, if◌then◌else◌, List, [], ◌∷◌, length, refl, sym, ap, ◌∙◌, subst, arith, Option, Some, None, ◌⊎◌, inl, inr}
-use Rattle.std.specs.Prelude.{nat_eq, slice_get}
-use Rattle.std.specs.Map.{lookup}
+use Rattle.std.proofs.Common.{◌≡◌, ℕ, ◌+◌, ◌-◌, ◌<◌, zero, suc, Bool, true, false, if◌then◌else◌, List, [], ◌∷◌, refl, sym, ap, ◌∙◌, subst, arith, Option, Some, None, ◌⊎◌, inl, inr}
+use Rattle.std.specs.Prelude.{slice_get}
 use Rattle.std.proofs.lemmas.Option.{none-some, same_Some}
 use Rattle.case_forms.specs.declared.calls.Host.{Host}
-use Rattle.case_forms.specs.declared.calls.Host.TheVariants.{Zero, One}
 use Rattle.case_forms.specs.declared.trace.Header.{Header}
-use Rattle.hosts.specs.Tables.{pick, other}
-use Rattle.hosts.specs.Hosts.{Deed, Does, Expires, Makes, Sends, Gets, Hears, Takes, Drops, Answers, Step, Begin, Finish, Effect, At}
-use Rattle.machine.specs.declared.endpoint.Emission.{Emission}
+use Rattle.hosts.specs.Tables.{pick}
+use Rattle.hosts.specs.Hosts.{Deed, Does, Expires, Makes, Sends, Gets, Hears, Takes, Drops, Answers, Begin, Finish, Effect, At}
 use Rattle.machine.specs.Machine.{tcp, tcp_shape}
 use Rattle.recordings.specs.Books.{Item, Do, Bring, Key, item_line}
-use Rattle.recordings.specs.Keys.{Books, EachEntry, If, NamesOne, Numbered, before}
-use Rattle.recordings.specs.Recordings.{IsKept, NamesSent, TcpEntry, world_of}
+use Rattle.recordings.specs.Keys.{EachEntry, If, NamesOne, Numbered, before}
+use Rattle.recordings.specs.Recordings.{NamesSent, TcpEntry, world_of}
 use Rattle.stack_core.specs.Entries.{item_steps, steps_in}
-use Rattle.merging.specs.Naming.{AllAbove, AllNamed, IsAbove, IsNamed, NamedItem, line_keys}
-use Rattle.merging.specs.Numbers.{AllSmall, IsSmallItem, takes_line}
+use Rattle.merging.specs.Naming.{AllAbove, AllNamed, IsAbove, NamedItem, line_keys}
+use Rattle.merging.specs.Numbers.{AllSmall, takes_line}
 use Rattle.merging.specs.Order.{in_order, in_order_with}
 
 -- ---- what is summed or holds of all, over merged entries

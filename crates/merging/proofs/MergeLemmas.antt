@@ -11,10 +11,9 @@ use Rattle.case_forms.specs.declared.version.Version.{Version}
 use Rattle.case_forms.specs.declared.version.Version.TheVariants as versions
 use Rattle.case_forms.specs.Traces.{first_event_line, IsRecorded}
 use Rattle.case_forms.specs.Versions.{first_line_of, is_half}
-use Rattle.hosts.specs.Hosts.{Stamped}
 use Rattle.hosts.specs.HostSteps.{start}
 use Rattle.hosts.specs.Tables.{pick}
-use Rattle.machine.specs.Machine.{tcp, tcp_shape}
+use Rattle.machine.specs.Machine.{tcp}
 use Rattle.recordings.specs.Keys as keys
 use Rattle.recordings.specs.Keys.{Books}
 use Rattle.recordings.specs.Merging.{Names, names_of, steps_of}

@@ -1,5 +1,5 @@
 -- What is said of the steps of a run tells them.
-use Rattle.std.proofs.Common.{◌≡◌, ℕ, ◌+◌, ◌≤◌, ◌⊎◌, inl, inr, zero, suc, Bool, true, false, List, [], ◌∷◌, map, refl, sym, ap, ◌∙◌, subst, arith, Option, Some, None}
+use Rattle.std.proofs.Common.{◌≡◌, ℕ, ◌+◌, ◌≤◌, ◌⊎◌, inl, inr, suc, Bool, true, false, List, [], ◌∷◌, map, refl, sym, ap, ◌∙◌, subst, arith, Option, Some, None}
 use Rattle.std.specs.Prelude.{nat_eq, if◌then◌else◌, not}
 use Rattle.std.specs.List.{cons_option, enumerate_from}
 use Rattle.std.specs.Map.{lookup}
@@ -9,12 +9,7 @@ use Rattle.std.proofs.lemmas.Option.{none-some}
 use Rattle.case_forms.specs.declared.calls.Host.{Host}
 use Rattle.case_forms.specs.declared.named_line.Extras.{Extras}
 use Rattle.case_forms.specs.declared.named_line.Extras.TheVariants as extras
-use Rattle.case_forms.specs.declared.named_line.NamedLine.{NamedLine}
-use Rattle.case_forms.specs.declared.steps.Label.{Label}
 use Rattle.case_forms.specs.declared.steps.Label.TheVariants as labels
-use Rattle.case_forms.specs.declared.steps.Step as witness
-use Rattle.case_forms.specs.declared.taken_line.TakenLine.{TakenLine}
-use Rattle.case_forms.specs.declared.timer.Expiry.{Expiry}
 use Rattle.case_forms.specs.declared.timer.Growth.{Growth}
 use Rattle.case_forms.specs.declared.timer.Timer.{Timer}
 use Rattle.case_forms.specs.declared.timer.Timer.TheVariants as timers
@@ -40,8 +35,8 @@ use Rattle.recordings.specs.Placing as placing
 use Rattle.recordings.specs.Placing.{MomentsRise, event_of}
 use Rattle.recordings.specs.Recordings.{TcpEntry}
 use Rattle.recordings.proofs.Joint.{LinesRise}
-use Rattle.checker.specs.Seen.{act_of, stamped}
-use Rattle.merging.specs.Saying.{AllSaid, IsPlain, IsSaid, IsSaidDeed, IsSaidItem, all_renumbered, deed_renumbered, label_said, line_said, lines_said, renumbered, step_said, steps_said, with_renumbered}
+use Rattle.checker.specs.Seen.{stamped}
+use Rattle.merging.specs.Saying.{AllSaid, IsPlain, IsSaid, IsSaidDeed, IsSaidItem, all_renumbered, deed_renumbered, label_said, line_said, lines_said, renumbered, steps_said, with_renumbered}
 use Rattle.merging.specs.Told.{TakesWell, AllTakeWell, event_told, line_told}
 
 -- ---- one step

@@ -1,5 +1,5 @@
 -- The numbers that the entries of a host's run name are small.
-use Rattle.std.proofs.Common.{◌≡◌, ℕ, ◌+◌, ◌-◌, ◌<◌, ◌≤◌, ◌⊎◌, inl, inr, zero, suc, if◌then◌else◌, Bool, true, false, cond, List, [], ◌∷◌, length, refl, sym, ap, ◌∙◌, subst, arith, Option, Some, None}
+use Rattle.std.proofs.Common.{◌≡◌, ℕ, ◌+◌, ◌-◌, ◌<◌, ◌≤◌, inl, inr, zero, suc, if◌then◌else◌, Bool, true, false, cond, List, [], ◌∷◌, length, refl, sym, ◌∙◌, subst, arith, Option, Some, None}
 use Rattle.std.specs.Prelude.{nat_eq, slice_get}
 use Rattle.std.specs.Map.{lookup}
 use Rattle.std.proofs.lemmas.Bool.Decides.{nat_tests}
@@ -13,9 +13,9 @@ use Rattle.verdict.specs.declared.rule.Rule.{Rule}
 use Rattle.verdict.specs.declared.rule.Rule.TheVariants as rules
 use Rattle.verdict.specs.Rules.{first_broken}
 use Rattle.hosts.specs.Tables.{Both, gone_out, on, other, pick, unsent, waiting, with_host}
-use Rattle.hosts.specs.Hosts.{Deed, Does, Expires, Makes, Sends, Gets, Hears, Takes, Drops, Answers, Step, Begin, Finish, Effect, At, HostState, World, Turn, Idle, Called, Answered, turn_of}
+use Rattle.hosts.specs.Hosts.{Deed, Does, Expires, Makes, Sends, Gets, Hears, Takes, Drops, Answers, Begin, Finish, Effect, At, HostState, World, Turn, Idle, Called, Answered, turn_of}
 use Rattle.hosts.specs.HostRules.{Permitted, aim_of, deed_rules, just}
-use Rattle.hosts.specs.HostSteps.{act_made, after, call_after, deed_after, effect_after, makes, start}
+use Rattle.hosts.specs.HostSteps.{act_made, call_after, deed_after, effect_after, makes, start}
 use Rattle.hosts.proofs.Entries.{lookup_insert}
 use Rattle.machine.specs.declared.endpoint.Emission.{Emission}
 use Rattle.machine.specs.Machine.{tcp, tcp_shape}

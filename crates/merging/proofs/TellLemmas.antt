@@ -1,17 +1,17 @@
 -- What entries say, told one by one, and counted one by one.
-use Rattle.std.proofs.Common.{◌≡◌, ◌≤◌, ◌+◌, ℕ, suc, Bool, true, false, List, [], ◌∷◌, ◌++◌, Option, Some, None, map, refl, sym, ap, ◌∙◌, append_assoc, arith, subst}
+use Rattle.std.proofs.Common.{◌≡◌, ◌≤◌, ◌+◌, ℕ, Bool, true, false, List, [], ◌∷◌, ◌++◌, Option, Some, None, refl, sym, ap, ◌∙◌, append_assoc, arith}
 use Rattle.case_forms.specs.declared.calls.Host.{Host}
 use Rattle.case_forms.specs.declared.calls.Host.TheVariants.{Zero, One}
 use Rattle.case_forms.specs.declared.trace.Line.{Line}
 use Rattle.case_forms.specs.declared.steps.Step as witness
 use Rattle.hosts.specs.Tables.{on}
-use Rattle.hosts.specs.Hosts.{Stamped, Step}
+use Rattle.hosts.specs.Hosts.{Step}
 use Rattle.machine.specs.Machine.{tcp_shape}
 use Rattle.recordings.specs.Books.{Item, Do, Bring, Key}
 use Rattle.recordings.specs.Merging.{Names}
 use Rattle.recordings.specs.Recordings.{TcpEntry}
 use Rattle.stack_core.specs.Entries.{item_steps, steps_in}
-use Rattle.merging.specs.Numbers.{Counts, Turns, counted, counted_one, makes_segment, takes_line, with_turn_if}
+use Rattle.merging.specs.Numbers.{Counts, Turns, counted_one, makes_segment, takes_line, with_turn_if}
 use Rattle.merging.specs.Saying.{all_renumbered, line_said, lines_said, renumbered, steps_said, with_renumbered}
 
 line_front : (o : Option Line) (ls : List Line) → on o ls (λ l. l ∷ ls) ≡ on o [] (λ l. l ∷ []) ++ ls

@@ -16,7 +16,6 @@ use Rattle.case_forms.specs.declared.named_line.Extras.{Extras}
 use Rattle.case_forms.specs.declared.named_line.Extras.TheVariants as extras
 use Rattle.case_forms.specs.declared.named_line.NamedLine.{NamedLine}
 use Rattle.case_forms.specs.declared.taken_line.TakenLine.{TakenLine}
-use Rattle.case_forms.specs.declared.timer.Timer.{Timer}
 use Rattle.case_forms.specs.declared.timer.Timer.TheVariants as timers
 use Rattle.case_forms.specs.declared.steps.Label.{Label}
 use Rattle.case_forms.specs.declared.steps.Label.TheVariants.{L, D, M, T, K, R, F}
@@ -34,7 +33,6 @@ use Rattle.recordings.specs.Books.{step_line}
 use Rattle.recordings.specs.Placing as placing
 use Rattle.recordings.specs.Placing.{IsPlacedRun, lines_of, MomentsRise, NamesAt, Placement}
 use Rattle.hosts.specs.HostSteps.{start, Lawful}
-use Rattle.hosts.specs.Hosts.{Idle}
 use Rattle.machine.specs.Machine.{tcp, tcp_shape}
 use Rattle.machine.specs.Steps.{line_step, step_of}
 use Rattle.checker.specs.Seen.{take_of, move_of, moves, act_of, stamped}

@@ -1,4 +1,4 @@
-use Rattle.std.proofs.Common.{◌≡◌, sym, subst}
+use Rattle.std.proofs.Common.{sym, subst}
 use Rattle.case_forms.specs.declared.trace.Header.{Header}
 use Rattle.case_forms.specs.Traces.{first_event_line}
 use Rattle.machine.specs.Machine.{tcp}

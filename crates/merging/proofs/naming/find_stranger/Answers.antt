@@ -1,4 +1,4 @@
-use Rattle.std.proofs.Common.{rules, ◌≡◌, ◌∷◌, ℕ, List, length, map, refl, ap, arith}
+use Rattle.std.proofs.Common.{rules, ◌≡◌, ◌∷◌, List, length, map, refl, ap, arith}
 use Rattle.case_forms.specs.Traces.{first_event_line}
 use Rattle.recordings.specs.Recordings.{TcpEntry}
 use Rattle.stack_core.specs.Keys.{key_shown}

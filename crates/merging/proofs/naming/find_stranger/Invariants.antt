@@ -1,4 +1,4 @@
-use Rattle.std.proofs.Common.{◌≡◌, ◌+◌, ◌≤◌, ℕ, map, length}
+use Rattle.std.proofs.Common.{◌+◌, ◌≤◌, ℕ, map, length}
 use Rattle.case_forms.specs.Traces.{first_event_line}
 use Rattle.stack_core.specs.Keys.{key_shown}
 use Rattle.merging.specs.Naming.{AllNamed, FirstStranger, wire_of}
