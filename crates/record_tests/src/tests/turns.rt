@@ -7,6 +7,7 @@ ghost use Rattle.record_tests.specs.Scenes.{test_header};
 
 use crate::tests::pair::{Pair, Side};
 use crate::tests::verdicts::answer;
+use crate::tests::wires::{all_twice, comes_in_after};
 use case_forms::{Answer, Call, Header, Host, Initial, Version};
 use recorder::{HostBook, MergeFault, Site, merge};
 use std::alloc::Global;
@@ -26,6 +27,10 @@ enum Scene {
     TwoChildren,
     // One connection, between these ports.
     Connected(u16, u16),
+    // Each segment is sent twice.
+    Twice,
+    // A SYN stays away for so many milliseconds, after which it is let in or not.
+    Away(u64, bool),
 }
 
 // The header of these recordings.
@@ -122,6 +127,10 @@ fn act<L: Site, M: Site, R: Wait>(
         Scene::Reset => reset(rt, alloc, pair),
         Scene::TwoChildren => two_children(rt, alloc, pair),
         Scene::Connected(lport, rport) => connected(rt, alloc, pair, lport, rport),
+        Scene::Twice => all_twice(rt, alloc, pair),
+        Scene::Away(milliseconds, comes) => {
+            Some(comes_in_after(rt, alloc, pair, milliseconds)? == comes)
+        }
     }
 }
 
@@ -201,6 +210,9 @@ fn scenes_are_explained(rt: HostRuntime) -> Result<(), Fail> {
         Scene::Reset,
         Scene::TwoChildren,
         Scene::Connected(4_000, 80),
+        Scene::Twice,
+        Scene::Away(120_000, true),
+        Scene::Away(120_001, false),
     ] {
         assert_eq!(rt; seen(&rt, rt.alloc(), scene), "yes", "{scene:?}");
     }
