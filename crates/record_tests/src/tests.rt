@@ -2,8 +2,10 @@
 //! - `pair`: two recorders whose turns one thread does
 //! - `turns`: resets, a refused connection, children in a queue, a stranger
 //! - `endings`: a close at both ends at once, a window of 0 that is probed, a loss that fast recovery mends
+//! - `wires`: segments that are sent twice, and one that stays away for long
 
 mod endings;
 mod pair;
 mod turns;
 mod verdicts;
+mod wires;

@@ -8,6 +8,7 @@ ghost use Rattle.record_tests.specs.Scenes.{test_header};
 use crate::tests::endings::{close_at_once, lose_the_first, probe_a_window};
 use crate::tests::pair::{Pair, Side};
 use crate::tests::verdicts::answer;
+use crate::tests::wires::{all_twice, comes_in_after};
 use case_forms::{Answer, Call, Event, Header, Host, Initial, Label, Line, Step, Timer, Version};
 use recorder::{HostBook, MergeFault, Recorded, Site, merge};
 use std::alloc::Global;
@@ -33,6 +34,10 @@ enum Scene {
     Probe,
     // A segment is lost, and fast recovery begins.
     Recovery,
+    // Each segment is sent twice.
+    Twice,
+    // A SYN stays away for so many milliseconds, after which it is let in or not.
+    Away(u64, bool),
 }
 
 // The header of these recordings.
@@ -132,6 +137,10 @@ fn act<L: Site, M: Site, R: Wait>(
         Scene::CloseAtOnce => close_at_once(rt, alloc, pair),
         Scene::Probe => probe_a_window(rt, alloc, pair),
         Scene::Recovery => lose_the_first(rt, alloc, pair),
+        Scene::Twice => all_twice(rt, alloc, pair),
+        Scene::Away(milliseconds, comes) => {
+            Some(comes_in_after(rt, alloc, pair, milliseconds)? == comes)
+        }
     }
 }
 
@@ -212,7 +221,12 @@ fn shows(recorded: &Recorded, scene: Scene) -> bool {
         Scene::CloseAtOnce => expiries(lines, Timer::Msl2) == 2,
         Scene::Probe => expiries(lines, Timer::Persist) > 0,
         Scene::Recovery => recovers(recorded.witness.steps.as_slice()),
-        Scene::Refused | Scene::Reset | Scene::TwoChildren | Scene::Connected(_, _) => true,
+        Scene::Refused
+        | Scene::Reset
+        | Scene::TwoChildren
+        | Scene::Connected(_, _)
+        | Scene::Twice
+        | Scene::Away(_, _) => true,
     }
 }
 
@@ -247,6 +261,9 @@ fn scenes_are_explained(rt: HostRuntime) -> Result<(), Fail> {
         Scene::CloseAtOnce,
         Scene::Probe,
         Scene::Recovery,
+        Scene::Twice,
+        Scene::Away(120_000, true),
+        Scene::Away(120_001, false),
     ] {
         assert_eq!(rt; seen(&rt, rt.alloc(), scene), "yes", "{scene:?}");
     }
