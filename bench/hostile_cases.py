@@ -393,6 +393,25 @@ def made_under_numbers_that_collide(count):
     return case
 
 
+@kind(12_500, 25_000, 50_000)
+def children_on_places_that_collide(count):
+    """Each listener is closed before the next is opened, and has a child only where its place would crowd a table with hashes."""
+    case, connection = Case(), Connection()
+    case.given(CALLERS[0], f"open 0 {connection.ports[0]} {connection.ports[1]}")
+    text = connection.text(0, 0, "S", None)
+    out = case.goes(0, text, case.make(connection, 0, 0, 0, "S"))
+    groups = groups_for(count)
+    place = children = 0
+    while children < count:
+        listener = case.given(CALLERS[1], f"listen 1 {connection.ports[1]} 4")
+        if crowds(place, 4, groups):
+            case.take(1, case.comes(1, text, out), 0)
+            children += 1
+        case.call(CALLERS[1], f"close {listener}", "ok")
+        place += 1
+    return case
+
+
 def callers(count):
     """The connections of so many ports of host 0 to one listener."""
     return [Connection((port, 80), (port * 65_537 % 2**32, 100)) for port in range(1, 1 + count)]

@@ -12,6 +12,7 @@ use Rattle.machine.specs.Bodies.{last_from, has_ports}
 use Rattle.endpoint_state.specs.Indexes.{IsIndexed, is_child_in, stands_in, ports_cmp}
 use Rattle.std.specs.Map.{lookup}
 use Rattle.std.specs.BTreeMap.{is_at}
+use Rattle.std.specs.Ordering.{nat_cmp}
 use Rattle.std.specs.Option.{option_map_or}
 
 -- one more at the end
@@ -71,25 +72,28 @@ stands_last n (k ∷ ns) = by (nat_eq n k) refl (stands_last n ns)
     by true same rest = rw same refl
     by false other rest = rw other rest
 
--- a list of children gives way to one that has as many and perhaps more
-module _ (old new : List (ℕ × Vec ℕ Global)) (key : ℕ) (w : Vec ℕ Global) (found : (q : ℕ) → lookup (nat_eq q) new ≡ cond (nat_eq key q) (Some w) (lookup (nat_eq q) old)) where
-  pub child_kept : ((v : Vec ℕ Global) → lookup (nat_eq key) old ≡ Some v → (i : ℕ) → stands_in i v.items ≡ true → stands_in i w.items ≡ true) → (l i : ℕ) → is_child_in old l i ≡ true → is_child_in new l i ≡ true
-  child_kept more l i is = rw (found l) (by (nat_eq key l) refl)
-    where
-      before : key ≡ l → (o : Option (Vec ℕ Global)) → lookup (nat_eq l) old ≡ o → option_map_or (λ v. stands_in i v.items) o false ≡ true → stands_in i w.items ≡ true
-      before same None at is = absurd cc
-      before same (Some v) at is = more v (subst (λ (n : ℕ). lookup (nat_eq n) old ≡ Some v) (sym same) at) i is
+at_number : (k n : ℕ) → is_at (nat_cmp k) n ≡ nat_eq k n
+at_number k n = search rules
 
-      by : (b : Bool) → nat_eq key l ≡ b → option_map_or (λ v. stands_in i v.items) (cond b (Some w) (lookup (nat_eq l) old)) false ≡ true
-      by true same = before (grind (arith, nat_tests, same)) (lookup (nat_eq l) old) refl is
+-- a list of children gives way to one that has as many and perhaps more
+module _ (old new : List (ℕ × Vec ℕ Global)) (key : ℕ) (w : Vec ℕ Global) (found : (q : ℕ) → lookup (is_at (nat_cmp q)) new ≡ cond (is_at (nat_cmp key) q) (Some w) (lookup (is_at (nat_cmp q)) old)) where
+  pub child_kept : ((v : Vec ℕ Global) → lookup (is_at (nat_cmp key)) old ≡ Some v → (i : ℕ) → stands_in i v.items ≡ true → stands_in i w.items ≡ true) → (l i : ℕ) → is_child_in old l i ≡ true → is_child_in new l i ≡ true
+  child_kept more l i is = rw (found l, at_number key l) (by (nat_eq key l) refl)
+    where
+      before : key ≡ l → (o : Option (Vec ℕ Global)) → lookup (is_at (nat_cmp l)) old ≡ o → option_map_or (λ v. stands_in i v.items) o false ≡ true → stands_in i w.items ≡ true
+      before same None at is = absurd cc
+      before same (Some v) at is = more v (subst (λ (n : ℕ). lookup (is_at (nat_cmp n)) old ≡ Some v) (sym same) at) i is
+
+      by : (b : Bool) → nat_eq key l ≡ b → option_map_or (λ v. stands_in i v.items) (cond b (Some w) (lookup (is_at (nat_cmp l)) old)) false ≡ true
+      by true same = before (grind (arith, nat_tests, same)) (lookup (is_at (nat_cmp l)) old) refl is
       by false other = is
 
   pub child_added : (i : ℕ) → stands_in i w.items ≡ true → is_child_in new key i ≡ true
-  child_added i stands = rw (found key, nat_same key) stands
+  child_added i stands = rw (found key, at_number key key, nat_same key) stands
 
   -- a place is added to a list that was there
-  pub child_more : (v : Vec ℕ Global) (i : ℕ) → lookup (nat_eq key) old ≡ Some v → w.items ≡ v.items ++ i ∷ [] → ((l j : ℕ) → is_child_in old l j ≡ true → is_child_in new l j ≡ true) × (is_child_in new key i ≡ true)
+  pub child_more : (v : Vec ℕ Global) (i : ℕ) → lookup (is_at (nat_cmp key)) old ≡ Some v → w.items ≡ v.items ++ i ∷ [] → ((l j : ℕ) → is_child_in old l j ≡ true → is_child_in new l j ≡ true) × (is_child_in new key i ≡ true)
   child_more v i at is =
-      let more : (u : Vec ℕ Global) → lookup (nat_eq key) old ≡ Some u → (j : ℕ) → stands_in j u.items ≡ true → stands_in j w.items ≡ true =
+      let more : (u : Vec ℕ Global) → lookup (is_at (nat_cmp key)) old ≡ Some u → (j : ℕ) → stands_in j u.items ≡ true → stands_in j w.items ≡ true =
       λ u at' j stands. rw is (stands_push j i v.items (subst (λ (x : Vec ℕ Global). stands_in j x.items ≡ true) (same_Some u v (sym at' ∙ at)) stands)) in
       (child_kept more, child_added i (rw is (stands_last i v.items)))

@@ -3,6 +3,8 @@ use Rattle.std.proofs.Common.{◌≡◌, ℕ, zero, suc, ◌<◌, length, get_or
 use Rattle.std.specs.Prelude.{if◌then◌else◌, slice_get, slice_set, Vec}
 use Rattle.std.specs.declared.alloc.Global.{Global}
 use Rattle.std.specs.Map.{lookup}
+use Rattle.std.specs.Ordering.{nat_cmp}
+use Rattle.std.specs.BTreeMap.{is_at}
 use Rattle.std.specs.List.{All}
 use Rattle.std.specs.Option.{option_map_or}
 use Rattle.std.proofs.lemmas.Bool.Decides.{nat_tests}
@@ -117,8 +119,8 @@ indexed_orphans find child l (c ∷ cs) es index = indexed_orphans find child l 
     listener k e true is = is
     listener k e false is = is
 
-pub child_known : (entries : List (ℕ × Vec ℕ Global)) (l : ℕ) (v : Vec ℕ Global) (i : ℕ) → lookup (nat_eq l) entries ≡ Some v → is_child_in entries l i ≡ true → stands_in i v.items ≡ true
+pub child_known : (entries : List (ℕ × Vec ℕ Global)) (l : ℕ) (v : Vec ℕ Global) (i : ℕ) → lookup (is_at (nat_cmp l)) entries ≡ Some v → is_child_in entries l i ≡ true → stands_in i v.items ≡ true
 child_known entries l v i at is = sym (ap (λ (o : Option (Vec ℕ Global)). option_map_or (λ w. stands_in i w.items) o false) at) ∙ is
 
-pub no_child : (entries : List (ℕ × Vec ℕ Global)) (l i : ℕ) → lookup (nat_eq l) entries ≡ None → is_child_in entries l i ≡ true → stands_in i [] ≡ true
+pub no_child : (entries : List (ℕ × Vec ℕ Global)) (l i : ℕ) → lookup (is_at (nat_cmp l)) entries ≡ None → is_child_in entries l i ≡ true → stands_in i [] ≡ true
 no_child entries l i at is = sym (ap (λ (o : Option (Vec ℕ Global)). option_map_or (λ w. stands_in i w.items) o false) at) ∙ is

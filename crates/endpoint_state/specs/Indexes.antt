@@ -1,4 +1,4 @@
--- Indexes: what leads to an endpoint or a listener in constant time, and what it has to say.
+-- Indexes: what leads to an endpoint or a listener with no walk over all of them, and what it has to say.
 use Rattle.std.specs.Prelude.{◌≡◌, ℕ, Bool, true, false, nat_eq, ◌||◌, List, [], ◌∷◌, Option, None, Some, slice_get, Vec}
 use Rattle.std.specs.declared.alloc.Global.{Global}
 use Rattle.std.specs.Map.{lookup}
@@ -35,4 +35,4 @@ find_ports entries lport rport = lookup (is_at (ports_cmp (lport, rport))) entri
 
 -- the place stands among the children of that listener
 abbrev pub is_child_in : List (ℕ × Vec ℕ Global) → ℕ → ℕ → Bool
-is_child_in entries l place = option_map_or (λ places. stands_in place places.items) (lookup (nat_eq l) entries) false
+is_child_in entries l place = option_map_or (λ places. stands_in place places.items) (lookup (is_at (nat_cmp l)) entries) false

@@ -22,7 +22,6 @@ ghost use Rattle.streams.specs.Lists.{modify};
 
 use case_forms::{Expired, Header, SegmentPlan, TakeChoice};
 use endpoint::take_segment;
-use indexmap::IndexMap;
 use machine::{Arrived, Emission, Endpoint, Name};
 use segment::OutOfMemory;
 use std::alloc::Global;
@@ -36,7 +35,7 @@ pub(crate) struct Endpoints {
     /// For each pair of ports, the endpoint created last there.
     places: BTreeMap<(u16, u16), u32>,
     /// For each listener that made some, the endpoints that it made. None is ever taken out.
-    children: IndexMap<u32, Vec<u32>>,
+    children: BTreeMap<u32, Vec<u32>>,
 }
 
 impl Model for Endpoints {
@@ -58,7 +57,7 @@ impl Endpoints {
         Endpoints {
             all: Vec::new(alloc),
             places: BTreeMap::new(alloc),
-            children: IndexMap::new(alloc),
+            children: BTreeMap::new(alloc),
         }
     }
 
@@ -99,7 +98,7 @@ impl Endpoints {
 
 // A place is noted among the children of its listener, if it has one.
 fn add_child(
-    children: &mut IndexMap<u32, Vec<u32>>,
+    children: &mut BTreeMap<u32, Vec<u32>>,
     alloc: Global,
     listener: Option<u32>,
     place: u32,
