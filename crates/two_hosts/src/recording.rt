@@ -142,11 +142,8 @@ fn let_talk<
     let both = run_threads(rt, alloc, rounds, client, server, there, back);
     let (asked, served) = both.ok_or(RecordFault::Device)?;
     let ended = asked.whole && served.whole;
-    let (mut receipts, others) = (asked.receipts, served.receipts);
-    receipts.reserve(others.len())?;
-    for receipt in others {
-        receipts.push_reserved(receipt);
-    }
+    let (mut receipts, mut others) = (asked.receipts, served.receipts);
+    receipts.append(&mut others)?;
     Ok(Talked {
         zero: asked.seat,
         one: served.seat,

@@ -1,6 +1,6 @@
 //! Both applications and the loops of both recorders, each in a thread of its own.
 
-ghost use Rattle.std.specs.Prelude.{◌≡◌};
+ghost use Rattle.std.specs.Prelude.{◌≡◌, IfSome};
 ghost use Rattle.case_forms.specs.declared.calls.Host.TheVariants.{Zero, One};
 ghost use Rattle.hosts.specs.Tables.{lane};
 
@@ -91,55 +91,69 @@ pub fn run_threads<
         fate: fate_back,
         taken: taken_back,
     } = back;
-    thread::scope(thread::scope_env(), rt, |scope| {
-        let lets_out = scope
-            .spawn(move || let_out(rt, zero, one, to_one, fate_there))
-            .ok();
-        let answers = scope
-            .spawn(move || let_out(rt, one, zero, to_zero, fate_back))
-            .ok();
-        let lets_in = scope
-            .spawn(move || let_in(rt, zero, one, from_one, taken_back))
-            .ok();
-        let hears = scope
-            .spawn(move || let_in(rt, one, zero, from_zero, taken_there))
-            .ok();
-        let times = scope.spawn(move || let_pass(rt, zero, one)).ok();
-        let waits = scope.spawn(move || let_pass(rt, one, zero)).ok();
-        let serves = scope
-            .spawn(move || {
-                let ended = run_server(rt, one, server, listener, rounds);
-                stop_unless(rt, zero, one, ended.whole);
-                ended
-            })
-            .ok();
-        let asks = scope
-            .spawn(move || {
-                let ended = run_client(rt, alloc, zero, asker, rounds);
-                stop_unless(rt, zero, one, ended.whole);
-                ended
-            })
-            .ok();
-        let out = lets_out.is_some() && answers.is_some();
-        let into = lets_in.is_some() && hears.is_some();
-        let all = out && into && times.is_some() && waits.is_some();
-        if !all || serves.is_none() || asks.is_none() {
+    thread::scope(
+        thread::scope_env(),
+        rt,
+        |scope|
+            requires { (L.host ≡ Zero) × (lane asker.thread ≡ L.host) × (lane server.seat.thread ≡ M.host) × IfSome listener (λ n. lane n ≡ M.host) }
+        {
+            let lets_out = scope
+                .spawn(move || let_out(rt, zero, one, to_one, fate_there))
+                .ok();
+            let answers = scope
+                .spawn(move || let_out(rt, one, zero, to_zero, fate_back))
+                .ok();
+            let lets_in = scope
+                .spawn(move || let_in(rt, zero, one, from_one, taken_back))
+                .ok();
+            let hears = scope
+                .spawn(move || let_in(rt, one, zero, from_zero, taken_there))
+                .ok();
+            let times = scope.spawn(move || let_pass(rt, zero, one)).ok();
+            let waits = scope.spawn(move || let_pass(rt, one, zero)).ok();
+            let serves = scope
+                .spawn(
+                    move ||
+                        requires { (lane server.seat.thread ≡ M.host) × IfSome listener (λ n. lane n ≡ M.host) }
+                    {
+                        let ended = run_server(rt, one, server, listener, rounds);
+                        stop_unless(rt, zero, one, ended.whole);
+                        ended
+                    },
+                )
+                .ok();
+            let asks = scope
+                .spawn(
+                    move ||
+                        requires { (L.host ≡ Zero) × (lane asker.thread ≡ L.host) }
+                    {
+                        let ended = run_client(rt, alloc, zero, asker, rounds);
+                        stop_unless(rt, zero, one, ended.whole);
+                        ended
+                    },
+                )
+                .ok();
+            let out = lets_out.is_some() && answers.is_some();
+            let into = lets_in.is_some() && hears.is_some();
+            let all = out && into && times.is_some() && waits.is_some();
+            if !all || serves.is_none() || asks.is_none() {
+                stop_both(rt, zero, one);
+            }
+            let asked = joined(rt, asks);
+            let served = joined(rt, serves);
             stop_both(rt, zero, one);
-        }
-        let asked = joined(rt, asks);
-        let served = joined(rt, serves);
-        stop_both(rt, zero, one);
-        let _ = joined(rt, lets_out);
-        let _ = joined(rt, answers);
-        let _ = joined(rt, lets_in);
-        let _ = joined(rt, hears);
-        let _ = joined(rt, times);
-        let _ = joined(rt, waits);
-        if !all {
-            return None;
-        }
-        Some((asked?, served?))
-    })
+            let _ = joined(rt, lets_out);
+            let _ = joined(rt, answers);
+            let _ = joined(rt, lets_in);
+            let _ = joined(rt, hears);
+            let _ = joined(rt, times);
+            let _ = joined(rt, waits);
+            if !all {
+                return None;
+            }
+            Some((asked?, served?))
+        },
+    )
 }
 
 // What a thread answered, once it ended. None: it was not started.

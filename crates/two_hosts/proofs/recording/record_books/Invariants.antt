@@ -1,5 +1,4 @@
 use Rattle.case_forms.specs.declared.calls.Host.TheVariants.{Zero, One}
-use Rattle.two_hosts.specs.Plans.{header_of}
 use Rattle.two_hosts.proofs.recording.record_books.Given as goal
 
 abbrev pub ghosts-record_with-L-Ledger : goal.ghosts-record_with-L-Ledger
