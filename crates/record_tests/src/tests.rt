@@ -1,9 +1,11 @@
 //! - `verdicts`: what the checker says of a recording
+//! - `talks`: whole recordings, with segments lost, doubled, held back, and with a channel that closes
 //! - `pair`: two recorders whose turns one thread does
 //! - `turns`: resets, a refused connection, children in a queue, a stranger
 //! - `wires`: segments that are sent twice, and one that stays away for long
 
 mod pair;
+mod talks;
 mod turns;
 mod verdicts;
 mod wires;
