@@ -1,4 +1,5 @@
 //! - `verdicts`: what the checker says of a recording
+//! - `talks`: whole recordings, with segments lost, doubled, held back, and with a channel that closes
 //! - `pair`: two recorders whose turns one thread does
 //! - `turns`: resets, a refused connection, children in a queue, a stranger
 //! - `endings`: a close at both ends at once, a window of 0 that is probed, a loss that fast recovery mends
@@ -6,6 +7,7 @@
 
 mod endings;
 mod pair;
+mod talks;
 mod turns;
 mod verdicts;
 mod wires;

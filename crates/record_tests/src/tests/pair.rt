@@ -15,7 +15,7 @@ use std::sync::Wait;
 use std::sync::ledger::Blank;
 
 // A socket number of the thread's own host.
-#[tactic(auto, using(crate::proofs::Lanes::same_lane))]
+#[tactic(auto, using(two_hosts::proofs::Lanes::same_lane))]
 fn own_socket(thread: u32, socket: u32) -> Option<u32>
     ensures { IfSome result (λ n. lane n ≡ lane thread) }
 {
