@@ -1,8 +1,7 @@
 -- What a run that records writes.
-use Rattle.std.proofs.Common.{◌≡◌, ℕ, List, Option, ap, ◌∙◌, sym, inl, inr}
+use Rattle.std.proofs.Common.{◌≡◌, ℕ, List, Option, ap, ◌∙◌, inl, inr}
 use Rattle.two_hosts.specs.declared.plan.Plan.{Plan}
 use Rattle.two_hosts.specs.Plans.{header_of}
-use Rattle.case_forms.specs.declared.version.Version.{Version}
 use Rattle.cli.specs.Recorded.{EndsRecord, WritesCase}
 
 -- two plans of one version

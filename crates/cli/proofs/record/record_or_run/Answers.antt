@@ -1,5 +1,4 @@
 use Rattle.std.proofs.Common.{map}
-use Rattle.counted.specs.Counting.{left_of}
 use Rattle.cli.proofs.RecordWords.{asks_whole, not_check, not_segment, one_version}
 use Rattle.cli.proofs.Recordings.{ends_alike}
 use Rattle.cli.proofs.record.record_or_run.Goals as goal
