@@ -4,8 +4,10 @@
 //! - `turns`: resets, a refused connection, children in a queue, a stranger
 //! - `endings`: a close at both ends at once, a window of 0 that is probed, a loss that fast recovery mends
 //! - `wires`: segments that are sent twice, and one that stays away for long
+//! - `looks`: a book is held while the other host goes on
 
 mod endings;
+mod looks;
 mod pair;
 mod talks;
 mod turns;

@@ -100,6 +100,53 @@ impl WireFate for InTurn {
     }
 }
 
+// Fates drawn from a seed, by a linear congruential generator.
+#[derive(Clone, Copy, Drop)]
+struct Drawn {
+    state: u32,
+}
+
+impl WireFate for Drawn {
+    fn next(&mut self) -> Fate {
+        self.state = self
+            .state
+            .wrapping_mul(1_664_525)
+            .wrapping_add(1_013_904_223);
+        match self.state >> 28 {
+            0 | 1 => Fate::Lose,
+            2 | 3 => Fate::Twice,
+            4 => Fate::Hold(1),
+            5 => Fate::Hold(3),
+            _ => Fate::Pass,
+        }
+    }
+}
+
+// What is wrong with two rounds whose segments have fates drawn from a seed; `yes` where nothing is.
+fn by_chance<R: Threads + Wait + Sync>(rt: &R, alloc: Global, seed: u32) -> &'static str {
+    let wire = |state| Wire {
+        fate: Drawn { state },
+        taken: MOST,
+    };
+    let talk = Talk {
+        rounds: 2,
+        there: wire(seed),
+        back: wire(!seed),
+    };
+    match talked(rt, alloc, talk) {
+        Ok(recording) => judge(alloc, &recording, 2).unwrap_or("out of memory"),
+        Err(_) => "no recording",
+    }
+}
+
+#[test]
+fn drawn_fates_are_explained(rt: HostRuntime) -> Result<(), Fail> {
+    for seed in 0..200 {
+        assert_eq!(rt; by_chance(&rt, rt.alloc(), seed), "yes", "seed {seed}");
+    }
+    Ok(())
+}
+
 #[test]
 fn rounds_with_losses_are_explained(rt: HostRuntime) -> Result<(), Fail> {
     for lose in [3, 0, 2, 5, 50] {

@@ -40,8 +40,8 @@ enum Scene {
     Away(u64, bool),
 }
 
-// The header of these recordings.
-fn header() -> Header
+/// The header of these recordings.
+pub fn header() -> Header
     ensures { result ≡ test_header }
 {
     Header {
