@@ -551,7 +551,7 @@ def timeouts_over_outstanding_bytes(count):
 @kind(20_000, 40_000, 80_000)
 def windows_of_0_and_probes(count):
     case, connection = Case(), Connection()
-    opener, _, sent = connected(case, connection)
+    opener, _, _ = connected(case, connection, count)
     send_all(case, opener, count)
     case.take(0, case.carry(connection, 1, 1, "A", 1, window=0), INITIAL_WINDOW)
     for index in range(count):
