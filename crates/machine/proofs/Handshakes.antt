@@ -8,22 +8,15 @@ use Rattle.case_forms.specs.declared.trace.Line as lines
 use Rattle.case_forms.specs.declared.steps.Step as witness
 use Rattle.verdict.specs.declared.rule.Rule.TheVariants as rules
 use Rattle.machine.specs.Steps.{first_broken_step}
-use Rattle.machine.proofs.Telling.{header, packet, begins, ends, sends, gets, takes, takes_of, effects, makes, consumes, drops, resets, ack, syn, syn_ack}
+use Rattle.machine.proofs.Telling.{header, packet, begins, ends, sends, gets, takes, takes_of, effects, makes, consumes, drops}
+use Rattle.machine.proofs.Telling.{resets, ack, syn, syn_ack, opening_lines, opening_steps, slow_opening_lines}
+use Rattle.machine.proofs.Telling.{slow_opening_steps, sevens}
 
 -- a handshake, and five bytes whose numbers pass 2^32: all steps are permitted
 abbrev pub five_bytes_arrive_lines : List lines.Line
 five_bytes_arrive_lines =
-    begins 7 10 1 (calls.Listen One 80 4)
-    ∷ ends 8 11 1 (answers.Given 5)
-    ∷ begins 9 20 2 (calls.Connect Zero 4000 80)
-    ∷ ends 10 21 2 (answers.Given 6)
-    ∷ sends 11 30 3 Zero (packet 4000 80 4294967294 0 2 65535 None [])
-    ∷ gets 12 40 4 One (packet 4000 80 4294967294 0 2 65535 None [])
-    ∷ sends 13 50 4 One (packet 80 4000 100 4294967295 18 65535 None [])
-    ∷ gets 14 60 3 Zero (packet 80 4000 100 4294967295 18 65535 None [])
-    ∷ sends 15 70 3 Zero (packet 4000 80 4294967295 101 16 65535 None [])
-    ∷ gets 16 80 4 One (packet 4000 80 4294967295 101 16 65535 None [])
-    ∷ begins 17 90 1 (calls.Accept 5)
+    slow_opening_lines 4 65535 None ++ (
+    begins 17 90 1 (calls.Accept 5)
     ∷ ends 18 91 1 (answers.Given 7)
     ∷ begins 19 100 2 (calls.Send 6 (104 ∷ 101 ∷ 108 ∷ 108 ∷ 111 ∷ []))
     ∷ ends 20 101 2 (answers.Given 5)
@@ -31,29 +24,12 @@ five_bytes_arrive_lines =
     ∷ gets 22 120 4 One (packet 4000 80 4294967295 101 24 65535 None (104 ∷ 101 ∷ 108 ∷ 108 ∷ 111 ∷ []))
     ∷ begins 23 130 1 (calls.Recv 7 100)
     ∷ ends 24 131 1 (answers.Bytes (104 ∷ 101 ∷ 108 ∷ 108 ∷ 111 ∷ []))
-    ∷ []
+    ∷ [])
 
 abbrev pub five_bytes_arrive_steps : List witness.Step
 five_bytes_arrive_steps =
-    takes 10 7
-    ∷ effects 10 1 (answers.Given 5)
-    ∷ takes 11 8
-    ∷ takes 20 9
-    ∷ effects 20 2 (answers.Given 6)
-    ∷ takes 21 10
-    ∷ makes 30 Zero 4000 80 0 0 syn 65535 (Some 4294967294)
-    ∷ takes_of 30 11 1
-    ∷ takes_of 40 12 11
-    ∷ consumes 41 One 12 0 false false
-    ∷ makes 50 One 80 4000 0 0 syn_ack 65535 (Some 100)
-    ∷ takes_of 50 13 2
-    ∷ takes_of 60 14 13
-    ∷ consumes 61 Zero 14 2144 false true
-    ∷ makes 70 Zero 4000 80 1 0 ack 65535 None
-    ∷ takes_of 70 15 3
-    ∷ takes_of 80 16 15
-    ∷ consumes 81 One 16 2144 false true
-    ∷ takes 90 17
+    slow_opening_steps 65535 2144 ++ (
+    takes 90 17
     ∷ effects 90 1 (answers.Given 7)
     ∷ takes 91 18
     ∷ takes 100 19
@@ -66,7 +42,7 @@ five_bytes_arrive_steps =
     ∷ takes 130 23
     ∷ effects 130 1 (answers.Bytes (104 ∷ 101 ∷ 108 ∷ 108 ∷ 111 ∷ []))
     ∷ takes 131 24
-    ∷ []
+    ∷ [])
 
 pub five_bytes_arrive : first_broken_step (header 120000000 0) five_bytes_arrive_lines five_bytes_arrive_steps ≡ None
 five_bytes_arrive = refl
@@ -88,17 +64,8 @@ wrong_byte_is_not_answered = refl
 -- a second child, where the queue has room for one
 abbrev pub second_child_finds_no_room_lines : List lines.Line
 second_child_finds_no_room_lines =
-    begins 7 10 1 (calls.Listen One 80 1)
-    ∷ ends 8 11 1 (answers.Given 5)
-    ∷ begins 9 20 2 (calls.Connect Zero 4000 80)
-    ∷ ends 10 21 2 (answers.Given 6)
-    ∷ sends 11 30 3 Zero (packet 4000 80 4294967294 0 2 65535 None [])
-    ∷ gets 12 40 4 One (packet 4000 80 4294967294 0 2 65535 None [])
-    ∷ sends 13 50 4 One (packet 80 4000 100 4294967295 18 65535 None [])
-    ∷ gets 14 60 3 Zero (packet 80 4000 100 4294967295 18 65535 None [])
-    ∷ sends 15 70 3 Zero (packet 4000 80 4294967295 101 16 65535 None [])
-    ∷ gets 16 80 4 One (packet 4000 80 4294967295 101 16 65535 None [])
-    ∷ begins 17 90 2 (calls.Connect Zero 4001 80)
+    slow_opening_lines 1 65535 None ++ (
+    begins 17 90 2 (calls.Connect Zero 4001 80)
     ∷ ends 18 91 2 (answers.Given 8)
     ∷ sends 19 92 3 Zero (packet 4001 80 0 0 2 65535 None [])
     ∷ gets 20 93 4 One (packet 4001 80 0 0 2 65535 None [])
@@ -106,7 +73,7 @@ second_child_finds_no_room_lines =
     ∷ gets 22 95 3 Zero (packet 80 4001 200 1 18 65535 None [])
     ∷ sends 23 96 3 Zero (packet 4001 80 1 201 16 65535 None [])
     ∷ gets 24 97 4 One (packet 4001 80 1 201 16 65535 None [])
-    ∷ []
+    ∷ [])
 
 abbrev pub second_child_finds_no_room_steps : List witness.Step
 second_child_finds_no_room_steps = take 19 five_bytes_arrive_steps ++ (
@@ -252,12 +219,12 @@ both_hosts_open_lines =
     ∷ ends 24 27 8 (answers.State states.Established)
     ∷ begins 25 28 8 (calls.Status 8)
     ∷ ends 26 29 8 (answers.State states.Established)
-    ∷ begins 27 30 1 (calls.Send 8 (0 ∷ 7 ∷ 14 ∷ 21 ∷ []))
+    ∷ begins 27 30 1 (calls.Send 8 (sevens 0 4))
     ∷ ends 28 31 1 (answers.Given 4)
-    ∷ sends 29 32 4 One (packet 80 4000 0 6 16 65535 None (0 ∷ 7 ∷ 14 ∷ 21 ∷ []))
-    ∷ gets 30 33 5 Zero (packet 80 4000 0 6 16 65535 None (0 ∷ 7 ∷ 14 ∷ 21 ∷ []))
+    ∷ sends 29 32 4 One (packet 80 4000 0 6 16 65535 None (sevens 0 4))
+    ∷ gets 30 33 5 Zero (packet 80 4000 0 6 16 65535 None (sevens 0 4))
     ∷ begins 31 34 2 (calls.Recv 6 9)
-    ∷ ends 32 35 2 (answers.Bytes (0 ∷ 7 ∷ 14 ∷ 21 ∷ []))
+    ∷ ends 32 35 2 (answers.Bytes (sevens 0 4))
     ∷ []
 
 abbrev pub both_hosts_open_steps : List witness.Step
@@ -304,7 +271,7 @@ both_hosts_open_steps =
     ∷ takes_of 33 30 29
     ∷ consumes 33 Zero 30 2144 true false
     ∷ takes 34 31
-    ∷ effects 34 2 (answers.Bytes (0 ∷ 7 ∷ 14 ∷ 21 ∷ []))
+    ∷ effects 34 2 (answers.Bytes (sevens 0 4))
     ∷ takes 35 32
     ∷ []
 
@@ -370,17 +337,8 @@ segment_for_an_older_endpoint = refl
 -- a reset that answers a segment of an older endpoint
 abbrev pub reset_for_an_older_endpoint_lines : List lines.Line
 reset_for_an_older_endpoint_lines =
-    begins 7 10 1 (calls.Listen One 80 4)
-    ∷ ends 8 11 1 (answers.Given 5)
-    ∷ begins 9 12 2 (calls.Connect Zero 4000 80)
-    ∷ ends 10 13 2 (answers.Given 6)
-    ∷ sends 11 14 3 Zero (packet 4000 80 1000 0 2 65535 None [])
-    ∷ gets 12 15 6 One (packet 4000 80 1000 0 2 65535 None [])
-    ∷ sends 13 16 4 One (packet 80 4000 50000 1001 18 65535 None [])
-    ∷ gets 14 17 5 Zero (packet 80 4000 50000 1001 18 65535 None [])
-    ∷ sends 15 18 3 Zero (packet 4000 80 1001 50001 16 65535 None [])
-    ∷ gets 16 19 6 One (packet 4000 80 1001 50001 16 65535 None [])
-    ∷ sends 17 20 3 Zero (packet 4000 80 1001 50001 16 65535 None [])
+    opening_lines None ++ (
+    sends 17 20 3 Zero (packet 4000 80 1001 50001 16 65535 None [])
     ∷ gets 18 21 6 One (packet 4000 80 1001 50001 16 65535 None [])
     ∷ begins 19 22 1 (calls.Accept 5)
     ∷ ends 20 23 1 (answers.Given 7)
@@ -398,29 +356,12 @@ reset_for_an_older_endpoint_lines =
     ∷ gets 32 35 6 One (packet 4000 80 1001 50001 16 65535 None [])
     ∷ sends 33 36 4 One (packet 80 4000 50001 0 4 0 None [])
     ∷ gets 34 37 5 Zero (packet 80 4000 50001 0 4 0 None [])
-    ∷ []
+    ∷ [])
 
 abbrev pub reset_for_an_older_endpoint_steps : List witness.Step
 reset_for_an_older_endpoint_steps =
-    takes 10 7
-    ∷ effects 10 1 (answers.Given 5)
-    ∷ takes 11 8
-    ∷ takes 12 9
-    ∷ effects 12 2 (answers.Given 6)
-    ∷ takes 13 10
-    ∷ makes 13 Zero 4000 80 0 0 syn 65535 (Some 1000)
-    ∷ takes_of 14 11 1
-    ∷ takes_of 15 12 11
-    ∷ consumes 15 One 12 0 false false
-    ∷ makes 15 One 80 4000 0 0 syn_ack 65535 (Some 50000)
-    ∷ takes_of 16 13 2
-    ∷ takes_of 17 14 13
-    ∷ consumes 17 Zero 14 2144 false false
-    ∷ makes 17 Zero 4000 80 1 0 ack 65535 None
-    ∷ takes_of 18 15 3
-    ∷ takes_of 19 16 15
-    ∷ consumes 19 One 16 2144 false false
-    ∷ makes 19 Zero 4000 80 1 0 ack 65535 None
+    opening_steps 2144 ++ (
+    makes 19 Zero 4000 80 1 0 ack 65535 None
     ∷ takes_of 20 17 4
     ∷ takes_of 21 18 17
     ∷ takes 22 19
@@ -451,7 +392,7 @@ reset_for_an_older_endpoint_steps =
     ∷ takes_of 36 33 5
     ∷ takes_of 37 34 33
     ∷ consumes 37 Zero 34 2144 false false
-    ∷ []
+    ∷ [])
 
 pub reset_for_an_older_endpoint : first_broken_step (header 120000000 0) reset_for_an_older_endpoint_lines reset_for_an_older_endpoint_steps ≡ Some (50, rules.NotPeer)
 reset_for_an_older_endpoint = refl

@@ -7,48 +7,23 @@ use Rattle.case_forms.specs.declared.trace.Line as lines
 use Rattle.case_forms.specs.declared.steps.Step as witness
 use Rattle.verdict.specs.declared.rule.Rule.TheVariants as rules
 use Rattle.machine.specs.Steps.{first_broken_step}
-use Rattle.machine.proofs.Telling.{header, packet, begins, ends, sends, gets, takes, takes_of, effects, makes, consumes, recovers, ack, syn, syn_ack}
+use Rattle.machine.proofs.Telling.{header, packet, begins, ends, sends, gets, takes, takes_of, effects, makes, consumes, recovers}
+use Rattle.machine.proofs.Telling.{ack, syn_ack, opening_lines, opening_steps, slow_opening_lines, slow_opening_steps, sevens}
 
 -- the congestion window of four segments ends the fifth
 abbrev pub congestion_window_holds_lines : List lines.Line
 congestion_window_holds_lines =
-    begins 7 10 1 (calls.Listen One 80 4)
-    ∷ ends 8 11 1 (answers.Given 5)
-    ∷ begins 9 20 2 (calls.Connect Zero 4000 80)
-    ∷ ends 10 21 2 (answers.Given 6)
-    ∷ sends 11 30 3 Zero (packet 4000 80 4294967294 0 2 65535 None [])
-    ∷ gets 12 40 4 One (packet 4000 80 4294967294 0 2 65535 None [])
-    ∷ sends 13 50 4 One (packet 80 4000 100 4294967295 18 65535 (Some 1000) [])
-    ∷ gets 14 60 3 Zero (packet 80 4000 100 4294967295 18 65535 (Some 1000) [])
-    ∷ sends 15 70 3 Zero (packet 4000 80 4294967295 101 16 65535 None [])
-    ∷ gets 16 80 4 One (packet 4000 80 4294967295 101 16 65535 None [])
-    ∷ begins 17 90 1 (calls.Accept 5)
+    slow_opening_lines 4 65535 (Some 1000) ++ (
+    begins 17 90 1 (calls.Accept 5)
     ∷ ends 18 91 1 (answers.Given 7)
     ∷ begins 19 100 2 (calls.Send 6 (replicate 5000 0))
     ∷ ends 20 101 2 (answers.Given 5000)
-    ∷ []
+    ∷ [])
 
 abbrev pub congestion_window_holds_steps : List witness.Step
 congestion_window_holds_steps =
-    takes 10 7
-    ∷ effects 10 1 (answers.Given 5)
-    ∷ takes 11 8
-    ∷ takes 20 9
-    ∷ effects 20 2 (answers.Given 6)
-    ∷ takes 21 10
-    ∷ makes 30 Zero 4000 80 0 0 syn 65535 (Some 4294967294)
-    ∷ takes_of 30 11 1
-    ∷ takes_of 40 12 11
-    ∷ consumes 41 One 12 0 false false
-    ∷ makes 50 One 80 4000 0 0 syn_ack 65535 (Some 100)
-    ∷ takes_of 50 13 2
-    ∷ takes_of 60 14 13
-    ∷ consumes 61 Zero 14 4000 false true
-    ∷ makes 70 Zero 4000 80 1 0 ack 65535 None
-    ∷ takes_of 70 15 3
-    ∷ takes_of 80 16 15
-    ∷ consumes 81 One 16 2144 false true
-    ∷ takes 90 17
+    slow_opening_steps 65535 4000 ++ (
+    takes 90 17
     ∷ effects 90 1 (answers.Given 7)
     ∷ takes 91 18
     ∷ takes 100 19
@@ -59,7 +34,7 @@ congestion_window_holds_steps =
     ∷ makes 110 Zero 4000 80 2001 1000 ack 65535 None
     ∷ makes 110 Zero 4000 80 3001 1000 ack 65535 None
     ∷ makes 110 Zero 4000 80 4001 1000 ack 65535 None
-    ∷ []
+    ∷ [])
 
 pub congestion_window_holds : first_broken_step (header 120000000 0) congestion_window_holds_lines congestion_window_holds_steps ≡ Some (30, rules.Congestion)
 congestion_window_holds = refl
@@ -67,48 +42,22 @@ congestion_window_holds = refl
 -- not a byte behind the congestion window
 abbrev pub congestion_window_ends_here_lines : List lines.Line
 congestion_window_ends_here_lines =
-    begins 7 10 1 (calls.Listen One 80 4)
-    ∷ ends 8 11 1 (answers.Given 5)
-    ∷ begins 9 12 2 (calls.Connect Zero 4000 80)
-    ∷ ends 10 13 2 (answers.Given 6)
-    ∷ sends 11 14 3 Zero (packet 4000 80 1000 0 2 65535 None [])
-    ∷ gets 12 15 6 One (packet 4000 80 1000 0 2 65535 None [])
-    ∷ sends 13 16 4 One (packet 80 4000 50000 1001 18 65535 (Some 50) [])
-    ∷ gets 14 17 5 Zero (packet 80 4000 50000 1001 18 65535 (Some 50) [])
-    ∷ sends 15 18 3 Zero (packet 4000 80 1001 50001 16 65535 None [])
-    ∷ gets 16 19 6 One (packet 4000 80 1001 50001 16 65535 None [])
-    ∷ begins 17 20 2 (calls.Send 6 (0 ∷ 7 ∷ 14 ∷ 21 ∷ 28 ∷ 35 ∷ 42 ∷ 49 ∷ 56 ∷ 63 ∷ 70 ∷ 77 ∷ 84 ∷ 91 ∷ 98 ∷ 105 ∷ 112 ∷ 119 ∷ 126 ∷ 133 ∷ 140 ∷ 147 ∷ 154 ∷ 161 ∷ 168 ∷ 175 ∷ 182 ∷ 189 ∷ 196 ∷ 203 ∷ 210 ∷ 217 ∷ 224 ∷ 231 ∷ 238 ∷ 245 ∷ 1 ∷ 8 ∷ 15 ∷ 22 ∷ 29 ∷ 36 ∷ 43 ∷ 50 ∷ 57 ∷ 64 ∷ 71 ∷ 78 ∷ 85 ∷ 92 ∷ 99 ∷ 106 ∷ 113 ∷ 120 ∷ 127 ∷ 134 ∷ 141 ∷ 148 ∷ 155 ∷ 162 ∷ 169 ∷ 176 ∷ 183 ∷ 190 ∷ 197 ∷ 204 ∷ 211 ∷ 218 ∷ 225 ∷ 232 ∷ 239 ∷ 246 ∷ 2 ∷ 9 ∷ 16 ∷ 23 ∷ 30 ∷ 37 ∷ 44 ∷ 51 ∷ 58 ∷ 65 ∷ 72 ∷ 79 ∷ 86 ∷ 93 ∷ 100 ∷ 107 ∷ 114 ∷ 121 ∷ 128 ∷ 135 ∷ 142 ∷ 149 ∷ 156 ∷ 163 ∷ 170 ∷ 177 ∷ 184 ∷ 191 ∷ 198 ∷ 205 ∷ 212 ∷ 219 ∷ 226 ∷ 233 ∷ 240 ∷ 247 ∷ 3 ∷ 10 ∷ 17 ∷ 24 ∷ 31 ∷ 38 ∷ 45 ∷ 52 ∷ 59 ∷ 66 ∷ 73 ∷ 80 ∷ 87 ∷ 94 ∷ 101 ∷ 108 ∷ 115 ∷ 122 ∷ 129 ∷ 136 ∷ 143 ∷ 150 ∷ 157 ∷ 164 ∷ 171 ∷ 178 ∷ 185 ∷ 192 ∷ 199 ∷ 206 ∷ 213 ∷ 220 ∷ 227 ∷ 234 ∷ 241 ∷ 248 ∷ 4 ∷ 11 ∷ 18 ∷ 25 ∷ 32 ∷ 39 ∷ 46 ∷ 53 ∷ 60 ∷ 67 ∷ 74 ∷ 81 ∷ 88 ∷ 95 ∷ 102 ∷ 109 ∷ 116 ∷ 123 ∷ 130 ∷ 137 ∷ 144 ∷ 151 ∷ 158 ∷ 165 ∷ 172 ∷ 179 ∷ 186 ∷ 193 ∷ 200 ∷ 207 ∷ 214 ∷ 221 ∷ 228 ∷ 235 ∷ 242 ∷ 249 ∷ 5 ∷ 12 ∷ 19 ∷ 26 ∷ 33 ∷ 40 ∷ 47 ∷ 54 ∷ 61 ∷ 68 ∷ 75 ∷ 82 ∷ 89 ∷ 96 ∷ 103 ∷ 110 ∷ 117 ∷ 124 ∷ 131 ∷ 138 ∷ 145 ∷ []))
+    opening_lines (Some 50) ++ (
+    begins 17 20 2 (calls.Send 6 (sevens 0 201))
     ∷ ends 18 21 2 (answers.Given 201)
-    ∷ []
+    ∷ [])
 
 abbrev pub congestion_window_ends_here_steps : List witness.Step
 congestion_window_ends_here_steps =
-    takes 10 7
-    ∷ effects 10 1 (answers.Given 5)
-    ∷ takes 11 8
-    ∷ takes 12 9
-    ∷ effects 12 2 (answers.Given 6)
-    ∷ takes 13 10
-    ∷ makes 13 Zero 4000 80 0 0 syn 65535 (Some 1000)
-    ∷ takes_of 14 11 1
-    ∷ takes_of 15 12 11
-    ∷ consumes 15 One 12 0 false false
-    ∷ makes 15 One 80 4000 0 0 syn_ack 65535 (Some 50000)
-    ∷ takes_of 16 13 2
-    ∷ takes_of 17 14 13
-    ∷ consumes 17 Zero 14 200 false false
-    ∷ makes 17 Zero 4000 80 1 0 ack 65535 None
-    ∷ takes_of 18 15 3
-    ∷ takes_of 19 16 15
-    ∷ consumes 19 One 16 2144 false false
-    ∷ takes 20 17
+    opening_steps 200 ++ (
+    takes 20 17
     ∷ effects 20 2 (answers.Given 201)
     ∷ takes 21 18
     ∷ makes 21 Zero 4000 80 1 50 ack 65535 None
     ∷ makes 21 Zero 4000 80 51 50 ack 65535 None
     ∷ makes 21 Zero 4000 80 101 50 ack 65535 None
     ∷ makes 21 Zero 4000 80 151 51 ack 65535 None
-    ∷ []
+    ∷ [])
 
 pub congestion_window_ends_here : first_broken_step (header 120000000 0) congestion_window_ends_here_lines congestion_window_ends_here_steps ≡ Some (26, rules.Congestion)
 congestion_window_ends_here = refl
@@ -215,12 +164,12 @@ una_never_falls_lines = take 6 congestion_window_ends_here_lines ++ (
     ∷ gets 14 17 5 Zero (packet 80 4000 50000 1001 18 50 None [])
     ∷ sends 15 18 3 Zero (packet 4000 80 1001 50001 16 65535 None [])
     ∷ gets 16 19 6 One (packet 4000 80 1001 50001 16 65535 None [])
-    ∷ begins 17 20 2 (calls.Send 6 (0 ∷ 7 ∷ 14 ∷ 21 ∷ 28 ∷ 35 ∷ 42 ∷ 49 ∷ 56 ∷ 63 ∷ 70 ∷ 77 ∷ 84 ∷ 91 ∷ 98 ∷ 105 ∷ 112 ∷ 119 ∷ 126 ∷ 133 ∷ 140 ∷ 147 ∷ 154 ∷ 161 ∷ 168 ∷ 175 ∷ 182 ∷ 189 ∷ 196 ∷ 203 ∷ 210 ∷ 217 ∷ 224 ∷ 231 ∷ 238 ∷ 245 ∷ 1 ∷ 8 ∷ 15 ∷ 22 ∷ 29 ∷ 36 ∷ 43 ∷ 50 ∷ 57 ∷ 64 ∷ 71 ∷ 78 ∷ 85 ∷ 92 ∷ 99 ∷ 106 ∷ 113 ∷ 120 ∷ 127 ∷ 134 ∷ 141 ∷ 148 ∷ 155 ∷ 162 ∷ 169 ∷ 176 ∷ 183 ∷ 190 ∷ 197 ∷ 204 ∷ 211 ∷ 218 ∷ 225 ∷ 232 ∷ 239 ∷ 246 ∷ 2 ∷ 9 ∷ 16 ∷ 23 ∷ 30 ∷ 37 ∷ 44 ∷ 51 ∷ 58 ∷ 65 ∷ 72 ∷ 79 ∷ 86 ∷ 93 ∷ 100 ∷ 107 ∷ 114 ∷ 121 ∷ []))
+    ∷ begins 17 20 2 (calls.Send 6 (sevens 0 90))
     ∷ ends 18 21 2 (answers.Given 90)
     ∷ sends 19 22 4 One (packet 80 4000 50001 1001 16 70 None [])
     ∷ gets 20 23 5 Zero (packet 80 4000 50001 1001 16 70 None [])
-    ∷ sends 21 24 3 Zero (packet 4000 80 1001 50001 16 65535 None (0 ∷ 7 ∷ 14 ∷ 21 ∷ 28 ∷ 35 ∷ 42 ∷ 49 ∷ 56 ∷ 63 ∷ []))
-    ∷ gets 22 25 6 One (packet 4000 80 1001 50001 16 65535 None (0 ∷ 7 ∷ 14 ∷ 21 ∷ 28 ∷ 35 ∷ 42 ∷ 49 ∷ 56 ∷ 63 ∷ []))
+    ∷ sends 21 24 3 Zero (packet 4000 80 1001 50001 16 65535 None (sevens 0 10))
+    ∷ gets 22 25 6 One (packet 4000 80 1001 50001 16 65535 None (sevens 0 10))
     ∷ sends 23 26 4 One (packet 80 4000 50001 1011 16 15 None [])
     ∷ gets 24 27 5 Zero (packet 80 4000 50001 1011 16 15 None [])
     ∷ [])
@@ -259,14 +208,14 @@ una_never_falls = refl
 -- three duplicates in a row begin fast recovery, with no new acknowledgment between them
 abbrev pub duplicates_begin_anew_lines : List lines.Line
 duplicates_begin_anew_lines = take 10 congestion_window_ends_here_lines ++ (
-    begins 17 20 2 (calls.Send 6 (0 ∷ 7 ∷ 14 ∷ 21 ∷ 28 ∷ 35 ∷ 42 ∷ 49 ∷ 56 ∷ 63 ∷ 70 ∷ 77 ∷ 84 ∷ 91 ∷ 98 ∷ 105 ∷ 112 ∷ 119 ∷ 126 ∷ 133 ∷ 140 ∷ 147 ∷ 154 ∷ 161 ∷ 168 ∷ 175 ∷ 182 ∷ 189 ∷ 196 ∷ 203 ∷ 210 ∷ 217 ∷ 224 ∷ 231 ∷ 238 ∷ 245 ∷ 1 ∷ 8 ∷ 15 ∷ 22 ∷ 29 ∷ 36 ∷ 43 ∷ 50 ∷ 57 ∷ 64 ∷ 71 ∷ 78 ∷ 85 ∷ 92 ∷ 99 ∷ 106 ∷ 113 ∷ 120 ∷ 127 ∷ 134 ∷ 141 ∷ 148 ∷ 155 ∷ 162 ∷ 169 ∷ 176 ∷ 183 ∷ 190 ∷ 197 ∷ 204 ∷ 211 ∷ 218 ∷ 225 ∷ 232 ∷ 239 ∷ 246 ∷ 2 ∷ 9 ∷ 16 ∷ 23 ∷ 30 ∷ 37 ∷ 44 ∷ 51 ∷ 58 ∷ 65 ∷ 72 ∷ 79 ∷ 86 ∷ 93 ∷ 100 ∷ 107 ∷ 114 ∷ 121 ∷ 128 ∷ 135 ∷ 142 ∷ 149 ∷ 156 ∷ 163 ∷ 170 ∷ 177 ∷ 184 ∷ 191 ∷ 198 ∷ 205 ∷ 212 ∷ 219 ∷ 226 ∷ 233 ∷ 240 ∷ 247 ∷ 3 ∷ 10 ∷ 17 ∷ 24 ∷ 31 ∷ 38 ∷ 45 ∷ 52 ∷ 59 ∷ 66 ∷ 73 ∷ 80 ∷ 87 ∷ 94 ∷ 101 ∷ 108 ∷ 115 ∷ 122 ∷ 129 ∷ 136 ∷ 143 ∷ 150 ∷ 157 ∷ 164 ∷ 171 ∷ 178 ∷ 185 ∷ 192 ∷ 199 ∷ 206 ∷ 213 ∷ 220 ∷ 227 ∷ 234 ∷ 241 ∷ 248 ∷ 4 ∷ 11 ∷ 18 ∷ 25 ∷ 32 ∷ 39 ∷ 46 ∷ 53 ∷ 60 ∷ 67 ∷ 74 ∷ 81 ∷ 88 ∷ 95 ∷ 102 ∷ 109 ∷ 116 ∷ 123 ∷ 130 ∷ 137 ∷ 144 ∷ 151 ∷ 158 ∷ 165 ∷ 172 ∷ 179 ∷ 186 ∷ 193 ∷ 200 ∷ 207 ∷ 214 ∷ 221 ∷ 228 ∷ 235 ∷ 242 ∷ 249 ∷ 5 ∷ 12 ∷ 19 ∷ 26 ∷ 33 ∷ 40 ∷ 47 ∷ 54 ∷ 61 ∷ 68 ∷ 75 ∷ 82 ∷ 89 ∷ 96 ∷ 103 ∷ 110 ∷ 117 ∷ 124 ∷ 131 ∷ 138 ∷ []))
+    begins 17 20 2 (calls.Send 6 (sevens 0 200))
     ∷ ends 18 21 2 (answers.Given 200)
     ∷ sends 19 22 4 One (packet 80 4000 50001 1001 16 65535 None [])
     ∷ gets 20 23 5 Zero (packet 80 4000 50001 1001 16 65535 None [])
     ∷ sends 21 24 4 One (packet 80 4000 50001 1001 16 65535 None [])
     ∷ gets 22 25 5 Zero (packet 80 4000 50001 1001 16 65535 None [])
-    ∷ sends 23 26 3 Zero (packet 4000 80 1001 50001 16 65535 None (0 ∷ 7 ∷ 14 ∷ 21 ∷ 28 ∷ 35 ∷ 42 ∷ 49 ∷ 56 ∷ 63 ∷ 70 ∷ 77 ∷ 84 ∷ 91 ∷ 98 ∷ 105 ∷ 112 ∷ 119 ∷ 126 ∷ 133 ∷ 140 ∷ 147 ∷ 154 ∷ 161 ∷ 168 ∷ 175 ∷ 182 ∷ 189 ∷ 196 ∷ 203 ∷ 210 ∷ 217 ∷ 224 ∷ 231 ∷ 238 ∷ 245 ∷ 1 ∷ 8 ∷ 15 ∷ 22 ∷ 29 ∷ 36 ∷ 43 ∷ 50 ∷ 57 ∷ 64 ∷ 71 ∷ 78 ∷ 85 ∷ 92 ∷ []))
-    ∷ gets 24 27 6 One (packet 4000 80 1001 50001 16 65535 None (0 ∷ 7 ∷ 14 ∷ 21 ∷ 28 ∷ 35 ∷ 42 ∷ 49 ∷ 56 ∷ 63 ∷ 70 ∷ 77 ∷ 84 ∷ 91 ∷ 98 ∷ 105 ∷ 112 ∷ 119 ∷ 126 ∷ 133 ∷ 140 ∷ 147 ∷ 154 ∷ 161 ∷ 168 ∷ 175 ∷ 182 ∷ 189 ∷ 196 ∷ 203 ∷ 210 ∷ 217 ∷ 224 ∷ 231 ∷ 238 ∷ 245 ∷ 1 ∷ 8 ∷ 15 ∷ 22 ∷ 29 ∷ 36 ∷ 43 ∷ 50 ∷ 57 ∷ 64 ∷ 71 ∷ 78 ∷ 85 ∷ 92 ∷ []))
+    ∷ sends 23 26 3 Zero (packet 4000 80 1001 50001 16 65535 None (sevens 0 50))
+    ∷ gets 24 27 6 One (packet 4000 80 1001 50001 16 65535 None (sevens 0 50))
     ∷ sends 25 28 4 One (packet 80 4000 50001 1051 16 65535 None [])
     ∷ gets 26 29 5 Zero (packet 80 4000 50001 1051 16 65535 None [])
     ∷ sends 27 30 4 One (packet 80 4000 50001 1051 16 65535 None [])
@@ -309,12 +258,12 @@ duplicates_begin_anew = refl
 -- slow start adds at most SMSS for an acknowledgment
 abbrev pub slow_start_adds_a_segment_lines : List lines.Line
 slow_start_adds_a_segment_lines = take 10 congestion_window_ends_here_lines ++ (
-    begins 17 20 2 (calls.Send 6 (0 ∷ 7 ∷ 14 ∷ 21 ∷ 28 ∷ 35 ∷ 42 ∷ 49 ∷ 56 ∷ 63 ∷ 70 ∷ 77 ∷ 84 ∷ 91 ∷ 98 ∷ 105 ∷ 112 ∷ 119 ∷ 126 ∷ 133 ∷ 140 ∷ 147 ∷ 154 ∷ 161 ∷ 168 ∷ 175 ∷ 182 ∷ 189 ∷ 196 ∷ 203 ∷ 210 ∷ 217 ∷ 224 ∷ 231 ∷ 238 ∷ 245 ∷ 1 ∷ 8 ∷ 15 ∷ 22 ∷ 29 ∷ 36 ∷ 43 ∷ 50 ∷ 57 ∷ 64 ∷ 71 ∷ 78 ∷ 85 ∷ 92 ∷ 99 ∷ 106 ∷ 113 ∷ 120 ∷ 127 ∷ 134 ∷ 141 ∷ 148 ∷ 155 ∷ 162 ∷ 169 ∷ 176 ∷ 183 ∷ 190 ∷ 197 ∷ 204 ∷ 211 ∷ 218 ∷ 225 ∷ 232 ∷ 239 ∷ 246 ∷ 2 ∷ 9 ∷ 16 ∷ 23 ∷ 30 ∷ 37 ∷ 44 ∷ 51 ∷ 58 ∷ 65 ∷ 72 ∷ 79 ∷ 86 ∷ 93 ∷ 100 ∷ 107 ∷ 114 ∷ 121 ∷ 128 ∷ 135 ∷ 142 ∷ 149 ∷ 156 ∷ 163 ∷ 170 ∷ 177 ∷ 184 ∷ 191 ∷ 198 ∷ 205 ∷ 212 ∷ 219 ∷ 226 ∷ 233 ∷ 240 ∷ 247 ∷ 3 ∷ 10 ∷ []))
+    begins 17 20 2 (calls.Send 6 (sevens 0 110))
     ∷ ends 18 21 2 (answers.Given 110)
-    ∷ sends 19 22 3 Zero (packet 4000 80 1001 50001 16 65535 None (0 ∷ 7 ∷ 14 ∷ 21 ∷ 28 ∷ 35 ∷ 42 ∷ 49 ∷ 56 ∷ 63 ∷ 70 ∷ 77 ∷ 84 ∷ 91 ∷ 98 ∷ 105 ∷ 112 ∷ 119 ∷ 126 ∷ 133 ∷ 140 ∷ 147 ∷ 154 ∷ 161 ∷ 168 ∷ 175 ∷ 182 ∷ 189 ∷ 196 ∷ 203 ∷ 210 ∷ 217 ∷ 224 ∷ 231 ∷ 238 ∷ 245 ∷ 1 ∷ 8 ∷ 15 ∷ 22 ∷ 29 ∷ 36 ∷ 43 ∷ 50 ∷ 57 ∷ 64 ∷ 71 ∷ 78 ∷ 85 ∷ 92 ∷ []))
-    ∷ gets 20 23 6 One (packet 4000 80 1001 50001 16 65535 None (0 ∷ 7 ∷ 14 ∷ 21 ∷ 28 ∷ 35 ∷ 42 ∷ 49 ∷ 56 ∷ 63 ∷ 70 ∷ 77 ∷ 84 ∷ 91 ∷ 98 ∷ 105 ∷ 112 ∷ 119 ∷ 126 ∷ 133 ∷ 140 ∷ 147 ∷ 154 ∷ 161 ∷ 168 ∷ 175 ∷ 182 ∷ 189 ∷ 196 ∷ 203 ∷ 210 ∷ 217 ∷ 224 ∷ 231 ∷ 238 ∷ 245 ∷ 1 ∷ 8 ∷ 15 ∷ 22 ∷ 29 ∷ 36 ∷ 43 ∷ 50 ∷ 57 ∷ 64 ∷ 71 ∷ 78 ∷ 85 ∷ 92 ∷ []))
-    ∷ sends 21 24 3 Zero (packet 4000 80 1051 50001 16 65535 None (99 ∷ 106 ∷ 113 ∷ 120 ∷ 127 ∷ 134 ∷ 141 ∷ 148 ∷ 155 ∷ 162 ∷ 169 ∷ 176 ∷ 183 ∷ 190 ∷ 197 ∷ 204 ∷ 211 ∷ 218 ∷ 225 ∷ 232 ∷ 239 ∷ 246 ∷ 2 ∷ 9 ∷ 16 ∷ 23 ∷ 30 ∷ 37 ∷ 44 ∷ 51 ∷ []))
-    ∷ gets 22 25 6 One (packet 4000 80 1051 50001 16 65535 None (99 ∷ 106 ∷ 113 ∷ 120 ∷ 127 ∷ 134 ∷ 141 ∷ 148 ∷ 155 ∷ 162 ∷ 169 ∷ 176 ∷ 183 ∷ 190 ∷ 197 ∷ 204 ∷ 211 ∷ 218 ∷ 225 ∷ 232 ∷ 239 ∷ 246 ∷ 2 ∷ 9 ∷ 16 ∷ 23 ∷ 30 ∷ 37 ∷ 44 ∷ 51 ∷ []))
+    ∷ sends 19 22 3 Zero (packet 4000 80 1001 50001 16 65535 None (sevens 0 50))
+    ∷ gets 20 23 6 One (packet 4000 80 1001 50001 16 65535 None (sevens 0 50))
+    ∷ sends 21 24 3 Zero (packet 4000 80 1051 50001 16 65535 None (sevens 50 30))
+    ∷ gets 22 25 6 One (packet 4000 80 1051 50001 16 65535 None (sevens 50 30))
     ∷ sends 23 26 4 One (packet 80 4000 50001 1081 16 65535 None [])
     ∷ gets 24 27 5 Zero (packet 80 4000 50001 1081 16 65535 None [])
     ∷ [])

@@ -9,59 +9,34 @@ use Rattle.case_forms.specs.declared.trace.Line as lines
 use Rattle.case_forms.specs.declared.steps.Step as witness
 use Rattle.verdict.specs.declared.rule.Rule.TheVariants as rules
 use Rattle.machine.specs.Steps.{first_broken_step}
-use Rattle.machine.proofs.Telling.{header, packet, begins, ends, sends, gets, expires, takes, takes_of, takes_with, effects, makes, consumes, ack, syn, syn_ack, fin_ack}
+use Rattle.machine.proofs.Telling.{header, packet, begins, ends, sends, gets, expires, takes, takes_of, takes_with, effects}
+use Rattle.machine.proofs.Telling.{makes, consumes, ack, fin_ack, opening_lines, opening_steps, sevens}
 
 -- pieces that overlap, the last first
 abbrev pub pieces_in_any_order_lines : List lines.Line
 pieces_in_any_order_lines =
-    begins 7 10 1 (calls.Listen One 80 4)
-    ∷ ends 8 11 1 (answers.Given 5)
-    ∷ begins 9 12 2 (calls.Connect Zero 4000 80)
-    ∷ ends 10 13 2 (answers.Given 6)
-    ∷ sends 11 14 3 Zero (packet 4000 80 1000 0 2 65535 None [])
-    ∷ gets 12 15 6 One (packet 4000 80 1000 0 2 65535 None [])
-    ∷ sends 13 16 4 One (packet 80 4000 50000 1001 18 65535 None [])
-    ∷ gets 14 17 5 Zero (packet 80 4000 50000 1001 18 65535 None [])
-    ∷ sends 15 18 3 Zero (packet 4000 80 1001 50001 16 65535 None [])
-    ∷ gets 16 19 6 One (packet 4000 80 1001 50001 16 65535 None [])
-    ∷ begins 17 20 2 (calls.Send 6 (0 ∷ 7 ∷ 14 ∷ 21 ∷ 28 ∷ 35 ∷ 42 ∷ 49 ∷ 56 ∷ []))
+    opening_lines None ++ (
+    begins 17 20 2 (calls.Send 6 (sevens 0 9))
     ∷ ends 18 21 2 (answers.Given 9)
     ∷ expires 19 999021 9 Zero 4000 80 Rto
-    ∷ sends 20 999022 3 Zero (packet 4000 80 1003 50001 16 65535 None (14 ∷ 21 ∷ 28 ∷ 35 ∷ 42 ∷ []))
-    ∷ gets 21 999023 6 One (packet 4000 80 1003 50001 16 65535 None (14 ∷ 21 ∷ 28 ∷ 35 ∷ 42 ∷ []))
-    ∷ sends 22 999024 3 Zero (packet 4000 80 1005 50001 16 65535 None (28 ∷ 35 ∷ 42 ∷ 49 ∷ 56 ∷ []))
-    ∷ gets 23 999025 6 One (packet 4000 80 1005 50001 16 65535 None (28 ∷ 35 ∷ 42 ∷ 49 ∷ 56 ∷ []))
-    ∷ sends 24 999026 3 Zero (packet 4000 80 1001 50001 16 65535 None (0 ∷ 7 ∷ 14 ∷ 21 ∷ []))
-    ∷ gets 25 999027 6 One (packet 4000 80 1001 50001 16 65535 None (0 ∷ 7 ∷ 14 ∷ 21 ∷ []))
+    ∷ sends 20 999022 3 Zero (packet 4000 80 1003 50001 16 65535 None (sevens 2 5))
+    ∷ gets 21 999023 6 One (packet 4000 80 1003 50001 16 65535 None (sevens 2 5))
+    ∷ sends 22 999024 3 Zero (packet 4000 80 1005 50001 16 65535 None (sevens 4 5))
+    ∷ gets 23 999025 6 One (packet 4000 80 1005 50001 16 65535 None (sevens 4 5))
+    ∷ sends 24 999026 3 Zero (packet 4000 80 1001 50001 16 65535 None (sevens 0 4))
+    ∷ gets 25 999027 6 One (packet 4000 80 1001 50001 16 65535 None (sevens 0 4))
     ∷ begins 26 999028 1 (calls.Accept 5)
     ∷ ends 27 999029 1 (answers.Given 7)
     ∷ begins 28 999030 1 (calls.Recv 7 9)
-    ∷ ends 29 999031 1 (answers.Bytes (0 ∷ 7 ∷ 14 ∷ 21 ∷ 28 ∷ 35 ∷ 42 ∷ 49 ∷ 56 ∷ []))
+    ∷ ends 29 999031 1 (answers.Bytes (sevens 0 9))
     ∷ sends 30 999032 4 One (packet 80 4000 50001 1010 16 65535 None [])
     ∷ gets 31 999033 5 Zero (packet 80 4000 50001 1010 16 65535 None [])
-    ∷ []
+    ∷ [])
 
 abbrev pub pieces_in_any_order_steps : List witness.Step
 pieces_in_any_order_steps =
-    takes 10 7
-    ∷ effects 10 1 (answers.Given 5)
-    ∷ takes 11 8
-    ∷ takes 12 9
-    ∷ effects 12 2 (answers.Given 6)
-    ∷ takes 13 10
-    ∷ makes 13 Zero 4000 80 0 0 syn 65535 (Some 1000)
-    ∷ takes_of 14 11 1
-    ∷ takes_of 15 12 11
-    ∷ consumes 15 One 12 0 false false
-    ∷ makes 15 One 80 4000 0 0 syn_ack 65535 (Some 50000)
-    ∷ takes_of 16 13 2
-    ∷ takes_of 17 14 13
-    ∷ consumes 17 Zero 14 2144 false false
-    ∷ makes 17 Zero 4000 80 1 0 ack 65535 None
-    ∷ takes_of 18 15 3
-    ∷ takes_of 19 16 15
-    ∷ consumes 19 One 16 2144 false false
-    ∷ takes 20 17
+    opening_steps 2144 ++ (
+    takes 20 17
     ∷ effects 20 2 (answers.Given 9)
     ∷ takes 21 18
     ∷ makes 21 Zero 4000 80 1 4 ack 65535 None
@@ -81,13 +56,13 @@ pieces_in_any_order_steps =
     ∷ effects 999028 1 (answers.Given 7)
     ∷ takes 999029 27
     ∷ takes 999030 28
-    ∷ effects 999030 1 (answers.Bytes (0 ∷ 7 ∷ 14 ∷ 21 ∷ 28 ∷ 35 ∷ 42 ∷ 49 ∷ 56 ∷ []))
+    ∷ effects 999030 1 (answers.Bytes (sevens 0 9))
     ∷ takes 999031 29
     ∷ makes 999031 One 80 4000 1 0 ack 65535 None
     ∷ takes_of 999032 30 7
     ∷ takes_of 999033 31 30
     ∷ consumes 999033 Zero 31 536 false false
-    ∷ []
+    ∷ [])
 
 pub pieces_in_any_order : first_broken_step (header 120000000 0) pieces_in_any_order_lines pieces_in_any_order_steps ≡ None
 pieces_in_any_order = refl
@@ -224,12 +199,12 @@ both_close = refl
 -- one way ends, the other goes on
 abbrev pub one_way_ends_lines : List lines.Line
 one_way_ends_lines = take 10 pieces_in_any_order_lines ++ (
-    begins 17 20 2 (calls.Send 6 (0 ∷ 7 ∷ 14 ∷ 21 ∷ 28 ∷ []))
+    begins 17 20 2 (calls.Send 6 (sevens 0 5))
     ∷ ends 18 21 2 (answers.Given 5)
     ∷ begins 19 22 2 (calls.Shut 6)
     ∷ ends 20 23 2 answers.Done
-    ∷ sends 21 24 3 Zero (packet 4000 80 1001 50001 17 65535 None (0 ∷ 7 ∷ 14 ∷ 21 ∷ 28 ∷ []))
-    ∷ gets 22 25 6 One (packet 4000 80 1001 50001 17 65535 None (0 ∷ 7 ∷ 14 ∷ 21 ∷ 28 ∷ []))
+    ∷ sends 21 24 3 Zero (packet 4000 80 1001 50001 17 65535 None (sevens 0 5))
+    ∷ gets 22 25 6 One (packet 4000 80 1001 50001 17 65535 None (sevens 0 5))
     ∷ begins 23 26 8 (calls.Status 6)
     ∷ ends 24 27 8 (answers.State states.FinWait1)
     ∷ begins 25 28 1 (calls.Accept 5)

@@ -1,9 +1,13 @@
 -- Cases written out, for facts that are computed: the lines and steps of both texts as words.
-use Rattle.std.proofs.Common.{ℕ, Bool, true, false, List, [], Option, None}
+use Rattle.std.proofs.Common.{ℕ, ◌*◌, ◌%◌, Bool, true, false, List, [], ◌∷◌, map, Option, None, Some}
+use Rattle.std.specs.List.{range_with_len}
 use Rattle.std.specs.Option.{option_map}
 use Rattle.case_forms.specs.declared.calls.Host.{Host}
+use Rattle.case_forms.specs.declared.calls.Host.TheVariants as hosts
 use Rattle.case_forms.specs.declared.calls.Call.{Call}
+use Rattle.case_forms.specs.declared.calls.Call.TheVariants as calls
 use Rattle.case_forms.specs.declared.calls.Answer.{Answer}
+use Rattle.case_forms.specs.declared.calls.Answer.TheVariants as answers
 use Rattle.case_forms.specs.declared.version.Version.TheVariants.{One}
 use Rattle.case_forms.specs.declared.version.Initial.TheVariants.{Rfc5681}
 use Rattle.case_forms.specs.declared.trace.Header.{Header}
@@ -109,3 +113,83 @@ rst = flags false true false false
 
 abbrev pub rst_ack : Flags
 rst_ack = flags true true false false
+
+-- bytes of a stream in which byte i is 7 i modulo 251: so many of them, from that one on
+abbrev pub sevens : (from count : ℕ) → List ℕ
+sevens from count = map (λ i. 7 * i % 251) (range_with_len from count)
+
+-- a handshake of host 0, port 4000, and host 1, port 80, whose numbers begin at 1000 and 50000; host 1 tells that MSS
+abbrev pub opening_lines : Option ℕ → List lines.Line
+opening_lines mss =
+    begins 7 10 1 (calls.Listen hosts.One 80 4)
+    ∷ ends 8 11 1 (answers.Given 5)
+    ∷ begins 9 12 2 (calls.Connect hosts.Zero 4000 80)
+    ∷ ends 10 13 2 (answers.Given 6)
+    ∷ sends 11 14 3 hosts.Zero (packet 4000 80 1000 0 2 65535 None [])
+    ∷ gets 12 15 6 hosts.One (packet 4000 80 1000 0 2 65535 None [])
+    ∷ sends 13 16 4 hosts.One (packet 80 4000 50000 1001 18 65535 mss [])
+    ∷ gets 14 17 5 hosts.Zero (packet 80 4000 50000 1001 18 65535 mss [])
+    ∷ sends 15 18 3 hosts.Zero (packet 4000 80 1001 50001 16 65535 None [])
+    ∷ gets 16 19 6 hosts.One (packet 4000 80 1001 50001 16 65535 None [])
+    ∷ []
+
+-- its steps; host 0 takes the second segment with that congestion window
+abbrev pub opening_steps : (cwnd : ℕ) → List witness.Step
+opening_steps cwnd =
+    takes 10 7
+    ∷ effects 10 1 (answers.Given 5)
+    ∷ takes 11 8
+    ∷ takes 12 9
+    ∷ effects 12 2 (answers.Given 6)
+    ∷ takes 13 10
+    ∷ makes 13 hosts.Zero 4000 80 0 0 syn 65535 (Some 1000)
+    ∷ takes_of 14 11 1
+    ∷ takes_of 15 12 11
+    ∷ consumes 15 hosts.One 12 0 false false
+    ∷ makes 15 hosts.One 80 4000 0 0 syn_ack 65535 (Some 50000)
+    ∷ takes_of 16 13 2
+    ∷ takes_of 17 14 13
+    ∷ consumes 17 hosts.Zero 14 cwnd false false
+    ∷ makes 17 hosts.Zero 4000 80 1 0 ack 65535 None
+    ∷ takes_of 18 15 3
+    ∷ takes_of 19 16 15
+    ∷ consumes 19 hosts.One 16 2144 false false
+    ∷ []
+
+-- the same more slowly, so that round trips are measured, with numbers that begin at 2^32 - 2 and 100; host 1 has room for that
+-- many children more, offers that window and tells that MSS
+abbrev pub slow_opening_lines : (backlog window : ℕ) → Option ℕ → List lines.Line
+slow_opening_lines backlog window mss =
+    begins 7 10 1 (calls.Listen hosts.One 80 backlog)
+    ∷ ends 8 11 1 (answers.Given 5)
+    ∷ begins 9 20 2 (calls.Connect hosts.Zero 4000 80)
+    ∷ ends 10 21 2 (answers.Given 6)
+    ∷ sends 11 30 3 hosts.Zero (packet 4000 80 4294967294 0 2 65535 None [])
+    ∷ gets 12 40 4 hosts.One (packet 4000 80 4294967294 0 2 65535 None [])
+    ∷ sends 13 50 4 hosts.One (packet 80 4000 100 4294967295 18 window mss [])
+    ∷ gets 14 60 3 hosts.Zero (packet 80 4000 100 4294967295 18 window mss [])
+    ∷ sends 15 70 3 hosts.Zero (packet 4000 80 4294967295 101 16 65535 None [])
+    ∷ gets 16 80 4 hosts.One (packet 4000 80 4294967295 101 16 65535 None [])
+    ∷ []
+
+abbrev pub slow_opening_steps : (window cwnd : ℕ) → List witness.Step
+slow_opening_steps window cwnd =
+    takes 10 7
+    ∷ effects 10 1 (answers.Given 5)
+    ∷ takes 11 8
+    ∷ takes 20 9
+    ∷ effects 20 2 (answers.Given 6)
+    ∷ takes 21 10
+    ∷ makes 30 hosts.Zero 4000 80 0 0 syn 65535 (Some 4294967294)
+    ∷ takes_of 30 11 1
+    ∷ takes_of 40 12 11
+    ∷ consumes 41 hosts.One 12 0 false false
+    ∷ makes 50 hosts.One 80 4000 0 0 syn_ack window (Some 100)
+    ∷ takes_of 50 13 2
+    ∷ takes_of 60 14 13
+    ∷ consumes 61 hosts.Zero 14 cwnd false true
+    ∷ makes 70 hosts.Zero 4000 80 1 0 ack 65535 None
+    ∷ takes_of 70 15 3
+    ∷ takes_of 80 16 15
+    ∷ consumes 81 hosts.One 16 2144 false true
+    ∷ []

@@ -8,49 +8,25 @@ use Rattle.case_forms.specs.declared.trace.Line as lines
 use Rattle.case_forms.specs.declared.steps.Step as witness
 use Rattle.verdict.specs.declared.rule.Rule.TheVariants as rules
 use Rattle.machine.specs.Steps.{first_broken_step}
-use Rattle.machine.proofs.Telling.{header, packet, begins, ends, sends, gets, expires, takes, takes_of, takes_with, effects, makes, consumes, drops, ack, syn, syn_ack, fin_ack}
+use Rattle.machine.proofs.Telling.{header, packet, begins, ends, sends, gets, expires, takes, takes_of, takes_with, effects}
+use Rattle.machine.proofs.Telling.{makes, consumes, drops, ack, syn, fin_ack, opening_lines, opening_steps, slow_opening_lines}
+use Rattle.machine.proofs.Telling.{slow_opening_steps, sevens}
 
 -- a byte behind a window of 0, once the persist timer expired
 abbrev pub a_probe_may_go_lines : List lines.Line
 a_probe_may_go_lines =
-    begins 7 10 1 (calls.Listen One 80 4)
-    ∷ ends 8 11 1 (answers.Given 5)
-    ∷ begins 9 20 2 (calls.Connect Zero 4000 80)
-    ∷ ends 10 21 2 (answers.Given 6)
-    ∷ sends 11 30 3 Zero (packet 4000 80 4294967294 0 2 65535 None [])
-    ∷ gets 12 40 4 One (packet 4000 80 4294967294 0 2 65535 None [])
-    ∷ sends 13 50 4 One (packet 80 4000 100 4294967295 18 0 None [])
-    ∷ gets 14 60 3 Zero (packet 80 4000 100 4294967295 18 0 None [])
-    ∷ sends 15 70 3 Zero (packet 4000 80 4294967295 101 16 65535 None [])
-    ∷ gets 16 80 4 One (packet 4000 80 4294967295 101 16 65535 None [])
-    ∷ begins 17 90 1 (calls.Accept 5)
+    slow_opening_lines 4 0 None ++ (
+    begins 17 90 1 (calls.Accept 5)
     ∷ ends 18 91 1 (answers.Given 7)
     ∷ begins 19 100 2 (calls.Send 6 (104 ∷ 101 ∷ 108 ∷ 108 ∷ 111 ∷ []))
     ∷ ends 20 101 2 (answers.Given 5)
     ∷ expires 21 999061 3 Zero 4000 80 Persist
-    ∷ []
+    ∷ [])
 
 abbrev pub a_probe_may_go_steps : List witness.Step
 a_probe_may_go_steps =
-    takes 10 7
-    ∷ effects 10 1 (answers.Given 5)
-    ∷ takes 11 8
-    ∷ takes 20 9
-    ∷ effects 20 2 (answers.Given 6)
-    ∷ takes 21 10
-    ∷ makes 30 Zero 4000 80 0 0 syn 65535 (Some 4294967294)
-    ∷ takes_of 30 11 1
-    ∷ takes_of 40 12 11
-    ∷ consumes 41 One 12 0 false false
-    ∷ makes 50 One 80 4000 0 0 syn_ack 0 (Some 100)
-    ∷ takes_of 50 13 2
-    ∷ takes_of 60 14 13
-    ∷ consumes 61 Zero 14 2144 false true
-    ∷ makes 70 Zero 4000 80 1 0 ack 65535 None
-    ∷ takes_of 70 15 3
-    ∷ takes_of 80 16 15
-    ∷ consumes 81 One 16 2144 false true
-    ∷ takes 90 17
+    slow_opening_steps 0 2144 ++ (
+    takes 90 17
     ∷ effects 90 1 (answers.Given 7)
     ∷ takes 91 18
     ∷ takes 100 19
@@ -58,7 +34,7 @@ a_probe_may_go_steps =
     ∷ takes 101 20
     ∷ takes 999061 21
     ∷ makes 999062 Zero 4000 80 1 1 ack 65535 None
-    ∷ []
+    ∷ [])
 
 pub a_probe_may_go : first_broken_step (header 120000000 0) a_probe_may_go_lines a_probe_may_go_steps ≡ None
 a_probe_may_go = refl
@@ -179,48 +155,22 @@ nothing_times_out = refl
 -- what was made twice is not measured
 abbrev pub no_sample_of_what_was_made_twice_lines : List lines.Line
 no_sample_of_what_was_made_twice_lines =
-    begins 7 10 1 (calls.Listen One 80 4)
-    ∷ ends 8 11 1 (answers.Given 5)
-    ∷ begins 9 12 2 (calls.Connect Zero 4000 80)
-    ∷ ends 10 13 2 (answers.Given 6)
-    ∷ sends 11 14 3 Zero (packet 4000 80 1000 0 2 65535 None [])
-    ∷ gets 12 15 6 One (packet 4000 80 1000 0 2 65535 None [])
-    ∷ sends 13 16 4 One (packet 80 4000 50000 1001 18 65535 None [])
-    ∷ gets 14 17 5 Zero (packet 80 4000 50000 1001 18 65535 None [])
-    ∷ sends 15 18 3 Zero (packet 4000 80 1001 50001 16 65535 None [])
-    ∷ gets 16 19 6 One (packet 4000 80 1001 50001 16 65535 None [])
-    ∷ begins 17 20 2 (calls.Send 6 (0 ∷ 7 ∷ 14 ∷ 21 ∷ 28 ∷ 35 ∷ 42 ∷ 49 ∷ 56 ∷ 63 ∷ 70 ∷ 77 ∷ 84 ∷ 91 ∷ 98 ∷ 105 ∷ 112 ∷ 119 ∷ 126 ∷ 133 ∷ []))
+    opening_lines None ++ (
+    begins 17 20 2 (calls.Send 6 (sevens 0 20))
     ∷ ends 18 21 2 (answers.Given 20)
     ∷ expires 19 999021 9 Zero 4000 80 Rto
-    ∷ sends 20 999022 3 Zero (packet 4000 80 1004 50001 16 65535 None (21 ∷ 28 ∷ 35 ∷ 42 ∷ 49 ∷ 56 ∷ []))
-    ∷ gets 21 999023 6 One (packet 4000 80 1004 50001 16 65535 None (21 ∷ 28 ∷ 35 ∷ 42 ∷ 49 ∷ 56 ∷ []))
-    ∷ sends 22 999024 3 Zero (packet 4000 80 1001 50001 16 65535 None (0 ∷ 7 ∷ 14 ∷ 21 ∷ []))
-    ∷ gets 23 999025 6 One (packet 4000 80 1001 50001 16 65535 None (0 ∷ 7 ∷ 14 ∷ 21 ∷ []))
+    ∷ sends 20 999022 3 Zero (packet 4000 80 1004 50001 16 65535 None (sevens 3 6))
+    ∷ gets 21 999023 6 One (packet 4000 80 1004 50001 16 65535 None (sevens 3 6))
+    ∷ sends 22 999024 3 Zero (packet 4000 80 1001 50001 16 65535 None (sevens 0 4))
+    ∷ gets 23 999025 6 One (packet 4000 80 1001 50001 16 65535 None (sevens 0 4))
     ∷ sends 24 999026 4 One (packet 80 4000 50001 1010 16 65535 None [])
     ∷ gets 25 999027 5 Zero (packet 80 4000 50001 1010 16 65535 None [])
-    ∷ []
+    ∷ [])
 
 abbrev pub no_sample_of_what_was_made_twice_steps : List witness.Step
 no_sample_of_what_was_made_twice_steps =
-    takes 10 7
-    ∷ effects 10 1 (answers.Given 5)
-    ∷ takes 11 8
-    ∷ takes 12 9
-    ∷ effects 12 2 (answers.Given 6)
-    ∷ takes 13 10
-    ∷ makes 13 Zero 4000 80 0 0 syn 65535 (Some 1000)
-    ∷ takes_of 14 11 1
-    ∷ takes_of 15 12 11
-    ∷ consumes 15 One 12 0 false false
-    ∷ makes 15 One 80 4000 0 0 syn_ack 65535 (Some 50000)
-    ∷ takes_of 16 13 2
-    ∷ takes_of 17 14 13
-    ∷ consumes 17 Zero 14 2144 false false
-    ∷ makes 17 Zero 4000 80 1 0 ack 65535 None
-    ∷ takes_of 18 15 3
-    ∷ takes_of 19 16 15
-    ∷ consumes 19 One 16 2144 false false
-    ∷ takes 20 17
+    opening_steps 2144 ++ (
+    takes 20 17
     ∷ effects 20 2 (answers.Given 20)
     ∷ takes 21 18
     ∷ makes 21 Zero 4000 80 1 4 ack 65535 None
@@ -236,7 +186,7 @@ no_sample_of_what_was_made_twice_steps =
     ∷ takes_of 999026 24 6
     ∷ takes_of 999027 25 24
     ∷ consumes 999027 Zero 25 536 false true
-    ∷ []
+    ∷ [])
 
 pub no_sample_of_what_was_made_twice : first_broken_step (header 120000000 0) no_sample_of_what_was_made_twice_lines no_sample_of_what_was_made_twice_steps ≡ Some (35, rules.Sample)
 no_sample_of_what_was_made_twice = refl
