@@ -3,11 +3,12 @@ use Rattle.std.proofs.Common.{◌≡◌, ℕ, zero, suc, ◌<◌, Bool, true, fa
 use Rattle.std.proofs.lemmas.Bool.Decides.{nat_tests}
 use Rattle.std.specs.Prelude.{nat_eq, slice_set, if◌then◌else◌}
 use Rattle.std.specs.Map.{lookup}
-use Rattle.std.specs.Option.{option_map, option_map_or, option_flatten}
+use Rattle.std.specs.Option.{option_map, option_map_or, option_flatten, option_or}
 use Rattle.std.specs.Ordering.{nat_cmp}
 use Rattle.std.specs.BTreeMap.{is_at}
 use Rattle.indexmap.specs.IndexMap.{insert_entry}
-use Rattle.tables.specs.Tables.{changed_at, place_of, place_in}
+use Rattle.tables.specs.Tables.{changed_at, is_above, led_in, place_of, place_in, IsPlaced}
+use Rattle.tables.proofs.RisingLemmas.{rising_more, below_more}
 
 equal : (k n : ℕ) → nat_eq k n ≡ true → k ≡ n
 equal k n is = grind (arith, nat_tests, is)
@@ -121,15 +122,110 @@ at_is : (n k : ℕ) → is_at (nat_cmp n) k ≡ nat_eq n k
 at_is n k = search rules
 
 -- a number is led to one more place
-pub led : (old new : List (ℕ × Option ℕ)) (k : ℕ) (to : Option ℕ) → ((q : ℕ) → lookup (is_at (nat_cmp q)) new ≡ cond (is_at (nat_cmp k) q) (Some to) (lookup (is_at (nat_cmp q)) old))
-    → (n : ℕ) → place_in new n ≡ cond (nat_eq k n) to (place_in old n)
+led : (old new : List (ℕ × Option ℕ)) (k : ℕ) (to : Option ℕ) → ((q : ℕ) → lookup (is_at (nat_cmp q)) new ≡ cond (is_at (nat_cmp k) q) (Some to) (lookup (is_at (nat_cmp q)) old))
+    → (n : ℕ) → led_in new n ≡ cond (nat_eq k n) to (led_in old n)
 led old new k to updates n = ap (λ (o : Option (Option ℕ)). option_flatten o) (updates n) ∙ by (nat_eq k n) refl
   where
-    by : (b : Bool) → nat_eq k n ≡ b → option_flatten (cond (is_at (nat_cmp k) n) (Some to) (lookup (is_at (nat_cmp n)) old)) ≡ cond (nat_eq k n) to (place_in old n)
+    by : (b : Bool) → nat_eq k n ≡ b → option_flatten (cond (is_at (nat_cmp k) n) (Some to) (lookup (is_at (nat_cmp n)) old)) ≡ cond (nat_eq k n) to (led_in old n)
     by true is = rw (at_is k n, is) refl
     by false is = rw (at_is k n, is) refl
+
+-- a number that neither leads is among neither
+nowhere_in : (o p : Option ℕ) → option_or o p ≡ None → o ≡ None
+nowhere_in None p none = refl
+nowhere_in (Some x) p none = absurd cc
+
+-- one of the others is led to its place, where nothing led it before
+pub led_other : (risen : List (ℕ × ℕ)) (old new : List (ℕ × Option ℕ)) (k to : ℕ)
+    → ((q : ℕ) → lookup (is_at (nat_cmp q)) new ≡ cond (is_at (nat_cmp k) q) (Some (Some to)) (lookup (is_at (nat_cmp q)) old))
+    → place_in risen old k ≡ None
+    → (n : ℕ) → place_in risen new n ≡ cond (nat_eq k n) (Some to) (place_in risen old n)
+led_other risen old new k to updates none n = ap (λ (o : Option ℕ). option_or (lookup (nat_eq n) risen) o) (led old new k (Some to) updates n) ∙ by (nat_eq k n) refl
+  where
+    by : (b : Bool) → nat_eq k n ≡ b
+        → option_or (lookup (nat_eq n) risen) (cond (nat_eq k n) (Some to) (led_in old n)) ≡ cond (nat_eq k n) (Some to) (option_or (lookup (nat_eq n) risen) (led_in old n))
+    by true is =
+        let absent : lookup (nat_eq n) risen ≡ None = subst (λ (m : ℕ). lookup (nat_eq m) risen ≡ None) (equal k n is) (nowhere_in (lookup (nat_eq k) risen) (led_in old k) none) in
+        rw (is, absent) refl
+    by false is = rw is refl
+
+found_behind : (risen : List (ℕ × ℕ)) (k to n : ℕ) → lookup (nat_eq k) risen ≡ None → lookup (nat_eq n) (risen ++ (k, to) ∷ []) ≡ cond (nat_eq k n) (Some to) (lookup (nat_eq n) risen)
+found_behind [] k to n none = by (nat_eq k n) refl
+  where
+    by : (b : Bool) → nat_eq k n ≡ b → lookup (nat_eq n) ((k, to) ∷ []) ≡ cond (nat_eq k n) (Some to) None
+    by true is = rw (swapped k n, is) refl
+    by false is = rw (swapped k n, is) refl
+found_behind (x ∷ xs) k to n none = by (nat_eq k x.0) refl (nat_eq n x.0) refl (λ behind. found_behind xs k to n behind)
+  where
+    by : (b : Bool) → nat_eq k x.0 ≡ b → (c : Bool) → nat_eq n x.0 ≡ c
+        → (lookup (nat_eq k) xs ≡ None → lookup (nat_eq n) (xs ++ (k, to) ∷ []) ≡ cond (nat_eq k n) (Some to) (lookup (nat_eq n) xs))
+        → lookup (nat_eq n) (x ∷ xs ++ (k, to) ∷ []) ≡ cond (nat_eq k n) (Some to) (lookup (nat_eq n) (x ∷ xs))
+    by true at c is rest = let found : lookup (nat_eq k) (x ∷ xs) ≡ Some x.1 = rw at refl in absurd cc
+    by false at true is rest =
+        let apart : nat_eq k n ≡ false = subst (λ (m : ℕ). nat_eq k m ≡ false) (sym (equal n x.0 is)) at in
+        rw (is, apart) refl
+    by false at false is rest =
+        let behind : lookup (nat_eq k) xs ≡ None = rw at at none in
+        rw is (rest behind)
+
+-- a number that rises is led to its place, where nothing led it before
+pub led_risen : (risen : List (ℕ × ℕ)) (others : List (ℕ × Option ℕ)) (k to : ℕ) → place_in risen others k ≡ None
+    → (n : ℕ) → place_in (risen ++ (k, to) ∷ []) others n ≡ cond (nat_eq k n) (Some to) (place_in risen others n)
+led_risen risen others k to none n =
+    ap (λ (o : Option ℕ). option_or o (led_in others n)) (found_behind risen k to n (nowhere_in (lookup (nat_eq k) risen) (led_in others k) none)) ∙ by (nat_eq k n)
+  where
+    by : (b : Bool) → option_or (cond b (Some to) (lookup (nat_eq n) risen)) (led_in others n) ≡ cond b (Some to) (option_or (lookup (nat_eq n) risen) (led_in others n))
+    by true = refl
+    by false = refl
 
 -- what holds in any case holds of an error
 pub on_err : {A E : Type 0} {P : Type 0} (r : Result A E) → P → OnErr r P
 on_err (Ok x) p = tt
 on_err (Err e) p = p
+
+above_later : (top : Option ℕ) (k n : ℕ) → is_above top k ≡ true → k < n → is_above top n ≡ true
+above_later None k n above low = refl
+above_later (Some t) k n above low = grind (arith, nat_tests, above, low)
+
+above_apart : (top : Option ℕ) (k n : ℕ) → is_above top k ≡ false → is_above top n ≡ true → nat_eq k n ≡ false
+above_apart None k n not_above above = absurd cc
+above_apart (Some t) k n not_above above = grind (arith, nat_tests, not_above, above)
+
+module _ {V : Type 0} (top : Option ℕ) (risen : List (ℕ × ℕ)) (others : List (ℕ × Option ℕ)) (es : List (ℕ × V)) (are : IsPlaced top risen others es) where
+  -- an entry takes a value where it stands
+  pub placed_set : (k p : ℕ) (v : V) → place_of es k ≡ Some p → IsPlaced top risen others (slice_set es p (k, v))
+  placed_set k p v at = record {
+    leads = λ n. are.leads n ∙ place_set es k p v at n;
+    rises = are.rises;
+    below = are.below;
+    new = λ n above. sym (place_set es k p v at n) ∙ are.new n above;
+  }
+
+  -- an entry of a number that is above all goes last
+  pub placed_risen : (k : ℕ) (v : V) → is_above top k ≡ true → IsPlaced (Some k) (risen ++ (k, length es) ∷ []) others (es ++ (k, v) ∷ [])
+  placed_risen k v above = record {
+    leads = λ n. led_risen risen others k (length es) (are.leads k ∙ absent) n ∙ ap (λ (o : Option ℕ). cond (nat_eq k n) (Some (length es)) o) (are.leads n) ∙ place_push es k v absent n;
+    rises = rising_more risen (k, length es) are.rises (are.below k above);
+    below = λ n is. below_more risen (k, length es) n (are.below n (above_later top k n above (higher n is))) (higher n is);
+    new = λ n is. sym (place_push es k v absent n) ∙ rw (smaller_apart n (higher n is)) (are.new n (above_later top k n above (higher n is)));
+  }
+    where
+      absent : place_of es k ≡ None
+      absent = are.new k above
+
+      higher : (n : ℕ) → is_above (Some k) n ≡ true → k < n
+      higher n is = grind (arith, nat_tests, is)
+
+      smaller_apart : (n : ℕ) → k < n → nat_eq k n ≡ false
+      smaller_apart n low = grind (arith, nat_tests, low)
+
+  -- an entry of another number goes last
+  pub placed_other : (new : List (ℕ × Option ℕ)) (k : ℕ) (v : V) → is_above top k ≡ false → place_of es k ≡ None
+      → ((q : ℕ) → lookup (is_at (nat_cmp q)) new ≡ cond (is_at (nat_cmp k) q) (Some (Some (length es))) (lookup (is_at (nat_cmp q)) others))
+      → IsPlaced top risen new (es ++ (k, v) ∷ [])
+  placed_other new k v low absent updates = record {
+    leads = λ n. led_other risen others new k (length es) updates (are.leads k ∙ absent) n ∙ ap (λ (o : Option ℕ). cond (nat_eq k n) (Some (length es)) o) (are.leads n) ∙ place_push es k v absent n;
+    rises = are.rises;
+    below = are.below;
+    new = λ n above. sym (place_push es k v absent n) ∙ rw (above_apart top k n low above) (are.new n above);
+  }

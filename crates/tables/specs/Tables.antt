@@ -1,6 +1,6 @@
 -- Tables by number: their entries in the order in which they were added, and where each number stands.
-use Rattle.std.specs.Prelude.{◌≡◌, ℕ, suc, ◌<◌, nat_eq, if◌then◌else◌, List, [], ◌∷◌, Option, None, Some, IsSome, IfSome}
-use Rattle.std.specs.Option.{option_map, option_map_or, option_flatten}
+use Rattle.std.specs.Prelude.{◌≡◌, ℕ, suc, ◌<◌, ◌≤◌, Bool, true, false, nat_eq, ltb, if◌then◌else◌, List, [], ◌∷◌, length, slice_index_or, Option, None, Some, IsSome, IfSome}
+use Rattle.std.specs.Option.{option_map, option_map_or, option_flatten, option_or}
 use Rattle.std.specs.Ordering.{nat_cmp}
 use Rattle.std.specs.Map.{lookup}
 use Rattle.std.specs.BTreeMap.{is_at}
@@ -22,14 +22,43 @@ abbrev pub place_of : {V : Type 0} → List (ℕ × V) → ℕ → Option ℕ
 place_of [] number = None
 place_of (e ∷ es) number = if nat_eq number e.0 then Some 0 else option_map (λ place. suc place) (place_of es number)
 
+-- whether a number is above the greatest so far
+abbrev pub is_above : Option ℕ → ℕ → Bool
+is_above top number = option_map_or (λ greatest. ltb greatest number) top true
+
+-- the number that stands at a place of a list of numbers with the places of their entries
+abbrev pub number_at : List (ℕ × ℕ) → ℕ → ℕ
+number_at risen i = (slice_index_or risen i (0, 0)).0
+
+-- the numbers don't fall
+abbrev pub IsRising : List (ℕ × ℕ) → Type 0
+IsRising risen = (i j : ℕ) → i ≤ j → j < length risen → number_at risen i ≤ number_at risen j
+
+-- so many in front are below a number
+abbrev pub AreBelow : List (ℕ × ℕ) → (count number : ℕ) → Type 0
+AreBelow risen count number = (i : ℕ) → i < count → i < length risen → number_at risen i < number
+
+-- those behind so many in front are not
+abbrev pub AreNotBelow : List (ℕ × ℕ) → (count number : ℕ) → Type 0
+AreNotBelow risen count number = (i : ℕ) → count ≤ i → i < length risen → number ≤ number_at risen i
+
 -- where a map from numbers to places leads
-abbrev pub place_in : List (ℕ × Option ℕ) → ℕ → Option ℕ
-place_in places number = option_flatten (lookup (is_at (nat_cmp number)) places)
+abbrev pub led_in : List (ℕ × Option ℕ) → ℕ → Option ℕ
+led_in others number = option_flatten (lookup (is_at (nat_cmp number)) others)
 
--- the map leads each number to its entry
-abbrev pub IsPlaced : {V : Type 0} → List (ℕ × Option ℕ) → List (ℕ × V) → Type 0
-IsPlaced places entries = (number : ℕ) → place_in places number ≡ place_of entries number
+-- where the numbers that rise and the map of the others lead
+abbrev pub place_in : List (ℕ × ℕ) → List (ℕ × Option ℕ) → ℕ → Option ℕ
+place_in risen others number = option_or (lookup (nat_eq number) risen) (led_in others number)
 
--- an entry of the number, if there is one, fits with no more memory: it has its place in the map, and one more entry fits
-abbrev pub IsReady : List (ℕ × Option ℕ) → (count capacity : ℕ) → Option ℕ → Type 0
-IsReady places count capacity ready = IfSome ready (λ number. IsSome (lookup (is_at (nat_cmp number)) places) × (count < capacity))
+-- each number is led to its entry; those that rise do, and no number above the greatest has an entry
+pub record IsPlaced {V : Type 0} (top : Option ℕ) (risen : List (ℕ × ℕ)) (others : List (ℕ × Option ℕ)) (entries : List (ℕ × V)) : Type 0 where
+  pub leads : (number : ℕ) → place_in risen others number ≡ place_of entries number
+  pub rises : IsRising risen
+  pub below : (number : ℕ) → is_above top number ≡ true → AreBelow risen (length risen) number
+  pub new : (number : ℕ) → is_above top number ≡ true → place_of entries number ≡ None
+
+-- an entry of the number, if there is one, fits with no more memory: one more entry fits, and one more number that rises,
+-- or the number has its place in the map
+abbrev pub IsReady : Option ℕ → (Fits FitsRisen : Type 0) → List (ℕ × Option ℕ) → Option ℕ → Type 0
+IsReady top Fits FitsRisen others ready = IfSome ready (λ number.
+    Fits × (is_above top number ≡ true → FitsRisen) × (is_above top number ≡ false → IsSome (lookup (is_at (nat_cmp number)) others)))

@@ -1,13 +1,15 @@
 //! A table by numbers, whose entries stay in the order in which they were added.
 
-ghost use Rattle.std.specs.Prelude.{◌≡◌, ◌≢◌, ℕ, [], is_some, length, nat_eq, OnOk, OnErr, None, Some, IsSome};
+ghost use Rattle.std.specs.Prelude.{◌≡◌, ◌≢◌, ◌<◌, ℕ, [], true, false, is_some, length, nat_eq, OnOk, OnErr, None, Some, IsSome};
 ghost use Rattle.std.specs.Map.{lookup};
 ghost use Rattle.std.specs.Option.{option_copied};
 ghost use Rattle.std.specs.Ordering.{nat_cmp};
 ghost use Rattle.std.specs.BTreeMap.{get};
+ghost use Rattle.std.specs.Vec.{vec_capacity};
 ghost use Rattle.indexmap.specs.IndexMap.{insert_entry};
-ghost use Rattle.tables.specs.Tables.{changed_at, place_in};
+ghost use Rattle.tables.specs.Tables.{changed_at, is_above, led_in, place_in, IsRising};
 
+use crate::rising::place_among;
 use std::alloc::{AllocError, Global};
 use std::collections::BTreeMap;
 use std::marker::Model;
@@ -16,14 +18,18 @@ use std::marker::Model;
 #[derive(Drop)]
 pub struct Table<V> {
     entries: Vec<(u64, V)>,
-    /// Where the entry of each number stands, or none where a number has its room but no entry yet.
-    places: BTreeMap<u64, Option<usize>>,
+    /// The greatest number that was above all before it.
+    top: Option<u64>,
+    /// The numbers that were above all before them, which rise, with the places of their entries.
+    risen: Vec<(u64, usize)>,
+    /// Where the entry of each other number stands, or none where a number has its room but no entry yet.
+    others: BTreeMap<u64, Option<usize>>,
     /// The number for which room was made last.
     ready: Option<u64>,
 }
 
 impl<V> Model for Table<V> {
-    ghost use Rattle.std.specs.Prelude.{length};
+    ghost use Rattle.std.specs.Prelude.{◌<◌, length};
     ghost use Rattle.std.specs.Vec.{vec_capacity};
     ghost use Rattle.tables.specs.Tables.{Table, IsPlaced, IsReady};
 
@@ -31,7 +37,8 @@ impl<V> Model for Table<V> {
 
     ghost view = { λ t. record { entries = t.entries.items; ready = t.ready } };
 
-    ghost invariant = { λ t. IsPlaced t.places.entries t.entries.items × IsReady t.places.entries (length t.entries.items) (vec_capacity t.entries) t.ready };
+    ghost invariant = { λ t. IsPlaced t.top t.risen.items t.others.entries t.entries.items
+        × IsReady t.top (length t.entries.items < vec_capacity t.entries) (length t.risen.items < vec_capacity t.risen) t.others.entries t.ready };
 }
 
 impl<V: Drop> Table<V> {
@@ -41,7 +48,9 @@ impl<V: Drop> Table<V> {
     {
         Table {
             entries: Vec::new(alloc),
-            places: BTreeMap::new(alloc),
+            top: None,
+            risen: Vec::new(alloc),
+            others: BTreeMap::new(alloc),
             ready: None,
         }
     }
@@ -50,7 +59,7 @@ impl<V: Drop> Table<V> {
     pub fn get(&self, number: u64) -> Option<&V>
         ensures { option_copied result ≡ lookup (nat_eq number) self.now.entries }
     {
-        match place_in(&self.places, number) {
+        match place_in(&self.risen, &self.others, number) {
             Some(place) => Some(&self.entries[place].1),
             None => None,
         }
@@ -77,7 +86,7 @@ impl<V: Drop> Table<V> {
     {
         self.ready = None;
         self.entries.reserve(1)?;
-        make_room(&mut self.places, number)?;
+        make_room(self.top, &mut self.risen, &mut self.others, number)?;
         self.ready = Some(number);
         Ok(())
     }
@@ -90,14 +99,22 @@ impl<V: Drop> Table<V> {
         ensures absent { OnErr result (lookup (nat_eq number) self.old.entries ≡ None) }
         ensures room { OnErr result (self.old.ready ≢ Some number) }
     {
-        if let Some(place) = place_in(&self.places, number) {
+        let place = self.entries.len();
+        if is_above(self.top, number) {
+            self.entries.reserve(1)?;
+            self.risen.push((number, place))?;
+            self.entries.push_reserved((number, value));
+            self.top = Some(number);
+            self.ready = None;
+            return Ok(());
+        }
+        if let Some(place) = place_in(&self.risen, &self.others, number) {
             self.ready = None;
             self.entries[place] = (number, value);
             return Ok(());
         }
-        let place = self.entries.len();
         self.entries.reserve(1)?;
-        self.places.insert(number, Some(place))?;
+        self.others.insert(number, Some(place))?;
         self.entries.push_reserved((number, value));
         self.ready = None;
         Ok(())
@@ -119,29 +136,58 @@ impl<V: Drop + Mark> Table<V> {
     pub fn mark(&mut self, number: u64)
         ensures { self.new.entries ≡ changed_at V.marked self.old.entries number }
     {
-        if let Some(place) = place_in(&self.places, number) {
+        if let Some(place) = place_in(&self.risen, &self.others, number) {
             self.ready = None;
             self.entries[place].1.mark();
         }
     }
 }
 
-fn place_in(places: &BTreeMap<u64, Option<usize>>, number: u64) -> Option<usize>
-    ensures { result ≡ place_in places.now.entries number }
+fn is_above(top: Option<u64>, number: u64) -> bool
+    ensures { result ≡ is_above top number }
 {
-    match places.get(&number) {
+    match top {
+        Some(top) => top < number,
+        None => true,
+    }
+}
+
+// A number that is above all has no place in either.
+fn place_in(
+    risen: &Vec<(u64, usize)>,
+    others: &BTreeMap<u64, Option<usize>>,
+    number: u64,
+) -> Option<usize>
+    requires { IsRising risen.now.items }
+    ensures { result ≡ place_in risen.now.items others.now.entries number }
+{
+    if let Some(place) = place_among(risen, number) {
+        return Some(place);
+    }
+    match others.get(&number) {
         Some(place) => *place,
         None => None,
     }
 }
 
-// A number has its place in the map then. No number is led elsewhere.
-fn make_room(places: &mut BTreeMap<u64, Option<usize>>, number: u64) -> Result<(), AllocError>
-    ensures same { (n : ℕ) → place_in places.new.entries n ≡ place_in places.old.entries n }
-    ensures there { OnOk result (IsSome (get nat_cmp places.new number)) }
+// A number that is above all has room in the list then, another one has its place in the map. No number is led elsewhere.
+fn make_room(
+    top: Option<u64>,
+    risen: &mut Vec<(u64, usize)>,
+    others: &mut BTreeMap<u64, Option<usize>>,
+    number: u64,
+) -> Result<(), AllocError>
+    ensures risen { risen.new.items ≡ risen.old.items }
+    ensures others { (n : ℕ) → led_in others.new.entries n ≡ led_in others.old.entries n }
+    ensures above { OnOk result (is_above top number ≡ true → length risen.new.items < vec_capacity risen.new) }
+    ensures there { OnOk result (is_above top number ≡ false → IsSome (get nat_cmp others.new number)) }
 {
-    if !places.contains_key(&number) {
-        places.insert(number, None)?;
+    if is_above(top, number) {
+        risen.reserve(1)?;
+        return Ok(());
+    }
+    if !others.contains_key(&number) {
+        others.insert(number, None)?;
     }
     Ok(())
 }

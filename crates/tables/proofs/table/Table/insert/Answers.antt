@@ -1,49 +1,90 @@
-use Rattle.std.proofs.Common.{◌≡◌, List, ℕ, Some, None, cond, length, sym, ap, arith, ◌∙◌, ◌++◌, ◌∷◌, []}
+use Rattle.std.proofs.Common.{◌≡◌, List, ℕ, Some, cond, length, sym, ap, subst, arith, ◌∙◌, ◌++◌, ◌∷◌, []}
 use Rattle.std.specs.Prelude.{nat_eq}
 use Rattle.std.specs.Map.{lookup}
+use Rattle.std.specs.Ordering.{nat_cmp}
+use Rattle.std.specs.BTreeMap.{is_at}
 use Rattle.indexmap.specs.IndexMap.{insert_entry}
-use Rattle.tables.specs.Tables.{Table, place_of, place_in}
-use Rattle.tables.proofs.TableLemmas.{within, none_found, set_is, place_set, push_is, place_push, led, on_err}
+use Rattle.tables.specs.Tables.{Table, IsPlaced}
+use Rattle.tables.proofs.TableLemmas.{within, none_found, set_is, push_is, placed_set, placed_risen, placed_other, on_err}
 use Rattle.tables.proofs.table.Table.insert.Goals as goal
 
-pub index_mut-requires : goal.index_mut-requires
-index_mut-requires g c = let low = within c.self.inside.entries.items c.args.number c.in-Some.place (sym (c.self.invariant.0 c.args.number) ∙ sym c.in-Some.ensures) in let ok = c.self.inside.entries.ok in omega arith
+pub returns-in_err-reserve-clause-absent : goal.returns-in_err-reserve-clause-absent
+returns-in_err-reserve-clause-absent g c =
+    on_err c.from_residual.result (ap (λ (t : Table g.row.V.Denot). lookup (nat_eq c.args.number) t.entries) (sym c.self.view_is)
+    ∙ none_found c.self.inside.entries.items c.args.number (c.self.invariant.0.new c.args.number (sym c.is_above.ensures ∙ c.if-is_above.true)))
 
-pub invariant_of-self : goal.invariant_of-self
-invariant_of-self g c = (λ n. c.self.invariant.0 n ∙ place_set c.self.inside.entries.items c.args.number c.in-Some.place c.args.value (sym (c.self.invariant.0 c.args.number) ∙ sym c.in-Some.ensures) n, tt)
+pub returns-in_err-push-clause-absent : goal.returns-in_err-push-clause-absent
+returns-in_err-push-clause-absent g c =
+    on_err c.from_residual-in_err-push.result (ap (λ (t : Table g.row.V.Denot). lookup (nat_eq c.args.number) t.entries) (sym c.self.view_is)
+    ∙ none_found c.self.inside.entries.items c.args.number (c.self.invariant.0.new c.args.number (sym c.is_above.ensures ∙ c.if-is_above.true)))
 
-pub invariant_of-self-2 : goal.invariant_of-self-2
-invariant_of-self-2 g c = (λ n. led c.self.inside.places.entries c.insert.new.self.entries c.args.number (Some c.len-place.result) c.in_ok-insert.ensures.updates.0 n ∙ new n, tt)
+pub invariant_of-self-then-is_above : goal.invariant_of-self-then-is_above
+invariant_of-self-then-is_above g c = (
+  subst (λ (es : List (ℕ × g.row.V.Denot)). IsPlaced (Some c.args.number) c.push.new.self.items c.self.inside.others.entries es) (sym items)
+      (subst (λ (risen : List (ℕ × ℕ)). IsPlaced (Some c.args.number) risen c.self.inside.others.entries (c.self.inside.entries.items ++ (c.args.number, c.args.value) ∷ [])) (sym risen)
+      (placed_risen c.self.inside.top c.self.inside.risen.items c.self.inside.others.entries c.self.inside.entries.items c.self.invariant.0 c.args.number c.args.value
+      (sym c.is_above.ensures ∙ c.if-is_above.true))),
+  tt,
+)
   where
-    absent : place_of c.self.inside.entries.items c.args.number ≡ None
-    absent = sym (c.self.invariant.0 c.args.number) ∙ sym c.in_default.ensures
-
     count : c.len-place.result ≡ length c.self.inside.entries.items
     count = let ok = c.self.inside.entries.ok in omega arith
 
     items : c.push_reserved.new.self.items ≡ c.self.inside.entries.items ++ (c.args.number, c.args.value) ∷ []
     items = c.push_reserved.ensures.items ∙ ap (λ (es : List (ℕ × g.row.V.Denot)). es ++ (c.args.number, c.args.value) ∷ []) c.reserve.ensures.items
 
-    new : (n : ℕ) → cond (nat_eq c.args.number n) (Some c.len-place.result) (place_in c.self.inside.places.entries n) ≡ place_of c.push_reserved.new.self.items n
-    new n = rw (count, c.self.invariant.0 n, items) (place_push c.self.inside.entries.items c.args.number c.args.value absent n)
+    risen : c.push.new.self.items ≡ c.self.inside.risen.items ++ (c.args.number, length c.self.inside.entries.items) ∷ []
+    risen = c.in_ok-push.ensures.items ∙ ap (λ (n : ℕ). c.self.inside.risen.items ++ (c.args.number, n) ∷ []) count
+
+pub returns-then-is_above-clause-ok : goal.returns-then-is_above-clause-ok
+returns-then-is_above-clause-ok g c =
+    c.push_reserved.ensures.items ∙ ap (λ (es : List (ℕ × g.row.V.Denot)). es ++ (c.args.number, c.args.value) ∷ []) c.reserve.ensures.items
+    ∙ push_is c.self.inside.entries.items c.args.number c.args.value (c.self.invariant.0.new c.args.number (sym c.is_above.ensures ∙ c.if-is_above.true))
+    ∙ ap (λ (t : Table g.row.V.Denot). insert_entry nat_eq t.entries c.args.number c.args.value) c.self.view_is
+
+pub index_mut-requires : goal.index_mut-requires
+index_mut-requires g c = let low = within c.self.inside.entries.items c.args.number c.in-Some.place (sym (c.self.invariant.0.leads c.args.number) ∙ sym c.in-Some.ensures) in let ok = c.self.inside.entries.ok in omega arith
+
+pub invariant_of-self-in-Some : goal.invariant_of-self-in-Some
+invariant_of-self-in-Some g c = (
+  placed_set c.self.inside.top c.self.inside.risen.items c.self.inside.others.entries c.self.inside.entries.items c.self.invariant.0 c.args.number c.in-Some.place c.args.value
+      (sym (c.self.invariant.0.leads c.args.number) ∙ sym c.in-Some.ensures),
+  tt,
+)
 
 pub returns-in-Some-clause-ok : goal.returns-in-Some-clause-ok
 returns-in-Some-clause-ok g c =
-    set_is c.self.inside.entries.items c.args.number c.in-Some.place c.args.value (sym (c.self.invariant.0 c.args.number) ∙ sym c.in-Some.ensures)
+    set_is c.self.inside.entries.items c.args.number c.in-Some.place c.args.value (sym (c.self.invariant.0.leads c.args.number) ∙ sym c.in-Some.ensures)
     ∙ ap (λ (t : Table g.row.V.Denot). insert_entry nat_eq t.entries c.args.number c.args.value) c.self.view_is
 
-pub returns-clause-ok : goal.returns-clause-ok
-returns-clause-ok g c =
-    c.push_reserved.ensures.items ∙ ap (λ (es : List (ℕ × g.row.V.Denot)). es ++ (c.args.number, c.args.value) ∷ []) c.reserve.ensures.items
-    ∙ push_is c.self.inside.entries.items c.args.number c.args.value (sym (c.self.invariant.0 c.args.number) ∙ sym c.in_default.ensures)
-    ∙ ap (λ (t : Table g.row.V.Denot). insert_entry nat_eq t.entries c.args.number c.args.value) c.self.view_is
-
-pub returns-in_err-reserve-clause-absent : goal.returns-in_err-reserve-clause-absent
-returns-in_err-reserve-clause-absent g c =
-    on_err c.from_residual.result (ap (λ (t : Table g.row.V.Denot). lookup (nat_eq c.args.number) t.entries) (sym c.self.view_is)
-    ∙ none_found c.self.inside.entries.items c.args.number (sym (c.self.invariant.0 c.args.number) ∙ sym c.in_default.ensures))
+pub returns-in_err-reserve-2-clause-absent : goal.returns-in_err-reserve-2-clause-absent
+returns-in_err-reserve-2-clause-absent g c =
+    on_err c.from_residual-in_err-reserve-2.result (ap (λ (t : Table g.row.V.Denot). lookup (nat_eq c.args.number) t.entries) (sym c.self.view_is)
+    ∙ none_found c.self.inside.entries.items c.args.number (sym (c.self.invariant.0.leads c.args.number) ∙ sym c.in_default.ensures))
 
 pub returns-in_err-insert-clause-absent : goal.returns-in_err-insert-clause-absent
 returns-in_err-insert-clause-absent g c =
     on_err c.from_residual-in_err-insert.result (ap (λ (t : Table g.row.V.Denot). lookup (nat_eq c.args.number) t.entries) (sym c.self.view_is)
-    ∙ none_found c.self.inside.entries.items c.args.number (sym (c.self.invariant.0 c.args.number) ∙ sym c.in_default.ensures))
+    ∙ none_found c.self.inside.entries.items c.args.number (sym (c.self.invariant.0.leads c.args.number) ∙ sym c.in_default.ensures))
+
+pub invariant_of-self-2 : goal.invariant_of-self-2
+invariant_of-self-2 g c = (
+  subst (λ (es : List (ℕ × g.row.V.Denot)). IsPlaced c.self.inside.top c.self.inside.risen.items c.insert.new.self.entries es) (sym items)
+      (placed_other c.self.inside.top c.self.inside.risen.items c.self.inside.others.entries c.self.inside.entries.items c.self.invariant.0 c.insert.new.self.entries c.args.number c.args.value
+      (sym c.is_above.ensures ∙ c.if-is_above.false) (sym (c.self.invariant.0.leads c.args.number) ∙ sym c.in_default.ensures)
+      (λ q. subst (λ (n : ℕ). lookup (is_at (nat_cmp q)) c.insert.new.self.entries ≡ cond (is_at (nat_cmp c.args.number) q) (Some (Some n)) (lookup (is_at (nat_cmp q)) c.self.inside.others.entries))
+      count (c.in_ok-insert.ensures.updates.0 q))),
+  tt,
+)
+  where
+    count : c.len-place.result ≡ length c.self.inside.entries.items
+    count = let ok = c.self.inside.entries.ok in omega arith
+
+    items : c.push_reserved-2.new.self.items ≡ c.self.inside.entries.items ++ (c.args.number, c.args.value) ∷ []
+    items = c.push_reserved-2.ensures.items ∙ ap (λ (es : List (ℕ × g.row.V.Denot)). es ++ (c.args.number, c.args.value) ∷ []) c.reserve-2.ensures.items
+
+pub returns-clause-ok : goal.returns-clause-ok
+returns-clause-ok g c =
+    c.push_reserved-2.ensures.items ∙ ap (λ (es : List (ℕ × g.row.V.Denot)). es ++ (c.args.number, c.args.value) ∷ []) c.reserve-2.ensures.items
+    ∙ push_is c.self.inside.entries.items c.args.number c.args.value (sym (c.self.invariant.0.leads c.args.number) ∙ sym c.in_default.ensures)
+    ∙ ap (λ (t : Table g.row.V.Denot). insert_entry nat_eq t.entries c.args.number c.args.value) c.self.view_is

@@ -1,29 +1,30 @@
-use Rattle.std.proofs.Common.{◌≡◌, ℕ, Some, sym, ap, arith, ◌∙◌}
+use Rattle.std.proofs.Common.{◌≡◌, ℕ, Some, sym, ap, subst, arith, ◌∙◌}
 use Rattle.std.specs.Prelude.{nat_eq, slice_set}
 use Rattle.std.specs.Map.{lookup}
-use Rattle.tables.specs.Tables.{Table, changed_at, place_of}
-use Rattle.tables.proofs.TableLemmas.{within, none_found, place_set, keyed, change_is, no_change}
+use Rattle.tables.specs.Tables.{Table, changed_at, place_of, IsPlaced}
+use Rattle.tables.proofs.TableLemmas.{within, none_found, placed_set, keyed, change_is, no_change}
 use Rattle.tables.proofs.table.Table.mark.Goals as goal
 
 pub index_mut-requires : goal.index_mut-requires
-index_mut-requires g c = let low = within c.self.inside.entries.items c.args.number c.in-Some.place (sym (c.self.invariant.0 c.args.number) ∙ sym c.in-Some.ensures) in let ok = c.self.inside.entries.ok in omega arith
+index_mut-requires g c = let low = within c.self.inside.entries.items c.args.number c.in-Some.place (sym (c.self.invariant.0.leads c.args.number) ∙ sym c.in-Some.ensures) in let ok = c.self.inside.entries.ok in omega arith
 
 pub invariant_of-self : goal.invariant_of-self
 invariant_of-self g c = (
-  λ n. c.self.invariant.0 n ∙ place_set c.self.inside.entries.items c.args.number c.in-Some.place c.mark.new.self at n
-      ∙ ap (λ (k : ℕ). place_of (slice_set c.self.inside.entries.items c.in-Some.place (k, c.mark.new.self)) n) (sym (keyed c.self.inside.entries.items c.args.number c.in-Some.place c.index_mut.result.now at c.index_mut.ensures.value)),
+  subst (λ (k : ℕ). IsPlaced c.self.inside.top c.self.inside.risen.items c.self.inside.others.entries (slice_set c.self.inside.entries.items c.in-Some.place (k, c.mark.new.self)))
+      (sym (keyed c.self.inside.entries.items c.args.number c.in-Some.place c.index_mut.result.now at c.index_mut.ensures.value))
+      (placed_set c.self.inside.top c.self.inside.risen.items c.self.inside.others.entries c.self.inside.entries.items c.self.invariant.0 c.args.number c.in-Some.place c.mark.new.self at),
   tt,
 )
   where
     at : place_of c.self.inside.entries.items c.args.number ≡ Some c.in-Some.place
-    at = sym (c.self.invariant.0 c.args.number) ∙ sym c.in-Some.ensures
+    at = sym (c.self.invariant.0.leads c.args.number) ∙ sym c.in-Some.ensures
 
 pub returns-in-Some : goal.returns-in-Some
 returns-in-Some g c =
-    change_is g.V.Mark.marked c.self.inside.entries.items c.args.number c.in-Some.place c.index_mut.result.now c.mark.new.self (sym (c.self.invariant.0 c.args.number) ∙ sym c.in-Some.ensures) c.index_mut.ensures.value c.mark.ensures
+    change_is g.V.Mark.marked c.self.inside.entries.items c.args.number c.in-Some.place c.index_mut.result.now c.mark.new.self (sym (c.self.invariant.0.leads c.args.number) ∙ sym c.in-Some.ensures) c.index_mut.ensures.value c.mark.ensures
     ∙ ap (λ (t : Table g.row.V.Denot). changed_at g.V.Mark.marked t.entries c.args.number) c.self.view_is
 
 pub returns-in_default : goal.returns-in_default
 returns-in_default g c = no_change g.V.Mark.marked c.args.self.now.entries c.args.number
     (ap (λ (t : Table g.row.V.Denot). lookup (nat_eq c.args.number) t.entries) (sym c.self.view_is)
-    ∙ none_found c.self.inside.entries.items c.args.number (sym (c.self.invariant.0 c.args.number) ∙ sym c.in_default.ensures))
+    ∙ none_found c.self.inside.entries.items c.args.number (sym (c.self.invariant.0.leads c.args.number) ∙ sym c.in_default.ensures))

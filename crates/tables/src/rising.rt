@@ -1,0 +1,63 @@
+//! Numbers that rise, with the places of their entries, and how one is found among them.
+//!
+//! Most look-ups are of numbers that came last. So the search steps back from the end, each step twice as wide as the one
+//! before, and then halves what lies between its last two steps: it takes the logarithm of how far from the end the number stands.
+
+ghost use Rattle.std.specs.Prelude.{◌≡◌, ◌≤◌, length, nat_eq};
+ghost use Rattle.std.specs.Map.{lookup};
+ghost use Rattle.tables.specs.Tables.{AreBelow, AreNotBelow, IsRising};
+
+/// The place that stands beside a number, if it is among them.
+pub(crate) fn place_among(risen: &[(u64, usize)], number: u64) -> Option<usize>
+    requires { IsRising risen.now }
+    ensures { result ≡ lookup (nat_eq number) risen.now }
+{
+    let first = count_below(risen, number);
+    if first < risen.len() && risen[first].0 == number {
+        return Some(risen[first].1);
+    }
+    None
+}
+
+// How many are below a number: they stand in front.
+fn count_below(risen: &[(u64, usize)], number: u64) -> usize
+    requires { IsRising risen.now }
+    ensures bound { result ≤ length risen.now }
+    ensures below { AreBelow risen.now result number }
+    ensures from { AreNotBelow risen.now result number }
+{
+    let mut high = risen.len();
+    while high > 0 {
+        let width = risen.len() - high + 1;
+        let low = high.saturating_sub(width);
+        if risen[low].0 < number {
+            return count_between(risen, number, low + 1, high);
+        }
+        high = low;
+    }
+    0
+}
+
+// The same, where so many at least and at most are below it.
+fn count_between(risen: &[(u64, usize)], number: u64, least: usize, most: usize) -> usize
+    requires rising { IsRising risen.now }
+    requires order { least ≤ most }
+    requires bound { most ≤ length risen.now }
+    requires below { AreBelow risen.now least number }
+    requires from { AreNotBelow risen.now most number }
+    ensures bound { result ≤ length risen.now }
+    ensures below { AreBelow risen.now result number }
+    ensures from { AreNotBelow risen.now result number }
+{
+    let mut low = least;
+    let mut high = most;
+    while low < high {
+        let middle = low + (high - low) / 2;
+        if risen[middle].0 < number {
+            low = middle + 1;
+        } else {
+            high = middle;
+        }
+    }
+    low
+}
