@@ -21,6 +21,13 @@ expired_by Msl2 Bare = Some expired.Msl2
 expired_by Giveup Bare = Some expired.Giveup
 expired_by timer extras = None
 
+-- the timer that expired
+abbrev pub timer_of : Expired → Timer
+timer_of (expired.Rto growth) = Rto
+timer_of expired.Persist = Persist
+timer_of expired.Msl2 = Msl2
+timer_of expired.Giveup = Giveup
+
 -- a segment's line has the number that it was made under, or the line that it copies; a call's nothing, nor that of a segment
 -- which is heard of a host that is not recorded
 abbrev pub event_taken : (line thread : ℕ) → Event → Extras → Option TakenLine

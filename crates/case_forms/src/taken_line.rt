@@ -1,7 +1,7 @@
 //! A line of the trace, as the machine takes it.
 
 ghost use Rattle.std.specs.Prelude.{◌≡◌, IfOk};
-ghost use Rattle.case_forms.specs.TakenLines.{expired_by, taken_of};
+ghost use Rattle.case_forms.specs.TakenLines.{expired_by, taken_of, timer_of};
 
 use crate::OutOfMemory;
 use crate::calls::{Answer, Call, Host, Ports};
@@ -18,6 +18,20 @@ pub enum Expired {
     Persist,
     Msl2,
     Giveup,
+}
+
+impl Expired {
+    /// Which timer it was.
+    pub fn timer(self) -> Timer
+        ensures { result ≡ timer_of self }
+    {
+        match self {
+            Expired::Rto(_) => Timer::Rto,
+            Expired::Persist => Timer::Persist,
+            Expired::Msl2 => Timer::Msl2,
+            Expired::Giveup => Timer::Giveup,
+        }
+    }
 }
 
 /// What a line tells that a step takes, with what the step adds to a line of its kind. `line` is its number among all lines

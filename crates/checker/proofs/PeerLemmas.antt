@@ -13,8 +13,8 @@ use Rattle.case_forms.specs.declared.calls.Answer.TheVariants as answers
 use Rattle.case_forms.specs.declared.calls.State.TheVariants as states
 use Rattle.case_forms.specs.Versions.{is_half}
 use Rattle.case_forms.specs.declared.version.Version.{Version}
-use Rattle.case_forms.specs.declared.timer.Timer.{Timer}
-use Rattle.case_forms.specs.declared.timer.Timer.TheVariants.{Rto, Persist, Msl2, Giveup}
+use Rattle.case_forms.specs.declared.taken_line.Expired.{Expired}
+use Rattle.case_forms.specs.declared.taken_line.Expired.TheVariants.{Giveup, Msl2, Persist, Rto}
 use Rattle.verdict.specs.declared.rule.Rule.TheVariants as rules
 use Rattle.verdict.specs.Rules.{first_broken}
 use Rattle.verdict.proofs.RuleLemmas.{none_all}
@@ -100,11 +100,11 @@ moves_at_ports w step host b lport rport f same = map_or_cases (λ (x : Body). M
 
 -- 1. what hosts do
 
-expiry_stream : (timer : Timer) (e : Endpoint) (growth : _) (s : ℕ) → (after_expiry e timer growth s).stream ≡ e.stream
-expiry_stream Rto e growth s = refl
-expiry_stream Persist e growth s = refl
-expiry_stream Msl2 e growth s = refl
-expiry_stream Giveup e growth s = refl
+expiry_stream : (x : Expired) (e : Endpoint) (s : ℕ) → (after_expiry e x s).stream ≡ e.stream
+expiry_stream (Rto growth) e s = refl
+expiry_stream Persist e s = refl
+expiry_stream Msl2 e s = refl
+expiry_stream Giveup e s = refl
 
 syn_or_reset : (syn rst : Bool) → (syn || rst) ≡ true → rst ≡ false → syn ≡ true
 syn_or_reset true rst either not_reset = refl
@@ -177,7 +177,7 @@ moves_taking h s w host line how m steady waits may = go (taker (pick w.hosts ho
 moves_deed : (h : Header) (s : ℕ) (w : World tcp_shape) (host : Host) (d : Deed tcp_shape) → Steady w.hosts → Permitted (tcp h) s w (At host d)
     → Moves w (At host d) host (pick w.hosts host).body.endpoints (deed_after (tcp h) host s (suc w.count) (pick w.hosts (other host)).wire (pick w.hosts host) d).body.endpoints
 moves_deed h s w host (Does x) steady may = moves_at_ports w (At host (Does x)) host (pick w.hosts host).body x.lport x.rport (λ e. after_recovery e x.cwnd x.ssthresh) (λ e. refl)
-moves_deed h s w host (Expires line x growth) steady may = moves_at_ports w (At host (Expires line x growth)) host (pick w.hosts host).body x.lport x.rport (λ e. after_expiry e x.timer growth s) (λ e. expiry_stream x.timer e growth s)
+moves_deed h s w host (Expires line x) steady may = moves_at_ports w (At host (Expires line x)) host (pick w.hosts host).body x.lport x.rport (λ e. after_expiry e x.expired s) (λ e. expiry_stream x.expired e s)
 moves_deed h s w host (Makes m) steady may = moves_at_ports w (At host (Makes m)) host (pick w.hosts host).body m.lport m.rport (λ e. after_making e m s)
     (λ e. either_stream m.flags.rst (record (shut_down (endpoint_made e m s)) { reset_due = false }) (endpoint_made e m s) e.stream refl refl)
 moves_deed h s w host (Sends line number wire) steady may = moves_not w (At host (Sends line number wire)) host (pick w.hosts host).body.endpoints

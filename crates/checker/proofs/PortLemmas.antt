@@ -14,9 +14,8 @@ use Rattle.case_forms.specs.declared.calls.Host.{Host}
 use Rattle.case_forms.specs.declared.calls.State.TheVariants as states
 use Rattle.case_forms.specs.declared.steps.SegmentPlan.{SegmentPlan}
 use Rattle.case_forms.specs.declared.steps.TakeChoice.{TakeChoice}
-use Rattle.case_forms.specs.declared.timer.Growth.{Growth}
-use Rattle.case_forms.specs.declared.timer.Timer.{Timer}
-use Rattle.case_forms.specs.declared.timer.Timer.TheVariants.{Giveup, Msl2, Persist, Rto}
+use Rattle.case_forms.specs.declared.taken_line.Expired.{Expired}
+use Rattle.case_forms.specs.declared.taken_line.Expired.TheVariants.{Giveup, Msl2, Persist, Rto}
 use Rattle.case_forms.specs.declared.trace.Header.{Header}
 use Rattle.verdict.specs.Rules.{first_broken}
 use Rattle.verdict.specs.declared.rule.Rule.TheVariants as rules
@@ -213,11 +212,11 @@ moved_at_ports all a x b lport rport f new = map_or_cases (λ (c : Body). Moved 
 
 -- 4. what hosts do
 
-expiry_end : (e : Endpoint) (timer : Timer) (growth : Growth) (s : ℕ) → SameEnd e (after_expiry e timer growth s)
-expiry_end e Rto growth s = plain_end e (after_expiry e Rto growth s) refl refl refl
-expiry_end e Persist growth s = plain_end e (after_expiry e Persist growth s) refl refl refl
-expiry_end e Msl2 growth s = plain_end e (after_expiry e Msl2 growth s) refl refl refl
-expiry_end e Giveup growth s = plain_end e (after_expiry e Giveup growth s) refl refl refl
+expiry_end : (e : Endpoint) (x : Expired) (s : ℕ) → SameEnd e (after_expiry e x s)
+expiry_end e (Rto growth) s = plain_end e (after_expiry e (Rto growth) s) refl refl refl
+expiry_end e Persist s = plain_end e (after_expiry e Persist s) refl refl refl
+expiry_end e Msl2 s = plain_end e (after_expiry e Msl2 s) refl refl refl
+expiry_end e Giveup s = plain_end e (after_expiry e Giveup s) refl refl refl
 
 making_end : (e : Endpoint) (m : SegmentPlan) (s : ℕ) → SameEnd e (after_making e m s)
 making_end e m s = either_end m.flags.rst e (record (shut_down (endpoint_made e m s)) { reset_due = false }) (endpoint_made e m s) (plain_end e _ refl refl refl) (plain_end e _ refl refl refl)
@@ -266,7 +265,7 @@ pub moved_deed : (all : List CallDone) (h : Header) (s : ℕ) (w : World tcp_sha
     → ((n : ℕ) (m : Emission) → waiting n (pick w.hosts host).inbox ≡ Some m → m.flags.syn ≡ true → (m.maker.host ≡ other host) × HasAt w.hosts m.maker m.lport m.rport) → Permitted (tcp h) s w (At host d)
     → Moved all w.hosts host (pick w.hosts host).body (deed_after (tcp h) host s (suc w.count) (pick w.hosts (other host)).wire (pick w.hosts host) d).body
 moved_deed all h s w host (Does x) from may = moved_at_ports all w.hosts host (pick w.hosts host).body x.lport x.rport (λ e. after_recovery e x.cwnd x.ssthresh) (λ e. plain_end e (after_recovery e x.cwnd x.ssthresh) refl refl refl)
-moved_deed all h s w host (Expires line x growth) from may = moved_at_ports all w.hosts host (pick w.hosts host).body x.lport x.rport (λ e. after_expiry e x.timer growth s) (λ e. expiry_end e x.timer growth s)
+moved_deed all h s w host (Expires line x) from may = moved_at_ports all w.hosts host (pick w.hosts host).body x.lport x.rport (λ e. after_expiry e x.expired s) (λ e. expiry_end e x.expired s)
 moved_deed all h s w host (Makes m) from may = moved_at_ports all w.hosts host (pick w.hosts host).body m.lport m.rport (λ e. after_making e m s) (λ e. making_end e m s)
 moved_deed all h s w host (Sends line number wire) from may = moved_not all w.hosts host (pick w.hosts host).body
 moved_deed all h s w host (Gets line copied wire) from may = moved_not all w.hosts host (pick w.hosts host).body

@@ -75,7 +75,7 @@ settled_home a x line inbox old = on_cases (AllWaiting (FromHost a (other x))) (
 deed_home : (h : Header) → is_half h.version ≡ false → (s : ℕ) (w : World tcp_shape) (host : Host) (d : Deed tcp_shape) → Permitted (tcp h) s w (At host d) → AtHome w.hosts host (pick w.hosts host) → AtHome w.hosts (other host) (pick w.hosts (other host))
     → AtHome w.hosts host (deed_after (tcp h) host s (suc w.count) (pick w.hosts (other host)).wire (pick w.hosts host) d)
 deed_home h both s w host (Does x) may g far = record { made = g.made; wire = g.wire; inbox = g.inbox }
-deed_home h both s w host (Expires line x growth) may g far = record { made = g.made; wire = g.wire; inbox = g.inbox }
+deed_home h both s w host (Expires line x) may g far = record { made = g.made; wire = g.wire; inbox = g.inbox }
 deed_home h both s w host (Makes m) may g far = record {
   made = made_more w.hosts host (pick w.hosts host).made (suc w.count) (option_map_or (made_at host (pick w.hosts host).body m) (place_of (pick w.hosts host).body m.lport m.rport) None)
       (made_home w.hosts host m (place_of (pick w.hosts host).body m.lport m.rport) refl) g.made;

@@ -4,8 +4,7 @@ ghost use Rattle.case_forms.specs.declared.timer.Timer.TheVariants.{Giveup};
 ghost use Rattle.machine.specs.Bounds.{HasRoom};
 ghost use Rattle.machine.specs.Calls.Close.{shut_down};
 ghost use Rattle.machine.specs.Forgetting.{forget_endpoint};
-ghost use Rattle.machine.specs.Steps.{growth_of, timer_of};
-ghost use Rattle.machine.specs.Timeouts.{expiry_rules, is_above, is_off, is_rto, greatest_values, has_more, may_give_up, after_expiry, after_rto};
+ghost use Rattle.machine.specs.Timeouts.{expiry_rules, grows_above, is_above, is_off, greatest_values, has_more, may_give_up, after_expiry, after_rto};
 ghost use Rattle.machine.specs.Timeouts.{after_persist};
 ghost use Rattle.machine.specs.declared.endpoint.Fault.TheVariants.{Timeout};
 ghost use Rattle.std.specs.Prelude.{◌≡◌, ◌≢◌, ◌<◌, ◌+◌, ◌^◌, ◌&&◌, true, Some};
@@ -28,9 +27,9 @@ pub fn admits_expiry(
     endpoint: &Endpoint,
     expired: Expired,
 ) -> Result<(), Rule>
-    ensures { result_err result ≡ first_broken (expiry_rules header.now moment endpoint.now (timer_of expired) (growth_of expired)) }
+    ensures { result_err result ≡ first_broken (expiry_rules header.now moment endpoint.now expired) }
 {
-    let timer = timer_of(expired);
+    let timer = expired.timer();
     if endpoint.state.is_closed() {
         return Err(Rule::NoEndpoint);
     }
@@ -46,20 +45,9 @@ pub fn admits_expiry(
     Ok(())
 }
 
-fn timer_of(expired: Expired) -> Timer
-    ensures { result ≡ timer_of expired }
-{
-    match expired {
-        Expired::Rto(_) => Timer::Rto,
-        Expired::Persist => Timer::Persist,
-        Expired::Msl2 => Timer::Msl2,
-        Expired::Giveup => Timer::Giveup,
-    }
-}
-
 // Whether what is chosen at the retransmission timer is above what it may be.
 fn grows_above(endpoint: &Endpoint, expired: Expired) -> bool
-    ensures { result ≡ (is_rto (timer_of expired) && is_above endpoint.now (growth_of expired)) }
+    ensures { result ≡ grows_above endpoint.now expired }
 {
     match expired {
         Expired::Rto(growth) => is_above(endpoint, growth),
@@ -145,7 +133,7 @@ fn is_refused_early(timers: &Timers, timer: Timer, moment: u64, header: &Header)
 /// is due; the wait in TIME-WAIT is over, or the endpoint gives up, with a reset that is due.
 pub fn expire(endpoint: &mut Endpoint, expired: Expired, moment: u64)
     requires { HasRoom endpoint.old }
-    ensures { endpoint.new ≡ forget_endpoint (after_expiry endpoint.old (timer_of expired) (growth_of expired) moment) }
+    ensures { endpoint.new ≡ forget_endpoint (after_expiry endpoint.old expired moment) }
 {
     match expired {
         Expired::Rto(growth) => expire_retransmission(endpoint, growth, moment),

@@ -237,7 +237,7 @@ act_bounded h me moment steps b (Calls call answer) small permitted k =
 act_bounded h me moment steps b (Makes m) small permitted k = ports_bounded steps b m.lport m.rport (λ e. after_making e m moment) (after_making_bounded m moment steps) k
 act_bounded h me moment steps b (Takes how m) small permitted k = taking_bounded h how m moment steps b (taker b m) small.ack k
 act_bounded h me moment steps b (Resets m) small permitted k = body_later steps b k
-act_bounded h me moment steps b (Expires x growth) small permitted k = ports_bounded steps b x.lport x.rport (λ e. after_expiry e x.timer growth moment) (after_expiry_bounded x.timer growth moment steps) k
+act_bounded h me moment steps b (Expires x) small permitted k = ports_bounded steps b x.lport x.rport (λ e. after_expiry e x.expired moment) (after_expiry_bounded x.expired moment steps) k
 act_bounded h me moment steps b (Recovers x) small permitted k = ports_bounded steps b x.lport x.rport (λ e. after_recovery e x.cwnd x.ssthresh) (after_recovery_bounded x.cwnd x.ssthresh steps) k
 
 pub body_keeps : (h : Header) (me : Host) (moment steps : ℕ) (b : Body) (act : Act) → IsSmallAct act → first_broken (act_rules h me moment b act) ≡ None → IsKeptBody steps b → IsKeptBody (suc steps) (forget_body (act_after h me moment b act))

@@ -6,8 +6,6 @@ use Rattle.std.proofs.lemmas.List.{length-append, length-take}
 use Rattle.case_forms.specs.declared.calls.State.{State}
 use Rattle.case_forms.specs.declared.calls.State.TheVariants as states
 use Rattle.case_forms.specs.declared.calls.Answer.TheVariants as answers
-use Rattle.case_forms.specs.declared.timer.Timer.{Timer}
-use Rattle.case_forms.specs.declared.timer.Timer.TheVariants.{Rto, Persist, Msl2, Giveup}
 use Rattle.streams.specs.Received as received
 use Rattle.machine.specs.declared.endpoint.Endpoint.{Endpoint}
 use Rattle.case_forms.specs.States.{is_closed, is_syn_sent}
@@ -16,7 +14,8 @@ use Rattle.machine.specs.Calls.Send.{after_send}
 use Rattle.machine.specs.Calls.Close.{shut_down, ended_state, after_shut, after_close, after_abort, orphaned}
 use Rattle.case_forms.specs.declared.steps.SegmentPlan.{SegmentPlan}
 use Rattle.machine.specs.Makes.{endpoint_made, after_making}
-use Rattle.case_forms.specs.declared.timer.Growth.{Growth}
+use Rattle.case_forms.specs.declared.taken_line.Expired.{Expired}
+use Rattle.case_forms.specs.declared.taken_line.Expired.TheVariants.{Giveup, Msl2, Persist, Rto}
 use Rattle.machine.specs.Timeouts.{after_expiry}
 use Rattle.machine.specs.Recovery.{after_recovery}
 use Rattle.endpoint_state.proofs.Forgets.{IsBounded, bounded_later}
@@ -140,18 +139,18 @@ after_making_bounded m moment steps e b =
     bounded_later steps (after_making e m moment)
     (either steps m.flags.rst gone (endpoint_made e m moment) (due steps (shut_down (endpoint_made e m moment)) false (shut steps (endpoint_made e m moment) made)) made)
 
-pub after_expiry_bounded : (timer : Timer) (growth : Growth) (moment steps : ℕ) (e : Endpoint) → IsBounded steps e → IsBounded (suc steps) (after_expiry e timer growth moment)
-after_expiry_bounded Rto growth moment steps e b =
+pub after_expiry_bounded : (x : Expired) (moment steps : ℕ) (e : Endpoint) → IsBounded steps e → IsBounded (suc steps) (after_expiry e x moment)
+after_expiry_bounded (Rto growth) moment steps e b =
     let later = bounded_later steps e b in
     let tries = b.tries in
     let backs = b.backs in
     record { una = b.una; counted = omega arith; dup = omega arith; tries = omega arith; backs = omega arith; accepted = later.accepted; met = b.met; unmet = b.unmet }
-after_expiry_bounded Persist growth moment steps e b =
+after_expiry_bounded Persist moment steps e b =
     let later = bounded_later steps e b in
     let tries = b.tries in
     record { una = b.una; counted = b.counted; dup = later.dup; tries = omega arith; backs = later.backs; accepted = later.accepted; met = b.met; unmet = b.unmet }
-after_expiry_bounded Msl2 growth moment steps e b = bounded_later steps (shut_down e) (shut steps e b)
-after_expiry_bounded Giveup growth moment steps e b =
+after_expiry_bounded Msl2 moment steps e b = bounded_later steps (shut_down e) (shut steps e b)
+after_expiry_bounded Giveup moment steps e b =
     let later = bounded_later steps (shut_down e) (shut steps e b) in
     record { una = b.una; counted = b.counted; dup = later.dup; tries = later.tries; backs = later.backs; accepted = later.accepted; met = later.met; unmet = later.unmet }
 

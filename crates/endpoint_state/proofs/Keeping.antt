@@ -139,7 +139,7 @@ module _ (hd : Header) (me : Host) (moment steps : ℕ) (h : HostState tcp_shape
   deed_kept : (fresh : ℕ) (far : List (ℕ × Emission)) (d : Deed tcp_shape) → All (λ x. IsSmallEmission x.1) far → IsSmallDeed me h d → first_broken (deed_rules (tcp hd) me moment far h d) ≡ None
       → IsKeptHost (suc steps) (forget_host (deed_after (tcp hd) me moment fresh far h d))
   deed_kept fresh far (Does x) others small permitted = body_kept (acts.Recovers x) tt permitted
-  deed_kept fresh far (Expires line x growth) others small permitted = body_kept (acts.Expires x growth) tt permitted
+  deed_kept fresh far (Expires line x) others small permitted = body_kept (acts.Expires x) tt permitted
   deed_kept fresh far (Makes making) others small permitted = makes_kept fresh making small permitted
   deed_kept fresh far (Sends line number wire) others small permitted = sends_kept line number wire (lookup (nat_eq number) h.made) (All-lookup (λ (m : Made Emission). IsSmallEmission m.emission) (nat_eq number) h.made k.tables.made)
   deed_kept fresh far (Gets line copied wire) others small permitted = gets_kept line (lookup (nat_eq copied) far) (All-lookup IsSmallEmission (nat_eq copied) far others)

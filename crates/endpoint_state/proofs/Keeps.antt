@@ -4,8 +4,6 @@ use Rattle.std.specs.Prelude.{if◌then◌else◌, slice_set}
 use Rattle.std.specs.List.{All}
 use Rattle.std.proofs.lemmas.Option.{none-some}
 use Rattle.case_forms.specs.declared.trace.Header.{Header}
-use Rattle.case_forms.specs.declared.timer.Timer.{Timer}
-use Rattle.case_forms.specs.declared.timer.Timer.TheVariants.{Rto, Persist, Msl2, Giveup}
 use Rattle.machine.specs.declared.endpoint.Endpoint.{Endpoint}
 use Rattle.machine.specs.declared.endpoint.Emission.{Emission}
 use Rattle.case_forms.specs.declared.steps.SegmentPlan.{SegmentPlan}
@@ -20,7 +18,8 @@ use Rattle.machine.specs.Arrives.Otherwise.{taken}
 use Rattle.machine.specs.Arrives.Otherwise.Reset.{was_reset}
 use Rattle.machine.specs.Arrives.SynSent.{met_peer}
 use Rattle.machine.specs.Arrives.{endpoint_taken}
-use Rattle.case_forms.specs.declared.timer.Growth.{Growth}
+use Rattle.case_forms.specs.declared.taken_line.Expired.{Expired}
+use Rattle.case_forms.specs.declared.taken_line.Expired.TheVariants.{Giveup, Msl2, Persist, Rto}
 use Rattle.machine.specs.Timeouts.{after_expiry}
 use Rattle.machine.specs.Recovery.{after_recovery}
 use Rattle.machine.specs.Forgetting.{forget_endpoint}
@@ -44,11 +43,11 @@ keeps_made e m moment = by m.flags.rst
     by true = record { lport = refl; rport = refl; listener = λ l is. is }
     by false = record { lport = refl; rport = refl; listener = λ l is. is }
 
-pub keeps_expired : (e : Endpoint) (timer : Timer) (growth : Growth) (moment : ℕ) → Keeps e (after_expiry e timer growth moment)
-keeps_expired e Rto growth moment = record { lport = refl; rport = refl; listener = λ l is. is }
-keeps_expired e Persist growth moment = record { lport = refl; rport = refl; listener = λ l is. is }
-keeps_expired e Msl2 growth moment = record { lport = refl; rport = refl; listener = λ l is. is }
-keeps_expired e Giveup growth moment = record { lport = refl; rport = refl; listener = λ l is. is }
+pub keeps_expired : (e : Endpoint) (x : Expired) (moment : ℕ) → Keeps e (after_expiry e x moment)
+keeps_expired e (Rto growth) moment = record { lport = refl; rport = refl; listener = λ l is. is }
+keeps_expired e Persist moment = record { lport = refl; rport = refl; listener = λ l is. is }
+keeps_expired e Msl2 moment = record { lport = refl; rport = refl; listener = λ l is. is }
+keeps_expired e Giveup moment = record { lport = refl; rport = refl; listener = λ l is. is }
 
 pub keeps_recovered : (e : Endpoint) (cwnd ssthresh : ℕ) → Keeps e (after_recovery e cwnd ssthresh)
 keeps_recovered e cwnd ssthresh = record { lport = refl; rport = refl; listener = λ l is. is }

@@ -33,7 +33,7 @@ IsSmallAct (Calls call answer) = IsSmallAnswer answer
 IsSmallAct (Makes making) = Unit {0}
 IsSmallAct (Takes how m) = IsSmallEmission m
 IsSmallAct (Resets m) = Unit {0}
-IsSmallAct (Expires expiry growth) = Unit {0}
+IsSmallAct (Expires expiring) = Unit {0}
 IsSmallAct (Recovers recovery) = Unit {0}
 
 -- a host begins with nothing; a permitted act is one step more, and what may be discarded is discarded then

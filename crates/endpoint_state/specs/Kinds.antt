@@ -19,7 +19,6 @@ use Rattle.machine.specs.Heard.{heard}
 use Rattle.machine.specs.Makes.{after_making}
 use Rattle.machine.specs.Arrives.{after_taking, taker, taker_rules}
 use Rattle.machine.specs.Reset.{reset_of, reset_rules}
-use Rattle.machine.specs.Steps.{growth_of, timer_of}
 use Rattle.machine.specs.Wire.{sent}
 use Rattle.machine.specs.Timeouts.{after_expiry, expiry_rules}
 use Rattle.machine.specs.Recovery.{after_recovery, recovery_rules}
@@ -64,14 +63,14 @@ answered_one line fresh h = record h {
 
 -- a timer of the endpoint of these ports expires
 abbrev pub expiry_of : Ports → Expired → Deed tcp_shape
-expiry_of ports e = Expires 0 (record { lport = ports.lport; rport = ports.rport; timer = timer_of e }) (growth_of e)
+expiry_of ports e = Expires 0 (record { lport = ports.lport; rport = ports.rport; expired = e })
 
 -- the rules of it, and what the host's endpoints are then
 abbrev pub expiring_rules : Header → (moment : ℕ) → Ports → Expired → Body → List (Rule × Bool)
-expiring_rules hd moment ports e b = rules_at b ports.lport ports.rport (λ x. expiry_rules hd moment x (timer_of e) (growth_of e))
+expiring_rules hd moment ports e b = rules_at b ports.lport ports.rport (λ x. expiry_rules hd moment x e)
 
 abbrev pub expired_body : (moment : ℕ) → Ports → Expired → Body → Body
-expired_body moment ports e b = at_ports b ports.lport ports.rport (λ x. after_expiry x (timer_of e) (growth_of e) moment)
+expired_body moment ports e b = at_ports b ports.lport ports.rport (λ x. after_expiry x e moment)
 
 -- the same of fast recovery
 abbrev pub recovering_rules : Recovery → Body → List (Rule × Bool)

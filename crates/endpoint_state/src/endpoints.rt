@@ -13,7 +13,6 @@ ghost use Rattle.machine.specs.Forgetting.{forget_endpoint};
 ghost use Rattle.case_forms.specs.States.{is_closed};
 ghost use Rattle.machine.specs.Makes.{after_making, emission_of};
 ghost use Rattle.machine.specs.Arrives.{endpoint_taken};
-ghost use Rattle.machine.specs.Steps.{growth_of, timer_of};
 ghost use Rattle.machine.specs.Timeouts.{after_expiry};
 ghost use Rattle.machine.specs.Recovery.{after_recovery};
 ghost use Rattle.streams.specs.Received.{waiting};
@@ -147,7 +146,7 @@ impl Endpoints {
     /// A timer of the endpoint at a place expires, at a moment in microseconds.
     pub(crate) fn expire(&mut self, place: u32, expired: Expired, moment: u64)
         requires { All HasRoom self.old }
-        ensures { self.new ≡ changed self.old place (λ e. after_expiry e (timer_of expired) (growth_of expired) moment) }
+        ensures { self.new ≡ changed self.old place (λ e. after_expiry e expired moment) }
     {
         let place = place as usize;
         if place < self.all.len() {

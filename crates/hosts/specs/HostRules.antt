@@ -29,7 +29,7 @@ arrival_rules in_rules far copied wire = on (lookup (nat_eq copied) far) (just r
 -- the rules of what one host does, which has this; `far` is the wire of the other host
 abbrev pub deed_rules : (k : Kernel) → Host → ℕ → List (ℕ × k.shape.Emission) → HostState k.shape → Deed k.shape → List (Rule × Bool)
 deed_rules k me moment far h (Does x) = k.act_rules me moment h.body (k.does x)
-deed_rules k me moment far h (Expires line x growth) = k.act_rules me moment h.body (k.expires x growth)
+deed_rules k me moment far h (Expires line x) = k.act_rules me moment h.body (k.expires x)
 deed_rules k me moment far h (Makes x) = k.act_rules me moment h.body (k.making x)
 deed_rules k me moment far h (Sends line number wire) = sending_rules k.out_rules h.made number wire
 deed_rules k me moment far h (Gets line copied wire) = arrival_rules (k.in_rules moment) far copied wire

@@ -32,7 +32,7 @@ inbox_settled line inbox = on (waiting line inbox) inbox (λ e. settled line inb
 -- joins the inbox, and what is taken, dropped or answered waits there no longer
 abbrev pub deed_after : (k : Kernel) → Host → ℕ → ℕ → List (ℕ × k.shape.Emission) → HostState k.shape → Deed k.shape → HostState k.shape
 deed_after k me moment fresh far h (Does x) = record h { body = k.act_after me moment h.body (k.does x) }
-deed_after k me moment fresh far h (Expires line x growth) = record h { body = k.act_after me moment h.body (k.expires x growth) }
+deed_after k me moment fresh far h (Expires line x) = record h { body = k.act_after me moment h.body (k.expires x) }
 deed_after k me moment fresh far h (Makes x) = record h { body = k.act_after me moment h.body (k.making x); made = act_made k me moment fresh h (k.making x) }
 deed_after k me moment fresh far h (Sends line number wire) =
     record h { made = made_gone_out number h.made; wire = wire_after k.sent h.made line number wire moment h.wire }

@@ -11,16 +11,16 @@ pub data Aim : Type 0 where
   ThatSocket : (socket : ℕ) → Aim
 
 -- the types: what a host has and does (`Body`, `Act`); what a step says beside the numbers that it names, of a step that
--- looks nothing up, of a timer's line, of the choice at one, of a segment to be made, and of the choice at taking one (`Plain`
--- to `How`); segments as they were made and as they are on the wire; calls and answers
+-- looks nothing up, of a timer that expires, of a segment to be made, and of the choice at taking one (`Plain` to `How`);
+-- what the line of a timer says; segments as they were made and as they are on the wire; calls and answers
 pub record Shape : Type 1 where
   pub Body : Type 0
   pub Act : Type 0
   pub Plain : Type 0
-  pub Expiry : Type 0
-  pub Growth : Type 0
+  pub Expiring : Type 0
   pub Making : Type 0
   pub How : Type 0
+  pub Expiry : Type 0
   pub Emission : Type 0
   pub Wire : Type 0
   pub Call : Type 0
@@ -37,11 +37,13 @@ pub record Kernel : Type 1 where
   pub act_makes : Host → ℕ → shape.Body → shape.Act → Option shape.Emission
   -- the acts of steps, with the segment that was looked up
   pub does : shape.Plain → shape.Act
-  pub expires : shape.Expiry → shape.Growth → shape.Act
+  pub expires : shape.Expiring → shape.Act
   pub making : shape.Making → shape.Act
   pub takes : shape.How → shape.Emission → shape.Act
   pub answers : shape.Emission → shape.Act
   pub calls : shape.Call → shape.Answer → shape.Act
+  -- what the line says of a timer that expires
+  pub expiry : shape.Expiring → shape.Expiry
   -- the rules of a segment that goes out, what stands on the wire then, and the rules of one that comes in
   pub out_rules : shape.Wire → shape.Emission → List (Rule × Bool)
   pub sent : ℕ → shape.Wire → shape.Emission → shape.Emission
@@ -82,7 +84,7 @@ pub record World (s : Shape) : Type 0 where
 -- host that isn't recorded; and taking, dropping or answering what came in with that line
 pub data Deed (s : Shape) : Type 0 where
   Does : (plain : s.Plain) → Deed s
-  Expires : (line : ℕ) (expiry : s.Expiry) (growth : s.Growth) → Deed s
+  Expires : (line : ℕ) (expiring : s.Expiring) → Deed s
   Makes : (making : s.Making) → Deed s
   Sends : (line number : ℕ) (wire : s.Wire) → Deed s
   Gets : (line copied : ℕ) (wire : s.Wire) → Deed s

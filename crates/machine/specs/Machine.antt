@@ -1,6 +1,7 @@
 -- The machine of two TCP hosts: what a host does, and all of it as a kernel of two hosts.
 use Rattle.std.specs.Prelude.{ℕ, Bool, true, not, List, [], ◌∷◌, slice_get, Option, None, Some}
 use Rattle.std.specs.Option.{option_map, option_map_or}
+use Rattle.case_forms.specs.TakenLines.{timer_of}
 use Rattle.case_forms.specs.Versions.{is_half}
 use Rattle.case_forms.specs.declared.calls.Answer.{Answer}
 use Rattle.case_forms.specs.declared.calls.Answer.TheVariants as answers
@@ -9,8 +10,8 @@ use Rattle.case_forms.specs.declared.calls.Call.TheVariants as calls
 use Rattle.case_forms.specs.declared.calls.Host.{Host}
 use Rattle.case_forms.specs.declared.steps.SegmentPlan.{SegmentPlan}
 use Rattle.case_forms.specs.declared.steps.TakeChoice.{TakeChoice}
+use Rattle.case_forms.specs.declared.taken_line.Expired.{Expired}
 use Rattle.case_forms.specs.declared.timer.Expiry.{Expiry}
-use Rattle.case_forms.specs.declared.timer.Growth.{Growth}
 use Rattle.case_forms.specs.declared.timer.Recovery.{Recovery}
 use Rattle.case_forms.specs.declared.trace.Header.{Header}
 use Rattle.case_forms.specs.declared.trace.Wire.{Wire}
@@ -29,13 +30,19 @@ use Rattle.machine.specs.Reset.{reset_rules, reset_of}
 use Rattle.machine.specs.Wire.{out_rules, sent, in_rules}
 use Rattle.machine.specs.Heard.{heard}
 
+-- a timer of the endpoint of these ports expires, with what is chosen there
+pub record Expiring : Type 0 where
+  pub lport : ℕ
+  pub rport : ℕ
+  pub expired : Expired
+
 -- what a host does
 pub data Act : Type 0 where
   Calls : (call : Call) (answer : Answer) → Act
   Makes : (making : SegmentPlan) → Act
   Takes : (how : TakeChoice) (emission : Emission) → Act
   Resets : (emission : Emission) → Act
-  Expires : (expiry : Expiry) (growth : Growth) → Act
+  Expires : (expiring : Expiring) → Act
   Recovers : (recovery : Recovery) → Act
 
 -- the rules of the endpoint of some ports
@@ -48,7 +55,7 @@ act_rules h me moment b (Calls call answer) = (rules.CallAnswer, not (call_allow
 act_rules h me moment b (Makes m) = rules_at b m.lport m.rport (λ e. making_rules e m)
 act_rules h me moment b (Takes how m) = taker_rules h me b how m (taker b m)
 act_rules h me moment b (Resets m) = reset_rules b m
-act_rules h me moment b (Expires x growth) = rules_at b x.lport x.rport (λ e. expiry_rules h moment e x.timer growth)
+act_rules h me moment b (Expires x) = rules_at b x.lport x.rport (λ e. expiry_rules h moment e x.expired)
 act_rules h me moment b (Recovers x) = rules_at b x.lport x.rport (λ e. recovery_rules e x.cwnd x.ssthresh)
 
 -- what the host has after it
@@ -57,7 +64,7 @@ act_after h me moment b (Calls call answer) = after_call b call answer
 act_after h me moment b (Makes m) = at_ports b m.lport m.rport (λ e. after_making e m moment)
 act_after h me moment b (Takes how m) = after_taking h b how m moment (taker b m)
 act_after h me moment b (Resets m) = b
-act_after h me moment b (Expires x growth) = at_ports b x.lport x.rport (λ e. after_expiry e x.timer growth moment)
+act_after h me moment b (Expires x) = at_ports b x.lport x.rport (λ e. after_expiry e x.expired moment)
 act_after h me moment b (Recovers x) = at_ports b x.lport x.rport (λ e. after_recovery e x.cwnd x.ssthresh)
 
 -- the segment made by the endpoint at a place
@@ -96,10 +103,10 @@ tcp_shape = record {
   Body = Body;
   Act = Act;
   Plain = Recovery;
-  Expiry = Expiry;
-  Growth = Growth;
+  Expiring = Expiring;
   Making = SegmentPlan;
   How = TakeChoice;
+  Expiry = Expiry;
   Emission = Emission;
   Wire = Wire;
   Call = Call;
@@ -115,11 +122,12 @@ tcp h = record {
   act_after = act_after h;
   act_makes = λ me moment b act. act_makes me b act;
   does = λ x. Recovers x;
-  expires = λ x growth. Expires x growth;
+  expires = λ x. Expires x;
   making = λ m. Makes m;
   takes = λ how m. Takes how m;
   answers = λ m. Resets m;
   calls = λ call answer. Calls call answer;
+  expiry = λ x. record { lport = x.lport; rport = x.rport; timer = timer_of x.expired };
   out_rules = out_rules h;
   sent = sent;
   in_rules = in_rules h;

@@ -8,13 +8,8 @@ use Rattle.case_forms.specs.declared.named_line.NamedLine.{NamedLine}
 use Rattle.case_forms.specs.declared.steps.Label.{Label}
 use Rattle.case_forms.specs.declared.steps.Label.TheVariants as labels
 use Rattle.case_forms.specs.declared.steps.Step as witness
-use Rattle.case_forms.specs.declared.taken_line.Expired.{Expired}
-use Rattle.case_forms.specs.declared.taken_line.Expired.TheVariants as expired
 use Rattle.case_forms.specs.declared.taken_line.TakenLine.{TakenLine}
 use Rattle.case_forms.specs.declared.taken_line.TakenLine.TheVariants as taken
-use Rattle.case_forms.specs.declared.timer.Growth.{Growth}
-use Rattle.case_forms.specs.declared.timer.Timer.{Timer}
-use Rattle.case_forms.specs.declared.timer.Timer.TheVariants.{Giveup, Msl2, Persist, Rto}
 use Rattle.case_forms.specs.declared.trace.Header.{Header}
 use Rattle.case_forms.specs.declared.trace.Line as lines
 use Rattle.verdict.specs.Rules.{first_broken}
@@ -24,18 +19,6 @@ use Rattle.hosts.specs.HostSteps.{after, start}
 use Rattle.hosts.specs.Hosts.{Answers, At, Begin, Does, Drops, Effect, Expires, Finish, Gets, Hears, Makes, Sends, Step, Takes, World}
 use Rattle.machine.specs.Machine.{tcp_shape, tcp}
 
--- the timer that expired
-abbrev pub timer_of : Expired → Timer
-timer_of (expired.Rto growth) = Rto
-timer_of expired.Persist = Persist
-timer_of expired.Msl2 = Msl2
-timer_of expired.Giveup = Giveup
-
--- what is chosen where it is the retransmission timer; nothing is read of it at another
-abbrev pub growth_of : Expired → Growth
-growth_of (expired.Rto growth) = growth
-growth_of e = record { cwnd = 0; ssthresh = 0 }
-
 -- a line's step
 abbrev pub line_step : TakenLine → Step tcp_shape
 line_step (taken.CallBegin line thread call) = Begin line thread call
@@ -43,7 +26,7 @@ line_step (taken.CallEnd line thread answer) = Finish line thread answer
 line_step (taken.Sent line host made wire) = At host (Sends line made wire)
 line_step (taken.Came line host copied wire) = At host (Gets line copied wire)
 line_step (taken.Heard line host wire) = At host (Hears line wire)
-line_step (taken.Expired line host ports e) = At host (Expires line (record { lport = ports.lport; rport = ports.rport; timer = timer_of e }) (growth_of e))
+line_step (taken.Expired line host ports e) = At host (Expires line (record { lport = ports.lport; rport = ports.rport; expired = e }))
 
 -- a label's step
 abbrev pub step_of : Label TakenLine → Step tcp_shape

@@ -1,6 +1,9 @@
 -- A timer expires: which may, and the endpoint then (RFC 9293, 3.10.8, 3.6.1 and 3.8.6.1; RFC 6298, 5).
 use Rattle.std.specs.Prelude.{ℕ, ◌+◌, ◌==◌, nat_le, nat_lt, Bool, true, false, not, ◌&&◌, ◌||◌, List, [], ◌∷◌, Some, is_some}
 use Rattle.case_forms.specs.States.{is_closed, is_fin_wait_2}
+use Rattle.case_forms.specs.TakenLines.{timer_of}
+use Rattle.case_forms.specs.declared.taken_line.Expired.{Expired}
+use Rattle.case_forms.specs.declared.taken_line.Expired.TheVariants as expireds
 use Rattle.case_forms.specs.declared.timer.Growth.{Growth}
 use Rattle.case_forms.specs.declared.timer.Timer.{Timer}
 use Rattle.case_forms.specs.declared.timer.Timer.TheVariants.{Giveup, Msl2, Persist, Rto}
@@ -17,13 +20,14 @@ use Rattle.machine.specs.Calls.Close.{shut_down}
 abbrev pub greatest_values : Endpoint → ℕ × ℕ
 greatest_values e = on_timeout e.congestion (flight e) (e.stream.una == 0) (nat_lt 0 e.backs)
 
-abbrev pub is_rto : Timer → Bool
-is_rto Rto = true
-is_rto _ = false
-
--- a value is above the greatest at an expiry (RFC 5681, 3.1)
+-- a value is above the greatest at an expiry of the retransmission timer (RFC 5681, 3.1)
 abbrev pub is_above : Endpoint → Growth → Bool
 is_above e growth = nat_lt ((greatest_values e).0) growth.cwnd || nat_lt ((greatest_values e).1) growth.ssthresh
+
+-- the same of what is chosen: at another timer nothing is
+abbrev pub grows_above : Endpoint → Expired → Bool
+grows_above e (expireds.Rto growth) = is_above e growth
+grows_above e _ = false
 
 -- data or the FIN is unsent or not acknowledged
 abbrev pub has_more : Endpoint → Bool
@@ -40,10 +44,10 @@ is_off e Persist = not (is_armed e.timers Persist && is_up e && has_more e)
 is_off e Msl2 = not (is_armed e.timers Msl2)
 is_off e Giveup = not (may_give_up e)
 
-abbrev pub expiry_rules : Header → ℕ → Endpoint → Timer → Growth → List (Rule × Bool)
-expiry_rules h moment e timer growth =
-    (rules.NoEndpoint, is_closed e.state) ∷ (rules.Growth, is_rto timer && is_above e growth)
-    ∷ (rules.TimerOff, is_off e timer) ∷ (rules.TimerEarly, is_early e.timers timer moment h) ∷ []
+abbrev pub expiry_rules : Header → ℕ → Endpoint → Expired → List (Rule × Bool)
+expiry_rules h moment e x =
+    (rules.NoEndpoint, is_closed e.state) ∷ (rules.Growth, grows_above e x)
+    ∷ (rules.TimerOff, is_off e (timer_of x)) ∷ (rules.TimerEarly, is_early e.timers (timer_of x) moment h) ∷ []
 
 -- a retransmission is due: the values chosen, all that was made may be made again, the timer runs anew (RFC 6298, 5.4 to 5.6; RFC 5681, 3.1)
 abbrev pub after_rto : Endpoint → Growth → ℕ → Endpoint
@@ -60,8 +64,8 @@ after_rto e growth moment = record e {
 abbrev pub after_persist : Endpoint → ℕ → Endpoint
 after_persist e moment = record e { recover = max_made e; probe_due = true; timers = expired e.timers Persist moment; tries = e.tries + 1 }
 
-abbrev pub after_expiry : Endpoint → Timer → Growth → ℕ → Endpoint
-after_expiry e Rto growth moment = after_rto e growth moment
-after_expiry e Persist growth moment = after_persist e moment
-after_expiry e Msl2 growth moment = shut_down e
-after_expiry e Giveup growth moment = record (shut_down e) { fault = Some Timeout; reset_due = true }
+abbrev pub after_expiry : Endpoint → Expired → ℕ → Endpoint
+after_expiry e (expireds.Rto growth) moment = after_rto e growth moment
+after_expiry e expireds.Persist moment = after_persist e moment
+after_expiry e expireds.Msl2 moment = shut_down e
+after_expiry e expireds.Giveup moment = record (shut_down e) { fault = Some Timeout; reset_due = true }

@@ -74,8 +74,8 @@ ascend_deed : (h : Header) (host : Host) (moment : ℕ) (far : List (ℕ × Emis
     → ascend 6 (deed_rules (tcp h) host moment far k d) ≡ true
 ascend_deed h host moment far k (Does x) =
     ascend_or (λ e. recovery_rules e x.cwnd x.ssthresh) ((rules.NoEndpoint, true) ∷ []) (endpoint_of k.body x.lport x.rport) refl (λ e. refl)
-ascend_deed h host moment far k (Expires line x growth) =
-    ascend_or (λ e. expiry_rules h moment e x.timer growth) ((rules.NoEndpoint, true) ∷ []) (endpoint_of k.body x.lport x.rport) refl (λ e. refl)
+ascend_deed h host moment far k (Expires line x) =
+    ascend_or (λ e. expiry_rules h moment e x.expired) ((rules.NoEndpoint, true) ∷ []) (endpoint_of k.body x.lport x.rport) refl (λ e. refl)
 ascend_deed h host moment far k (Makes m) =
     ascend_or (λ e. making_rules e m) ((rules.NoEndpoint, true) ∷ []) (endpoint_of k.body m.lport m.rport) refl (λ e. refl)
 ascend_deed h host moment far k (Sends line number wire) = ascend_on _ ((rules.NotMade, true) ∷ []) (lookup (nat_eq number) k.made) refl (λ m. refl)

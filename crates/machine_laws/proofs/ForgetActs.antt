@@ -96,7 +96,7 @@ act_rules-forget h me moment b (Calls call answer) = rw (call_allows-forget b ca
 act_rules-forget h me moment b (Makes m) = rules_at-forget b m.lport m.rport (λ e. making_rules e m) (λ e. making_rules-forget e m)
 act_rules-forget h me moment b (Takes how m) = rw (taker-forget b m) (taker_rules-forget h me b how m (taker b m))
 act_rules-forget h me moment b (Resets m) = rw (taker-forget b m, nothing-forget m (taker b m)) refl
-act_rules-forget h me moment b (Expires x growth) = rules_at-forget b x.lport x.rport (λ e. expiry_rules h moment e x.timer growth) (λ e. expiry_rules-forget h moment e x.timer growth)
+act_rules-forget h me moment b (Expires x) = rules_at-forget b x.lport x.rport (λ e. expiry_rules h moment e x.expired) (λ e. expiry_rules-forget h moment e x.expired)
 act_rules-forget h me moment b (Recovers x) = rules_at-forget b x.lport x.rport (λ e. recovery_rules e x.cwnd x.ssthresh) (λ e. recovery_rules-forget e x.cwnd x.ssthresh)
 
 taking-forgets : (h : Header) (b : Body) (how : TakeChoice) (m : Emission) (moment : ℕ) (t : Taker) → forget_body (after_taking h (forget_body b) how m moment (forget_taker t)) ≡ forget_body (after_taking h b how m moment t)
@@ -109,7 +109,7 @@ act-forgets h me moment b (Calls call answer) = call-forgets b call answer
 act-forgets h me moment b (Makes m) = ports-forgets b m.lport m.rport (λ e. after_making e m moment) (making-forgets m moment)
 act-forgets h me moment b (Takes how m) = rw (taker-forget b m) (taking-forgets h b how m moment (taker b m))
 act-forgets h me moment b (Resets m) = body-forget b
-act-forgets h me moment b (Expires x growth) = ports-forgets b x.lport x.rport (λ e. after_expiry e x.timer growth moment) (expiry-forgets x.timer growth moment)
+act-forgets h me moment b (Expires x) = ports-forgets b x.lport x.rport (λ e. after_expiry e x.expired moment) (expiry-forgets x.expired moment)
 act-forgets h me moment b (Recovers x) = ports-forgets b x.lport x.rport (λ e. after_recovery e x.cwnd x.ssthresh) (recovery-forgets x.cwnd x.ssthresh)
 
 -- a permitted segment below the oldest position that is not acknowledged is empty

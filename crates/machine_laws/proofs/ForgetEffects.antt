@@ -2,8 +2,6 @@
 use Rattle.std.proofs.Common.{◌≡◌, ℕ, suc, ◌+◌, ◌-◌, Bool, true, false, List, None, length, take, replicate, refl, ap, ◌∙◌, arith}
 use Rattle.std.specs.Prelude.{◌==◌, if◌then◌else◌}
 use Rattle.std.specs.Option.{option_map_or}
-use Rattle.case_forms.specs.declared.timer.Timer.{Timer}
-use Rattle.case_forms.specs.declared.timer.Timer.TheVariants.{Rto, Persist, Msl2, Giveup}
 use Rattle.streams.specs.Makings.{once}
 use Rattle.streams.proofs.Covers.{covered-append, covered-covered}
 use Rattle.streams.proofs.Fades.{below-mark, fade-fade}
@@ -15,7 +13,8 @@ use Rattle.case_forms.specs.States.{is_syn_sent}
 use Rattle.case_forms.specs.declared.steps.SegmentPlan.{SegmentPlan}
 use Rattle.machine.specs.Makes.Payload.{making_length}
 use Rattle.machine.specs.Makes.{endpoint_made, after_making}
-use Rattle.case_forms.specs.declared.timer.Growth.{Growth}
+use Rattle.case_forms.specs.declared.taken_line.Expired.{Expired}
+use Rattle.case_forms.specs.declared.taken_line.Expired.TheVariants.{Giveup, Msl2, Persist, Rto}
 use Rattle.machine.specs.Timeouts.{after_expiry}
 use Rattle.machine.specs.Recovery.{after_recovery}
 use Rattle.machine.specs.Forgetting.{forget_endpoint}
@@ -107,14 +106,14 @@ making-forgets m moment e = by m.flags.rst
     by true = ap reset_made (made-forgets m moment e)
     by false = made-forgets m moment e
 
-expiry_same : (timer : Timer) (growth : Growth) (moment : ℕ) (e : Endpoint) → after_expiry (forget_endpoint e) timer growth moment ≡ forget_endpoint (after_expiry e timer growth moment)
-expiry_same Rto growth moment e = rw (max_made-forget e) refl
-expiry_same Persist growth moment e = rw (max_made-forget e) refl
-expiry_same Msl2 growth moment e = refl
-expiry_same Giveup growth moment e = refl
+expiry_same : (x : Expired) (moment : ℕ) (e : Endpoint) → after_expiry (forget_endpoint e) x moment ≡ forget_endpoint (after_expiry e x moment)
+expiry_same (Rto growth) moment e = rw (max_made-forget e) refl
+expiry_same Persist moment e = rw (max_made-forget e) refl
+expiry_same Msl2 moment e = refl
+expiry_same Giveup moment e = refl
 
-pub expiry-forgets : (timer : Timer) (growth : Growth) (moment : ℕ) → Forgets (λ e. after_expiry e timer growth moment)
-expiry-forgets timer growth moment = forgets (λ e. after_expiry e timer growth moment) (expiry_same timer growth moment)
+pub expiry-forgets : (x : Expired) (moment : ℕ) → Forgets (λ e. after_expiry e x moment)
+expiry-forgets x moment = forgets (λ e. after_expiry e x moment) (expiry_same x moment)
 
 pub recovery-forgets : (cwnd ssthresh : ℕ) → Forgets (λ e. after_recovery e cwnd ssthresh)
 recovery-forgets cwnd ssthresh = forgets (λ e. after_recovery e cwnd ssthresh) (λ e. rw (max_made-forget e) refl)

@@ -2,8 +2,8 @@
 use Rattle.std.proofs.Common.{◌≡◌, ℕ, false, Option, None, Some, refl}
 use Rattle.std.specs.Option.{option_map_or}
 use Rattle.case_forms.specs.declared.trace.Header.{Header}
-use Rattle.case_forms.specs.declared.timer.Timer.{Timer}
-use Rattle.case_forms.specs.declared.timer.Timer.TheVariants.{Rto, Persist, Msl2, Giveup}
+use Rattle.case_forms.specs.declared.taken_line.Expired.{Expired}
+use Rattle.case_forms.specs.declared.taken_line.Expired.TheVariants.{Giveup, Msl2, Persist, Rto}
 use Rattle.case_forms.specs.declared.calls.Answer.{Answer}
 use Rattle.case_forms.specs.declared.calls.Answer.TheVariants as answers
 use Rattle.machine.specs.declared.endpoint.Endpoint.{Endpoint}
@@ -18,7 +18,6 @@ use Rattle.case_forms.specs.declared.steps.TakeChoice.{TakeChoice}
 use Rattle.machine.specs.Arrives.Otherwise.Sequence.{is_acceptable_at, place_taken}
 use Rattle.machine.specs.Arrives.Otherwise.{connected_rules}
 use Rattle.machine.specs.Arrives.SynSent.{syn_sent_rules}
-use Rattle.case_forms.specs.declared.timer.Growth.{Growth}
 use Rattle.case_forms.specs.declared.version.Initial.{Initial}
 use Rattle.machine.specs.Timeouts.{expiry_rules}
 use Rattle.machine.specs.Recovery.{recovery_rules}
@@ -56,11 +55,11 @@ acceptable-forget e m = rw (place_taken-forget e m) (by (place_taken e m))
 pub connected_rules-forget : (h : Header) (b : Body) (me : Name) (e : Endpoint) (how : TakeChoice) (m : Emission) → connected_rules h b me (forget_endpoint e) how m ≡ connected_rules h b me e how m
 connected_rules-forget h b me e how m = rw (acceptable-forget e m, next-forget e, max_made-forget e, again-forget e m.ack) refl
 
-pub expiry_rules-forget : (h : Header) (moment : ℕ) (e : Endpoint) (timer : Timer) (growth : Growth) → expiry_rules h moment (forget_endpoint e) timer growth ≡ expiry_rules h moment e timer growth
-expiry_rules-forget h moment e Rto growth = rw (max_made-forget e) refl
-expiry_rules-forget h moment e Persist growth = rw (next-forget e, end_of-forget e) refl
-expiry_rules-forget h moment e Msl2 growth = refl
-expiry_rules-forget h moment e Giveup growth = rw (max_made-forget e) refl
+pub expiry_rules-forget : (h : Header) (moment : ℕ) (e : Endpoint) (x : Expired) → expiry_rules h moment (forget_endpoint e) x ≡ expiry_rules h moment e x
+expiry_rules-forget h moment e (Rto growth) = rw (max_made-forget e) refl
+expiry_rules-forget h moment e Persist = rw (next-forget e, end_of-forget e) refl
+expiry_rules-forget h moment e Msl2 = refl
+expiry_rules-forget h moment e Giveup = rw (max_made-forget e) refl
 
 pub recovery_rules-forget : (e : Endpoint) (cwnd ssthresh : ℕ) → recovery_rules (forget_endpoint e) cwnd ssthresh ≡ recovery_rules e cwnd ssthresh
 recovery_rules-forget e cwnd ssthresh = rw (next-forget e, max_made-forget e) refl

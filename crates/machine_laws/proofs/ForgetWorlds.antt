@@ -33,7 +33,7 @@ on-same (Some x) none f g same = same x
 deed_rules-forget : (h : Header) (me : Host) (moment : ℕ) (far : List (ℕ × Emission)) (s : HostState tcp_shape) (d : Deed tcp_shape)
     → deed_rules (tcp h) me moment far (forget_host s) d ≡ deed_rules (tcp h) me moment far s d
 deed_rules-forget h me moment far s (Does x) = act_rules-forget h me moment s.body (acts.Recovers x)
-deed_rules-forget h me moment far s (Expires line x growth) = act_rules-forget h me moment s.body (acts.Expires x growth)
+deed_rules-forget h me moment far s (Expires line x) = act_rules-forget h me moment s.body (acts.Expires x)
 deed_rules-forget h me moment far s (Makes x) = act_rules-forget h me moment s.body (acts.Makes x)
 deed_rules-forget h me moment far s (Sends line number wire) = refl
 deed_rules-forget h me moment far s (Gets line copied wire) = refl
@@ -90,7 +90,7 @@ deed-forgets : (h : Header) (me : Host) (moment fresh : ℕ) (far : List (ℕ ×
     → IfMaking d (first_broken (deed_rules (tcp h) me moment far s d) ≡ None)
     → forget_host (deed_after (tcp h) me moment fresh far (forget_host s) d) ≡ forget_host (deed_after (tcp h) me moment fresh far s d)
 deed-forgets h me moment fresh far s (Does x) ok = rw (act-forgets h me moment s.body (acts.Recovers x)) refl
-deed-forgets h me moment fresh far s (Expires line x growth) ok = rw (act-forgets h me moment s.body (acts.Expires x growth)) refl
+deed-forgets h me moment fresh far s (Expires line x) ok = rw (act-forgets h me moment s.body (acts.Expires x)) refl
 deed-forgets h me moment fresh far s (Makes x) ok = rw (act-forgets h me moment s.body (acts.Makes x), makes-forget h me moment s.body x ok) refl
 deed-forgets h me moment fresh far s (Sends line number wire) ok = tables-forgets s (made_gone_out number s.made) (wire_after wires.sent s.made line number wire moment s.wire) s.inbox
 deed-forgets h me moment fresh far s (Gets line copied wire) ok = tables-forgets s s.made s.wire (inbox_after far line copied s.inbox)
@@ -149,7 +149,7 @@ besides-same v w same = record { tables = tables-same v w same; threads = ap (λ
 -- a permitted step that makes a segment is permitted
 if_making : (d : Deed tcp_shape) (P : Type 0) → P → IfMaking d P
 if_making (Does x) P p = tt
-if_making (Expires line x growth) P p = tt
+if_making (Expires line x) P p = tt
 if_making (Makes x) P p = p
 if_making (Sends line number wire) P p = tt
 if_making (Gets line copied wire) P p = tt

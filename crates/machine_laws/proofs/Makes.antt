@@ -5,8 +5,6 @@ use Rattle.std.specs.Option.{option_map, option_map_or}
 use Rattle.std.proofs.Math.Nat.{le_refl}
 use Rattle.std.proofs.lemmas.Option.{none-some, same_Some}
 use Rattle.case_forms.specs.declared.calls.Host.{Host}
-use Rattle.case_forms.specs.declared.timer.Timer.{Timer}
-use Rattle.case_forms.specs.declared.timer.Timer.TheVariants.{Rto, Persist, Msl2, Giveup}
 use Rattle.verdict.specs.declared.rule.Rule.TheVariants as rules
 use Rattle.verdict.specs.Rules.{first_broken}
 use Rattle.verdict.proofs.RuleLemmas.{none_all}
@@ -26,7 +24,8 @@ use Rattle.machine.specs.Makes.Kind.{may_make, may_make_syn, may_make_reset, may
 use Rattle.machine.specs.Makes.Payload.{is_bad_payload}
 use Rattle.machine.specs.Makes.Edges.{is_bad_ack, is_beyond_offer, is_congesting}
 use Rattle.machine.specs.Makes.{making_rules, emission_of, after_making, endpoint_made}
-use Rattle.case_forms.specs.declared.timer.Growth.{Growth}
+use Rattle.case_forms.specs.declared.taken_line.Expired.{Expired}
+use Rattle.case_forms.specs.declared.taken_line.Expired.TheVariants.{Giveup, Msl2, Persist, Rto}
 use Rattle.machine.specs.Timeouts.{after_expiry}
 use Rattle.machine.specs.Recovery.{after_recovery}
 use Rattle.machine.specs.Machine.{made_at, rules_at}
@@ -156,11 +155,11 @@ pub plain_making : (m : SegmentPlan) (moment : ℕ) (e : Endpoint) → Plain e (
 plain_making m moment e = plain_either m.flags.rst e (record (shut_down (endpoint_made e m moment)) { reset_due = false }) (endpoint_made e m moment)
     (record { stream = refl; irs = refl; waits = λ x. absurd cc }) (record { stream = refl; irs = refl; waits = λ x. x })
 
-pub plain_expiry : (timer : Timer) (growth : Growth) (moment : ℕ) (e : Endpoint) → Plain e (after_expiry e timer growth moment)
-plain_expiry Rto growth moment e = record { stream = refl; irs = refl; waits = λ x. x }
-plain_expiry Persist growth moment e = record { stream = refl; irs = refl; waits = λ x. x }
-plain_expiry Msl2 growth moment e = record { stream = refl; irs = refl; waits = λ x. absurd cc }
-plain_expiry Giveup growth moment e = record { stream = refl; irs = refl; waits = λ x. absurd cc }
+pub plain_expiry : (x : Expired) (moment : ℕ) (e : Endpoint) → Plain e (after_expiry e x moment)
+plain_expiry (Rto growth) moment e = record { stream = refl; irs = refl; waits = λ x. x }
+plain_expiry Persist moment e = record { stream = refl; irs = refl; waits = λ x. x }
+plain_expiry Msl2 moment e = record { stream = refl; irs = refl; waits = λ x. absurd cc }
+plain_expiry Giveup moment e = record { stream = refl; irs = refl; waits = λ x. absurd cc }
 
 pub plain_recovery : (cwnd ssthresh : ℕ) (e : Endpoint) → Plain e (after_recovery e cwnd ssthresh)
 plain_recovery cwnd ssthresh e = record { stream = refl; irs = refl; waits = λ x. x }

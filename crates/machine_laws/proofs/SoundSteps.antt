@@ -12,8 +12,6 @@ use Rattle.case_forms.specs.declared.calls.Call.{Call}
 use Rattle.case_forms.specs.declared.calls.Call.TheVariants as calls
 use Rattle.case_forms.specs.declared.calls.Answer.{Answer}
 use Rattle.case_forms.specs.declared.calls.Answer.TheVariants as answers
-use Rattle.case_forms.specs.declared.timer.Timer.{Timer}
-use Rattle.case_forms.specs.declared.timer.Timer.TheVariants.{Rto, Persist, Msl2, Giveup}
 use Rattle.verdict.specs.declared.rule.Rule.TheVariants as rules
 use Rattle.verdict.specs.Rules.{first_broken}
 use Rattle.verdict.proofs.RuleLemmas.{none_all}
@@ -46,7 +44,8 @@ use Rattle.machine.specs.Arrives.SynSent.{met_peer}
 use Rattle.machine.specs.Arrives.Listen.{child}
 use Rattle.machine.specs.Heard.{as_read}
 use Rattle.machine.specs.Arrives.{Taker, Nobody, AtListener, AtEndpoint, taker, endpoint_taken, after_taking}
-use Rattle.case_forms.specs.declared.timer.Growth.{Growth}
+use Rattle.case_forms.specs.declared.taken_line.Expired.{Expired}
+use Rattle.case_forms.specs.declared.taken_line.Expired.TheVariants.{Giveup, Msl2, Persist, Rto}
 use Rattle.machine.specs.Timeouts.{after_expiry}
 use Rattle.machine.specs.Recovery.{after_recovery}
 use Rattle.machine.specs.Machine.{Calls, tcp, tcp_shape, aim, gives}
@@ -64,11 +63,11 @@ use Rattle.machine_laws.proofs.Sound.{is_early, Sound, Keeps, Stays, stays_not, 
 stays_making : (e : Endpoint) (m : SegmentPlan) (moment : ℕ) → Stays e (after_making e m moment)
 stays_making e m moment = stays_either m.flags.rst e (record (shut_down (endpoint_made e m moment)) { reset_due = false }) (endpoint_made e m moment) (record { listener = refl; late = λ h. refl }) (record { listener = refl; late = λ h. h })
 
-stays_expiry : (e : Endpoint) (timer : Timer) (growth : Growth) (moment : ℕ) → Stays e (after_expiry e timer growth moment)
-stays_expiry e Rto growth moment = record { listener = refl; late = λ h. h }
-stays_expiry e Persist growth moment = record { listener = refl; late = λ h. h }
-stays_expiry e Msl2 growth moment = record { listener = refl; late = λ h. refl }
-stays_expiry e Giveup growth moment = record { listener = refl; late = λ h. refl }
+stays_expiry : (e : Endpoint) (x : Expired) (moment : ℕ) → Stays e (after_expiry e x moment)
+stays_expiry e (Rto growth) moment = record { listener = refl; late = λ h. h }
+stays_expiry e Persist moment = record { listener = refl; late = λ h. h }
+stays_expiry e Msl2 moment = record { listener = refl; late = λ h. refl }
+stays_expiry e Giveup moment = record { listener = refl; late = λ h. refl }
 
 early_either : (b : Bool) (x y : State) → is_early x ≡ false → is_early y ≡ false → is_early (if b then x else y) ≡ false
 early_either true x y p q = p
@@ -258,7 +257,7 @@ keeps_call b call answer g new = keeps_same b (gives call answer) g
 
 keeps_deed : (h : Header) (s : ℕ) (w : World tcp_shape) (host : Host) (d : Deed tcp_shape) → Sound (pick w.hosts host).body → Keeps (pick w.hosts host).body (deed_after (tcp h) host s (suc w.count) (pick w.hosts (other host)).wire (pick w.hosts host) d).body None
 keeps_deed h s w host (Does x) g = keeps_at_ports (pick w.hosts host).body x.lport x.rport (λ e. after_recovery e x.cwnd x.ssthresh) g (λ e. record { listener = refl; late = λ y. y })
-keeps_deed h s w host (Expires line x growth) g = keeps_at_ports (pick w.hosts host).body x.lport x.rport (λ e. after_expiry e x.timer growth s) g (λ e. stays_expiry e x.timer growth s)
+keeps_deed h s w host (Expires line x) g = keeps_at_ports (pick w.hosts host).body x.lport x.rport (λ e. after_expiry e x.expired s) g (λ e. stays_expiry e x.expired s)
 keeps_deed h s w host (Makes m) g = keeps_at_ports (pick w.hosts host).body m.lport m.rport (λ e. after_making e m s) g (λ e. stays_making e m s)
 keeps_deed h s w host (Sends line number wire) g = keeps_not (pick w.hosts host).body g
 keeps_deed h s w host (Gets line copied wire) g = keeps_not (pick w.hosts host).body g

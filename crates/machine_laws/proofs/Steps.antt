@@ -149,9 +149,9 @@ kept_deed : (h : Header) → is_half h.version ≡ false → (s : ℕ) (w : Worl
 kept_deed h whole s w host (Does x) g may up = let k = pick w.hosts host in
     kept_host w.hosts host (deed_after (tcp h) host s (suc w.count) (pick w.hosts (other host)).wire k (Does x)) g up
     (moves_at_ports w.hosts host k.body x.lport x.rport (λ e. after_recovery e x.cwnd x.ssthresh) (ends w.hosts host g) (plain_recovery x.cwnd x.ssthresh)) (λ c later t. record { made = t.made; wire = t.wire; inbox = t.inbox })
-kept_deed h whole s w host (Expires line x growth) g may up = let k = pick w.hosts host in
-    kept_host w.hosts host (deed_after (tcp h) host s (suc w.count) (pick w.hosts (other host)).wire k (Expires line x growth)) g up
-    (moves_at_ports w.hosts host k.body x.lport x.rport (λ e. after_expiry e x.timer growth s) (ends w.hosts host g) (plain_expiry x.timer growth s)) (λ c later t. record { made = t.made; wire = t.wire; inbox = t.inbox })
+kept_deed h whole s w host (Expires line x) g may up = let k = pick w.hosts host in
+    kept_host w.hosts host (deed_after (tcp h) host s (suc w.count) (pick w.hosts (other host)).wire k (Expires line x)) g up
+    (moves_at_ports w.hosts host k.body x.lport x.rport (λ e. after_expiry e x.expired s) (ends w.hosts host g) (plain_expiry x.expired s)) (λ c later t. record { made = t.made; wire = t.wire; inbox = t.inbox })
 kept_deed h whole s w host (Makes m) g may up = kept_makes h s w host m g may up
 kept_deed h whole s w host (Sends line number wire) g may up = kept_sends h s w host line number wire g up
 kept_deed h whole s w host (Gets line copied wire) g may up = kept_gets h s w host line copied wire g up
@@ -216,7 +216,7 @@ effect_allowed h s hosts call answer (Some host) may = let x = none_both (fresh_
 grown_deed : (h : Header) (s : ℕ) (w : World tcp_shape) (host : Host) (d : Deed tcp_shape) → AllOwn w.hosts → Permitted (tcp h) s w (At host d)
     → Grown (Carries h w (At host d)) host silent (pick w.hosts host).body.endpoints (deed_after (tcp h) host s (suc w.count) (pick w.hosts (other host)).wire (pick w.hosts host) d).body.endpoints
 grown_deed h s w host (Does x) g may = grown_at_ports (Carries h w (At host (Does x))) host (pick w.hosts host).body x.lport x.rport (λ e. after_recovery e x.cwnd x.ssthresh) (g host) (plain_recovery x.cwnd x.ssthresh)
-grown_deed h s w host (Expires line x growth) g may = grown_at_ports (Carries h w (At host (Expires line x growth))) host (pick w.hosts host).body x.lport x.rport (λ e. after_expiry e x.timer growth s) (g host) (plain_expiry x.timer growth s)
+grown_deed h s w host (Expires line x) g may = grown_at_ports (Carries h w (At host (Expires line x))) host (pick w.hosts host).body x.lport x.rport (λ e. after_expiry e x.expired s) (g host) (plain_expiry x.expired s)
 grown_deed h s w host (Makes m) g may = grown_at_ports (Carries h w (At host (Makes m))) host (pick w.hosts host).body m.lport m.rport (λ e. after_making e m s) (g host) (plain_making m s)
 grown_deed h s w host (Sends line number wire) g may = grown_not (Carries h w (At host (Sends line number wire))) host silent (pick w.hosts host).body.endpoints (λ i. refl) (g host)
 grown_deed h s w host (Gets line copied wire) g may = grown_not (Carries h w (At host (Gets line copied wire))) host silent (pick w.hosts host).body.endpoints (λ i. refl) (g host)

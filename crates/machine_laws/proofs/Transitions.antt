@@ -16,10 +16,9 @@ use Rattle.case_forms.specs.declared.calls.State.{State}
 use Rattle.case_forms.specs.declared.calls.State.TheVariants as states
 use Rattle.case_forms.specs.declared.steps.SegmentPlan.{SegmentPlan}
 use Rattle.case_forms.specs.declared.steps.TakeChoice.{TakeChoice}
-use Rattle.case_forms.specs.declared.timer.Expiry.{Expiry}
-use Rattle.case_forms.specs.declared.timer.Growth.{Growth}
-use Rattle.case_forms.specs.declared.timer.Timer.{Timer}
-use Rattle.case_forms.specs.declared.timer.Timer.TheVariants.{Giveup, Msl2, Persist, Rto}
+use Rattle.case_forms.specs.declared.taken_line.Expired.{Expired}
+use Rattle.case_forms.specs.declared.taken_line.Expired.TheVariants as expireds
+use Rattle.case_forms.specs.declared.timer.Timer.TheVariants.{Msl2, Persist, Rto}
 use Rattle.case_forms.specs.declared.trace.Header.{Header}
 use Rattle.streams.specs.declared.making.Made.{Made}
 use Rattle.streams.specs.Lists.{modify}
@@ -61,7 +60,7 @@ use Rattle.machine.specs.Arrives.Listen.{child}
 use Rattle.machine.specs.Arrives.{Taker, Nobody, AtListener, AtEndpoint, taker, endpoint_taken, after_taking}
 use Rattle.machine.specs.Timeouts.{after_expiry}
 use Rattle.machine.specs.Recovery.{after_recovery}
-use Rattle.machine.specs.Machine.{Calls, tcp, tcp_shape, aim}
+use Rattle.machine.specs.Machine.{Calls, Expiring, tcp, tcp_shape, aim}
 use Rattle.machine_laws.specs.Runs.{world_at_end}
 use Rattle.machine_laws.specs.Consequences.{find}
 use Rattle.machine_laws.specs.Bounds.{TakesThere}
@@ -180,15 +179,15 @@ making_goes w s host m i e at = go m.flags.rst refl
     go true is = closed w (At host (Makes m)) (name host i) e (record (shut_down (endpoint_made e m s)) { reset_due = false }) refl (making_rises e m s) (ByOwnReset (m, refl, is, at) refl)
     go false is = stays w (At host (Makes m)) (name host i) e (endpoint_made e m s) refl (making_rises e m s) (timed_waits e.timers m s)
 
-expiry_goes : (w : World tcp_shape) (s : ℕ) (host : Host) (line : ℕ) (x : Expiry) (growth : Growth) (i : ℕ) (e : Endpoint) → place_of (pick w.hosts host).body x.lport x.rport ≡ Some i
-    → Goes w (At host (Expires line x growth)) (name host i) e (after_expiry e x.timer growth s)
-expiry_goes w s host line x growth i e at = go x.timer (λ closing. (line, x, growth, refl, closing, at))
+expiry_goes : (w : World tcp_shape) (s : ℕ) (host : Host) (line : ℕ) (x : Expiring) (i : ℕ) (e : Endpoint) → place_of (pick w.hosts host).body x.lport x.rport ≡ Some i
+    → Goes w (At host (Expires line x)) (name host i) e (after_expiry e x.expired s)
+expiry_goes w s host line x i e at = go x.expired (λ closing. (line, x, refl, closing, at))
   where
-    go : (timer : Timer) → (closes timer ≡ true → TimerCloses w (At host (Expires line x growth)) (name host i)) → Goes w (At host (Expires line x growth)) (name host i) e (after_expiry e timer growth s)
-    go Rto closing = stays w (At host (Expires line x growth)) (name host i) e (after_expiry e Rto growth s) refl (level e) refl
-    go Persist closing = stays w (At host (Expires line x growth)) (name host i) e (after_expiry e Persist growth s) refl (level e) refl
-    go Msl2 closing = closed w (At host (Expires line x growth)) (name host i) e (after_expiry e Msl2 growth s) refl (level e) (ByTimer (closing refl) refl)
-    go Giveup closing = closed w (At host (Expires line x growth)) (name host i) e (after_expiry e Giveup growth s) refl (level e) (ByTimer (closing refl) refl)
+    go : (t : Expired) → (closes t ≡ true → TimerCloses w (At host (Expires line x)) (name host i)) → Goes w (At host (Expires line x)) (name host i) e (after_expiry e t s)
+    go (expireds.Rto growth) closing = stays w (At host (Expires line x)) (name host i) e (after_expiry e (expireds.Rto growth) s) refl (level e) refl
+    go expireds.Persist closing = stays w (At host (Expires line x)) (name host i) e (after_expiry e expireds.Persist s) refl (level e) refl
+    go expireds.Msl2 closing = closed w (At host (Expires line x)) (name host i) e (after_expiry e expireds.Msl2 s) refl (level e) (ByTimer (closing refl) refl)
+    go expireds.Giveup closing = closed w (At host (Expires line x)) (name host i) e (after_expiry e expireds.Giveup s) refl (level e) (ByTimer (closing refl) refl)
 
 -- the arrows of an acknowledgment, and behind it those of a FIN
 acknowledged_leads : (s : State) (e : Endpoint) (m : Emission) → StaysOr segment_leads s (acknowledged s e m)
@@ -333,8 +332,8 @@ gone_deed : (h : Header) (s : ℕ) (w : World tcp_shape) (host : Host) (d : Deed
     → Gone w (At host d) host (pick w.hosts host).body.endpoints (deed_after (tcp h) host s (suc w.count) (pick w.hosts (other host)).wire (pick w.hosts host) d).body.endpoints
 gone_deed h s w host (Does x) = gone_at_ports w (At host (Does x)) host (pick w.hosts host).body x.lport x.rport (λ e. after_recovery e x.cwnd x.ssthresh)
     (λ i e at. stays w (At host (Does x)) (name host i) e (after_recovery e x.cwnd x.ssthresh) refl (level e) refl)
-gone_deed h s w host (Expires line x growth) = gone_at_ports w (At host (Expires line x growth)) host (pick w.hosts host).body x.lport x.rport (λ e. after_expiry e x.timer growth s)
-    (λ i e at. expiry_goes w s host line x growth i e at)
+gone_deed h s w host (Expires line x) = gone_at_ports w (At host (Expires line x)) host (pick w.hosts host).body x.lport x.rport (λ e. after_expiry e x.expired s)
+    (λ i e at. expiry_goes w s host line x i e at)
 gone_deed h s w host (Makes m) = gone_at_ports w (At host (Makes m)) host (pick w.hosts host).body m.lport m.rport (λ e. after_making e m s)
     (λ i e at. making_goes w s host m i e at)
 gone_deed h s w host (Sends line number wire) = gone_not w (At host (Sends line number wire)) host (pick w.hosts host).body.endpoints

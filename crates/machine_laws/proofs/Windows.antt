@@ -11,8 +11,6 @@ use Rattle.case_forms.specs.declared.calls.Call.TheVariants as calls
 use Rattle.case_forms.specs.declared.calls.Answer.{Answer}
 use Rattle.case_forms.specs.declared.calls.Answer.TheVariants as answers
 use Rattle.case_forms.specs.declared.calls.State.TheVariants as states
-use Rattle.case_forms.specs.declared.timer.Timer.{Timer}
-use Rattle.case_forms.specs.declared.timer.Timer.TheVariants.{Rto, Persist, Msl2, Giveup}
 use Rattle.verdict.specs.declared.rule.Rule.{Rule}
 use Rattle.verdict.specs.declared.rule.Rule.TheVariants as rules
 use Rattle.verdict.specs.Rules.{first_broken}
@@ -46,13 +44,14 @@ use Rattle.machine.specs.Arrives.SynSent.{syn_sent_rules, greatest_at_syn, met_p
 use Rattle.machine.specs.Arrives.Listen.{listener_rules, child}
 use Rattle.machine.specs.Arrives.Otherwise.Reset.{was_reset}
 use Rattle.machine.specs.Arrives.{Taker, Nobody, AtListener, AtEndpoint, taker, taker_rules, endpoint_taken, after_taking}
-use Rattle.case_forms.specs.declared.timer.Expiry.{Expiry}
+use Rattle.case_forms.specs.declared.taken_line.Expired.{Expired}
+use Rattle.case_forms.specs.declared.taken_line.Expired.TheVariants.{Giveup, Msl2, Persist, Rto}
 use Rattle.case_forms.specs.declared.timer.Growth.{Growth}
 use Rattle.case_forms.specs.declared.timer.Recovery.{Recovery}
 use Rattle.machine.specs.Heard.{as_read}
 use Rattle.machine.specs.Timeouts.{greatest_values, expiry_rules, after_expiry}
 use Rattle.machine.specs.Recovery.{recovery_rules, after_recovery}
-use Rattle.machine.specs.Machine.{Calls, rules_at, tcp, tcp_shape, aim}
+use Rattle.machine.specs.Machine.{Calls, Expiring, rules_at, tcp, tcp_shape, aim}
 use Rattle.machine_laws.specs.Consequences.{find}
 use Rattle.machine_laws.specs.Bounds.{greatest_reading, greatest_taking, TakesThere, TimesOut, Recovers, Leaves, WindowsFollow}
 use Rattle.machine_laws.proofs.Rules.{on_passes, on_cases, map_or_cases, neither, at_most_from}
@@ -120,12 +119,12 @@ unmoved w step me e f same = stayed (ap (λ c. c.cwnd) same) (ap (λ c. c.ssthre
 
 -- 1. what hosts do
 
-expiry_moves : (w : World tcp_shape) (s : ℕ) (host : Host) (line : ℕ) (x : Expiry) (growth : Growth) (i : ℕ) (e : Endpoint) → place_of (pick w.hosts host).body x.lport x.rport ≡ Some i
-    → WindowsMove w (At host (Expires line x growth)) (name host i) e (after_expiry e x.timer growth s)
-expiry_moves w s host line x growth i e at = go x.timer refl
+expiry_moves : (w : World tcp_shape) (s : ℕ) (host : Host) (line : ℕ) (x : Expiring) (i : ℕ) (e : Endpoint) → place_of (pick w.hosts host).body x.lport x.rport ≡ Some i
+    → WindowsMove w (At host (Expires line x)) (name host i) e (after_expiry e x.expired s)
+expiry_moves w s host line x i e at = go x.expired refl
   where
-    go : (timer : Timer) → x.timer ≡ timer → WindowsMove w (At host (Expires line x growth)) (name host i) e (after_expiry e timer growth s)
-    go Rto is = expired (line, x, growth, refl, is, at)
+    go : (t : Expired) → x.expired ≡ t → WindowsMove w (At host (Expires line x)) (name host i) e (after_expiry e t s)
+    go (Rto growth) is = expired (line, x, growth, refl, is, at)
     go Persist is = stayed refl refl
     go Msl2 is = stayed refl refl
     go Giveup is = stayed refl refl
@@ -169,9 +168,9 @@ follows_deed : (h : Header) (s : ℕ) (w : World tcp_shape) (host : Host) (d : D
 follows_deed h s w host (Does x) may = let b = (pick w.hosts host).body in
     follows_at_ports w (At host (Does x)) host b x.lport x.rport (λ e. after_recovery e x.cwnd x.ssthresh)
     (λ i e at there. recovered (x, refl, at))
-follows_deed h s w host (Expires line x growth) may = let b = (pick w.hosts host).body in
-    follows_at_ports w (At host (Expires line x growth)) host b x.lport x.rport (λ e. after_expiry e x.timer growth s)
-    (λ i e at there. expiry_moves w s host line x growth i e at)
+follows_deed h s w host (Expires line x) may = let b = (pick w.hosts host).body in
+    follows_at_ports w (At host (Expires line x)) host b x.lport x.rport (λ e. after_expiry e x.expired s)
+    (λ i e at there. expiry_moves w s host line x i e at)
 follows_deed h s w host (Makes m) may = let b = (pick w.hosts host).body in
     follows_at_ports w (At host (Makes m)) host b m.lport m.rport (λ e. after_making e m s)
     (λ i e at there. unmoved w (At host (Makes m)) (name host i) e (after_making e m s) (either_windows m.flags.rst (record (shut_down (endpoint_made e m s)) { reset_due = false }) (endpoint_made e m s) e refl refl))
@@ -269,26 +268,26 @@ at_ports_there w host lport rport i e step at there =
     ap (λ (k : HostState tcp_shape). slice_get k.body.endpoints i) (pick_with w.hosts host (record (pick w.hosts host) { body = at_ports b lport rport step }))
     ∙ (ap (λ (o : Option ℕ). slice_get (option_map_or (λ j. with_endpoint b j step) o b).endpoints i) at ∙ modify_here step b.endpoints i e there)
 
-timeout_leaves : (h : Header) (s : ℕ) (w : World tcp_shape) (host : Host) (line : ℕ) (x : Expiry) (growth : Growth) (i : ℕ) (e : Endpoint)
-    → Permitted (tcp h) s w (At host (Expires line x growth)) → x.timer ≡ Rto
+timeout_leaves : (h : Header) (s : ℕ) (w : World tcp_shape) (host : Host) (line : ℕ) (x : Expiring) (growth : Growth) (i : ℕ) (e : Endpoint)
+    → Permitted (tcp h) s w (At host (Expires line x)) → x.expired ≡ Rto growth
     → place_of (pick w.hosts host).body x.lport x.rport ≡ Some i → slice_get (pick w.hosts host).body.endpoints i ≡ Some e
-    → Leaves h s w (At host (Expires line x growth)) (name host i) (λ c. (c.cwnd ≤ (greatest_values e).0) × (c.ssthresh ≤ (greatest_values e).1))
-timeout_leaves h s w host line x growth i e may is at there = subst Bound (sym is) (after_expiry e Rto growth s, at_ports_there w host x.lport x.rport i e (λ e. after_expiry e Rto growth s) at there, bound)
+    → Leaves h s w (At host (Expires line x)) (name host i) (λ c. (c.cwnd ≤ (greatest_values e).0) × (c.ssthresh ≤ (greatest_values e).1))
+timeout_leaves h s w host line x growth i e may is at there = subst Bound (sym is) (after_expiry e (Rto growth) s, at_ports_there w host x.lport x.rport i e (λ e. after_expiry e (Rto growth) s) at there, bound)
   where
     b : Body
     b = (pick w.hosts host).body
 
-    Bound : Timer → Type 0
+    Bound : Expired → Type 0
     Bound t = (f : Endpoint)
-        × (find (with_host w.hosts host (record (pick w.hosts host) { body = at_ports b x.lport x.rport (λ e. after_expiry e t growth s) })) (name host i) ≡ Some f)
+        × (find (with_host w.hosts host (record (pick w.hosts host) { body = at_ports b x.lport x.rport (λ e. after_expiry e t s) })) (name host i) ≡ Some f)
         × ((f.congestion.cwnd ≤ (greatest_values e).0) × (f.congestion.ssthresh ≤ (greatest_values e).1))
 
-    mine : first_broken (expiry_rules h s e Rto growth) ≡ None
-    mine = subst (λ (t : Timer). first_broken (expiry_rules h s e t growth) ≡ None) is (rules_there b x.lport x.rport i e (λ e. expiry_rules h s e x.timer growth) at there may)
+    mine : first_broken (expiry_rules h s e (Rto growth)) ≡ None
+    mine = subst (λ (t : Expired). first_broken (expiry_rules h s e t) ≡ None) is (rules_there b x.lport x.rport i e (λ e. expiry_rules h s e x.expired) at there may)
 
     bound : (growth.cwnd ≤ (greatest_values e).0) × (growth.ssthresh ≤ (greatest_values e).1)
     bound =
-        let t = none_all (expiry_rules h s e Rto growth) mine in
+        let t = none_all (expiry_rules h s e (Rto growth)) mine in
         let parts = neither (nat_lt ((greatest_values e).0) growth.cwnd) (nat_lt ((greatest_values e).1) growth.ssthresh) t.1.0 in
         (at_most_from ((greatest_values e).0) growth.cwnd parts.0, at_most_from ((greatest_values e).1) growth.ssthresh parts.1)
 

@@ -2,7 +2,6 @@
 use Rattle.std.specs.Prelude.{◌≡◌, ◌<◌, ◌≤◌, ℕ, ◌+◌, if◌then◌else◌, length, None, Some}
 use Rattle.case_forms.specs.declared.trace.Header.{Header}
 use Rattle.case_forms.specs.declared.calls.Host.{Host}
-use Rattle.case_forms.specs.declared.timer.Timer.TheVariants.{Rto}
 use Rattle.window_rules.specs.declared.congestion.Congestion.{Congestion}
 use Rattle.window_rules.specs.Windows.{greatest_window as greatest_value, offered_edge, congestion_edge}
 use Rattle.window_rules.specs.Losses.{halved, recovery_window}
@@ -21,13 +20,13 @@ use Rattle.machine.specs.Arrives.Otherwise.Congestion.{greatest_window}
 use Rattle.machine.specs.Heard.{as_read}
 use Rattle.machine.specs.Arrives.SynSent.{greatest_at_syn}
 use Rattle.machine.specs.Arrives.{taker, AtEndpoint}
-use Rattle.case_forms.specs.declared.timer.Expiry.{Expiry}
+use Rattle.case_forms.specs.declared.taken_line.Expired.TheVariants.{Rto}
 use Rattle.case_forms.specs.declared.timer.Growth.{Growth}
 use Rattle.case_forms.specs.declared.timer.Recovery.{Recovery}
 use Rattle.case_forms.specs.declared.version.Initial.{Initial}
 use Rattle.machine.specs.Timeouts.{greatest_values}
 use Rattle.machine.specs.Machine as acts
-use Rattle.machine.specs.Machine.{act_makes, tcp, tcp_shape}
+use Rattle.machine.specs.Machine.{Expiring, act_makes, tcp, tcp_shape}
 use Rattle.machine_laws.specs.Consequences.{find}
 
 -- bytes that end here are in both windows of the endpoint: the one that the peer offers and the congestion window
@@ -56,7 +55,7 @@ TakesThere w step me e m = (line : ℕ) × (how : TakeChoice) × (step ≡ At me
 
 -- the step is an expiry of the retransmission timer of the endpoint's ports
 abbrev pub TimesOut : World tcp_shape → Step tcp_shape → Name → Type 0
-TimesOut w step me = (line : ℕ) × (x : Expiry) × (growth : Growth) × (step ≡ At me.host (Expires line x growth)) × (x.timer ≡ Rto)
+TimesOut w step me = (line : ℕ) × (x : Expiring) × (growth : Growth) × (step ≡ At me.host (Expires line x)) × (x.expired ≡ Rto growth)
     × (place_of (pick w.hosts me.host).body x.lport x.rport ≡ Some me.number)
 
 -- the step begins fast recovery at the endpoint of these ports

@@ -7,10 +7,8 @@ use Rattle.case_forms.specs.declared.calls.Host.{Host}
 use Rattle.case_forms.specs.declared.calls.State.{State}
 use Rattle.case_forms.specs.declared.calls.State.TheVariants as states
 use Rattle.case_forms.specs.declared.steps.SegmentPlan.{SegmentPlan}
-use Rattle.case_forms.specs.declared.timer.Expiry.{Expiry}
-use Rattle.case_forms.specs.declared.timer.Growth.{Growth}
-use Rattle.case_forms.specs.declared.timer.Timer.{Timer}
-use Rattle.case_forms.specs.declared.timer.Timer.TheVariants.{Giveup, Msl2}
+use Rattle.case_forms.specs.declared.taken_line.Expired.{Expired}
+use Rattle.case_forms.specs.declared.taken_line.Expired.TheVariants.{Giveup, Msl2}
 use Rattle.case_forms.specs.declared.trace.Header.{Header}
 use Rattle.hosts.specs.Tables.{pick}
 use Rattle.hosts.specs.Hosts.{World, Step, Effect, At, Expires, Makes, Called, Stamped, turn_of}
@@ -22,7 +20,7 @@ use Rattle.machine.specs.declared.endpoint.Thing.{Thing}
 use Rattle.machine.specs.declared.endpoint.Thing.TheVariants.{Listens, Ends}
 use Rattle.machine.specs.Bodies.{place_of, thing_of}
 use Rattle.machine.specs.Endpoints.{max_made, next}
-use Rattle.machine.specs.Machine.{tcp, tcp_shape}
+use Rattle.machine.specs.Machine.{Expiring, tcp, tcp_shape}
 use Rattle.machine_laws.specs.Runs.{world_at_end}
 use Rattle.machine_laws.specs.Consequences.{find}
 use Rattle.machine_laws.specs.Bounds.{TakesThere}
@@ -78,13 +76,13 @@ CallsOn number w step host thing = (thread : ℕ) × (answer : Answer) × (call 
     × (turn_of thread w.threads ≡ Called call) × (number call ≡ Some n) × (thing_of (pick w.hosts host).body n ≡ Some thing)
 
 -- TIME-WAIT is over, or the endpoint gives up (RFC 9293, 3.6.1 and 3.8.3)
-abbrev pub closes : Timer → Bool
+abbrev pub closes : Expired → Bool
 closes Msl2 = true
 closes Giveup = true
 closes _ = false
 
 abbrev pub TimerCloses : World tcp_shape → Step tcp_shape → Name → Type 0
-TimerCloses w step me = (line : ℕ) × (x : Expiry) × (growth : Growth) × (step ≡ At me.host (Expires line x growth)) × (closes x.timer ≡ true)
+TimerCloses w step me = (line : ℕ) × (x : Expiring) × (step ≡ At me.host (Expires line x)) × (closes x.expired ≡ true)
     × (place_of (pick w.hosts me.host).body x.lport x.rport ≡ Some me.number)
 
 -- the endpoint makes a reset

@@ -56,7 +56,7 @@ lined h (Do (At host d)) = deed d
   where
     deed : (d : Deed tcp_shape) → ((takes_line (Do (At host d)) ≡ false) × (item_line (tcp h) (Do (At host d)) ≡ None)) ⊎ ((m : ℕ) × (takes_line (Do (At host d)) ≡ true) × (item_line (tcp h) (Do (At host d)) ≡ Some m))
     deed (Does x) = inl (refl, refl)
-    deed (Expires line x growth) = inr (line, refl, refl)
+    deed (Expires line x) = inr (line, refl, refl)
     deed (Makes plan) = inl (refl, refl)
     deed (Sends line number wire) = inr (line, refl, refl)
     deed (Gets line copied wire) = inr (line, refl, refl)

@@ -29,12 +29,12 @@ use Rattle.merging.specs.Faults.{NamesAll}
 use Rattle.merging.specs.Naming.{AllAbove, AllNamed, line_keys}
 use Rattle.merging.specs.Numbers.{AllSmall, counted, names_in, no_counts}
 use Rattle.merging.specs.Order.{in_order}
-use Rattle.merging.specs.Saying.{AllSaid, all_renumbered, lines_said, steps_said}
+use Rattle.merging.specs.Saying.{all_renumbered, lines_said, steps_said}
 use Rattle.checker.specs.Seen.{stamped}
 use Rattle.merging.specs.Told.{AllTakeWell, Tells, line_told}
 use Rattle.merging.proofs.JoinLemmas.{named_sent, small_merged}
 use Rattle.merging.proofs.OrderLemmas.{names_are, order_is, steps_are}
-use Rattle.merging.proofs.SayLemmas.{AllSaidSteps, AllWhole, all_said, lines_are, recorded_in, run_whole, told_from}
+use Rattle.merging.proofs.SayLemmas.{AllWhole, lines_are, recorded_in, run_whole, told_from}
 use Rattle.merging.proofs.SmallLemmas.{kept_small}
 
 -- two recordings, of host 0 and of host 1, with one header, each of which brought what the other let out
@@ -117,40 +117,37 @@ merged_is h zs os =
 told_by : (t : Trace) (w : Witness) (zs os : List TcpEntry) → is_half t.header.version ≡ false → w.version ≡ t.header.version
     → t.lines ≡ lines_said (all_renumbered (new_names t.header (in_order zs os)) (in_order zs os))
     → w.steps ≡ steps_said (all_renumbered (new_names t.header (in_order zs os)) (in_order zs os))
-    → AllSaid (in_order zs os) → Books (tcp t.header) (first_event_line t.header) zs os
+    → Books (tcp t.header) (first_event_line t.header) zs os
     → Tells t w (merged t.header (first_event_line t.header) zs os)
-told_by t w zs os both version lines_is steps_is s books =
+told_by t w zs os both version lines_is steps_is books =
     let h = t.header in
     let first = first_event_line t.header in
-    let es = in_order zs os in
     let xs = merged t.header (first_event_line t.header) zs os in
     let are = merged_is t.header zs os in
-    let is_said : AllSaidSteps xs = subst AllSaidSteps are (all_said (new_names t.header es) es s) in
     let rise : LinesRise (tcp h) first xs = (law (tcp h) (λ n. refl) first (keys.merge (tcp h) zs os) (told (tcp h) zs os (start (tcp h)) (start (tcp h)) first first books.0 books.1)).1 in
     let placed = is_placed_run (tcp h) (λ n. refl) h.skew first zs os books in
     let moments : MomentsRise (tcp h) 0 xs = placed.0.moments in
     let whole : AllWhole xs = run_whole h both (start (tcp h)) xs placed.1 in
     let lines_eq : t.lines ≡ lines_said xs = lines_is ∙ ap lines_said are in
     let steps_eq : w.steps ≡ steps_said xs = steps_is ∙ ap steps_said are in
-    let from = told_from h both (lines_said xs) first xs is_said whole rise (λ m line at. at) in
+    let from = told_from h both (lines_said xs) first xs whole rise (λ m line at. at) in
     record {
-      trace = subst (λ (ls : List Line). IsRecorded first 0 ls) (sym lines_eq) (recorded_in h both first 0 xs is_said whole rise moments);
+      trace = subst (λ (ls : List Line). IsRecorded first 0 ls) (sym lines_eq) (recorded_in h both first 0 xs whole rise moments);
       version = sym version;
       takes = subst (λ (ls : List Line). AllTakeWell h ls w.steps) (sym lines_eq) (subst (λ (ss : List witness.Step). AllTakeWell h (lines_said xs) ss) (sym steps_eq) from.1);
       steps_are = ap (λ (ls : List Line). stamped h ls w.steps) lines_eq ∙ ap (λ (ss : List witness.Step). stamped h (lines_said xs) ss) steps_eq ∙ from.0;
-      lines_are = ap (map line_told) lines_eq ∙ lines_are h both xs is_said whole;
+      lines_are = ap (map line_told) lines_eq ∙ lines_are h both xs whole;
     }
 
 -- the same for a trace that has this header
 pub told_as : (h : Header) (t : Trace) (w : Witness) (zs os : List TcpEntry) → is_half h.version ≡ false → t.header ≡ h → w.version ≡ h.version
     → t.lines ≡ lines_said (all_renumbered (new_names h (in_order zs os)) (in_order zs os))
     → w.steps ≡ steps_said (all_renumbered (new_names h (in_order zs os)) (in_order zs os))
-    → AllSaid (in_order zs os) → Books (tcp h) (first_event_line h) zs os
+    → Books (tcp h) (first_event_line h) zs os
     → Tells t w (merged h (first_event_line h) zs os)
-told_as h t w zs os both is version lines_is steps_is s books =
+told_as h t w zs os both is version lines_is steps_is books =
     subst (λ (g : Header). Tells t w (merged g (first_event_line g) zs os)) is
     (told_by t w zs os (ap (λ (g : Header). is_half g.version) is ∙ both) (version ∙ ap (λ (g : Header). g.version) (sym is))
     (lines_is ∙ ap (λ (g : Header). lines_said (all_renumbered (new_names g (in_order zs os)) (in_order zs os))) (sym is))
     (steps_is ∙ ap (λ (g : Header). steps_said (all_renumbered (new_names g (in_order zs os)) (in_order zs os))) (sym is))
-    s
     (subst (λ (g : Header). Books (tcp g) (first_event_line g) zs os) (sym is) books))

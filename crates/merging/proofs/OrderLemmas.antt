@@ -115,7 +115,7 @@ line_head h x xs = go x.item
   where
     deed : (host : Host) (d : Deed tcp_shape) → on (item_line (tcp h) (Do (At host d))) (line_turns (tcp h) xs) (λ line. Some x.key.host ∷ line_turns (tcp h) xs) ≡ turn_if (takes_line (Do (At host d))) x.key.host (line_turns (tcp h) xs)
     deed host (Does y) = refl
-    deed host (Expires line y growth) = refl
+    deed host (Expires line y) = refl
     deed host (Makes plan) = refl
     deed host (Sends line number wire) = refl
     deed host (Gets line copied wire) = refl
@@ -136,7 +136,7 @@ make_head h x xs = ap (λ (b : Bool). turn_if b x.key.host (make_turns (tcp h) x
   where
     deed : (host : Host) (d : Deed tcp_shape) → item_makes (tcp h) (Do (At host d)) ≡ makes_segment (Do (At host d))
     deed host (Does y) = refl
-    deed host (Expires line y growth) = refl
+    deed host (Expires line y) = refl
     deed host (Makes plan) = refl
     deed host (Sends line number wire) = refl
     deed host (Gets line copied wire) = refl
@@ -199,7 +199,7 @@ renumbered_is h names g (At host d) = deed d
   where
     deed : (d : Deed tcp_shape) → renumbered names g (At host d) ≡ restep (tcp h) names g (At host d)
     deed (Does y) = refl
-    deed (Expires line y growth) = refl
+    deed (Expires line y) = refl
     deed (Makes plan) = refl
     deed (Sends line number wire) = refl
     deed (Gets line copied wire) = refl

@@ -10,9 +10,8 @@ use Rattle.case_forms.specs.declared.calls.Host.{Host}
 use Rattle.case_forms.specs.declared.named_line.Extras.{Extras}
 use Rattle.case_forms.specs.declared.named_line.Extras.TheVariants as extras
 use Rattle.case_forms.specs.declared.steps.Label.TheVariants as labels
-use Rattle.case_forms.specs.declared.timer.Growth.{Growth}
-use Rattle.case_forms.specs.declared.timer.Timer.{Timer}
-use Rattle.case_forms.specs.declared.timer.Timer.TheVariants as timers
+use Rattle.case_forms.specs.declared.taken_line.Expired.{Expired}
+use Rattle.case_forms.specs.declared.taken_line.Expired.TheVariants as expireds
 use Rattle.case_forms.specs.declared.trace.Header.{Header}
 use Rattle.case_forms.specs.declared.trace.Line.{Line}
 use Rattle.case_forms.specs.declared.trace.Wire.{Wire}
@@ -28,15 +27,13 @@ use Rattle.hosts.specs.HostSteps.{Lawful, after}
 use Rattle.machine.specs.declared.endpoint.Emission.{Emission}
 use Rattle.machine.specs.Machine.{tcp, tcp_shape}
 use Rattle.machine.specs.Steps.{label_step, step_of}
-use Rattle.recordings.specs.Books.{Item, Do, Bring, step_line}
+use Rattle.recordings.specs.Books.{step_line}
 use Rattle.recordings.specs.Keys.{If}
-use Rattle.recordings.specs.Merging.{Names}
 use Rattle.recordings.specs.Placing as placing
 use Rattle.recordings.specs.Placing.{MomentsRise, event_of}
-use Rattle.recordings.specs.Recordings.{TcpEntry}
 use Rattle.recordings.proofs.Joint.{LinesRise}
 use Rattle.checker.specs.Seen.{stamped}
-use Rattle.merging.specs.Saying.{AllSaid, IsPlain, IsSaid, IsSaidDeed, IsSaidItem, all_renumbered, deed_renumbered, label_said, line_said, lines_said, renumbered, steps_said, with_renumbered}
+use Rattle.merging.specs.Saying.{label_said, line_said, lines_said, steps_said}
 use Rattle.merging.specs.Told.{TakesWell, AllTakeWell, event_told, line_told}
 
 -- ---- one step
@@ -63,11 +60,11 @@ record IsLine (h : Header) (moment : ℕ) (step : Step tcp_shape) : Type 0 where
 abbrev looked_up : Extras → Option Line → Option (Step tcp_shape)
 looked_up x o = option_map step_of (option_map (λ t. labels.L t) (option_map_or (taken_of x) o None))
 
-expiry_line : (h : Header) (moment : ℕ) (host : Host) (line lport rport : ℕ) (timer : Timer) (growth : Growth) → IsPlain timer growth → IsLine h moment (At host (Expires line (record { lport = lport; rport = rport; timer = timer }) growth))
-expiry_line h moment host line lport rport timers.Rto growth plain = record { line = _; said = refl; number = refl; moment_is = refl; event = refl; act = λ find at. ap (looked_up (extras.Two growth.cwnd growth.ssthresh)) at; takes = λ lines at. (_, at, refl) }
-expiry_line h moment host line lport rport timers.Persist growth plain = record { line = _; said = refl; number = refl; moment_is = refl; event = refl; act = λ find at. ap (looked_up extras.Bare) at ∙ ap (λ (g : Growth). Some (let d : Deed tcp_shape = Expires line (record { lport = lport; rport = rport; timer = timers.Persist }) g in At host d)) (sym plain); takes = λ lines at. (_, at, refl) }
-expiry_line h moment host line lport rport timers.Msl2 growth plain = record { line = _; said = refl; number = refl; moment_is = refl; event = refl; act = λ find at. ap (looked_up extras.Bare) at ∙ ap (λ (g : Growth). Some (let d : Deed tcp_shape = Expires line (record { lport = lport; rport = rport; timer = timers.Msl2 }) g in At host d)) (sym plain); takes = λ lines at. (_, at, refl) }
-expiry_line h moment host line lport rport timers.Giveup growth plain = record { line = _; said = refl; number = refl; moment_is = refl; event = refl; act = λ find at. ap (looked_up extras.Bare) at ∙ ap (λ (g : Growth). Some (let d : Deed tcp_shape = Expires line (record { lport = lport; rport = rport; timer = timers.Giveup }) g in At host d)) (sym plain); takes = λ lines at. (_, at, refl) }
+expiry_line : (h : Header) (moment : ℕ) (host : Host) (line lport rport : ℕ) (e : Expired) → IsLine h moment (At host (Expires line (record { lport = lport; rport = rport; expired = e })))
+expiry_line h moment host line lport rport (expireds.Rto growth) = record { line = _; said = refl; number = refl; moment_is = refl; event = refl; act = λ find at. ap (looked_up (extras.Two growth.cwnd growth.ssthresh)) at; takes = λ lines at. (_, at, refl) }
+expiry_line h moment host line lport rport expireds.Persist = record { line = _; said = refl; number = refl; moment_is = refl; event = refl; act = λ find at. ap (looked_up extras.Bare) at; takes = λ lines at. (_, at, refl) }
+expiry_line h moment host line lport rport expireds.Msl2 = record { line = _; said = refl; number = refl; moment_is = refl; event = refl; act = λ find at. ap (looked_up extras.Bare) at; takes = λ lines at. (_, at, refl) }
+expiry_line h moment host line lport rport expireds.Giveup = record { line = _; said = refl; number = refl; moment_is = refl; event = refl; act = λ find at. ap (looked_up extras.Bare) at; takes = λ lines at. (_, at, refl) }
 
 -- what comes in names the line that it copies
 abbrev pub IsWholeDeed : Deed tcp_shape → Type 0
@@ -90,32 +87,32 @@ module _ (h : Header) (both : is_half h.version ≡ false) where
     takes = λ lines at. (_, at, ap (λ (b : Bool). if b then 0 else 1) (sym both));
   }
 
-  deed_is : (moment : ℕ) (host : Host) (d : Deed tcp_shape) → IsSaidDeed d → IsWholeDeed d → IsHidden h moment (At host d) ⊎ IsLine h moment (At host d)
-  deed_is moment host (Does x) s w = inl (record { said = refl; number = refl; event = refl; act = λ find. refl; takes = λ lines. tt })
-  deed_is moment host (Expires line x growth) s w = inr (expiry_line h moment host line x.lport x.rport x.timer growth s)
-  deed_is moment host (Makes plan) s w = inl (record { said = refl; number = refl; event = refl; act = λ find. refl; takes = λ lines. tt })
-  deed_is moment host (Sends line number wire) s w =
+  deed_is : (moment : ℕ) (host : Host) (d : Deed tcp_shape) → IsWholeDeed d → IsHidden h moment (At host d) ⊎ IsLine h moment (At host d)
+  deed_is moment host (Does x) w = inl (record { said = refl; number = refl; event = refl; act = λ find. refl; takes = λ lines. tt })
+  deed_is moment host (Expires line x) w = inr (expiry_line h moment host line x.lport x.rport x.expired)
+  deed_is moment host (Makes plan) w = inl (record { said = refl; number = refl; event = refl; act = λ find. refl; takes = λ lines. tt })
+  deed_is moment host (Sends line number wire) w =
       inr (record { line = _; said = refl; number = refl; moment_is = refl; event = refl; act = λ find at. ap (looked_up (extras.One number)) at; takes = λ lines at. (_, at, refl) })
-  deed_is moment host (Gets line copied wire) s w = inr (came_in moment host line copied wire)
-  deed_is moment host (Hears line wire) s w = absurd w
-  deed_is moment host (Takes line choice) s w = inl (record { said = refl; number = refl; event = refl; act = λ find. refl; takes = λ lines. tt })
-  deed_is moment host (Drops line) s w = inl (record { said = refl; number = refl; event = refl; act = λ find. refl; takes = λ lines. tt })
-  deed_is moment host (Answers line) s w = inl (record { said = refl; number = refl; event = refl; act = λ find. refl; takes = λ lines. tt })
+  deed_is moment host (Gets line copied wire) w = inr (came_in moment host line copied wire)
+  deed_is moment host (Hears line wire) w = absurd w
+  deed_is moment host (Takes line choice) w = inl (record { said = refl; number = refl; event = refl; act = λ find. refl; takes = λ lines. tt })
+  deed_is moment host (Drops line) w = inl (record { said = refl; number = refl; event = refl; act = λ find. refl; takes = λ lines. tt })
+  deed_is moment host (Answers line) w = inl (record { said = refl; number = refl; event = refl; act = λ find. refl; takes = λ lines. tt })
 
-  step_is : (moment : ℕ) (step : Step tcp_shape) → IsSaid step → IsWhole step → IsHidden h moment step ⊎ IsLine h moment step
-  step_is moment (Begin line t call) s w =
+  step_is : (moment : ℕ) (step : Step tcp_shape) → IsWhole step → IsHidden h moment step ⊎ IsLine h moment step
+  step_is moment (Begin line t call) w =
       inr (record { line = _; said = refl; number = refl; moment_is = refl; event = refl; act = λ find at. ap (looked_up extras.Bare) at; takes = λ lines at. (_, at, refl) })
-  step_is moment (Finish line t answer) s w =
+  step_is moment (Finish line t answer) w =
       inr (record { line = _; said = refl; number = refl; moment_is = refl; event = refl; act = λ find at. ap (looked_up extras.Bare) at; takes = λ lines at. (_, at, refl) })
-  step_is moment (Effect t answer) s w = inl (record { said = refl; number = refl; event = refl; act = λ find. refl; takes = λ lines. tt })
-  step_is moment (At host d) s w = deed_is moment host d s w
+  step_is moment (Effect t answer) w = inl (record { said = refl; number = refl; event = refl; act = λ find. refl; takes = λ lines. tt })
+  step_is moment (At host d) w = deed_is moment host d w
 
   -- a line that is heard of a host that is not recorded is not permitted where both are
   deed_whole : (host : Host) (moment : ℕ) (far : List (ℕ × Emission)) (x : HostState tcp_shape) (d : Deed tcp_shape) → first_broken (deed_rules (tcp h) host moment far x d) ≡ None → IsWholeDeed d
   deed_whole host moment far x (Hears line wire) may =
       none-some rules.NoEmission (sym may ∙ ap (λ (b : Bool). first_broken (just rules.NoEmission (not b))) both)
   deed_whole host moment far x (Does y) may = tt
-  deed_whole host moment far x (Expires line y growth) may = tt
+  deed_whole host moment far x (Expires line y) may = tt
   deed_whole host moment far x (Makes plan) may = tt
   deed_whole host moment far x (Sends line number wire) may = tt
   deed_whole host moment far x (Gets line copied wire) may = tt
@@ -131,11 +128,7 @@ module _ (h : Header) (both : is_half h.version ≡ false) where
 
 -- ---- all steps
 
-abbrev pub AllSaidSteps : List (Stamped tcp_shape) → Type 0
-AllSaidSteps [] = Unit {0}
-AllSaidSteps (x ∷ xs) = IsSaid x.step × AllSaidSteps xs
-
--- and name what they copy
+-- all name what they copy
 abbrev pub AllWhole : List (Stamped tcp_shape) → Type 0
 AllWhole [] = Unit {0}
 AllWhole (x ∷ xs) = IsWhole x.step × AllWhole xs
@@ -158,9 +151,9 @@ in_front h n m step xs is r =
 not_in_front : (h : Header) (n : ℕ) (step : Step tcp_shape) (xs : List (Stamped tcp_shape)) → step_line (tcp h) step ≡ None → If (step_line (tcp h) step) (LinesRise (tcp h) n xs) (λ line. (line ≡ n) × LinesRise (tcp h) (suc n) xs) → LinesRise (tcp h) n xs
 not_in_front h n step xs is r = subst (λ (o : Option ℕ). If o (LinesRise (tcp h) n xs) (λ line. (line ≡ n) × LinesRise (tcp h) (suc n) xs)) is r
 
-pub recorded_in : (h : Header) → is_half h.version ≡ false → (n b : ℕ) (xs : List (Stamped tcp_shape)) → AllSaidSteps xs → AllWhole xs → LinesRise (tcp h) n xs → MomentsRise (tcp h) b xs → IsRecorded n b (lines_said xs)
-recorded_in h both n b [] s w rise moments = tt
-recorded_in h both n b (x ∷ xs) s w rise moments = go (step_is h both x.moment x.step s.0 w.0) (λ m r. recorded_in h both m x.moment xs s.1 w.1 r moments.1)
+pub recorded_in : (h : Header) → is_half h.version ≡ false → (n b : ℕ) (xs : List (Stamped tcp_shape)) → AllWhole xs → LinesRise (tcp h) n xs → MomentsRise (tcp h) b xs → IsRecorded n b (lines_said xs)
+recorded_in h both n b [] w rise moments = tt
+recorded_in h both n b (x ∷ xs) w rise moments = go (step_is h both x.moment x.step w.0) (λ m r. recorded_in h both m x.moment xs w.1 r moments.1)
   where
     go : IsHidden h x.moment x.step ⊎ IsLine h x.moment x.step → ((m : ℕ) → LinesRise (tcp h) m xs → IsRecorded m x.moment (lines_said xs)) → IsRecorded n b (lines_said (x ∷ xs))
     go (inl k) rest =
@@ -171,9 +164,9 @@ recorded_in h both n b (x ∷ xs) s w rise moments = go (step_is h both x.moment
         subst (λ (o : Option Line). IsRecorded n b (on o (lines_said xs) (λ line. line ∷ lines_said xs))) (sym k.said)
         (f.0, (let le : b ≤ x.moment = moments.0 in let same : k.line.moment ≡ x.moment = k.moment_is in omega (arith, le, same)), subst (λ (m : ℕ). IsRecorded (n + 1) m (lines_said xs)) (sym k.moment_is) (rest (n + 1) f.1))
 
-pub lines_are : (h : Header) → is_half h.version ≡ false → (xs : List (Stamped tcp_shape)) → AllSaidSteps xs → AllWhole xs → map line_told (lines_said xs) ≡ placing.lines_of (tcp h) xs
-lines_are h both [] s w = refl
-lines_are h both (x ∷ xs) s w = go (step_is h both x.moment x.step s.0 w.0) (lines_are h both xs s.1 w.1)
+pub lines_are : (h : Header) → is_half h.version ≡ false → (xs : List (Stamped tcp_shape)) → AllWhole xs → map line_told (lines_said xs) ≡ placing.lines_of (tcp h) xs
+lines_are h both [] w = refl
+lines_are h both (x ∷ xs) w = go (step_is h both x.moment x.step w.0) (lines_are h both xs w.1)
   where
     go : IsHidden h x.moment x.step ⊎ IsLine h x.moment x.step → map line_told (lines_said xs) ≡ placing.lines_of (tcp h) xs → map line_told (lines_said (x ∷ xs)) ≡ placing.lines_of (tcp h) (x ∷ xs)
     go (inl k) rest =
@@ -206,9 +199,9 @@ finds_rest h all n line lines finds m l at =
     let apart : nat_eq m n ≡ false = grind (arith, nat_tests) in
     finds m l (rw apart at)
 
-pub told_from : (h : Header) → is_half h.version ≡ false → (all : List Line) (n : ℕ) (xs : List (Stamped tcp_shape)) → AllSaidSteps xs → AllWhole xs → LinesRise (tcp h) n xs → Finds h all n (lines_said xs) → (stamped h all (steps_said xs) ≡ xs) × AllTakeWell h all (steps_said xs)
-told_from h both all n [] s w rise finds = (refl, tt)
-told_from h both all n (x ∷ xs) s w rise finds = go (step_is h both x.moment x.step s.0 w.0) (λ m r f. told_from h both all m xs s.1 w.1 r f)
+pub told_from : (h : Header) → is_half h.version ≡ false → (all : List Line) (n : ℕ) (xs : List (Stamped tcp_shape)) → AllWhole xs → LinesRise (tcp h) n xs → Finds h all n (lines_said xs) → (stamped h all (steps_said xs) ≡ xs) × AllTakeWell h all (steps_said xs)
+told_from h both all n [] w rise finds = (refl, tt)
+told_from h both all n (x ∷ xs) w rise finds = go (step_is h both x.moment x.step w.0) (λ m r f. told_from h both all m xs w.1 r f)
   where
     go : IsHidden h x.moment x.step ⊎ IsLine h x.moment x.step → ((m : ℕ) → LinesRise (tcp h) m xs → Finds h all m (lines_said xs) → (stamped h all (steps_said xs) ≡ xs) × AllTakeWell h all (steps_said xs))
         → (stamped h all (steps_said (x ∷ xs)) ≡ x ∷ xs) × AllTakeWell h all (steps_said (x ∷ xs))
@@ -222,30 +215,3 @@ told_from h both all n (x ∷ xs) s w rise finds = go (step_is h both x.moment x
         let more = rest (n + 1) f.1 (finds_rest h all n k.line (lines_said xs) here) in
         let at : line_at h all k.line.number ≡ Some k.line = subst (λ (m : ℕ). line_at h all m ≡ Some k.line) (sym f.0) (finds_first h all n k.line (lines_said xs) here) in
         (ap (λ (o : Option (Step tcp_shape)). cons_option (option_map (λ step. record { moment = x.moment; step = step }) o) (stamped h all (steps_said xs))) (k.act (line_at h all) at) ∙ ap (λ (ys : List (Stamped tcp_shape)). x ∷ ys) more.0, (k.takes all at, more.1))
-
--- ---- entries
-
-deed_said : (names : Names) (g : Host) (d : Deed tcp_shape) → IsSaidDeed d → IsSaidDeed (deed_renumbered names g d)
-deed_said names g (Does x) s = tt
-deed_said names g (Expires line x growth) s = s
-deed_said names g (Makes plan) s = tt
-deed_said names g (Sends line number wire) s = tt
-deed_said names g (Gets line copied wire) s = tt
-deed_said names g (Hears line wire) s = tt
-deed_said names g (Takes line choice) s = tt
-deed_said names g (Drops line) s = tt
-deed_said names g (Answers line) s = tt
-
-step_said_again : (names : Names) (g : Host) (step : Step tcp_shape) → IsSaid step → IsSaid (renumbered names g step)
-step_said_again names g (Begin line t call) s = tt
-step_said_again names g (Finish line t answer) s = tt
-step_said_again names g (Effect t answer) s = tt
-step_said_again names g (At host d) s = deed_said names g d s
-
-pub all_said : (names : Names) (es : List TcpEntry) → AllSaid es → AllSaidSteps (all_renumbered names es)
-all_said names [] s = tt
-all_said names (e ∷ es) s = go e.item s.0 (all_said names es s.1)
-  where
-    go : (item : Item tcp_shape) → IsSaidItem item → AllSaidSteps (all_renumbered names es) → AllSaidSteps (with_renumbered names e.key item (all_renumbered names es))
-    go (Do step) s rest = (step_said_again names e.key.host step s, rest)
-    go (Bring f) s rest = rest

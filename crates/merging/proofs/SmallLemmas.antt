@@ -79,7 +79,7 @@ module _ (h : Header) (me : Host) (moment fresh : ℕ) (far : List (ℕ × Emiss
 
   deed_keeps : (d : Deed tcp_shape) → May d → ((makes (tcp h) d ≡ true) → IsSmall fresh) → IsSmallDeed d → Keeps (done d) far d
   deed_keeps (Does x) may new small = record { small = small; bounded = record { made = b.made; inbox = b.inbox; heard = b.heard } }
-  deed_keeps (Expires line x growth) may new small = record { small = small; bounded = record { made = b.made; inbox = b.inbox; heard = b.heard } }
+  deed_keeps (Expires line x) may new small = record { small = small; bounded = record { made = b.made; inbox = b.inbox; heard = b.heard } }
   deed_keeps (Makes plan) may new small = record {
     small = small;
     bounded = record { made = small_changed s.made fresh _ unsent b.made (λ y is. new refl); inbox = b.inbox; heard = b.heard };
@@ -116,7 +116,7 @@ module _ (h : Header) (me : Host) (moment fresh : ℕ) (far : List (ℕ × Emiss
   -- the numbers that a permitted deed names
   deed_small : (d : Deed tcp_shape) → May d → ((line : ℕ) → deed_line (tcp h) d ≡ Some line → IsSmall line) → IsSmallDeed d
   deed_small (Does x) may own = tt
-  deed_small (Expires line x growth) may own = own line refl
+  deed_small (Expires line x) may own = own line refl
   deed_small (Makes plan) may own = tt
   deed_small (Sends line number wire) may own = let w = on_passes (lookup (nat_eq number) s.made) rules.NotMade _ may in (own line refl, b.made number w.0 w.1)
   deed_small (Gets line copied wire) may own = let w = on_passes (lookup (nat_eq copied) far) rules.NoEmission _ may in (own line refl, b.heard copied w.0 w.1)

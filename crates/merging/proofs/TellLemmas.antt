@@ -2,17 +2,47 @@
 use Rattle.std.proofs.Common.{◌≡◌, ◌≤◌, ◌+◌, ℕ, Bool, true, false, List, [], ◌∷◌, ◌++◌, Option, Some, None, refl, sym, ap, ◌∙◌, append_assoc, arith}
 use Rattle.case_forms.specs.declared.calls.Host.{Host}
 use Rattle.case_forms.specs.declared.calls.Host.TheVariants.{Zero, One}
+use Rattle.case_forms.specs.declared.taken_line.TakenLine.{TakenLine}
+use Rattle.case_forms.specs.declared.taken_line.TakenLine.TheVariants as taken
 use Rattle.case_forms.specs.declared.trace.Line.{Line}
 use Rattle.case_forms.specs.declared.steps.Step as witness
 use Rattle.hosts.specs.Tables.{on}
 use Rattle.hosts.specs.Hosts.{Step}
 use Rattle.machine.specs.Machine.{tcp_shape}
+use Rattle.machine.specs.Steps.{line_step}
 use Rattle.recordings.specs.Books.{Item, Do, Bring, Key}
 use Rattle.recordings.specs.Merging.{Names}
 use Rattle.recordings.specs.Recordings.{TcpEntry}
 use Rattle.stack_core.specs.Entries.{item_steps, steps_in}
-use Rattle.merging.specs.Numbers.{Counts, Turns, counted_one, makes_segment, takes_line, with_turn_if}
-use Rattle.merging.specs.Saying.{all_renumbered, line_said, lines_said, renumbered, steps_said, with_renumbered}
+use Rattle.merging.specs.Numbers.{Counts, IsSmall, IsSmallStep, Turns, counted_one, makes_segment, takes_line, with_turn_if}
+use Rattle.merging.specs.Saying.{all_renumbered, event_said, extras_said, label_said, line_said, lines_said, names as labelled, own_number}
+use Rattle.merging.specs.Saying.{renumbered, said, steps_said, thread_said, with_renumbered}
+
+-- what is said of a line that a step takes, part by part
+pub line_told : (names : Names) (host : Host) (moment : ℕ) (t : TakenLine) → line_said moment (renumbered names host (line_step t)) ≡ Some (said (names.line host (own_number t)) moment (thread_said t) (event_said t))
+line_told names host moment (taken.CallBegin line t call) = refl
+line_told names host moment (taken.CallEnd line t answer) = refl
+line_told names host moment (taken.Sent line at made wire) = refl
+line_told names host moment (taken.Came line at copied wire) = refl
+line_told names host moment (taken.Heard line at wire) = refl
+line_told names host moment (taken.Expired line at ports e) = refl
+
+pub label_told : (names : Names) (host : Host) (t : TakenLine) → label_said (renumbered names host (line_step t)) ≡ labelled (names.line host (own_number t)) (extras_said names host t)
+label_told names host (taken.CallBegin line t call) = refl
+label_told names host (taken.CallEnd line t answer) = refl
+label_told names host (taken.Sent line at made wire) = refl
+label_told names host (taken.Came line at copied wire) = refl
+label_told names host (taken.Heard line at wire) = refl
+label_told names host (taken.Expired line at ports e) = refl
+
+-- its number is small
+pub small_line : (t : TakenLine) → IsSmallStep (line_step t) → IsSmall (own_number t)
+small_line (taken.CallBegin line t call) small = small
+small_line (taken.CallEnd line t answer) small = small
+small_line (taken.Sent line at made wire) small = small.0
+small_line (taken.Came line at copied wire) small = small.0
+small_line (taken.Heard line at wire) small = small
+small_line (taken.Expired line at ports e) small = small
 
 line_front : (o : Option Line) (ls : List Line) → on o ls (λ l. l ∷ ls) ≡ on o [] (λ l. l ∷ []) ++ ls
 line_front None ls = refl

@@ -11,7 +11,7 @@ use Rattle.recordings.specs.Recordings.{TcpEntry}
 
 -- whether a deed takes a line, and a step, and an item
 abbrev pub deed_takes : Deed tcp_shape → Bool
-deed_takes (Expires line x growth) = true
+deed_takes (Expires line x) = true
 deed_takes (Sends line number wire) = true
 deed_takes (Gets line copied wire) = true
 deed_takes (Hears line wire) = true
@@ -100,7 +100,7 @@ IsSmall n = n ≤ 2147483647
 
 -- the numbers that a deed names are small, those that a step names, those of an item, and of each entry
 abbrev pub IsSmallDeed : Deed tcp_shape → Type 0
-IsSmallDeed (Expires line x growth) = IsSmall line
+IsSmallDeed (Expires line x) = IsSmall line
 IsSmallDeed (Sends line number wire) = IsSmall line × IsSmall number
 IsSmallDeed (Gets line copied wire) = IsSmall line × IsSmall copied
 IsSmallDeed (Hears line wire) = IsSmall line

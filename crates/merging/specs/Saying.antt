@@ -1,5 +1,6 @@
 -- Steps of the machine as lines of a trace and as steps of a witness.
-use Rattle.std.specs.Prelude.{◌≡◌, ℕ, ◌+◌, List, [], ◌∷◌, Option, None, Some, map}
+use Rattle.std.specs.Prelude.{ℕ, ◌+◌, List, [], ◌∷◌, Option, None, Some, map}
+use Rattle.case_forms.specs.TakenLines.{timer_of}
 use Rattle.case_forms.specs.declared.calls.Host.{Host}
 use Rattle.case_forms.specs.declared.named_line.Extras.{Extras}
 use Rattle.case_forms.specs.declared.named_line.Extras.TheVariants as extras
@@ -7,9 +8,10 @@ use Rattle.case_forms.specs.declared.named_line.NamedLine.{NamedLine}
 use Rattle.case_forms.specs.declared.steps.Label.{Label}
 use Rattle.case_forms.specs.declared.steps.Label.TheVariants as labels
 use Rattle.case_forms.specs.declared.steps.Step as witness
-use Rattle.case_forms.specs.declared.timer.Growth.{Growth}
-use Rattle.case_forms.specs.declared.timer.Timer.{Timer}
-use Rattle.case_forms.specs.declared.timer.Timer.TheVariants as timers
+use Rattle.case_forms.specs.declared.taken_line.Expired.{Expired}
+use Rattle.case_forms.specs.declared.taken_line.Expired.TheVariants as expireds
+use Rattle.case_forms.specs.declared.taken_line.TakenLine.{TakenLine}
+use Rattle.case_forms.specs.declared.taken_line.TakenLine.TheVariants as taken
 use Rattle.case_forms.specs.declared.trace.Event.{Event}
 use Rattle.case_forms.specs.declared.trace.Event.TheVariants as events
 use Rattle.case_forms.specs.declared.trace.Line.{Line}
@@ -29,7 +31,7 @@ abbrev pub said : ℕ → ℕ → ℕ → Event → Line
 said line moment thread event = record { number = line; moment = moment; thread = thread; event = event; span = nowhere }
 
 abbrev pub deed_line_said : ℕ → Host → Deed tcp_shape → Option Line
-deed_line_said moment host (Expires line x growth) = Some (said line moment (6 + rank host) (events.Expired host x.lport x.rport x.timer))
+deed_line_said moment host (Expires line x) = Some (said line moment (6 + rank host) (events.Expired host x.lport x.rport (timer_of x.expired)))
 deed_line_said moment host (Sends line number wire) = Some (said line moment (8 + rank host) (events.Sent host wire))
 deed_line_said moment host (Gets line copied wire) = Some (said line moment (4 + rank host) (events.Came host wire))
 deed_line_said moment host (Hears line wire) = Some (said line moment (4 + rank host) (events.Came host wire))
@@ -43,16 +45,16 @@ line_said moment (Effect t answer) = None
 line_said moment (At host deed) = deed_line_said moment host deed
 
 -- a retransmission timer's line is named with both windows, another's with nothing
-abbrev pub growth_said : Timer → Growth → Extras
-growth_said timers.Rto growth = extras.Two growth.cwnd growth.ssthresh
-growth_said timer growth = extras.Bare
+abbrev pub growth_said : Expired → Extras
+growth_said (expireds.Rto growth) = extras.Two growth.cwnd growth.ssthresh
+growth_said x = extras.Bare
 
 abbrev pub names : ℕ → Extras → Label NamedLine
 names line x = labels.L (record { number = line; extras = x })
 
 abbrev pub deed_said : Host → Deed tcp_shape → Label NamedLine
 deed_said host (Does x) = labels.F host x
-deed_said host (Expires line x growth) = names line (growth_said x.timer growth)
+deed_said host (Expires line x) = names line (growth_said x.expired)
 deed_said host (Makes plan) = labels.M host plan
 deed_said host (Sends line number wire) = names line (extras.One number)
 deed_said host (Gets line copied wire) = names line (extras.One copied)
@@ -67,6 +69,37 @@ label_said (Begin line t call) = names line extras.Bare
 label_said (Finish line t answer) = names line extras.Bare
 label_said (Effect t answer) = labels.D t answer
 label_said (At host deed) = deed_said host deed
+
+-- the same of a line that a step takes: its number in its host's recording, its thread, its event, and what its step adds
+abbrev pub own_number : TakenLine → ℕ
+own_number (taken.CallBegin line t call) = line
+own_number (taken.CallEnd line t answer) = line
+own_number (taken.Sent line host made wire) = line
+own_number (taken.Came line host copied wire) = line
+own_number (taken.Heard line host wire) = line
+own_number (taken.Expired line host ports e) = line
+
+abbrev pub thread_said : TakenLine → ℕ
+thread_said (taken.CallBegin line t call) = t
+thread_said (taken.CallEnd line t answer) = t
+thread_said (taken.Sent line host made wire) = 8 + rank host
+thread_said (taken.Came line host copied wire) = 4 + rank host
+thread_said (taken.Heard line host wire) = 4 + rank host
+thread_said (taken.Expired line host ports e) = 6 + rank host
+
+abbrev pub event_said : TakenLine → Event
+event_said (taken.CallBegin line t call) = events.CallBegin call
+event_said (taken.CallEnd line t answer) = events.CallEnd answer
+event_said (taken.Sent line host made wire) = events.Sent host wire
+event_said (taken.Came line host copied wire) = events.Came host wire
+event_said (taken.Heard line host wire) = events.Came host wire
+event_said (taken.Expired line host ports e) = events.Expired host ports.lport ports.rport (timer_of e)
+
+abbrev pub extras_said : Names → Host → TakenLine → Extras
+extras_said names h (taken.Sent line host made wire) = extras.One (names.made h made)
+extras_said names h (taken.Came line host copied wire) = extras.One (names.line (other h) copied)
+extras_said names h (taken.Expired line host ports e) = growth_said e
+extras_said names h _ = extras.Bare
 
 -- the lines that steps take, in their order
 abbrev pub lines_said : List (Stamped tcp_shape) → List Line
@@ -83,7 +116,7 @@ steps_said xs = map step_said xs
 -- a deed of host h under new numbers, and a step; whatever the header says
 abbrev pub deed_renumbered : Names → Host → Deed tcp_shape → Deed tcp_shape
 deed_renumbered names h (Does x) = Does x
-deed_renumbered names h (Expires line x growth) = Expires (names.line h line) x growth
+deed_renumbered names h (Expires line x) = Expires (names.line h line) x
 deed_renumbered names h (Makes plan) = Makes plan
 deed_renumbered names h (Sends line number wire) = Sends (names.line h line) (names.made h number) wire
 deed_renumbered names h (Gets line copied wire) = Gets (names.line h line) (names.line (other h) copied) wire
@@ -110,25 +143,3 @@ all_renumbered names (x ∷ xs) = with_renumbered names x.key x.item (all_renumb
 -- the steps of both hosts' entries in the order of their keys, with lines counted from the first on
 abbrev pub both_renumbered : ℕ → (zeros ones : List TcpEntry) → List (Stamped tcp_shape)
 both_renumbered first zeros ones = all_renumbered (names_in (counted (no_counts first) (in_order zeros ones))) (in_order zeros ones)
-
--- nothing is chosen at a timer that is no retransmission timer
-abbrev pub IsPlain : Timer → Growth → Type 0
-IsPlain timers.Rto growth = Unit {0}
-IsPlain timer growth = growth ≡ record { cwnd = 0; ssthresh = 0 }
-
-abbrev pub IsSaidDeed : Deed tcp_shape → Type 0
-IsSaidDeed (Expires line x growth) = IsPlain x.timer growth
-IsSaidDeed deed = Unit {0}
-
--- a witness has all that the step says
-abbrev pub IsSaid : Step tcp_shape → Type 0
-IsSaid (At host deed) = IsSaidDeed deed
-IsSaid step = Unit {0}
-
-abbrev pub IsSaidItem : Item tcp_shape → Type 0
-IsSaidItem (Do step) = IsSaid step
-IsSaidItem (Bring f) = Unit {0}
-
-abbrev pub AllSaid : List TcpEntry → Type 0
-AllSaid [] = Unit {0}
-AllSaid (x ∷ xs) = IsSaidItem x.item × AllSaid xs

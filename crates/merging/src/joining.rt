@@ -11,7 +11,7 @@ ghost use Rattle.merging.specs.Faults.{IfStranger, IsFirstStranger};
 ghost use Rattle.merging.specs.Naming.{AllAbove};
 ghost use Rattle.merging.specs.Numbers.{AllSmall};
 ghost use Rattle.merging.specs.Order.{in_order};
-ghost use Rattle.merging.specs.Saying.{AllSaid, both_renumbered, lines_said, steps_said};
+ghost use Rattle.merging.specs.Saying.{both_renumbered, lines_said, steps_said};
 ghost use Rattle.merging.specs.Told.{Tells};
 
 use crate::laws::what_is_told_explains;
@@ -64,7 +64,6 @@ fn tell(alloc: Global, zero: &Recording, one: &Recording) -> Result<Recorded, Ou
         ≡ lines_said (both_renumbered (first_event_line zero.now.header) zero.now.entries one.now.entries)) }
     ensures steps { IfOk result (λ r. r.witness.steps
         ≡ steps_said (both_renumbered (first_event_line zero.now.header) zero.now.entries one.now.entries)) }
-    ensures said { IfOk result (λ r. AllSaid (in_order zero.now.entries one.now.entries)) }
 {
     let header = *zero.header();
     let first = header.first_event_line() as u32;

@@ -2,17 +2,16 @@
 
 ghost use Rattle.std.specs.Prelude.{◌≡◌, ◌≤◌, ◌+◌, ◌++◌, ◌∷◌, [], Some, IfOk, OnOk};
 ghost use Rattle.hosts.specs.Tables.{on, other};
-ghost use Rattle.machine.specs.Steps.{growth_of, line_step, step_of, timer_of};
+ghost use Rattle.machine.specs.Steps.{line_step, step_of};
 ghost use Rattle.merging.specs.Numbers.{AllSmall, IsSmallItem, IsSmallStep, names_by};
-ghost use Rattle.merging.specs.Saying.{AllSaid, IsSaid, IsSaidItem, all_renumbered, growth_said, label_said, line_said};
-ghost use Rattle.merging.specs.Saying.{lines_said, names, renumbered, said, steps_said};
+ghost use Rattle.merging.specs.Saying.{all_renumbered, event_said, extras_said, growth_said, label_said, line_said, lines_said};
+ghost use Rattle.merging.specs.Saying.{names, own_number, renumbered, said, steps_said, thread_said};
 ghost use Rattle.checker.specs.Again.{nowhere};
 
 use crate::numbers::Counts;
 use crate::order::{InOrder, rank};
 use case_forms::{
-    Event, Expired, Extras, Host, Line, Lines, NamedLine, OutOfMemory, Span, Step, Steps,
-    TakenLine, Timer,
+    Event, Expired, Extras, Host, Line, Lines, NamedLine, OutOfMemory, Span, Step, Steps, TakenLine,
 };
 use spec_step::Label;
 use stack_core::{Entry, Item};
@@ -63,7 +62,80 @@ fn told_line(number: u32, moment: u64, thread: u32, event: Event, extras: Extras
     }
 }
 
+// The number of the line that a step takes, in its host's recording.
+fn own_number(taken: &TakenLine) -> u64
+    ensures { result ≡ own_number taken.now }
+{
+    match taken {
+        TakenLine::CallBegin { line, .. }
+        | TakenLine::CallEnd { line, .. }
+        | TakenLine::Sent { line, .. }
+        | TakenLine::Came { line, .. }
+        | TakenLine::Heard { line, .. }
+        | TakenLine::Expired { line, .. } => *line,
+    }
+}
+
+// Its thread: lines of segments that come in, of timers, and of segments that go out have threads of their own.
+fn thread_of(taken: &TakenLine) -> u32
+    ensures { result ≡ thread_said taken.now }
+{
+    match taken {
+        TakenLine::CallBegin { thread, .. } | TakenLine::CallEnd { thread, .. } => *thread,
+        TakenLine::Came { host, .. } | TakenLine::Heard { host, .. } => 4 + rank(*host),
+        TakenLine::Expired { host, .. } => 6 + rank(*host),
+        TakenLine::Sent { host, .. } => 8 + rank(*host),
+    }
+}
+
+// What it tells.
+fn event_of(taken: &TakenLine) -> Result<Event, OutOfMemory>
+    ensures { IfOk result (λ event. event ≡ event_said taken.now) }
+{
+    Ok(match taken {
+        TakenLine::CallBegin { call, .. } => Event::CallBegin(call.copy()?),
+        TakenLine::CallEnd { answer, .. } => Event::CallEnd(answer.copy()?),
+        TakenLine::Sent { host, wire, .. } => Event::Sent(*host, wire.copy()?),
+        TakenLine::Came { host, wire, .. } | TakenLine::Heard { host, wire, .. } => {
+            Event::Came(*host, wire.copy()?)
+        }
+        TakenLine::Expired {
+            host,
+            ports,
+            expired,
+            ..
+        } => Event::Expired(*host, ports.lport, ports.rport, expired.timer()),
+    })
+}
+
+// The numbers that its step adds.
+fn extras_of(counts: &Counts, host: Host, taken: &TakenLine) -> Extras
+    requires small { IsSmallStep (line_step taken.now) }
+    requires lines { counts.now.lines.next ≤ 2147483647 }
+    requires mades { counts.now.mades.next ≤ 2147483647 }
+    ensures { result ≡ extras_said (names_by counts.now.lines counts.now.mades) host taken.now }
+{
+    match taken {
+        TakenLine::CallBegin { .. } | TakenLine::CallEnd { .. } | TakenLine::Heard { .. } => {
+            Extras::Bare
+        }
+        TakenLine::Sent { made, .. } => Extras::One(counts.mades.number(host, u64::from(*made))),
+        TakenLine::Came { copied, .. } => Extras::One(counts.lines.number(other(host), *copied)),
+        TakenLine::Expired { expired, .. } => growth_of(*expired),
+    }
+}
+
+fn growth_of(expired: Expired) -> Extras
+    ensures { result ≡ growth_said expired }
+{
+    match expired {
+        Expired::Rto(growth) => Extras::Two(growth.cwnd, growth.ssthresh),
+        Expired::Persist | Expired::Msl2 | Expired::Giveup => Extras::Bare,
+    }
+}
+
 // What the step of a line tells.
+#[tactic(auto, using(crate::proofs::TellLemmas::line_told, crate::proofs::TellLemmas::label_told, crate::proofs::TellLemmas::small_line))]
 fn tell_line(
     counts: &Counts,
     moment: u64,
@@ -75,95 +147,11 @@ fn tell_line(
     requires mades { counts.now.mades.next ≤ 2147483647 }
     ensures label { IfOk result (λ t. t.label ≡ label_said (renumbered (names_by counts.now.lines counts.now.mades) host (line_step taken.now))) }
     ensures line { IfOk result (λ t. t.line ≡ line_said moment (renumbered (names_by counts.now.lines counts.now.mades) host (line_step taken.now))) }
-    ensures said { IsSaid (line_step taken.now) }
 {
-    Ok(match taken {
-        TakenLine::CallBegin { line, thread, call } => told_line(
-            counts.lines.number(host, *line),
-            moment,
-            *thread,
-            Event::CallBegin(call.copy()?),
-            Extras::Bare,
-        ),
-        TakenLine::CallEnd {
-            line,
-            thread,
-            answer,
-        } => told_line(
-            counts.lines.number(host, *line),
-            moment,
-            *thread,
-            Event::CallEnd(answer.copy()?),
-            Extras::Bare,
-        ),
-        TakenLine::Sent {
-            line,
-            host: at,
-            made,
-            wire,
-        } => told_line(
-            counts.lines.number(host, *line),
-            moment,
-            8 + rank(*at),
-            Event::Sent(*at, wire.copy()?),
-            Extras::One(counts.mades.number(host, u64::from(*made))),
-        ),
-        TakenLine::Came {
-            line,
-            host: at,
-            copied,
-            wire,
-        } => told_line(
-            counts.lines.number(host, *line),
-            moment,
-            4 + rank(*at),
-            Event::Came(*at, wire.copy()?),
-            Extras::One(counts.lines.number(other(host), *copied)),
-        ),
-        TakenLine::Heard {
-            line,
-            host: at,
-            wire,
-        } => told_line(
-            counts.lines.number(host, *line),
-            moment,
-            4 + rank(*at),
-            Event::Came(*at, wire.copy()?),
-            Extras::Bare,
-        ),
-        TakenLine::Expired {
-            line,
-            host: at,
-            ports,
-            expired,
-        } => told_line(
-            counts.lines.number(host, *line),
-            moment,
-            6 + rank(*at),
-            Event::Expired(*at, ports.lport, ports.rport, timer_of(*expired)),
-            extras_of(*expired),
-        ),
-    })
-}
-
-fn timer_of(expired: Expired) -> Timer
-    ensures { result ≡ timer_of expired }
-{
-    match expired {
-        Expired::Rto(_) => Timer::Rto,
-        Expired::Persist => Timer::Persist,
-        Expired::Msl2 => Timer::Msl2,
-        Expired::Giveup => Timer::Giveup,
-    }
-}
-
-fn extras_of(expired: Expired) -> Extras
-    ensures { result ≡ growth_said (timer_of expired) (growth_of expired) }
-{
-    match expired {
-        Expired::Rto(growth) => Extras::Two(growth.cwnd, growth.ssthresh),
-        Expired::Persist | Expired::Msl2 | Expired::Giveup => Extras::Bare,
-    }
+    let event = event_of(taken)?;
+    let number = counts.lines.number(host, own_number(taken));
+    let extras = extras_of(counts, host, taken);
+    Ok(told_line(number, moment, thread_of(taken), event, extras))
 }
 
 // What a step of a host tells, under new numbers.
@@ -173,7 +161,6 @@ fn tell_step(counts: &Counts, moment: u64, host: Host, label: &Label) -> Result<
     requires mades { counts.now.mades.next ≤ 2147483647 }
     ensures label { IfOk result (λ t. t.label ≡ label_said (renumbered (names_by counts.now.lines counts.now.mades) host (step_of label.now))) }
     ensures line { IfOk result (λ t. t.line ≡ line_said moment (renumbered (names_by counts.now.lines counts.now.mades) host (step_of label.now))) }
-    ensures said { IsSaid (step_of label.now) }
 {
     let label = match label {
         Label::L(taken) => return tell_line(counts, moment, host, taken),
@@ -232,7 +219,6 @@ fn tell_entry(
     requires mades { counts.now.mades.next ≤ 2147483647 }
     ensures lines { OnOk result (lines.new ≡ lines.old ++ lines_said (all_renumbered (names_by counts.now.lines counts.now.mades) (entry.now ∷ []))) }
     ensures steps { OnOk result (steps.new ≡ steps.old ++ steps_said (all_renumbered (names_by counts.now.lines counts.now.mades) (entry.now ∷ []))) }
-    ensures said { OnOk result (IsSaidItem entry.now.item) }
 {
     let Item::Does(label) = entry.item() else {
         return Ok(());
@@ -260,7 +246,6 @@ pub(crate) fn tell_all(
     requires mades { counts.now.mades.next ≤ 2147483647 }
     ensures lines { IfOk result (λ r. r.0 ≡ lines_said (all_renumbered (names_by counts.now.lines counts.now.mades) entries.entry)) }
     ensures steps { IfOk result (λ r. r.1 ≡ steps_said (all_renumbered (names_by counts.now.lines counts.now.mades) entries.entry)) }
-    ensures said { IfOk result (λ r. AllSaid entries.entry) }
 {
     let mut lines = Lines::new(alloc);
     let mut steps = Steps::new(alloc);

@@ -24,7 +24,7 @@ data Act : Type 0 where
   Rest : Act
 
 abbrev shape : Shape
-shape = record { Body = ℕ; Act = Act; Plain = Unit {0}; Expiry = Unit {0}; Growth = Unit {0}; Making = ℕ; How = Unit {0}; Emission = ℕ; Wire = ℕ; Call = Unit {0}; Answer = Unit {0} }
+shape = record { Body = ℕ; Act = Act; Plain = Unit {0}; Expiring = Unit {0}; Making = ℕ; How = Unit {0}; Expiry = Unit {0}; Emission = ℕ; Wire = ℕ; Call = Unit {0}; Answer = Unit {0} }
 
 abbrev sum_after : ℕ → Act → ℕ
 sum_after b (Make n) = b
@@ -44,11 +44,12 @@ sums = record {
   act_after = λ me moment b a. sum_after b a;
   act_makes = λ me moment b a. made_by a;
   does = λ x. Rest;
-  expires = λ x growth. Rest;
+  expires = λ x. Rest;
   making = λ n. Make n;
   takes = λ how n. Take n;
   answers = λ n. Rest;
   calls = λ call answer. Rest;
+  expiry = λ x. x;
   out_rules = λ wire n. just rules.BytesDiffer (not (wire == n));
   sent = λ moment wire n. n;
   in_rules = λ moment wire n. just rules.CopyDiffers (not (wire == n));

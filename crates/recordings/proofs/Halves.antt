@@ -107,7 +107,7 @@ hosts_brought k names h lw fw gw fn was x = record {
 pub deed_wire : (k : Kernel) (h : Host) (s fresh : ℕ) (far : List (ℕ × k.shape.Emission)) (x : HostState k.shape) (d : Deed k.shape)
     → ((deed_after k h s fresh far x d).wire ≡ x.wire) ⊎ ((line : ℕ) × (e : k.shape.Emission) × (deed_line k d ≡ Some line) × ((deed_after k h s fresh far x d).wire ≡ insert_entry nat_eq x.wire line e))
 deed_wire k h s fresh far x (Does v) = inl refl
-deed_wire k h s fresh far x (Expires line v growth) = inl refl
+deed_wire k h s fresh far x (Expires line v) = inl refl
 deed_wire k h s fresh far x (Makes v) = inl refl
 deed_wire k h s fresh far x (Sends line number wire) = go (lookup (nat_eq number) x.made)
   where

@@ -33,7 +33,7 @@ halves k names ws lw gw ls ln n lt mt One a b One = a
 
 redeed_line : (k : Kernel) (names : Names) (h : Host) (d : Deed k.shape) → deed_line k (redeed k names h d) ≡ on (deed_line k d) None (λ l. Some (names.line h l))
 redeed_line k names h (Does v) = refl
-redeed_line k names h (Expires line v growth) = refl
+redeed_line k names h (Expires line v) = refl
 redeed_line k names h (Makes v) = refl
 redeed_line k names h (Sends line number wire) = refl
 redeed_line k names h (Gets line copied wire) = refl

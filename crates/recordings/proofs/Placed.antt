@@ -27,7 +27,7 @@ both_or_none k (At side d) = go d
   where
     go : (d : Deed k.shape) → ((deed_line k d ≡ None) × (deed_event k side d ≡ None)) ⊎ ((n : ℕ) × (e : Event k.shape) × (deed_line k d ≡ Some n) × (deed_event k side d ≡ Some e))
     go (Does v) = inl (refl, refl)
-    go (Expires line v growth) = inr (line, _, refl, refl)
+    go (Expires line v) = inr (line, _, refl, refl)
     go (Makes v) = inl (refl, refl)
     go (Sends line number wire) = inr (line, _, refl, refl)
     go (Gets line copied wire) = inr (line, _, refl, refl)

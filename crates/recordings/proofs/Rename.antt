@@ -37,7 +37,7 @@ pub record Apt (names : Names) : Type 0 where
 -- what it may do stays the same
 pub deed_may : (k : Kernel) (names : Names) (h : Host) → Apt names → (s : ℕ) (far gar : List (ℕ × k.shape.Emission)) → SameFar k names h far gar → (x : HostState k.shape) (d : Deed k.shape) → first_broken (deed_rules k h s far x d) ≡ None → first_broken (deed_rules k h s gar (rehost k names h x) (redeed k names h d)) ≡ None
 deed_may k names h apt s far gar same x (Does v) p = p
-deed_may k names h apt s far gar same x (Expires line v growth) p = p
+deed_may k names h apt s far gar same x (Expires line v) p = p
 deed_may k names h apt s far gar same x (Makes v) p = p
 deed_may k names h apt s far gar same x (Sends line number wire) p = subst (λ (o : Option (Made k.shape.Emission)). first_broken (on o (just rules.NotMade true) (λ m. k.out_rules wire m.emission ++ just rules.NotMade m.sent)) ≡ None) (sym (lookup_retag (names.made h) (apt.made h) number x.made)) p
 deed_may k names h apt s far gar same x (Gets line copied wire) p =
@@ -59,7 +59,7 @@ made_retag {E} f apart fresh gresh is (Some e) ts = ap (λ (n : ℕ). insert_ent
 -- and so does what it does
 pub deed_does : (k : Kernel) (names : Names) (h : Host) → Apt names → (s : ℕ) (far gar : List (ℕ × k.shape.Emission)) → SameFar k names h far gar → (fresh gresh : ℕ) (x : HostState k.shape) (d : Deed k.shape) → (makes k d ≡ true → names.made h fresh ≡ gresh) → first_broken (deed_rules k h s far x d) ≡ None → deed_after k h s gresh gar (rehost k names h x) (redeed k names h d) ≡ rehost k names h (deed_after k h s fresh far x d)
 deed_does k names h apt s far gar same fresh gresh x (Does v) is p = refl
-deed_does k names h apt s far gar same fresh gresh x (Expires line v growth) is p = refl
+deed_does k names h apt s far gar same fresh gresh x (Expires line v) is p = refl
 deed_does k names h apt s far gar same fresh gresh x (Makes v) is p =
     ap (λ (m : List (ℕ × Made k.shape.Emission)). record { body = k.act_after h s x.body (k.making v); made = m; wire = retag (names.line h) x.wire; inbox = retag (names.line h) x.inbox }) (made_retag (names.made h) (apt.made h) fresh gresh (is refl) (k.act_makes h s x.body (k.making v)) x.made)
 deed_does k names h apt s far gar same fresh gresh x (Sends line number wire) is p = ap sends (lookup_retag (names.made h) (apt.made h) number x.made) ∙ go (lookup (nat_eq number) x.made)

@@ -89,7 +89,7 @@ pub record Stepped (k : Kernel) (names : Names) (h : Host) (s : ℕ) (lw fw gw :
 
 redeed_makes : (k : Kernel) (names : Names) (h : Host) (d : Deed k.shape) → makes k (redeed k names h d) ≡ makes k d
 redeed_makes k names h (Does v) = refl
-redeed_makes k names h (Expires line v growth) = refl
+redeed_makes k names h (Expires line v) = refl
 redeed_makes k names h (Makes v) = refl
 redeed_makes k names h (Sends line number wire) = refl
 redeed_makes k names h (Gets line copied wire) = refl

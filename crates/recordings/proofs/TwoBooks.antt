@@ -3,6 +3,7 @@ use Rattle.std.proofs.Common.{◌≡◌, ℕ, true, false, List, [], ◌∷◌, 
 use Rattle.case_forms.specs.declared.calls.Host.TheVariants.{Zero, One}
 use Rattle.case_forms.specs.declared.calls.Call.TheVariants as calls
 use Rattle.case_forms.specs.declared.calls.Answer.TheVariants as answers
+use Rattle.case_forms.specs.declared.taken_line.Expired.TheVariants as expireds
 use Rattle.case_forms.specs.declared.timer.Timer.TheVariants.{Rto}
 use Rattle.case_forms.specs.declared.trace.Wire.{Wire}
 use Rattle.hosts.specs.Hosts.{Begin, Finish, Effect, At, Makes, Sends, Gets, Takes, Expires, Stamped}
@@ -51,7 +52,7 @@ zeros =
     ∷ does 101 10 Zero (Finish 13 2 (answers.Given 5))
     ∷ does 110 11 Zero (At Zero (Makes (making 4000 80 1 5 telling.ack None)))
     ∷ does 110 11 Zero (At Zero (Sends 14 3 five_bytes))
-    ∷ does 1000110 12 Zero (At Zero (Expires 15 (record { lport = 4000; rport = 80; timer = Rto }) (record { cwnd = 536; ssthresh = 1072 })))
+    ∷ does 1000110 12 Zero (At Zero (Expires 15 (record { lport = 4000; rport = 80; expired = expireds.Rto (record { cwnd = 536; ssthresh = 1072 }) })))
     ∷ does 1000110 13 Zero (At Zero (Makes (making 4000 80 1 5 telling.ack None)))
     ∷ does 1000110 13 Zero (At Zero (Sends 16 4 five_bytes))
     ∷ []
@@ -113,7 +114,7 @@ told =
     ∷ stamped 101 (Finish 20 2 (answers.Given 5))
     ∷ stamped 110 (At Zero (Makes (making 4000 80 1 5 telling.ack None)))
     ∷ stamped 110 (At Zero (Sends 21 4 five_bytes))
-    ∷ stamped 1000110 (At Zero (Expires 22 (record { lport = 4000; rport = 80; timer = Rto }) (record { cwnd = 536; ssthresh = 1072 })))
+    ∷ stamped 1000110 (At Zero (Expires 22 (record { lport = 4000; rport = 80; expired = expireds.Rto (record { cwnd = 536; ssthresh = 1072 }) })))
     ∷ stamped 1000110 (At Zero (Makes (making 4000 80 1 5 telling.ack None)))
     ∷ stamped 1000110 (At Zero (Sends 23 5 five_bytes))
     ∷ stamped 1000120 (At One (Gets 24 23 five_bytes))

@@ -84,7 +84,7 @@ HostRun k h w (x ∷ xs) = FitsItem k h x.key.moment w x.item × InLane k h (nex
 
 -- the line that a host's deed takes
 abbrev pub deed_line : (k : Kernel) → Deed k.shape → Option ℕ
-deed_line k (Expires line x growth) = Some line
+deed_line k (Expires line x) = Some line
 deed_line k (Sends line number wire) = Some line
 deed_line k (Gets line copied wire) = Some line
 deed_line k (Hears line wire) = Some line

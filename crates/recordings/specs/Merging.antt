@@ -61,7 +61,7 @@ names_of k first xs = record { line = λ h. nth h (heads first (line_turns k xs)
 -- what host h does, under new numbers
 abbrev pub redeed : (k : Kernel) → Names → Host → Deed k.shape → Deed k.shape
 redeed k names h (Does x) = Does x
-redeed k names h (Expires line x growth) = Expires (names.line h line) x growth
+redeed k names h (Expires line x) = Expires (names.line h line) x
 redeed k names h (Makes x) = Makes x
 redeed k names h (Sends line number wire) = Sends (names.line h line) (names.made h number) wire
 redeed k names h (Gets line copied wire) = Gets (names.line h line) (names.line (other h) copied) wire

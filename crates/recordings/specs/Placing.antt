@@ -25,7 +25,7 @@ pub record Line (s : Shape) : Type 0 where
 
 -- what the line says that a host's deed takes
 abbrev pub deed_event : (k : Kernel) → Host → Deed k.shape → Option (Event k.shape)
-deed_event k host (Expires line x growth) = Some (Expired host x)
+deed_event k host (Expires line x) = Some (Expired host (k.expiry x))
 deed_event k host (Sends line number wire) = Some (Sent host wire)
 deed_event k host (Gets line copied wire) = Some (Came host wire)
 deed_event k host (Hears line wire) = Some (Came host wire)

@@ -128,7 +128,7 @@ called_wire One One hosts b = refl
 deed_kept : (h : Header) (me : Host) (moment fresh : ℕ) (far : List (ℕ × Emission)) (s : HostState tcp_shape) (d : Deed tcp_shape) (line n : ℕ) (e : Emission) → If (deed_line (tcp h) d) (Unit {0}) (λ l. l ≡ n) → line < n
     → lookup (nat_eq line) s.wire ≡ Some e → lookup (nat_eq line) (deed_after (tcp h) me moment fresh far s d).wire ≡ Some e
 deed_kept h me moment fresh far s (Does x) line n e at below is = is
-deed_kept h me moment fresh far s (Expires l x growth) line n e at below is = is
+deed_kept h me moment fresh far s (Expires l x) line n e at below is = is
 deed_kept h me moment fresh far s (Makes plan) line n e at below is = is
 deed_kept h me moment fresh far s (Sends l number wire) line n e at below is = wire_kept line l moment number wire s.made s.wire e (subst (λ (m : ℕ). line < m) (sym at) below) is
 deed_kept h me moment fresh far s (Gets l copied wire) line n e at below is = is

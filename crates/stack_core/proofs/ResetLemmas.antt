@@ -111,7 +111,7 @@ answering_joins me b (Some e) made xs fresh are = answer_joins made xs fresh (re
 deed_awaited : (h : Header) (me : Host) (moment fresh : ℕ) (far : List (ℕ × Emission)) (s : HostState tcp_shape) (xs : List ℕ) (d : Deed tcp_shape) → AreAwaited s.made xs
     → AreAwaited (deed_after (tcp h) me moment fresh far s d).made (awaited xs (At me d) fresh)
 deed_awaited h me moment fresh far s xs (Does x) are = are
-deed_awaited h me moment fresh far s xs (Expires line x growth) are = are
+deed_awaited h me moment fresh far s xs (Expires line x) are = are
 deed_awaited h me moment fresh far s xs (Makes plan) are = making_joins me s.body plan s.made xs fresh are
 deed_awaited h me moment fresh far s xs (Sends line number wire) are = gone s.made xs number are
 deed_awaited h me moment fresh far s xs (Gets line copied wire) are = are
@@ -164,7 +164,7 @@ tried_awaited made xs (Begin line t call) n are = are
 tried_awaited made xs (Finish line t answer) n are = are
 tried_awaited made xs (Effect t answer) n are = are
 tried_awaited made xs (At host (Does x)) n are = are
-tried_awaited made xs (At host (Expires line x growth)) n are = are
+tried_awaited made xs (At host (Expires line x)) n are = are
 tried_awaited made xs (At host (Makes plan)) n are = are
 tried_awaited made xs (At host (Sends line number wire)) n are = are
 tried_awaited made xs (At host (Gets line copied wire)) n are = are

@@ -44,7 +44,7 @@ taking_sockets h b how m moment (AtEndpoint i e) = refl
 
 pub deed_sockets : (h : Header) (me : Host) (moment fresh : ℕ) (far : List (ℕ × Emission)) (s : HostState tcp_shape) (d : Deed tcp_shape) → (deed_after (tcp h) me moment fresh far s d).body.sockets ≡ s.body.sockets
 deed_sockets h me moment fresh far s (Does x) = at_sockets s.body x.lport x.rport _
-deed_sockets h me moment fresh far s (Expires line x growth) = at_sockets s.body x.lport x.rport _
+deed_sockets h me moment fresh far s (Expires line x) = at_sockets s.body x.lport x.rport _
 deed_sockets h me moment fresh far s (Makes plan) = at_sockets s.body plan.lport plan.rport _
 deed_sockets h me moment fresh far s (Sends line number wire) = refl
 deed_sockets h me moment fresh far s (Gets line copied wire) = refl

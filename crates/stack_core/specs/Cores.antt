@@ -86,7 +86,7 @@ IsNextLine c step = If (step_line (tcp c.recorded.header) step) (Unit {0}) (λ l
 -- how many lines a deed takes, and a step
 abbrev pub deed_lines : Deed tcp_shape → ℕ
 deed_lines (Does x) = 0
-deed_lines (Expires line x growth) = 1
+deed_lines (Expires line x) = 1
 deed_lines (Makes plan) = 0
 deed_lines (Sends line number wire) = 1
 deed_lines (Gets line copied wire) = 1

@@ -5,25 +5,20 @@ use Rattle.case_forms.specs.declared.calls.Ports.{Ports}
 use Rattle.case_forms.specs.declared.taken_line.Expired.{Expired}
 use Rattle.case_forms.specs.declared.taken_line.Expired.TheVariants as expireds
 use Rattle.case_forms.specs.States.{is_fin_wait_2}
-use Rattle.case_forms.specs.declared.timer.Expiry.{Expiry}
-use Rattle.case_forms.specs.declared.timer.Growth.{Growth}
-use Rattle.case_forms.specs.declared.timer.Timer.{Timer}
-use Rattle.case_forms.specs.declared.timer.Timer.TheVariants.{Giveup, Msl2, Persist, Rto}
 use Rattle.hosts.specs.Hosts.{At, Expires, Step}
 use Rattle.hosts.specs.HostRules.{Permitted}
 use Rattle.hosts.specs.Tables.{pick}
 use Rattle.machine.specs.Bodies.{endpoint_of}
 use Rattle.machine.specs.declared.endpoint.Endpoint.{Endpoint}
 use Rattle.machine.specs.Forgetting.{forget_body}
-use Rattle.machine.specs.Machine.{tcp, tcp_shape}
-use Rattle.machine.specs.Steps.{growth_of, timer_of}
+use Rattle.machine.specs.Machine.{Expiring, tcp, tcp_shape}
 use Rattle.stack_core.specs.declared.tick.Tick.{Tick}
 use Rattle.stack_core.specs.Cores.{Core, line_to_come, opened, with_step}
 use Rattle.stack_core.specs.Recordings.{Recorded, world_left}
 
 -- the line of a timer that expires
 abbrev pub expiry_step : Host → ℕ → Ports → Expired → Step tcp_shape
-expiry_step me line ports expired = At me (Expires line (record { lport = ports.lport; rport = ports.rport; timer = timer_of expired }) (growth_of expired))
+expiry_step me line ports expired = At me (Expires line (record { lport = ports.lport; rport = ports.rport; expired = expired }))
 
 -- that timer may expire there at this moment, with any line
 abbrev pub IsDueAt : Recorded → ℕ → Ports → Expired → Type 0
@@ -50,25 +45,16 @@ IfGivesUp r ports e = Unit {0}
 
 -- no line of a retransmission timer, a persist timer or a wait in TIME-WAIT is permitted at this moment
 abbrev pub NoneDueAt : Recorded → ℕ → Type 0
-NoneDueAt r moment = (x : Expiry) (growth : Growth) → (x.timer ≡ Giveup → ⊥) → Permitted (tcp r.header) moment (world_left r) (At r.me (Expires 0 x growth)) → ⊥
+NoneDueAt r moment = (x : Expiring) → (x.expired ≡ expireds.Giveup → ⊥) → Permitted (tcp r.header) moment (world_left r) (At r.me (Expires 0 x)) → ⊥
 
 abbrev pub NoneDue : Core → ℕ → Type 0
 NoneDue c moment = NoneDueAt c.recorded moment
 
 -- none of the three is at the endpoint of these ports, with the least values
-abbrev pub RefusesAt : Recorded → ℕ → Ports → Timer → Type 0
-RefusesAt r moment ports timer =
-    Permitted (tcp r.header) moment (world_left r) (At r.me (Expires 0 (record {
-      lport = ports.lport;
-      rport = ports.rport;
-      timer =
-          timer;
-    }) (record { cwnd = 0; ssthresh = 0 }))) → ⊥
-
 pub record IsRefused (r : Recorded) (moment : ℕ) (ports : Ports) : Type 0 where
-  pub rto : RefusesAt r moment ports Rto
-  pub persist : RefusesAt r moment ports Persist
-  pub msl2 : RefusesAt r moment ports Msl2
+  pub rto : IsNotDueAt r moment ports (expireds.Rto (record { cwnd = 0; ssthresh = 0 }))
+  pub persist : IsNotDueAt r moment ports expireds.Persist
+  pub msl2 : IsNotDueAt r moment ports expireds.Msl2
 
 -- an event found a timer that expired, or none due
 abbrev pub IsTimed : Core → Tick → Bool → Core → Type 0

@@ -4,6 +4,7 @@ ghost use Rattle.std.specs.Prelude.{◌≡◌, ◌≤◌, ◌<◌, ◌+◌, ◌^
 ghost use Rattle.std.specs.List.{All};
 ghost use Rattle.std.specs.Option.{option_map_or, IfSome};
 ghost use Rattle.indexmap.specs.IndexMap.{insert_entry};
+ghost use Rattle.case_forms.specs.declared.calls.Answer.TheVariants.{Done};
 ghost use Rattle.case_forms.specs.declared.calls.State.TheVariants as states;
 ghost use Rattle.machine.specs.declared.endpoint.Thing.TheVariants.{Listens, Ends};
 ghost use Rattle.machine.specs.Bounds.{HasRoom};
@@ -238,6 +239,26 @@ impl Body {
         }
     }
 
+    // What ends, once a call was answered `done`: with `shut` the sending, with `close` and `abort` what the socket number names.
+    #[tactic(auto, using(crate::proofs::BodyLemmas::body_same))]
+    fn end(&mut self, call: &Call)
+        requires { All HasRoom self.old.endpoints }
+        ensures { self.new ≡ forget_body (after_call self.old call.now Done) }
+    {
+        match call {
+            Call::Shut(number) => self.shut(*number),
+            Call::Close(number) => self.close(*number),
+            Call::Abort(number) => self.abort(*number),
+            Call::Listen(_, _, _)
+            | Call::Connect(_, _, _)
+            | Call::Await(_)
+            | Call::Accept(_)
+            | Call::Send(_, _)
+            | Call::Recv(_, _)
+            | Call::Status(_) => {}
+        }
+    }
+
     /// What this host has once a call got an answer that it may have (RFC 9293, 3.9.1 and 3.10). Where memory runs out
     /// nothing is changed.
     #[tactic(auto, using(crate::proofs::BodyLemmas::body_same))]
@@ -269,16 +290,8 @@ impl Body {
                 self.deliver(*number, bytes.as_slice());
                 Ok(())
             }
-            (Call::Shut(number), Answer::Done) => {
-                self.shut(*number);
-                Ok(())
-            }
-            (Call::Close(number), Answer::Done) => {
-                self.close(*number);
-                Ok(())
-            }
-            (Call::Abort(number), Answer::Done) => {
-                self.abort(*number);
+            (call, Answer::Done) => {
+                self.end(call);
                 Ok(())
             }
             (

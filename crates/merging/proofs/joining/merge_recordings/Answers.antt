@@ -14,12 +14,12 @@ tell-requires-clause-small c = beside_small c.args.zero.now c.args.one.now (besi
 pub returns-clause-told : goal.returns-clause-told
 returns-clause-told c =
     told_as c.args.zero.now.header c.in_ok-recorded.recorded.trace c.in_ok-recorded.recorded.witness c.args.zero.now.entries c.args.one.now.entries c.requires.whole c.in_ok-recorded.ensures.header c.in_ok-recorded.ensures.version c.in_ok-recorded.ensures.lines
-    c.in_ok-recorded.ensures.steps c.in_ok-recorded.ensures.said (beside_books c.books_grow.ensures.finished c.args.zero.now c.args.one.now (beside c.args.zero.now c.args.one.now c.requires.hosts c.requires.headers c.is_recording.ensures c.is_recording-2.ensures c.requires.few c.requires.above (rw c.in_default.is at c.in_ok-arrival_line.ensures.none) (rw c.in_default-2.is at c.in_ok-arrival_line-2.ensures.none)))
+    c.in_ok-recorded.ensures.steps (beside_books c.books_grow.ensures.finished c.args.zero.now c.args.one.now (beside c.args.zero.now c.args.one.now c.requires.hosts c.requires.headers c.is_recording.ensures c.is_recording-2.ensures c.requires.few c.requires.above (rw c.in_default.is at c.in_ok-arrival_line.ensures.none) (rw c.in_default-2.is at c.in_ok-arrival_line-2.ensures.none)))
 
 pub returns-clause-explains : goal.returns-clause-explains
 returns-clause-explains c =
     let books = beside_books c.books_grow.ensures.finished c.args.zero.now c.args.one.now (beside c.args.zero.now c.args.one.now c.requires.hosts c.requires.headers c.is_recording.ensures c.is_recording-2.ensures c.requires.few c.requires.above (rw c.in_default.is at c.in_ok-arrival_line.ensures.none) (rw c.in_default-2.is at c.in_ok-arrival_line-2.ensures.none)) in
-    let tells = told_as c.args.zero.now.header c.in_ok-recorded.recorded.trace c.in_ok-recorded.recorded.witness c.args.zero.now.entries c.args.one.now.entries c.requires.whole c.in_ok-recorded.ensures.header c.in_ok-recorded.ensures.version c.in_ok-recorded.ensures.lines c.in_ok-recorded.ensures.steps c.in_ok-recorded.ensures.said books in
+    let tells = told_as c.args.zero.now.header c.in_ok-recorded.recorded.trace c.in_ok-recorded.recorded.witness c.args.zero.now.entries c.args.one.now.entries c.requires.whole c.in_ok-recorded.ensures.header c.in_ok-recorded.ensures.version c.in_ok-recorded.ensures.lines c.in_ok-recorded.ensures.steps books in
     let same = c.in_ok-recorded.ensures.header in
     c.what_is_told_explains.ensures.books c.in_ok-recorded.recorded.trace c.in_ok-recorded.recorded.witness c.args.zero.now.entries c.args.one.now.entries
     (subst (λ (g : Header). Books (tcp g) (first_event_line g) c.args.zero.now.entries c.args.one.now.entries) (sym same) books)

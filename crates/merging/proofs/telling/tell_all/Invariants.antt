@@ -1,6 +1,6 @@
 use Rattle.std.proofs.Common.{◌≡◌, ◌++◌, length}
 use Rattle.merging.specs.Numbers.{AllSmall, names_by}
-use Rattle.merging.specs.Saying.{AllSaid, all_renumbered, lines_said, steps_said}
+use Rattle.merging.specs.Saying.{all_renumbered, lines_said, steps_said}
 use Rattle.merging.proofs.telling.tell_all.Given as goal
 
 -- what is told, and what is left will tell, is all
@@ -11,7 +11,6 @@ invariant-loop-entry l = record {
       ≡ lines_said (all_renumbered (names_by l.fn.counts.lines l.fn.counts.mades) l.fn.entries);
   steps : l.steps ++ steps_said (all_renumbered (names_by l.fn.counts.lines l.fn.counts.mades) l.entries)
       ≡ steps_said (all_renumbered (names_by l.fn.counts.lines l.fn.counts.mades) l.fn.entries);
-  said : AllSaid l.entries → AllSaid l.fn.entries;
 }
 
 abbrev pub decreases-loop-entry : goal.decreases-loop-entry
