@@ -44,7 +44,7 @@ timer_may h moment e timer growth may =
     let t = none_all (expiry_rules h moment e timer growth) may in
     all_none (expiry_rules h moment e timer least) (t.0, (no_more (is_rto timer) ((greatest_values e).0) ((greatest_values e).1), (t.1.1.0, (t.1.1.1.0, tt))))
 
-kept_there : (es : List Endpoint) (i : ℕ) (e : Endpoint) → slice_get es i ≡ Some e → slice_get (map forget_endpoint es) i ≡ Some (forget_endpoint e)
+pub kept_there : (es : List Endpoint) (i : ℕ) (e : Endpoint) → slice_get es i ≡ Some e → slice_get (map forget_endpoint es) i ≡ Some (forget_endpoint e)
 kept_there [] i e is = absurd (none-some e is)
 kept_there (x ∷ es) zero e is = ap (λ (y : Endpoint). Some (forget_endpoint y)) (same_Some x e is)
 kept_there (x ∷ es) (suc i) e is = kept_there es i e is

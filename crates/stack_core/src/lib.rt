@@ -18,6 +18,7 @@
 //! - `laws`: what flew from a host stays on its wire, and what is brought names it
 #![tactic(auto)]
 
+mod agenda;
 mod answered;
 mod answers;
 mod arrive;
@@ -38,6 +39,7 @@ mod recording;
 mod resets;
 mod tick;
 mod timers;
+mod touches;
 
 pub use answered::Answered;
 pub use entry::Entry;
