@@ -25,7 +25,7 @@ use Rattle.recordings.specs.Books.{Bring, Flying, bring}
 use Rattle.recordings.proofs.Growing.{end_more}
 use Rattle.recordings.proofs.Lines.{next_more}
 use Rattle.stack_core.specs.declared.tick.Tick.{Tick}
-use Rattle.stack_core.specs.ArrivalEvents.{Brought, Came, Dropped, Taken, Ticked, Took, IsArrived, IsArrivedShort, IsCameIn, IsRecovered, IsSettled, IsSettledShort, MayDrop, MayTake, came, ports_of}
+use Rattle.stack_core.specs.ArrivalEvents.{Brought, Came, Dropped, Taken, Ticked, Took, IsArrived, IsArrivedShort, IsCameIn, IsHeld, IsRecovered, IsSettled, IsSettledShort, MayDrop, MayTake, came, ports_of}
 use Rattle.stack_core.specs.Cores.{Core, Fits, line_to_come, opened, with_item, with_step, world}
 use Rattle.stack_core.specs.Entries.{entry_at, steps_in}
 use Rattle.stack_core.proofs.Cores.{leads}
@@ -100,6 +100,16 @@ module _ (c d e : Core) (f : Flying tcp_shape) (wire : Wire) (me : Host) (line :
       (subst (λ (w : World tcp_shape). waiting (line_to_come c) (pick w.hosts c.recorded.me).inbox ≡ Some f.emission)
       (sym (leads (with_item c (Bring f)) (with_step (with_item c (Bring f)) (At c.recorded.me (Gets (line_to_come c) f.line wire))) (At c.recorded.me (Gets (line_to_come c) f.line wire)) refl))
       (gets_waits c.recorded.header c.recorded.me c.last.moment (line_to_come c) f.line wire f.emission (world (with_item c (Bring f))) (there c (with_item c (Bring f)) f refl))))
+
+  -- for the endpoint of its ports
+  pub came_held : IsHeld e (line_to_come c) (ports_of f.emission)
+  came_held = subst (λ (x : Core). IsHeld x (line_to_come c) (ports_of f.emission)) (sym row) (
+    f.emission,
+    subst (λ (w : World tcp_shape). waiting (line_to_come c) (pick w.hosts c.recorded.me).inbox ≡ Some f.emission)
+        (sym (leads (with_item c (Bring f)) (with_step (with_item c (Bring f)) (At c.recorded.me (Gets (line_to_come c) f.line wire))) (At c.recorded.me (Gets (line_to_come c) f.line wire)) refl))
+        (gets_waits c.recorded.header c.recorded.me c.last.moment (line_to_come c) f.line wire f.emission (world (with_item c (Bring f))) (there c (with_item c (Bring f)) f refl)),
+    refl,
+  )
 
 -- 3. the event
 

@@ -13,3 +13,6 @@ pub mod WaitLemmas
 pub mod MadeLemmas
 pub mod TimerLemmas
 pub mod ArriveLemmas
+pub mod AgendaLemmas
+pub mod TouchLemmas
+pub mod TendedLemmas

@@ -45,7 +45,7 @@ timer_may h moment e Persist may = may
 timer_may h moment e Msl2 may = may
 timer_may h moment e Giveup may = may
 
-kept_there : (es : List Endpoint) (i : ℕ) (e : Endpoint) → slice_get es i ≡ Some e → slice_get (map forget_endpoint es) i ≡ Some (forget_endpoint e)
+pub kept_there : (es : List Endpoint) (i : ℕ) (e : Endpoint) → slice_get es i ≡ Some e → slice_get (map forget_endpoint es) i ≡ Some (forget_endpoint e)
 kept_there [] i e is = absurd (none-some e is)
 kept_there (x ∷ es) zero e is = ap (λ (y : Endpoint). Some (forget_endpoint y)) (same_Some x e is)
 kept_there (x ∷ es) (suc i) e is = kept_there es i e is

@@ -1,15 +1,16 @@
 -- What an event adds that lets a segment arrive.
-use Rattle.std.specs.Prelude.{◌≡◌, ◌⊎◌, ◌+◌, ℕ, Bool, true, false, nat_lt}
+use Rattle.std.specs.Prelude.{◌≡◌, ◌⊎◌, ◌+◌, ℕ, Bool, true, false, nat_lt, Some}
 use Rattle.case_forms.specs.declared.calls.Ports.{Ports}
 use Rattle.case_forms.specs.declared.steps.TakeChoice.{TakeChoice}
 use Rattle.case_forms.specs.declared.timer.Recovery.{Recovery}
 use Rattle.case_forms.specs.declared.trace.Wire.{Wire}
+use Rattle.hosts.specs.Tables.{pick, waiting}
 use Rattle.hosts.specs.Hosts.{Answers, At, Does, Drops, Gets, Takes}
 use Rattle.machine.specs.declared.endpoint.Emission.{Emission}
 use Rattle.machine.specs.Machine.{tcp_shape}
 use Rattle.recordings.specs.Books.{Bring, Flying}
 use Rattle.stack_core.specs.declared.tick.Tick.{Tick}
-use Rattle.stack_core.specs.Cores.{Core, MayDo, line_to_come, opened, with_item, with_step}
+use Rattle.stack_core.specs.Cores.{Core, MayDo, line_to_come, opened, with_item, with_step, world}
 
 -- it is brought
 abbrev pub brought : Core → Tick → Flying tcp_shape → Core
@@ -28,6 +29,14 @@ IsCameIn c f d =
 -- what waits under a line may be dropped: it is there
 abbrev pub MayDrop : Core → ℕ → Type 0
 MayDrop c n = MayDo c (At c.recorded.me (Drops n))
+
+-- the ports of the endpoint that a segment is for
+abbrev pub ports_of : Emission → Ports
+ports_of m = record { lport = m.rport; rport = m.lport }
+
+-- what waits under a line is for the endpoint of these ports
+abbrev pub IsHeld : Core → ℕ → Ports → Type 0
+IsHeld c n ports = (m : Emission) × (waiting n (pick (world c).hosts c.recorded.me).inbox ≡ Some m) × (ports ≡ ports_of m)
 
 -- it may be taken, with its bytes
 abbrev pub MayTake : Core → ℕ → Type 0
@@ -73,10 +82,6 @@ pub data IsSettled (c : Core) (n : ℕ) (ports : Ports) (d : Core) : Type 0 wher
 -- what memory may leave of it: nothing, or that it was taken
 abbrev pub IsSettledShort : Core → ℕ → Core → Type 0
 IsSettledShort c n d = (d ≡ c) ⊎ ((choice : TakeChoice) × (d ≡ with_step c (At c.recorded.me (Takes n choice))))
-
--- the ports of the endpoint that a segment is for
-abbrev pub ports_of : Emission → Ports
-ports_of m = record { lport = m.rport; rport = m.lport }
 
 -- an event let a segment arrive
 pub record IsArrived (c : Core) (tick : Tick) (f : Flying tcp_shape) (d : Core) : Type 0 where

@@ -12,3 +12,6 @@ pub mod CallEvents
 pub mod PumpEvents
 pub mod TimerEvents
 pub mod ArrivalEvents
+pub mod Agendas
+pub mod Touches
+pub mod Tended

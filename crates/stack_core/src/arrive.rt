@@ -7,11 +7,12 @@ ghost use Rattle.hosts.specs.Hosts.{At, Takes};
 ghost use Rattle.machine.specs.Bounds.{most_steps};
 ghost use Rattle.machine.specs.Steps.{step_of};
 ghost use Rattle.recordings.specs.Books.{Bring};
-ghost use Rattle.stack_core.specs.ArrivalEvents.{IsArrival, IsArrivedShort, IsCameIn, IsChoice, IsRecovered, IsRecoveryAt};
+ghost use Rattle.stack_core.specs.ArrivalEvents.{IsArrival, IsArrivedShort, IsCameIn, IsChoice, IsHeld, IsRecovered, IsRecoveryAt};
 ghost use Rattle.stack_core.specs.ArrivalEvents.{IsRefusedRecovery, IsSettled, IsSettledShort, IsYoung, MayDrop, MayRecover, MayTake, ports_of};
 ghost use Rattle.stack_core.specs.Cores.{IsAfter, IsRecorded, MayDo, line_to_come, with_item};
 ghost use Rattle.stack_core.specs.Entries.{steps_in};
 
+use crate::agenda::Touch;
 use crate::duties::{Before, Seen};
 use crate::flying::Flying;
 use crate::greatest::{at_recovery, cwnd_at_arrival};
@@ -122,6 +123,7 @@ impl HostCore {
         ensures ok { OnOk result (IsCameIn self.old flying self.new) }
         ensures count { OnOk result (steps_in self.new.recorded.entries ≡ suc (steps_in self.old.recorded.entries)) }
         ensures waits { OnOk result (MayDrop self.new (line_to_come self.old)) }
+        ensures holds { OnOk result (IsHeld self.new (line_to_come self.old) (ports_of flying.emission)) }
         ensures err { OnErr result ((self.new ≡ self.old) ⊎ (self.new ≡ with_item self.old (Bring flying))) }
     {
         let wire = flying.wire().copy()?;
@@ -133,7 +135,7 @@ impl HostCore {
             copied,
             wire,
         };
-        self.add(Label::L(line))?;
+        self.add(Label::L(line), Touch::Nobody)?;
         Ok(())
     }
 
@@ -142,6 +144,7 @@ impl HostCore {
         requires room { steps_in self.old.recorded.entries + 2 ≤ 4 * self.old.events }
         requires events { self.old.events ≤ 10000000 }
         requires waits { MayDrop self.old line }
+        requires holds { IsHeld self.old line ports }
         ensures ok { OnOk result (IsSettled self.old line ports self.new) }
         ensures err { OnErr result (IsSettledShort self.old line self.new) }
     {
@@ -149,7 +152,8 @@ impl HostCore {
             return self.turn_away(line, ports);
         };
         let host = self.me();
-        self.add(Label::T { host, line, choice })?;
+        let touch = self.touch_at(ports.lport, ports.rport);
+        self.add(Label::T { host, line, choice }, touch)?;
         self.recover(ports)?;
         Ok(())
     }
@@ -166,10 +170,10 @@ impl HostCore {
         let host = self.me();
         let reset = Label::R { host, line };
         if self.admits(&reset) {
-            self.add(reset)?;
+            self.add(reset, Touch::Nobody)?;
             return Ok(());
         }
-        self.add(Label::K { host, line })?;
+        self.add(Label::K { host, line }, Touch::Nobody)?;
         Ok(())
     }
 
@@ -220,7 +224,8 @@ impl HostCore {
             return Ok(());
         };
         let host = self.me();
-        self.add(Label::F { host, recovery })?;
+        let touch = self.touch_at(ports.lport, ports.rport);
+        self.add(Label::F { host, recovery }, touch)?;
         Ok(())
     }
 

@@ -9,6 +9,7 @@ ghost use Rattle.stack_core.specs.Entries.{steps_in};
 ghost use Rattle.stack_core.specs.Answers.{is_again};
 ghost use Rattle.stack_core.specs.CallEvents.{IsAttempted, IsAttemptShort, KeptNoAnswer, MayAnswer, NoAnswer};
 
+use crate::agenda::Touch;
 use crate::answered::Answered;
 use crate::answers::choose;
 use crate::host_core::HostCore;
@@ -75,13 +76,14 @@ impl HostCore {
             answer: answer.copy()?,
         };
         let ending = answer.copy()?;
-        self.add(effect)?;
+        let touch = self.touch_of_call(thread);
+        self.add(effect, touch)?;
         let end = TakenLine::CallEnd {
             line: self.line(),
             thread,
             answer: ending,
         };
-        self.add(Label::L(end))?;
+        self.add(Label::L(end), Touch::Nobody)?;
         self.note_answer(subject, &answer);
         Ok(Some(Answered { thread, answer }))
     }

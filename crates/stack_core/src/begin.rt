@@ -8,6 +8,7 @@ ghost use Rattle.recordings.specs.Books.{Aims};
 ghost use Rattle.stack_core.specs.Cores.{IsAfter, IsCallWithin, IsRecorded, opened, world};
 ghost use Rattle.stack_core.specs.CallEvents.{begun};
 
+use crate::agenda::Touch;
 use crate::host_core::HostCore;
 use crate::tick::Tick;
 use case_forms::{Call, OutOfMemory, TakenLine};
@@ -49,6 +50,6 @@ impl HostCore {
             thread,
             call: call.copy()?,
         };
-        self.add(Label::L(line))
+        self.add(Label::L(line), Touch::Nobody)
     }
 }

@@ -9,7 +9,9 @@ ghost use Rattle.recordings.specs.Books.{Bring};
 ghost use Rattle.stack_core.specs.Cores.{Fits, IsAfter, IsNextLine, IsOrderly, IsOwn, IsRecorded, line_to_come, lines_taken};
 ghost use Rattle.stack_core.specs.Cores.{new_core, opened, with_item, with_step, world};
 ghost use Rattle.stack_core.specs.Entries.{steps_in};
+ghost use Rattle.stack_core.specs.Touches.{touched};
 
+use crate::agenda::{Agenda, Touch};
 use crate::duties::Duties;
 use crate::flying::Flying;
 use crate::recording::Recording;
@@ -49,17 +51,22 @@ pub struct HostCore {
     // The resets that answer segments and wait to go out, by their numbers; there may be others among them.
     pub(crate) resets: VecDeque<u32>,
     pub(crate) duties: Duties,
+    // Endpoints at which something may be made that takes new positions.
+    pub(crate) ready: Agenda,
+    // Endpoints with timers, and when these may expire.
+    pub(crate) wakes: Agenda,
 }
 
 impl Model for HostCore {
     ghost use Rattle.stack_core.specs.Cores.{Core, IsCore};
     ghost use Rattle.stack_core.specs.Resets.{AreAwaited, made_of};
+    ghost use Rattle.stack_core.specs.Tended.{IsTended};
 
     ghost Value = { Core };
 
     ghost view = { λ a. record { recorded = a.recording; ring = a.config.ring; last = a.last; events = a.events } };
 
-    ghost invariant = { λ a. IsCore a.recording a.line a.last a.events × AreAwaited (made_of a.recording) a.resets.items };
+    ghost invariant = { λ a. IsCore a.recording a.line a.last a.events × AreAwaited (made_of a.recording) a.resets.items × IsTended a.recording a.ready a.wakes };
 }
 
 impl HostCore {
@@ -67,6 +74,8 @@ impl HostCore {
     pub fn new(alloc: Global, host: Host, header: Header, config: CoreConfig) -> HostCore
         ensures { result ≡ new_core header host config.ring }
     {
+        let ready = Agenda::new(alloc);
+        let wakes = Agenda::new(alloc);
         HostCore {
             recording: Recording::start(alloc, host, &header),
             config,
@@ -79,6 +88,8 @@ impl HostCore {
             iss: config.first_iss,
             resets: VecDeque::new(alloc),
             duties: Duties::new(alloc),
+            ready,
+            wakes,
         }
     }
 
@@ -172,14 +183,16 @@ impl HostCore {
         self.recording.count()
     }
 
-    // A step joins, at the moment of the last tick. The error is that memory ran out, and then nothing is changed.
-    pub(crate) fn add(&mut self, label: Label) -> Result<(), OutOfMemory>
+    // A step joins, at the moment of the last tick; these endpoints it may change, beside one that it creates. The error is that
+    // memory ran out, and then nothing is changed.
+    pub(crate) fn add(&mut self, label: Label, touch: Touch) -> Result<(), OutOfMemory>
         requires room { steps_in self.old.recorded.entries < 4 * self.old.events }
         requires events { self.old.events ≤ 10000000 }
         requires limits { IsWithinLimits label }
         requires fits { Fits self.old (step_of label) }
         requires line { IsNextLine self.old (step_of label) }
         requires orderly { IsOrderly self.old.recorded.me (world self.old) (step_of label) }
+        requires touch { touch ≡ touched self.old.recorded.me (world self.old) (step_of label) }
         ensures ok { OnOk result (self.new ≡ with_step self.old (step_of label)) }
         ensures count { OnOk result (steps_in self.new.recorded.entries ≡ suc (steps_in self.old.recorded.entries)) }
         ensures world { OnOk result (world self.new ≡ after (tcp self.old.recorded.header) self.old.last.moment (world self.old) (step_of label)) }
@@ -188,6 +201,8 @@ impl HostCore {
         let lines = lines_taken(&label);
         let tick = self.last;
         await_reset(&mut self.resets, &label, self.recording.count())?;
+        self.ready.touch(touch);
+        self.wakes.touch(touch);
         self.recording.step(tick, label)?;
         self.line += lines;
         Ok(())

@@ -12,12 +12,14 @@
 //! - `host_core`: the core, and what every event asks of it
 //! - `begin`, `attempt`, `answers`, `answered`: calls, and the answer that a call has now, never `again`
 //! - `pump`, `makings`, `outgoing`: a segment is made and goes out; `resets`: those that answer a segment, and wait
+//! - `agenda`, `touches`: which endpoints are to be looked at, and which a step may change
 //! - `duties`, `plans`, `greatest`: what a core remembers of its endpoints, what it would make at one, and its choice of windows
 //! - `arrive`: a segment comes in, and is taken, answered or dropped
 //! - `timers`: a timer expires
 //! - `laws`: what flew from a host stays on its wire, and what is brought names it
 #![tactic(auto)]
 
+mod agenda;
 mod answered;
 mod answers;
 mod arrive;
@@ -38,6 +40,7 @@ mod recording;
 mod resets;
 mod tick;
 mod timers;
+mod touches;
 
 pub use answered::Answered;
 pub use entry::Entry;

@@ -1,6 +1,6 @@
 //! What a core makes next.
 
-ghost use Rattle.std.specs.Prelude.{◌<◌, ◌≤◌, IfNone};
+ghost use Rattle.std.specs.Prelude.{◌≡◌, ◌<◌, ◌≤◌, ◌^◌, true, false, length, slice_get, IfNone, None, Some};
 ghost use Rattle.std.specs.List.{All};
 ghost use Rattle.std.specs.Option.{IfSome};
 ghost use Rattle.hosts.specs.Tables.{pick};
@@ -8,21 +8,103 @@ ghost use Rattle.streams.specs.Sent.{end_of};
 ghost use Rattle.machine.specs.Bounds.{greatest_position, most_steps};
 ghost use Rattle.machine.specs.Endpoints.{max_made};
 ghost use Rattle.stack_core.specs.Outgoing.{greatest_payload};
+ghost use Rattle.verdict.specs.Rules.{first_broken};
+ghost use Rattle.machine.specs.declared.endpoint.Endpoint.{Endpoint};
+ghost use Rattle.machine.specs.Makes.{making_rules};
+ghost use Rattle.endpoint_state.specs.Kept.{AreReadable};
 ghost use Rattle.stack_core.specs.Makings.{IsMakeable, IsSynRefused, IsTried, NothingToMake, Refuses, fin_of, syn_of};
+ghost use Rattle.stack_core.specs.Tended.{AreQuiet, IsQuiet};
 
+use crate::agenda::Agenda;
 use crate::duties::Duties;
 use crate::plans::{
     GREATEST_PAYLOAD, GREATEST_POSITION, Offer, Opening, byte_of, fin_of, offer_of, syn_of, wishes,
 };
 use case_forms::{Host, SegmentPlan};
-use endpoint_state::{Endpoint, World};
+use endpoint::admits_making;
+use endpoint_state::{Body, Endpoint, World};
 
-/// A segment that may be made: at an endpoint that is listed, or else at any. None: no segment without RST may be made that
-/// takes new positions.
+/// A segment that may be made: at an endpoint whose duties are listed, or else at any where one may be made that takes new
+/// positions. None: no segment without RST may be made that does.
 pub(crate) fn find_plan(
     world: &World,
     me: Host,
     duties: &mut Duties,
+    ready: &mut Agenda,
+    opening: Opening,
+    ring: u16,
+) -> Option<SegmentPlan>
+    requires steps { world.now.steps < most_steps }
+    requires quiet { AreQuiet ready.old.looked ready.old.entries.keys (pick world.now.world.hosts me).body.endpoints }
+    ensures some { IfSome result (λ m. IsMakeable world.now.header me world.now.world m) }
+    ensures none { IfNone result (NothingToMake world.now.header me world.now.world) }
+    ensures quiet { AreQuiet ready.new.looked ready.new.entries.keys (pick world.now.world.hosts me).body.endpoints }
+{
+    match find_listed(world, me, duties, opening, ring) {
+        Some(plan) => Some(plan),
+        None => find_ready(world, me, duties, ready, opening, ring),
+    }
+}
+
+// A segment that may be made, at an endpoint that is to be looked at; the others make nothing that takes new positions. None:
+// no segment without RST may be made that takes new positions.
+fn find_ready(
+    world: &World,
+    me: Host,
+    duties: &Duties,
+    ready: &mut Agenda,
+    opening: Opening,
+    ring: u16,
+) -> Option<SegmentPlan>
+    requires steps { world.now.steps < most_steps }
+    requires quiet { AreQuiet ready.old.looked ready.old.entries.keys (pick world.now.world.hosts me).body.endpoints }
+    ensures some { IfSome result (λ m. IsMakeable world.now.header me world.now.world m) }
+    ensures none { IfNone result (NothingToMake world.now.header me world.now.world) }
+    ensures quiet { AreQuiet ready.new.looked ready.new.entries.keys (pick world.now.world.hosts me).body.endpoints }
+{
+    world.is_kept();
+    if ready.list_new(world.body(me)) {
+        return find_among(world, me, duties, ready, opening, ring);
+    }
+    find_making(world, me, duties, opening, ring)
+}
+
+// The same, where each endpoint was looked at or is to be. Those that make nothing are left.
+fn find_among(
+    world: &World,
+    me: Host,
+    duties: &Duties,
+    ready: &mut Agenda,
+    opening: Opening,
+    ring: u16,
+) -> Option<SegmentPlan>
+    requires steps { world.now.steps < most_steps }
+    requires all { length (pick world.now.world.hosts me).body.endpoints ≤ ready.old.looked }
+    requires quiet { AreQuiet ready.old.looked ready.old.entries.keys (pick world.now.world.hosts me).body.endpoints }
+    ensures some { IfSome result (λ m. IsMakeable world.now.header me world.now.world m) }
+    ensures none { IfNone result (NothingToMake world.now.header me world.now.world) }
+    ensures quiet { AreQuiet ready.new.looked ready.new.entries.keys (pick world.now.world.hosts me).body.endpoints }
+{
+    world.is_kept();
+    let body = world.body(me);
+    while let Some(wake) = ready.first() {
+        if is_quiet_at(body, wake.place, opening) {
+            ready.leave();
+        } else {
+            return make_at(world, me, duties, wake.place, opening, ring);
+        }
+    }
+    None
+}
+
+// A segment that may be made, at the endpoint at this place if it may be there: none may where a newer endpoint has its ports.
+// None: no segment without RST may be made that takes new positions.
+#[tactic(auto, using(crate::proofs::MakingLemmas::short_host))]
+fn make_at(
+    world: &World,
+    me: Host,
+    duties: &Duties,
+    place: u32,
     opening: Opening,
     ring: u16,
 ) -> Option<SegmentPlan>
@@ -30,9 +112,70 @@ pub(crate) fn find_plan(
     ensures some { IfSome result (λ m. IsMakeable world.now.header me world.now.world m) }
     ensures none { IfNone result (NothingToMake world.now.header me world.now.world) }
 {
-    match find_listed(world, me, duties, opening, ring) {
-        Some(plan) => Some(plan),
-        None => find_making(world, me, duties, opening, ring),
+    if let Some(plan) = wish_at(world, me, duties, place, opening, ring) {
+        return Some(plan);
+    }
+    world.is_kept();
+    if let Some(endpoint) = world.body(me).endpoint_at(place) {
+        let offer = offer_of(endpoint, duties.of(place), opening, ring);
+        if let Some(plan) = try_endpoint(world, me, endpoint, offer) {
+            return Some(plan);
+        }
+    }
+    find_making(world, me, duties, opening, ring)
+}
+
+// Whether the endpoint at a place makes nothing without RST that takes new positions.
+fn is_quiet_at(body: &Body, place: u32, opening: Opening) -> bool
+    requires { AreReadable body.now.endpoints }
+    ensures { result ≡ true → (e : Endpoint) → slice_get body.now.endpoints place ≡ Some e → IsQuiet e }
+{
+    match body.endpoint_at(place) {
+        Some(endpoint) => is_quiet(endpoint, opening),
+        None => true,
+    }
+}
+
+// Whether an endpoint makes nothing without RST that takes new positions: neither its SYN, nor a new byte, nor its FIN. Beyond
+// the greatest position it may be false of one that makes nothing.
+fn is_quiet(endpoint: &Endpoint, opening: Opening) -> bool
+    requires { endpoint.now.stream.una < 2 ^ 63 }
+    ensures { result ≡ true → IsQuiet endpoint.now }
+{
+    if GREATEST_POSITION < endpoint.max_made() {
+        return false;
+    }
+    if may_begin(endpoint, opening) {
+        return false;
+    }
+    if may_make(endpoint, byte_of(endpoint, 0)) {
+        return false;
+    }
+    if may_make(endpoint, fin_of(endpoint, 0)) {
+        return false;
+    }
+    true
+}
+
+// Whether it may make its SYN where nothing was made before.
+fn may_begin(endpoint: &Endpoint, opening: Opening) -> bool
+    requires { endpoint.now.stream.una < 2 ^ 63 }
+    ensures { result ≡ false → max_made endpoint.now ≤ 0 → first_broken (making_rules endpoint.now (syn_of endpoint.now opening 0)) ≡ None → ⊥ }
+{
+    if 0 < endpoint.max_made() {
+        return false;
+    }
+    may_make(endpoint, syn_of(endpoint, opening, 0))
+}
+
+fn may_make(endpoint: &Endpoint, plan: SegmentPlan) -> bool
+    requires readable { endpoint.now.stream.una < 2 ^ 63 }
+    requires small { plan.pos ≤ greatest_position }
+    ensures { result ≡ false → first_broken (making_rules endpoint.now plan) ≡ None → ⊥ }
+{
+    match admits_making(endpoint, &plan) {
+        Ok(()) => true,
+        Err(_) => false,
     }
 }
 
@@ -96,7 +239,8 @@ fn try_wishes(world: &World, me: Host, wishes: &[Option<SegmentPlan>]) -> Option
     None
 }
 
-// A segment that may be made, at any endpoint: this goes over all of them. None: no segment without RST may be made that takes
+// A segment that may be made, at any endpoint: this goes over all of them, where memory is refused for a list of those that are
+// to be looked at. None: no segment without RST may be made that takes
 // new positions.
 #[tactic(auto, using(crate::proofs::MakingLemmas::short_host))]
 fn find_making(

@@ -14,6 +14,7 @@ ghost use Rattle.stack_core.specs.Resets.{IsResetToGo, NoResetWaits};
 ghost use Rattle.stack_core.specs.Flown.{HasFlown};
 ghost use Rattle.stack_core.specs.Outgoing.{GoesOut, MayGo, WaitsToGo, greatest_payload};
 
+use crate::agenda::Touch;
 use crate::flying::Flying;
 use crate::host_core::HostCore;
 use crate::makings::find_plan;
@@ -94,6 +95,7 @@ impl HostCore {
             self.recording.world(),
             self.recording.me(),
             &mut self.duties,
+            &mut self.ready,
             opening,
             self.config.ring,
         )
@@ -125,7 +127,8 @@ impl HostCore {
         ensures err { OnErr result (self.new ≡ self.old) }
     {
         let host = self.me();
-        self.add(Label::M { host, plan })?;
+        let touch = self.touch_at(plan.lport, plan.rport);
+        self.add(Label::M { host, plan }, touch)?;
         Ok(())
     }
 
@@ -163,7 +166,7 @@ impl HostCore {
             made: number,
             wire,
         };
-        self.add(Label::L(line))?;
+        self.add(Label::L(line), Touch::Nobody)?;
         Ok(flying)
     }
 

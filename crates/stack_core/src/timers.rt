@@ -1,18 +1,23 @@
 //! A timer expires.
 
-ghost use Rattle.std.specs.Prelude.{◌≡◌, ◌<◌, true, IfNone, IfOk, OnErr};
+ghost use Rattle.std.specs.Prelude.{◌≡◌, ◌<◌, ◌≤◌, true, length, slice_get, IfNone, IfOk, OnErr, Some};
+ghost use Rattle.case_forms.specs.declared.timer.Timer.TheVariants.{Msl2, Persist, Rto};
 ghost use Rattle.std.specs.Option.{IfSome};
 ghost use Rattle.machine.specs.Bounds.{most_steps};
+ghost use Rattle.machine.specs.declared.endpoint.Endpoint.{Endpoint};
+ghost use Rattle.machine.specs.Timeouts.{has_more};
 ghost use Rattle.stack_core.specs.Cores.{IsAfter, IsRecorded, opened};
 ghost use Rattle.stack_core.specs.Entries.{steps_in};
 ghost use Rattle.stack_core.specs.TimerEvents.{HasTried, IfGivesUp, IsDueAt, IsNotDueAt, IsRefused, IsTimed, NoneDue, NoneDueAt};
+ghost use Rattle.stack_core.specs.Tended.{AreTimed, IsDueSince, IsSlow, IsStill, IsStillBefore, kept_ends, least};
 
+use crate::agenda::{Agenda, Touch, Wake};
 use crate::greatest::at_timeout;
 use crate::host_core::HostCore;
 use crate::recording::Recording;
 use crate::tick::Tick;
-use case_forms::{Expired, Growth, OutOfMemory, Ports, TakenLine};
-use endpoint_state::Endpoint;
+use case_forms::{Expired, Growth, Header, OutOfMemory, Ports, TakenLine};
+use endpoint_state::{Body, Endpoint};
 use spec_step::Label;
 
 // A core gives up after so many expiries without an answer.
@@ -58,7 +63,8 @@ impl HostCore {
             ports: due.ports,
             expired: due.expired,
         };
-        self.add(Label::L(line))?;
+        let touch = self.touch_at(due.ports.lport, due.ports.rport);
+        self.add(Label::L(line), touch)?;
         self.note_expiry(due);
         Ok(true)
     }
@@ -78,18 +84,175 @@ impl HostCore {
     }
 
     // A timer that may expire at a moment.
-    fn due(&self, moment: u64) -> Option<Due>
-        requires steps { steps_in self.now.recorded.entries < most_steps }
-        ensures some { IfSome result (λ due. IsDueAt self.now.recorded moment due.ports due.expired) }
-        ensures tried { IfSome result (λ due. IfGivesUp self.now.recorded due.ports due.expired) }
-        ensures none { IfNone result (NoneDue self.now moment) }
+    fn due(&mut self, moment: u64) -> Option<Due>
+        requires steps { steps_in self.old.recorded.entries < most_steps }
+        ensures same { self.new ≡ self.old }
+        ensures some { IfSome result (λ due. IsDueAt self.old.recorded moment due.ports due.expired) }
+        ensures tried { IfSome result (λ due. IfGivesUp self.old.recorded due.ports due.expired) }
+        ensures none { IfNone result (NoneDue self.old moment) }
     {
-        find_due(&self.recording, moment)
+        find_due(&mut self.wakes, &self.recording, moment)
     }
 }
 
-// A timer that may expire at a moment. None: no retransmission timer, persist timer or wait in TIME-WAIT may.
-fn find_due(recording: &Recording, moment: u64) -> Option<Due>
+// A timer that may expire at a moment, at an endpoint that is to be looked at by then. None: no retransmission timer, persist
+// timer or wait in TIME-WAIT may.
+fn find_due(wakes: &mut Agenda, recording: &Recording, moment: u64) -> Option<Due>
+    requires steps { steps_in recording.now.entries < most_steps }
+    requires timed { AreTimed recording.now.header wakes.old.looked wakes.old.entries.keys (kept_ends recording.now) }
+    ensures some { IfSome result (λ due. IsDueAt recording.now moment due.ports due.expired) }
+    ensures tried { IfSome result (λ due. IfGivesUp recording.now due.ports due.expired) }
+    ensures none { IfNone result (NoneDueAt recording.now moment) }
+    ensures timed { AreTimed recording.now.header wakes.new.looked wakes.new.entries.keys (kept_ends recording.now) }
+{
+    recording.few_endpoints();
+    if wakes.list_new(recording.body()) {
+        return find_among(wakes, recording, moment);
+    }
+    find_any_due(recording, moment)
+}
+
+// The same, where each endpoint was looked at or is to be.
+fn find_among(wakes: &mut Agenda, recording: &Recording, moment: u64) -> Option<Due>
+    requires steps { steps_in recording.now.entries < most_steps }
+    requires all { length (kept_ends recording.now) ≤ wakes.old.looked }
+    requires timed { AreTimed recording.now.header wakes.old.looked wakes.old.entries.keys (kept_ends recording.now) }
+    ensures some { IfSome result (λ due. IsDueAt recording.now moment due.ports due.expired) }
+    ensures tried { IfSome result (λ due. IfGivesUp recording.now due.ports due.expired) }
+    ensures none { IfNone result (NoneDueAt recording.now moment) }
+    ensures timed { AreTimed recording.now.header wakes.new.looked wakes.new.entries.keys (kept_ends recording.now) }
+{
+    let body = recording.body();
+    for _ in 0..=wakes.len() {
+        let Some(wake) = wakes.first() else {
+            return None;
+        };
+        if moment < wake.moment {
+            return None;
+        }
+        if let Some(endpoint) = body.endpoint_at(wake.place) {
+            if let Some(due) = due_at(recording, moment, endpoint) {
+                return Some(due);
+            }
+        }
+        if !look_later(wakes, wake, recording.header(), body) {
+            return find_any_due(recording, moment);
+        }
+    }
+    // A newer endpoint has the ports of one whose timer would be due.
+    find_any_due(recording, moment)
+}
+
+// The endpoint of the first entry is to be looked at when its next timer may expire. False: memory refused that.
+fn look_later(wakes: &mut Agenda, wake: Wake, header: &Header, body: &Body) -> bool
+    requires first { slice_get wakes.old.entries.keys 0 ≡ Some wake }
+    requires timed { AreTimed header.now wakes.old.looked wakes.old.entries.keys body.now.endpoints }
+    ensures timed { AreTimed header.now wakes.new.looked wakes.new.entries.keys body.now.endpoints }
+    ensures looked { result ≡ true → wakes.new.looked ≡ wakes.old.looked }
+{
+    match next_due(header, body, wake.place) {
+        Some(moment) => wakes.renew(Wake {
+            moment,
+            place: wake.place,
+        }),
+        None => {
+            wakes.leave();
+            true
+        }
+    }
+}
+
+// The moment before which no timer of the endpoint at a place may expire. None: none may ever.
+fn next_due(header: &Header, body: &Body, place: u32) -> Option<u64>
+    ensures some { IfSome result (λ m. (e : Endpoint) → slice_get body.now.endpoints place ≡ Some e → IsStillBefore header.now m e) }
+    ensures none { IfNone result ((e : Endpoint) → slice_get body.now.endpoints place ≡ Some e → IsStill header.now e) }
+{
+    match body.endpoint_at(place) {
+        Some(endpoint) => earliest(header, endpoint),
+        None => None,
+    }
+}
+
+// The same of an endpoint.
+fn earliest(header: &Header, endpoint: &Endpoint) -> Option<u64>
+    ensures some { IfSome result (λ m. IsStillBefore header.now m endpoint.now) }
+    ensures none { IfNone result (IsStill header.now endpoint.now) }
+{
+    if endpoint.state.is_closed() {
+        return None;
+    }
+    let again = again_due(header, endpoint);
+    let probe = probe_due(header, endpoint);
+    let over = wait_over(header, endpoint);
+    least(again, least(probe, over))
+}
+
+// The same of the retransmission timer alone.
+fn again_due(header: &Header, endpoint: &Endpoint) -> Option<u64>
+    ensures { IsSlow header.now endpoint.now Rto result }
+{
+    let timers = &endpoint.timers;
+    due_since(timers.rto_armed, timers.rto, header.grain)
+}
+
+// Of the persist timer, which needs something to send.
+fn probe_due(header: &Header, endpoint: &Endpoint) -> Option<u64>
+    ensures { IsSlow header.now endpoint.now Persist result }
+{
+    if !endpoint.is_up() {
+        return None;
+    }
+    if !has_more(endpoint) {
+        return None;
+    }
+    let timers = &endpoint.timers;
+    due_since(timers.persist_armed, timers.rto, header.grain)
+}
+
+// Of the wait in TIME-WAIT.
+fn wait_over(header: &Header, endpoint: &Endpoint) -> Option<u64>
+    ensures { IsSlow header.now endpoint.now Msl2 result }
+{
+    let time = header.msl.saturating_mul(2);
+    due_since(endpoint.timers.msl_armed, time, header.grain)
+}
+
+// Whether data or the FIN is unsent or not acknowledged.
+fn has_more(endpoint: &Endpoint) -> bool
+    ensures { result ≡ has_more endpoint.now }
+{
+    let end = endpoint.stream.accepted.end();
+    if endpoint.stream.ended {
+        endpoint.stream.una <= end
+    } else {
+        endpoint.stream.una < end
+    }
+}
+
+// When a timer that is armed since a moment and runs for so long may expire at the earliest, by a clock of this grain.
+fn due_since(armed: Option<u64>, time: u64, grain: u64) -> Option<u64>
+    ensures { IsDueSince armed time grain result }
+{
+    match armed {
+        Some(since) => Some(since.max(since.saturating_add(time).saturating_sub(grain))),
+        None => None,
+    }
+}
+
+// The lesser of two moments, of those that are there.
+fn least(one: Option<u64>, other: Option<u64>) -> Option<u64>
+    ensures { result ≡ least one other }
+{
+    match (one, other) {
+        (Some(one), Some(other)) => Some(one.min(other)),
+        (Some(one), None) => Some(one),
+        (None, other) => other,
+    }
+}
+
+// A timer that may expire at a moment, at any endpoint: this goes over all of them, where memory is refused for a list of those
+// that are to be looked at. None: no retransmission timer, persist timer or wait in TIME-WAIT may.
+fn find_any_due(recording: &Recording, moment: u64) -> Option<Due>
     requires steps { steps_in recording.now.entries < most_steps }
     ensures some { IfSome result (λ due. IsDueAt recording.now moment due.ports due.expired) }
     ensures tried { IfSome result (λ due. IfGivesUp recording.now due.ports due.expired) }

@@ -1,14 +1,24 @@
-use Rattle.std.proofs.Common.{sym}
-use Rattle.machine.specs.declared.endpoint.Endpoint.{Endpoint}
-use Rattle.stack_core.specs.TimerEvents.{IsRefused}
-use Rattle.stack_core.proofs.MakingLemmas.{inside, one_more}
-use Rattle.stack_core.proofs.TimerLemmas.{none_due}
+use Rattle.std.proofs.Common.{◌<◌, ◌≤◌, ◌^◌, length, subst, sym, arith}
+use Rattle.machine.specs.Bodies.{Body}
+use Rattle.stack_core.specs.Agendas.{IsGrown}
+use Rattle.stack_core.specs.Tended.{IsStill, IsStillBefore, kept_ends}
+use Rattle.stack_core.proofs.AgendaLemmas.{grown_covered}
+use Rattle.stack_core.proofs.TendedLemmas.{never_before}
 use Rattle.stack_core.proofs.timers.find_due.Goals as goal
 
-pub loop-endpoint-preserved : goal.loop-endpoint-preserved
-loop-endpoint-preserved c = one_more (λ (e : Endpoint). IsRefused c.args.recording.now c.args.moment (record { lport = e.lport; rport = e.rport })) c.body-body.result.now.endpoints c.loop-endpoint.place c.in-Some.endpoint.now
-    c.loop-endpoint.invariant (sym c.in-Some.ensures) c.in_default-due_at.ensures.none
+pub list_new-requires : goal.list_new-requires
+list_new-requires c =
+    let few = c.few_endpoints.ensures in
+    let steps = c.requires.steps in
+    subst (λ (b : Body). length b.endpoints < 2 ^ 32) (sym c.body.ensures) (omega arith)
 
-pub returns-clause-none : goal.returns-clause-none
-returns-clause-none c = none_due c.args.recording.now c.args.moment c.body-body.result.now c.body-body.ensures (λ i e at.
-    c.loop-endpoint.invariant i e (inside c.body-body.result.now.endpoints i c.loop-endpoint.place e at (sym c.in_default.ensures)) at)
+pub find_among-requires-clause-all : goal.find_among-requires-clause-all
+find_among-requires-clause-all c = subst (λ (b : Body). length b.endpoints ≤ c.list_new.new.self.looked) c.body.ensures (c.list_new.ensures.all c.if-list_new.true)
+
+pub find_among-requires-clause-timed : goal.find_among-requires-clause-timed
+find_among-requires-clause-timed c = grown_covered (IsStillBefore c.args.recording.now.header) (IsStill c.args.recording.now.header) (never_before c.args.recording.now.header) c.args.wakes.now.looked c.list_new.new.self.looked c.args.wakes.now.entries.keys c.list_new.new.self.entries.keys (kept_ends c.args.recording.now)
+    (subst (λ (b : Body). IsGrown (length b.endpoints) c.args.wakes.now.looked c.args.wakes.now.entries.keys c.list_new.new.self.looked c.list_new.new.self.entries.keys) c.body.ensures c.list_new.ensures.grown) c.requires.timed
+
+pub returns-clause-timed : goal.returns-clause-timed
+returns-clause-timed c = grown_covered (IsStillBefore c.args.recording.now.header) (IsStill c.args.recording.now.header) (never_before c.args.recording.now.header) c.args.wakes.now.looked c.list_new.new.self.looked c.args.wakes.now.entries.keys c.list_new.new.self.entries.keys (kept_ends c.args.recording.now)
+    (subst (λ (b : Body). IsGrown (length b.endpoints) c.args.wakes.now.looked c.args.wakes.now.entries.keys c.list_new.new.self.looked c.list_new.new.self.entries.keys) c.body.ensures c.list_new.ensures.grown) c.requires.timed

@@ -1,5 +1,6 @@
-use Rattle.std.proofs.Common.{ap, subst, sym, ◌∙◌}
-use Rattle.stack_core.specs.ArrivalEvents.{IsArrived, ports_of}
+use Rattle.std.proofs.Common.{ap, subst, sym, ◌∙◌, ℕ}
+use Rattle.case_forms.specs.declared.calls.Ports.{Ports}
+use Rattle.stack_core.specs.ArrivalEvents.{IsArrived, IsHeld, ports_of}
 use Rattle.stack_core.specs.Cores.{Core}
 use Rattle.stack_core.proofs.ArriveLemmas.{any_error, arrived, settled_short}
 use Rattle.stack_core.proofs.host_core.HostCore.record_arrival.Goals as goal
@@ -10,3 +11,7 @@ returns-in_err-settle-clause-err c = any_error c.from_residual-in_err-settle.res
 pub returns-clause-ok : goal.returns-clause-ok
 returns-clause-ok c = subst (λ (d : Core). IsArrived c.args.self.now c.args.tick c.args.flying d) (sym c.note_arrival.ensures) (arrived c.args.self.now c.open_with_room.new.self c.come_in.new.self c.settle.new.self c.args.tick c.args.flying c.line-line.result c.ports_of-ports.result c.open_with_room.ensures.opened c.in_ok-come_in.ensures.ok c.line-line.ensures
     (c.ports_of-ports.ensures ∙ ap ports_of c.emission.ensures) c.in_ok-settle.ensures.ok)
+
+pub settle-requires-clause-holds : goal.settle-requires-clause-holds
+settle-requires-clause-holds c = subst (λ (p : Ports). IsHeld c.come_in.new.self c.line-line.result p) (sym (c.ports_of-ports.ensures ∙ ap ports_of c.emission.ensures))
+    (subst (λ (n : ℕ). IsHeld c.come_in.new.self n (ports_of c.args.flying.emission)) (sym c.line-line.ensures) c.in_ok-come_in.ensures.holds)

@@ -2,7 +2,7 @@ use Rattle.std.proofs.Common.{◌≡◌, ◌<◌, ◌-◌, ℕ, Some, length}
 use Rattle.std.specs.Prelude.{slice_get}
 use Rattle.machine.specs.declared.endpoint.Endpoint.{Endpoint}
 use Rattle.stack_core.specs.TimerEvents.{IsRefused}
-use Rattle.stack_core.proofs.timers.find_due.Given as goal
+use Rattle.stack_core.proofs.timers.find_any_due.Given as goal
 
 abbrev pub invariant-loop-endpoint : goal.invariant-loop-endpoint
 invariant-loop-endpoint l = (j : ℕ) (e : Endpoint) → j < l.place → slice_get l.body.endpoints j ≡ Some e → IsRefused l.recording l.moment (record { lport = e.lport; rport = e.rport })

@@ -1,0 +1,242 @@
+-- A step leaves each endpoint as it was that it does not touch.
+use Rattle.std.proofs.Common.{◌≡◌, ◌≤◌, ◌<◌, ◌⊎◌, ◌+◌, ℕ, zero, suc, Bool, true, false, List, [], ◌∷◌, ◌++◌, length, map, Option, None, Some, refl, ap, sym, ◌∙◌, subst, inl, inr, arith}
+use Rattle.std.specs.Prelude.{slice_get, if◌then◌else◌}
+use Rattle.std.specs.Option.{option_map_or}
+use Rattle.std.proofs.lemmas.Option.{none-some, same_Some}
+use Rattle.case_forms.specs.States.{is_closed}
+use Rattle.case_forms.specs.declared.calls.Answer.{Answer}
+use Rattle.case_forms.specs.declared.calls.Answer.TheVariants as answers
+use Rattle.case_forms.specs.declared.calls.Call.{Call}
+use Rattle.case_forms.specs.declared.calls.Call.TheVariants as calls
+use Rattle.case_forms.specs.declared.calls.Host.{Host}
+use Rattle.case_forms.specs.declared.calls.Host.TheVariants.{Zero, One}
+use Rattle.case_forms.specs.declared.calls.Ports.{Ports}
+use Rattle.case_forms.specs.declared.steps.TakeChoice.{TakeChoice}
+use Rattle.case_forms.specs.declared.trace.Header.{Header}
+use Rattle.streams.specs.Lists.{modify}
+use Rattle.hosts.specs.Tables.{Both, on, other, pick, waiting, with_host}
+use Rattle.hosts.specs.Hosts.{HostState, Deed, Does, Expires, Makes, Sends, Gets, Hears, Takes, Drops, Answers, Turn, Idle, Called, Answered, World, Step, Begin, Finish, Effect, At, turn_of}
+use Rattle.hosts.specs.HostRules.{aim_of}
+use Rattle.hosts.specs.HostSteps.{after, call_after, deed_after, effect_after, start}
+use Rattle.machine.specs.declared.endpoint.Emission.{Emission}
+use Rattle.machine.specs.declared.endpoint.Endpoint.{Endpoint}
+use Rattle.machine.specs.declared.endpoint.Thing.{Thing}
+use Rattle.machine.specs.declared.endpoint.Thing.TheVariants.{Listens, Ends}
+use Rattle.machine.specs.Arrives.{Taker, Nobody, AtListener, AtEndpoint, after_taking, endpoint_taker, listener_taker, taker}
+use Rattle.machine.specs.Bodies.{Body, at_ports, dead, listener_on, place_of, queue_of, thing_of, with_endpoint}
+use Rattle.machine.specs.Calls.{after_call, change, change_thing}
+use Rattle.machine.specs.Calls.Accept.{accepted_from, after_accept}
+use Rattle.machine.specs.Calls.Close.{after_abort, after_close, after_gone, after_shut, orphaned, thing_gone}
+use Rattle.machine.specs.Calls.Receive.{after_recv}
+use Rattle.machine.specs.Calls.Send.{after_send}
+use Rattle.machine.specs.Forgetting.{forget_body}
+use Rattle.machine.specs.Machine.{aim, tcp, tcp_shape}
+use Rattle.machine.specs.Machine as acts
+use Rattle.endpoint_state.specs.Turns.{pending_call}
+use Rattle.recordings.specs.Books.{Flying, bring}
+use Rattle.stack_core.specs.declared.agenda.Touch.{Touch}
+use Rattle.stack_core.specs.declared.agenda.Touch.TheVariants as touches
+use Rattle.stack_core.specs.Agendas.{IsTouchAt, Leaves}
+use Rattle.stack_core.specs.ArrivalEvents.{IsHeld, ports_of}
+use Rattle.stack_core.specs.Cores.{Core, own_body, world}
+use Rattle.stack_core.specs.Touches.{accept_touch, call_touch, deed_touch, effect_touch, gone_touch, queue_touch, thing_touch, touch_at, touched}
+
+-- 1. lists
+
+pub leaves_same : (t : Touch) (es : List Endpoint) → Leaves t es es
+leaves_same t es = record { back = λ i f less at. inr at; count = omega arith }
+
+modify_length : (es : List Endpoint) (j : ℕ) (f : Endpoint → Endpoint) → length (modify es j f) ≡ length es
+modify_length [] j f = refl
+modify_length (e ∷ es) zero f = refl
+modify_length (e ∷ es) (suc j) f = ap suc (modify_length es j f)
+
+modify_back : (es : List Endpoint) (j : ℕ) (f : Endpoint → Endpoint) (i : ℕ) (x : Endpoint) → slice_get (modify es j f) i ≡ Some x → (i ≡ j) ⊎ (slice_get es i ≡ Some x)
+modify_back [] j f i x at = inr at
+modify_back (e ∷ es) zero f zero x at = inl refl
+modify_back (e ∷ es) zero f (suc i) x at = inr at
+modify_back (e ∷ es) (suc j) f zero x at = inr at
+modify_back (e ∷ es) (suc j) f (suc i) x at = up (modify_back es j f i x at)
+  where
+    up : (i ≡ j) ⊎ (slice_get es i ≡ Some x) → (suc i ≡ suc j) ⊎ (slice_get es i ≡ Some x)
+    up (inl same) = inl (ap suc same)
+    up (inr there) = inr there
+
+leaves_modify : (es : List Endpoint) (j : ℕ) (f : Endpoint → Endpoint) → Leaves (touches.Place j) es (modify es j f)
+leaves_modify es j f = record { back = λ i x less at. modify_back es j f i x at; count = let same = modify_length es j f in omega arith }
+
+push_length : (es : List Endpoint) (x : Endpoint) → length (es ++ x ∷ []) ≡ suc (length es)
+push_length [] x = refl
+push_length (e ∷ es) x = ap suc (push_length es x)
+
+push_back : (es : List Endpoint) (x : Endpoint) (i : ℕ) (f : Endpoint) → i < length es → slice_get (es ++ x ∷ []) i ≡ Some f → slice_get es i ≡ Some f
+push_back [] x i f less at = absurd (omega arith)
+push_back (e ∷ es) x zero f less at = at
+push_back (e ∷ es) x (suc i) f less at = push_back es x i f (omega arith) at
+
+leaves_push : (t : Touch) (es : List Endpoint) (x : Endpoint) → Leaves t es (es ++ x ∷ [])
+leaves_push t es x = record { back = λ i f less at. inr (push_back es x i f less at); count = let more = push_length es x in omega arith }
+
+map_length : (es : List Endpoint) (f : Endpoint → Endpoint) → length (map f es) ≡ length es
+map_length [] f = refl
+map_length (e ∷ es) f = ap suc (map_length es f)
+
+leaves_map : (es : List Endpoint) (f : Endpoint → Endpoint) → Leaves touches.All es (map f es)
+leaves_map es f = record { back = λ i x less at. inl tt; count = let same = map_length es f in omega arith }
+
+-- 2. deeds
+
+at_leaves : (b : Body) (l r : ℕ) (f : Endpoint → Endpoint) → Leaves (touch_at (place_of b l r)) b.endpoints (at_ports b l r f).endpoints
+at_leaves b l r f = by (place_of b l r)
+  where
+    by : (o : Option ℕ) → Leaves (touch_at o) b.endpoints (option_map_or (λ i. with_endpoint b i f) o b).endpoints
+    by None = leaves_same touches.Nobody b.endpoints
+    by (Some i) = leaves_modify b.endpoints i f
+
+taking_leaves : (h : Header) (b : Body) (how : TakeChoice) (m : Emission) (moment : ℕ) → Leaves (touch_at (place_of b m.rport m.lport)) b.endpoints (after_taking h b how m moment (taker b m)).endpoints
+taking_leaves h b how m moment = by (place_of b m.rport m.lport)
+  where
+    at_listener : (t : Touch) (o : Option ℕ) → Leaves t b.endpoints (after_taking h b how m moment (option_map_or (λ l. AtListener l) o Nobody)).endpoints
+    at_listener t None = leaves_same t b.endpoints
+    at_listener t (Some l) = leaves_push t b.endpoints _
+
+    closed : (i : ℕ) (e : Endpoint) (c : Bool) → Leaves (touches.Place i) b.endpoints (after_taking h b how m moment (if c then listener_taker b m else AtEndpoint i e)).endpoints
+    closed i e true = at_listener (touches.Place i) (listener_on b m.rport)
+    closed i e false = leaves_modify b.endpoints i _
+
+    at_place : (i : ℕ) (o : Option Endpoint) → Leaves (touches.Place i) b.endpoints (after_taking h b how m moment (option_map_or (λ e. if is_closed e.state then listener_taker b m else AtEndpoint i e) o (listener_taker b m))).endpoints
+    at_place i None = at_listener (touches.Place i) (listener_on b m.rport)
+    at_place i (Some e) = closed i e (is_closed e.state)
+
+    by : (o : Option ℕ) → Leaves (touch_at o) b.endpoints (after_taking h b how m moment (option_map_or (endpoint_taker b m) o (listener_taker b m))).endpoints
+    by None = at_listener touches.Nobody (listener_on b m.rport)
+    by (Some i) = at_place i (slice_get b.endpoints i)
+
+deed_leaves : (h : Header) (me : Host) (moment fresh : ℕ) (far : List (ℕ × Emission)) (s : HostState tcp_shape) (d : Deed tcp_shape) → Leaves (deed_touch s d) s.body.endpoints (deed_after (tcp h) me moment fresh far s d).body.endpoints
+deed_leaves h me moment fresh far s (Does x) = at_leaves s.body x.lport x.rport _
+deed_leaves h me moment fresh far s (Expires line x growth) = at_leaves s.body x.lport x.rport _
+deed_leaves h me moment fresh far s (Makes plan) = at_leaves s.body plan.lport plan.rport _
+deed_leaves h me moment fresh far s (Sends line number wire) = leaves_same touches.Nobody s.body.endpoints
+deed_leaves h me moment fresh far s (Gets line copied wire) = leaves_same touches.Nobody s.body.endpoints
+deed_leaves h me moment fresh far s (Hears line wire) = leaves_same touches.Nobody s.body.endpoints
+deed_leaves h me moment fresh far s (Takes line how) = by (waiting line s.inbox)
+  where
+    by : (o : Option Emission) → Leaves (on o touches.Nobody (λ m. touch_at (place_of s.body m.rport m.lport))) s.body.endpoints (on o s.body (λ m. after_taking h s.body how m moment (taker s.body m))).endpoints
+    by None = leaves_same touches.Nobody s.body.endpoints
+    by (Some m) = taking_leaves h s.body how m moment
+deed_leaves h me moment fresh far s (Drops line) = leaves_same touches.Nobody s.body.endpoints
+deed_leaves h me moment fresh far s (Answers line) = by (waiting line s.inbox)
+  where
+    by : (o : Option Emission) → Leaves touches.Nobody s.body.endpoints (on o s.body (λ m. s.body)).endpoints
+    by None = leaves_same touches.Nobody s.body.endpoints
+    by (Some m) = leaves_same touches.Nobody s.body.endpoints
+
+-- 3. calls
+
+change_leaves : (b : Body) (n : ℕ) (f : Endpoint → Endpoint) → Leaves (option_map_or thing_touch (thing_of b n) touches.Nobody) b.endpoints (change b n f).endpoints
+change_leaves b n f = by (thing_of b n)
+  where
+    by : (o : Option Thing) → Leaves (option_map_or thing_touch o touches.Nobody) b.endpoints (option_map_or (change_thing b f) o b).endpoints
+    by None = leaves_same touches.Nobody b.endpoints
+    by (Some (Listens l)) = leaves_same touches.Nobody b.endpoints
+    by (Some (Ends i)) = leaves_modify b.endpoints i f
+
+gone_leaves : (b : Body) (n : ℕ) (f : Endpoint → Endpoint) → Leaves (option_map_or gone_touch (thing_of b n) touches.Nobody) b.endpoints (after_gone b n f).endpoints
+gone_leaves b n f = by (thing_of b n)
+  where
+    by : (o : Option Thing) → Leaves (option_map_or gone_touch o touches.Nobody) b.endpoints (option_map_or (λ thing. record (thing_gone b thing f) { sockets = dead b.sockets n }) o b).endpoints
+    by None = leaves_same touches.Nobody b.endpoints
+    by (Some (Listens l)) = leaves_map b.endpoints (orphaned l)
+    by (Some (Ends i)) = leaves_modify b.endpoints i f
+
+accept_leaves : (b : Body) (h n : ℕ) → Leaves (option_map_or (accept_touch b) (thing_of b h) touches.Nobody) b.endpoints (option_map_or (after_accept b n) (thing_of b h) b).endpoints
+accept_leaves b h n = by (thing_of b h)
+  where
+    queued : (l : ℕ) (queue : List ℕ) → Leaves (queue_touch queue) b.endpoints (accepted_from b l n queue).endpoints
+    queued l [] = leaves_same touches.Nobody b.endpoints
+    queued l (child ∷ queue) = leaves_modify b.endpoints child _
+
+    by : (o : Option Thing) → Leaves (option_map_or (accept_touch b) o touches.Nobody) b.endpoints (option_map_or (after_accept b n) o b).endpoints
+    by None = leaves_same touches.Nobody b.endpoints
+    by (Some (Listens l)) = queued l (queue_of b l)
+    by (Some (Ends i)) = leaves_same touches.Nobody b.endpoints
+
+call_leaves : (b : Body) (call : Call) (answer : Answer) → Leaves (call_touch b call) b.endpoints (after_call b call answer).endpoints
+call_leaves b (calls.Listen host port backlog) (answers.Given n) = leaves_same touches.Nobody b.endpoints
+call_leaves b (calls.Connect host lport rport) (answers.Given n) = leaves_push touches.Nobody b.endpoints _
+call_leaves b (calls.Accept h) (answers.Given n) = accept_leaves b h n
+call_leaves b (calls.Send h bytes) (answers.Given n) = change_leaves b h (after_send bytes n)
+call_leaves b (calls.Recv h most) (answers.Bytes bytes) = change_leaves b h (after_recv bytes)
+call_leaves b (calls.Shut h) answers.Done = change_leaves b h after_shut
+call_leaves b (calls.Close h) answers.Done = gone_leaves b h after_close
+call_leaves b (calls.Abort h) answers.Done = gone_leaves b h after_abort
+call_leaves b call answer = leaves_same _ b.endpoints
+
+-- 4. a step
+
+abbrev pub ends : Host → World tcp_shape → List Endpoint
+ends me w = (pick w.hosts me).body.endpoints
+
+call_at : (me host : Host) (hosts : Both (HostState tcp_shape)) (call : Call) (answer : Answer) → Leaves (call_touch (pick hosts me).body call) (pick hosts me).body.endpoints (pick (with_host hosts host (record (pick hosts host) { body = after_call (pick hosts host).body call answer })) me).body.endpoints
+call_at Zero Zero hosts call answer = call_leaves hosts.zero.body call answer
+call_at Zero One hosts call answer = leaves_same _ hosts.zero.body.endpoints
+call_at One Zero hosts call answer = leaves_same _ hosts.one.body.endpoints
+call_at One One hosts call answer = call_leaves hosts.one.body call answer
+
+deed_at : (h : Header) (me : Host) (moment : ℕ) (w : World tcp_shape) (d : Deed tcp_shape) → Leaves (deed_touch (pick w.hosts me) d) (ends me w) (ends me (after (tcp h) moment w (At me d)))
+deed_at h Zero moment w d = deed_leaves h Zero moment (suc w.count) w.hosts.one.wire w.hosts.zero d
+deed_at h One moment w d = deed_leaves h One moment (suc w.count) w.hosts.zero.wire w.hosts.one d
+
+module _ (h : Header) (me : Host) (moment : ℕ) (w : World tcp_shape) where
+  effect_leaves : (t : ℕ) (answer : Answer) (u : Turn tcp_shape) → Leaves (option_map_or (call_touch (pick w.hosts me).body) (pending_call u) touches.Nobody) (ends me w) (ends me (effect_after (tcp h) moment w t answer u))
+  effect_leaves t answer Idle = leaves_same touches.Nobody (ends me w)
+  effect_leaves t answer (Answered a) = leaves_same touches.Nobody (ends me w)
+  effect_leaves t answer (Called call) = by (aim_of (tcp h) w.hosts (aim call))
+    where
+      by : (o : Option Host) → Leaves (call_touch (pick w.hosts me).body call) (ends me w) (pick (call_after (tcp h) moment w.hosts (acts.Calls call answer) o) me).body.endpoints
+      by None = leaves_same _ (ends me w)
+      by (Some host) = call_at me host w.hosts call answer
+
+  pub step_leaves : (step : Step tcp_shape) → ((host : Host) (d : Deed tcp_shape) → step ≡ At host d → host ≡ me) → Leaves (touched me w step) (ends me w) (ends me (after (tcp h) moment w step))
+  step_leaves (Begin line t call) own = leaves_same touches.Nobody (ends me w)
+  step_leaves (Finish line t answer) own = leaves_same touches.Nobody (ends me w)
+  step_leaves (Effect t answer) own = effect_leaves t answer (turn_of t w.threads)
+  step_leaves (At host d) own = subst (λ (x : Host). Leaves (deed_touch (pick w.hosts me) d) (ends me w) (ends me (after (tcp h) moment w (At x d)))) (sym (own host d refl)) (deed_at h me moment w d)
+
+pub bring_leaves : (h : Header) (me : Host) (f : Flying tcp_shape) (w : World tcp_shape) → ends me (bring (tcp h) (other me) f w) ≡ ends me w
+bring_leaves h Zero f w = refl
+bring_leaves h One f w = refl
+
+pub start_ends : (h : Header) (me : Host) → ends me (start (tcp h)) ≡ []
+start_ends h Zero = refl
+start_ends h One = refl
+
+-- 5. of what is kept
+
+call_touch-forget : (b : Body) (call : Call) → call_touch (forget_body b) call ≡ call_touch b call
+call_touch-forget b (calls.Listen host port backlog) = refl
+call_touch-forget b (calls.Connect host lport rport) = refl
+call_touch-forget b (calls.Await n) = refl
+call_touch-forget b (calls.Send n bytes) = refl
+call_touch-forget b (calls.Recv n most) = refl
+call_touch-forget b (calls.Shut n) = refl
+call_touch-forget b (calls.Close n) = refl
+call_touch-forget b (calls.Abort n) = refl
+call_touch-forget b (calls.Status n) = refl
+call_touch-forget b (calls.Accept n) = by (thing_of b n)
+  where
+    by : (o : Option Thing) → option_map_or (accept_touch (forget_body b)) o touches.Nobody ≡ option_map_or (accept_touch b) o touches.Nobody
+    by None = refl
+    by (Some (Listens l)) = refl
+    by (Some (Ends i)) = refl
+
+pub touch-forget : (b : Body) (o : Option Call) → option_map_or (call_touch (forget_body b)) o touches.Nobody ≡ option_map_or (call_touch b) o touches.Nobody
+touch-forget b None = refl
+touch-forget b (Some call) = call_touch-forget b call
+
+-- 6. of a segment that is held
+
+pub held_touch : (c : Core) (line : ℕ) (ports : Ports) (touch : Touch) → IsHeld c line ports → touch ≡ touch_at (place_of (own_body c) ports.lport ports.rport)
+    → touch ≡ on (waiting line (pick (world c).hosts c.recorded.me).inbox) touches.Nobody (λ m. touch_at (place_of (own_body c) m.rport m.lport))
+held_touch c line ports touch (m, waits, same) is = is ∙ ap (λ (p : Ports). touch_at (place_of (own_body c) p.lport p.rport)) same
+    ∙ sym (ap (λ (o : Option Emission). on o touches.Nobody (λ m. touch_at (place_of (own_body c) m.rport m.lport))) waits)

@@ -1,0 +1,14 @@
+use Rattle.std.proofs.Common.{ap, ◌∙◌}
+use Rattle.hosts.specs.Tables.{pick}
+use Rattle.machine.specs.Bodies.{Body, place_of}
+use Rattle.machine_laws.proofs.ForgetBodies.{place-forget}
+use Rattle.stack_core.specs.Cores.{Core, own_body}
+use Rattle.stack_core.specs.Recordings.{world_left}
+use Rattle.stack_core.specs.Touches.{touch_at}
+use Rattle.stack_core.proofs.host_core.HostCore.touch_at.Goals as goal
+
+pub returns : goal.returns
+returns c =
+    let r = c.self.inside.recording in
+    c.touch_at.ensures ∙ ap touch_at (c.place_of.ensures ∙ ap (λ (b : Body). place_of b c.args.lport c.args.rport) c.body.ensures ∙ place-forget (pick (world_left r).hosts r.me).body c.args.lport c.args.rport
+    ∙ ap (λ (k : Core). place_of (own_body k) c.args.lport c.args.rport) c.self.view_is)

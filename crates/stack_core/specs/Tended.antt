@@ -1,0 +1,68 @@
+-- What a core knows of the endpoints that it does not look at: nothing may be made there, and no timer is due.
+use Rattle.std.specs.Prelude.{◌≡◌, ◌≤◌, ◌<◌, ◌+◌, ℕ, min, false, List, Option, None, Some}
+use Rattle.case_forms.specs.declared.steps.SegmentPlan.{SegmentPlan}
+use Rattle.case_forms.specs.declared.timer.Growth.{Growth}
+use Rattle.case_forms.specs.declared.timer.Timer.{Timer}
+use Rattle.case_forms.specs.declared.timer.Timer.TheVariants.{Giveup}
+use Rattle.case_forms.specs.declared.trace.Header.{Header}
+use Rattle.verdict.specs.Rules.{first_broken}
+use Rattle.hosts.specs.Tables.{pick}
+use Rattle.timer_rules.specs.Timers.{earliest}
+use Rattle.machine.specs.declared.endpoint.Endpoint.{Endpoint}
+use Rattle.machine.specs.Endpoints.{max_made}
+use Rattle.machine.specs.Forgetting.{forget_body}
+use Rattle.machine.specs.Makes.{making_rules}
+use Rattle.machine.specs.Makes.Payload.{making_length}
+use Rattle.machine.specs.Timeouts.{expiry_rules}
+use Rattle.stack_core.specs.declared.agenda.Agenda.{Agenda}
+use Rattle.stack_core.specs.declared.agenda.Wake.{Wake}
+use Rattle.stack_core.specs.Agendas.{AreCovered}
+use Rattle.stack_core.specs.Recordings.{Recorded, world_left}
+
+-- the endpoint makes nothing without RST that takes new positions
+abbrev pub IsQuiet : Endpoint → Type 0
+IsQuiet e = (m : SegmentPlan) → m.flags.rst ≡ false → max_made e < m.pos + making_length m → first_broken (making_rules e m) ≡ None → ⊥
+
+-- none of its timers may expire at this moment, but that it may give up
+abbrev pub IsStillAt : Header → ℕ → Endpoint → Type 0
+IsStillAt h moment e = (timer : Timer) (growth : Growth) → (timer ≡ Giveup → ⊥) → first_broken (expiry_rules h moment e timer growth) ≡ None → ⊥
+
+-- before a moment, and ever
+abbrev pub IsStillBefore : Header → ℕ → Endpoint → Type 0
+IsStillBefore h m e = (moment : ℕ) → moment < m → IsStillAt h moment e
+
+abbrev pub IsStill : Header → Endpoint → Type 0
+IsStill h e = (moment : ℕ) → IsStillAt h moment e
+
+-- endpoints that are not to be looked at make nothing
+abbrev pub AreQuiet : ℕ → List Wake → List Endpoint → Type 0
+AreQuiet looked entries es = AreCovered (λ m e. Unit {0}) IsQuiet looked entries es
+
+-- those that are not to be looked at yet have no timer that is due
+abbrev pub AreTimed : Header → ℕ → List Wake → List Endpoint → Type 0
+AreTimed h looked entries es = AreCovered (IsStillBefore h) (IsStill h) looked entries es
+
+-- what is kept of a recording's endpoints
+abbrev pub kept_ends : Recorded → List Endpoint
+kept_ends r = (forget_body (pick (world_left r).hosts r.me).body).endpoints
+
+-- both of a core
+pub record IsTended (r : Recorded) (ready wakes : Agenda) : Type 0 where
+  pub quiet : AreQuiet ready.looked ready.entries.keys (kept_ends r)
+  pub timed : AreTimed r.header wakes.looked wakes.entries.keys (kept_ends r)
+
+-- the lesser of two moments, of those that are there
+abbrev pub least : Option ℕ → Option ℕ → Option ℕ
+least None other = other
+least (Some one) None = Some one
+least (Some one) (Some other) = Some (min one other)
+
+-- a timer that is armed since a moment, or not at all, may expire at the earliest then, or later
+abbrev pub IsDueSince : Option ℕ → (time grain : ℕ) → Option ℕ → Type 0
+IsDueSince armed time grain None = armed ≡ None
+IsDueSince armed time grain (Some m) = (since : ℕ) × (armed ≡ Some since) × (m ≤ earliest since time grain)
+
+-- one timer may not expire before a moment, or never
+abbrev pub IsSlow : Header → Endpoint → Timer → Option ℕ → Type 0
+IsSlow h e timer None = (moment : ℕ) (growth : Growth) → first_broken (expiry_rules h moment e timer growth) ≡ None → ⊥
+IsSlow h e timer (Some m) = (moment : ℕ) (growth : Growth) → moment < m → first_broken (expiry_rules h moment e timer growth) ≡ None → ⊥
