@@ -10,8 +10,9 @@ use Rattle.case_forms.specs.States.{is_closed}
 use Rattle.case_forms.specs.declared.calls.Host.{Host}
 use Rattle.case_forms.specs.declared.calls.Host.TheVariants.{Zero, One}
 use Rattle.case_forms.specs.declared.steps.SegmentPlan.{SegmentPlan}
-use Rattle.case_forms.specs.declared.timer.Expiry.{Expiry}
-use Rattle.case_forms.specs.declared.timer.Growth.{Growth}
+use Rattle.case_forms.specs.TakenLines.{timer_of}
+use Rattle.case_forms.specs.declared.taken_line.Expired.{Expired}
+use Rattle.case_forms.specs.declared.taken_line.Expired.TheVariants as expireds
 use Rattle.case_forms.specs.declared.timer.Timer.{Timer}
 use Rattle.case_forms.specs.declared.timer.Timer.TheVariants.{Giveup, Msl2, Persist, Rto}
 use Rattle.case_forms.specs.declared.trace.Header.{Header}
@@ -112,21 +113,27 @@ readable_at (x ∷ es) (suc i) e all at = readable_at es i e (All-tail (λ (y : 
 
 -- a closed endpoint has none
 pub closed_still : (h : Header) (e : Endpoint) → is_closed e.state ≡ true → IsStill h e
-closed_still h e is moment timer growth not may = differ (sym is ∙ (none_all (expiry_rules h moment e timer growth) may).0)
+closed_still h e is moment x not may = differ (sym is ∙ (none_all (expiry_rules h moment e x) may).0)
   where
     differ : true ≡ false → ⊥
     differ x = absurd cc
 
 least_left : (h : Header) (e : Endpoint) (timer : Timer) (a b : Option ℕ) → IsSlow h e timer a → IsSlow h e timer (least a b)
 least_left h e timer None None slow = slow
-least_left h e timer None (Some n) slow = λ moment growth early may. slow moment growth may
+least_left h e timer None (Some n) slow = λ moment x is early may. slow moment x is may
 least_left h e timer (Some m) None slow = slow
-least_left h e timer (Some m) (Some n) slow = λ moment growth early may. slow moment growth (omega arith) may
+least_left h e timer (Some m) (Some n) slow = λ moment x is early may. slow moment x is (omega arith) may
 
 least_right : (h : Header) (e : Endpoint) (timer : Timer) (a b : Option ℕ) → IsSlow h e timer b → IsSlow h e timer (least a b)
 least_right h e timer None b slow = slow
-least_right h e timer (Some m) None slow = λ moment growth early may. slow moment growth may
-least_right h e timer (Some m) (Some n) slow = λ moment growth early may. slow moment growth (omega arith) may
+least_right h e timer (Some m) None slow = λ moment x is early may. slow moment x is may
+least_right h e timer (Some m) (Some n) slow = λ moment x is early may. slow moment x is (omega arith) may
+
+no_giveup : (x : Expired) → (x ≡ expireds.Giveup → ⊥) → timer_of x ≡ Giveup → ⊥
+no_giveup (expireds.Rto growth) not is = absurd cc
+no_giveup expireds.Persist not is = absurd cc
+no_giveup expireds.Msl2 not is = absurd cc
+no_giveup expireds.Giveup not is = not refl
 
 module _ (h : Header) (e : Endpoint) (again probe over all : Option ℕ) (is_again : IsSlow h e Rto again) (is_probe : IsSlow h e Persist probe) (is_over : IsSlow h e Msl2 over) (is : all ≡ least again (least probe over)) where
   each : (timer : Timer) → (timer ≡ Giveup → ⊥) → IsSlow h e timer all
@@ -140,30 +147,30 @@ module _ (h : Header) (e : Endpoint) (again probe over all : Option ℕ) (is_aga
     where
       by : (o : Option ℕ) → ((timer : Timer) → (timer ≡ Giveup → ⊥) → IsSlow h e timer o) → IfSome o (λ m. IsStillBefore h m e)
       by None slow = tt
-      by (Some m) slow = λ moment early timer growth not may. slow timer not moment growth early may
+      by (Some m) slow = λ moment early x not may. slow (timer_of x) (no_giveup x not) moment x refl early may
 
   pub still_ever : IfNone all (IsStill h e)
   still_ever = by all each
     where
       by : (o : Option ℕ) → ((timer : Timer) → (timer ≡ Giveup → ⊥) → IsSlow h e timer o) → IfNone o (IsStill h e)
-      by None slow = λ moment timer growth not may. slow timer not moment growth may
+      by None slow = λ moment x not may. slow (timer_of x) (no_giveup x not) moment x refl may
       by (Some m) slow = tt
 
 -- 4. a recording
 
 -- none is due
 pub none_due_by : (r : Recorded) (moment : ℕ) → ((i : ℕ) (e : Endpoint) → slice_get (kept_ends r) i ≡ Some e → IsStillAt r.header moment e) → NoneDueAt r moment
-none_due_by r moment still x growth unlike may = by (endpoint_of b x.lport x.rport) refl
+none_due_by r moment still x unlike may = by (endpoint_of b x.lport x.rport) refl
   where
     b : Body
     b = (pick (world_left r).hosts r.me).body
 
     by : (o : Option Endpoint) → endpoint_of b x.lport x.rport ≡ o → ⊥
-    by None at = absurd (let none = subst (λ (o : Option Endpoint). first_broken (option_map_or (λ e. expiry_rules r.header moment e x.timer growth) o ((rules.NoEndpoint, true) ∷ [])) ≡ None) at may in cc)
+    by None at = absurd (let none = subst (λ (o : Option Endpoint). first_broken (option_map_or (λ e. expiry_rules r.header moment e x.expired) o ((rules.NoEndpoint, true) ∷ [])) ≡ None) at may in cc)
     by (Some e) at =
         let place = of_ports b x.lport x.rport e at in
-        let here : first_broken (expiry_rules r.header moment e x.timer growth) ≡ None = subst (λ (o : Option Endpoint). first_broken (option_map_or (λ e. expiry_rules r.header moment e x.timer growth) o ((rules.NoEndpoint, true) ∷ [])) ≡ None) at may in
-        still place.0 (forget_endpoint e) (kept_there b.endpoints place.0 e place.1) x.timer growth unlike (ap first_broken (expiry_rules-forget r.header moment e x.timer growth) ∙ here)
+        let here : first_broken (expiry_rules r.header moment e x.expired) ≡ None = subst (λ (o : Option Endpoint). first_broken (option_map_or (λ e. expiry_rules r.header moment e x.expired) o ((rules.NoEndpoint, true) ∷ [])) ≡ None) at may in
+        still place.0 (forget_endpoint e) (kept_there b.endpoints place.0 e place.1) x.expired unlike (ap first_broken (expiry_rules-forget r.header moment e x.expired) ∙ here)
 
 pub tended_starts : (h : Header) (me : Host) (r : Recorded) (ready wakes : Agenda) → ready.looked ≡ 0 → wakes.looked ≡ 0 → IsTended r ready wakes
 tended_starts h me r ready wakes none_ready none_wake = record {
@@ -172,7 +179,7 @@ tended_starts h me r ready wakes none_ready none_wake = record {
 }
 
 pub never_before : (h : Header) (e : Endpoint) → IsStillBefore h 0 e
-never_before h e moment early timer growth not may = absurd (omega arith)
+never_before h e moment early x not may = absurd (omega arith)
 
 module _ (r : Recorded) (ready wakes ready_then wakes_then : Agenda) (touch : Touch) (is_ready : IsTouched touch ready.looked ready.entries.keys ready_then.looked ready_then.entries.keys)
     (is_wakes : IsTouched touch wakes.looked wakes.entries.keys wakes_then.looked wakes_then.entries.keys) (is : IsTended r ready wakes) where
@@ -237,10 +244,10 @@ never_due h e moment time shorter armed (Some m) low (begun, was, early) since i
     le_trans3 : (a b c d : ℕ) → a ≤ b → b ≤ c → c ≤ d → a ≤ d
     le_trans3 a b c d p q r = omega arith
 
-slow_if : (h : Header) (e : Endpoint) (timer : Timer) (o : Option ℕ) → ((moment : ℕ) (growth : Growth) → first_broken (expiry_rules h moment e timer growth) ≡ None → (m : ℕ) × (o ≡ Some m) × (m ≤ moment)) → IsSlow h e timer o
-slow_if h e timer None due = λ moment growth may. absurd (let is = due moment growth may in none-some is.0 is.1)
-slow_if h e timer (Some n) due = λ moment growth before may.
-    let is = due moment growth may in
+slow_if : (h : Header) (e : Endpoint) (timer : Timer) (o : Option ℕ) → ((moment : ℕ) (x : Expired) → timer_of x ≡ timer → first_broken (expiry_rules h moment e x) ≡ None → (m : ℕ) × (o ≡ Some m) × (m ≤ moment)) → IsSlow h e timer o
+slow_if h e timer None due = λ moment x kind may. absurd (let is = due moment x kind may in none-some is.0 is.1)
+slow_if h e timer (Some n) due = λ moment x kind before may.
+    let is = due moment x kind may in
     let same : n ≡ is.0 = same_Some n is.0 is.1 in
     let late = is.2 in
     absurd (not_both n is.0 moment same late before)
@@ -249,16 +256,28 @@ slow_if h e timer (Some n) due = λ moment growth before may.
     not_both n m moment same late before = omega arith
 
 pub again_slow : (h : Header) (e : Endpoint) (o : Option ℕ) → IsDueSince e.timers.rto_armed e.timers.rto h.grain o → IsSlow h e Rto o
-again_slow h e o due = slow_if h e Rto o (λ moment growth may.
-    let t = none_all (expiry_rules h moment e Rto growth) may in
-    let on = armed_then e h moment e.timers.rto e.timers.rto_armed t.1.1.0 t.1.1.1.0 in
-    never_due h e moment e.timers.rto e.timers.rto e.timers.rto_armed o (omega arith) due on.0 on.1 on.2)
+again_slow h e o due = slow_if h e Rto o by
+  where
+    by : (moment : ℕ) (x : Expired) → timer_of x ≡ Rto → first_broken (expiry_rules h moment e x) ≡ None → (m : ℕ) × (o ≡ Some m) × (m ≤ moment)
+    by moment (expireds.Rto growth) kind may =
+        let t = none_all (expiry_rules h moment e (expireds.Rto growth)) may in
+        let on = armed_then e h moment e.timers.rto e.timers.rto_armed t.1.1.0 t.1.1.1.0 in
+        never_due h e moment e.timers.rto e.timers.rto e.timers.rto_armed o (omega arith) due on.0 on.1 on.2
+    by moment expireds.Persist kind may = absurd cc
+    by moment expireds.Msl2 kind may = absurd cc
+    by moment expireds.Giveup kind may = absurd cc
 
 pub wait_slow : (h : Header) (e : Endpoint) (time : ℕ) (o : Option ℕ) → time ≤ 2 * h.msl → IsDueSince e.timers.msl_armed time h.grain o → IsSlow h e Msl2 o
-wait_slow h e time o low due = slow_if h e Msl2 o (λ moment growth may.
-    let t = none_all (expiry_rules h moment e Msl2 growth) may in
-    let on = armed_then e h moment (2 * h.msl) e.timers.msl_armed t.1.1.0 t.1.1.1.0 in
-    never_due h e moment (2 * h.msl) time e.timers.msl_armed o low due on.0 on.1 on.2)
+wait_slow h e time o low due = slow_if h e Msl2 o by
+  where
+    by : (moment : ℕ) (x : Expired) → timer_of x ≡ Msl2 → first_broken (expiry_rules h moment e x) ≡ None → (m : ℕ) × (o ≡ Some m) × (m ≤ moment)
+    by moment expireds.Msl2 kind may =
+        let t = none_all (expiry_rules h moment e expireds.Msl2) may in
+        let on = armed_then e h moment (2 * h.msl) e.timers.msl_armed t.1.1.0 t.1.1.1.0 in
+        never_due h e moment (2 * h.msl) time e.timers.msl_armed o low due on.0 on.1 on.2
+    by moment (expireds.Rto growth) kind may = absurd cc
+    by moment expireds.Persist kind may = absurd cc
+    by moment expireds.Giveup kind may = absurd cc
 
 -- a probe needs something to send
 needs : (armed up more : Bool) → not (armed && up && more) ≡ false → (not armed ≡ false) × (up ≡ true) × (more ≡ true)
@@ -268,13 +287,22 @@ needs true false more is = absurd cc
 needs false up more is = absurd cc
 
 pub probe_slow : (h : Header) (e : Endpoint) (o : Option ℕ) → IsDueSince e.timers.persist_armed e.timers.rto h.grain o → IsSlow h e Persist o
-probe_slow h e o due = slow_if h e Persist o (λ moment growth may.
-    let t = none_all (expiry_rules h moment e Persist growth) may in
-    let on = armed_then e h moment e.timers.rto e.timers.persist_armed (needs (is_some e.timers.persist_armed) (is_up e) (has_more e) t.1.1.0).0 t.1.1.1.0 in
-    never_due h e moment e.timers.rto e.timers.rto e.timers.persist_armed o (omega arith) due on.0 on.1 on.2)
+probe_slow h e o due = slow_if h e Persist o by
+  where
+    by : (moment : ℕ) (x : Expired) → timer_of x ≡ Persist → first_broken (expiry_rules h moment e x) ≡ None → (m : ℕ) × (o ≡ Some m) × (m ≤ moment)
+    by moment expireds.Persist kind may =
+        let t = none_all (expiry_rules h moment e expireds.Persist) may in
+        let on = armed_then e h moment e.timers.rto e.timers.persist_armed (needs (is_some e.timers.persist_armed) (is_up e) (has_more e) t.1.1.0).0 t.1.1.1.0 in
+        never_due h e moment e.timers.rto e.timers.rto e.timers.persist_armed o (omega arith) due on.0 on.1 on.2
+    by moment (expireds.Rto growth) kind may = absurd cc
+    by moment expireds.Msl2 kind may = absurd cc
+    by moment expireds.Giveup kind may = absurd cc
 
 pub no_probe : (h : Header) (e : Endpoint) → (is_up e ≡ false) ⊎ (has_more e ≡ false) → IsSlow h e Persist None
-no_probe h e lacks moment growth may = by lacks (needs (is_some e.timers.persist_armed) (is_up e) (has_more e) (none_all (expiry_rules h moment e Persist growth) may).1.1.0)
+no_probe h e lacks moment (expireds.Rto growth) kind may = absurd cc
+no_probe h e lacks moment expireds.Msl2 kind may = absurd cc
+no_probe h e lacks moment expireds.Giveup kind may = absurd cc
+no_probe h e lacks moment expireds.Persist kind may = by lacks (needs (is_some e.timers.persist_armed) (is_up e) (has_more e) (none_all (expiry_rules h moment e expireds.Persist) may).1.1.0)
   where
     differ : {b : Bool} → b ≡ true → b ≡ false → ⊥
     differ p q = cc

@@ -114,7 +114,7 @@ taking_leaves h b how m moment = by (place_of b m.rport m.lport)
 
 deed_leaves : (h : Header) (me : Host) (moment fresh : ℕ) (far : List (ℕ × Emission)) (s : HostState tcp_shape) (d : Deed tcp_shape) → Leaves (deed_touch s d) s.body.endpoints (deed_after (tcp h) me moment fresh far s d).body.endpoints
 deed_leaves h me moment fresh far s (Does x) = at_leaves s.body x.lport x.rport _
-deed_leaves h me moment fresh far s (Expires line x growth) = at_leaves s.body x.lport x.rport _
+deed_leaves h me moment fresh far s (Expires line x) = at_leaves s.body x.lport x.rport _
 deed_leaves h me moment fresh far s (Makes plan) = at_leaves s.body plan.lport plan.rport _
 deed_leaves h me moment fresh far s (Sends line number wire) = leaves_same touches.Nobody s.body.endpoints
 deed_leaves h me moment fresh far s (Gets line copied wire) = leaves_same touches.Nobody s.body.endpoints

@@ -1,9 +1,10 @@
 -- What a core knows of the endpoints that it does not look at: nothing may be made there, and no timer is due.
 use Rattle.std.specs.Prelude.{◌≡◌, ◌≤◌, ◌<◌, ◌+◌, ℕ, min, false, List, Option, None, Some}
 use Rattle.case_forms.specs.declared.steps.SegmentPlan.{SegmentPlan}
-use Rattle.case_forms.specs.declared.timer.Growth.{Growth}
+use Rattle.case_forms.specs.declared.taken_line.Expired.{Expired}
+use Rattle.case_forms.specs.declared.taken_line.Expired.TheVariants as expireds
 use Rattle.case_forms.specs.declared.timer.Timer.{Timer}
-use Rattle.case_forms.specs.declared.timer.Timer.TheVariants.{Giveup}
+use Rattle.case_forms.specs.TakenLines.{timer_of}
 use Rattle.case_forms.specs.declared.trace.Header.{Header}
 use Rattle.verdict.specs.Rules.{first_broken}
 use Rattle.hosts.specs.Tables.{pick}
@@ -25,7 +26,7 @@ IsQuiet e = (m : SegmentPlan) → m.flags.rst ≡ false → max_made e < m.pos +
 
 -- none of its timers may expire at this moment, but that it may give up
 abbrev pub IsStillAt : Header → ℕ → Endpoint → Type 0
-IsStillAt h moment e = (timer : Timer) (growth : Growth) → (timer ≡ Giveup → ⊥) → first_broken (expiry_rules h moment e timer growth) ≡ None → ⊥
+IsStillAt h moment e = (x : Expired) → (x ≡ expireds.Giveup → ⊥) → first_broken (expiry_rules h moment e x) ≡ None → ⊥
 
 -- before a moment, and ever
 abbrev pub IsStillBefore : Header → ℕ → Endpoint → Type 0
@@ -64,5 +65,5 @@ IsDueSince armed time grain (Some m) = (since : ℕ) × (armed ≡ Some since) �
 
 -- one timer may not expire before a moment, or never
 abbrev pub IsSlow : Header → Endpoint → Timer → Option ℕ → Type 0
-IsSlow h e timer None = (moment : ℕ) (growth : Growth) → first_broken (expiry_rules h moment e timer growth) ≡ None → ⊥
-IsSlow h e timer (Some m) = (moment : ℕ) (growth : Growth) → moment < m → first_broken (expiry_rules h moment e timer growth) ≡ None → ⊥
+IsSlow h e timer None = (moment : ℕ) (x : Expired) → timer_of x ≡ timer → first_broken (expiry_rules h moment e x) ≡ None → ⊥
+IsSlow h e timer (Some m) = (moment : ℕ) (x : Expired) → timer_of x ≡ timer → moment < m → first_broken (expiry_rules h moment e x) ≡ None → ⊥

@@ -53,7 +53,7 @@ call_touch b (calls.Status n) = Nobody
 -- what a host does
 abbrev pub deed_touch : HostState tcp_shape → Deed tcp_shape → Touch
 deed_touch s (Does x) = touch_at (place_of s.body x.lport x.rport)
-deed_touch s (Expires line x growth) = touch_at (place_of s.body x.lport x.rport)
+deed_touch s (Expires line x) = touch_at (place_of s.body x.lport x.rport)
 deed_touch s (Makes plan) = touch_at (place_of s.body plan.lport plan.rport)
 deed_touch s (Sends line number wire) = Nobody
 deed_touch s (Gets line copied wire) = Nobody
