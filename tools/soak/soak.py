@@ -4,7 +4,7 @@
     soak.py PROGRAM [--minutes M] [--seed S]
 
 Each run takes a count of rounds from 1 to 1000, a K of 0 or 2 to 50, and a version, all by chance. It fails where `record` ends with another
-status than 0 or 1, and where `check` of what it printed does not say yes.
+status than 0 or 1, where the status is not the one that the trace tells, and where `check` of what it printed does not say yes.
 """
 import argparse
 import random
@@ -74,6 +74,18 @@ def features_of(text):
     return found
 
 
+def has_ended(text, rounds):
+    """Whether the trace tells that host 1 received the bytes of all rounds and both hosts closed, which status 0 has to say."""
+    bytes_told, oks = 0, Counter()
+    for line in text.partition("\nwitness ")[0].split("\n"):
+        words = line.split(" ")
+        if words[2:4] == ["E", "data"] and words[1] == "3":
+            bytes_told += len(words[4]) // 2
+        elif words[2:] == ["E", "ok"]:
+            oks[words[1]] += 1
+    return bytes_told == 64 * rounds and oks["2"] == 3 and oks["3"] == 1
+
+
 def run(words, data=None):
     return subprocess.run(words, input=data, stdout=subprocess.PIPE, stderr=subprocess.PIPE, check=False)
 
@@ -102,11 +114,15 @@ def main():
             with open("not_yes.case", "wb") as case:
                 case.write(recorded.stdout)
             return 1
+        text = recorded.stdout.decode()
+        if has_ended(text, rounds) != (recorded.returncode == 0):
+            print("another status:", *words, "status", recorded.returncode)
+            return 1
         counts["runs"] += 1
         counts[f"runs of version {version}"] += 1
         counts["runs that met a limit"] += recorded.returncode
         counts["event lines"] += int(answer.stdout.split()[1])
-        counts.update(features_of(recorded.stdout.decode()))
+        counts.update(features_of(text))
     for name in sorted(counts):
         print(f"{counts[name]:>10}  {name}")
     return 0

@@ -424,11 +424,19 @@ same_version ns versions.Two versions.Two a b = refl
 same_version ns versions.Two versions.Three a b = absurd b
 same_version ns versions.Three w a b = absurd a
 
+one_list : (words : List Text) (p q : Plan) (a : AsksRecord words p) (b : AsksRecord words q) → a.options ≡ b.options
+one_list words p q a b =
+    let behind : a.behind ≡ b.behind = ap (λ (ws : List Text). drop 1 ws) (sym a.words_are ∙ b.words_are) in
+    told_alike a.options b.options b.behind (subst (λ (ws : List Text). TellEach a.options ws) behind a.told) b.told
+
 pub one_version : (words : List Text) (p q : Plan) → AsksRecord words p → AsksRecord words q → p.version ≡ q.version
 one_version words p q a b =
-    let behind : a.behind ≡ b.behind = ap (λ (ws : List Text). drop 1 ws) (sym a.words_are ∙ b.words_are) in
-    let options : a.options ≡ b.options = told_alike a.options b.options b.behind (subst (λ (ws : List Text). TellEach a.options ws) behind a.told) b.told in
-    same_version (numbers_of Format b.options) p.version q.version (subst (λ (os : List (Setting × ℕ)). IsVersion (numbers_of Format os) p.version) options a.version) b.version
+    same_version (numbers_of Format b.options) p.version q.version (subst (λ (os : List (Setting × ℕ)). IsVersion (numbers_of Format os) p.version) (one_list words p q a b) a.version) b.version
+
+pub one_count : (words : List Text) (p q : Plan) → AsksRecord words p → AsksRecord words q → p.rounds ≡ q.rounds
+one_count words p q a b =
+    let lists : p.rounds ∷ [] ≡ q.rounds ∷ [] = sym a.rounds ∙ (ap (λ (os : List (Setting × ℕ)). numbers_of Rounds os) (one_list words p q a b) ∙ b.rounds) in
+    ap (λ (ns : List ℕ). get_or ns 0 0) lists
 
 whole_version : (ns : List ℕ) (v : Version) → IsVersion ns v → is_half v ≡ false
 whole_version ns versions.One is = refl

@@ -6,6 +6,7 @@ ghost use Rattle.case_forms.specs.Versions.{is_half};
 ghost use Rattle.checker.specs.Cases.{case_result};
 ghost use Rattle.checker.specs.Explains.{Explains};
 ghost use Rattle.counted.specs.Counting.{left_of, failures_of};
+ghost use Rattle.two_hosts.specs.Ends.{has_ended};
 ghost use Rattle.two_hosts.specs.Plans.{header_of};
 ghost use Rattle.two_hosts.specs.declared.plan.Plan.{Plan};
 ghost use Rattle.cli.specs.CommandLine.{AsksCheck, AsksNothing, AsksSegment};
@@ -84,7 +85,8 @@ fn answer_record<W: Write, H: Threads + Wait + Sync>(
 fn print<W: Write>(alloc: Global, recording: &Recording, w: &mut Counted<W>) -> u8
     requires few { failures_of w.old < 2 ^ 50 }
     requires explains { Explains recording.now.recorded.trace recording.now.recorded.witness }
-    ensures recorded { (plan : Plan) → recording.now.recorded.trace.header ≡ header_of plan.version → recording.now.recorded.witness.version ≡ plan.version → result ≢ 5 →
+    ensures recorded { (plan : Plan) → recording.now.recorded.trace.header ≡ header_of plan.version → recording.now.recorded.witness.version ≡ plan.version →
+        recording.now.ended ≡ has_ended plan.rounds recording.now.recorded.trace.lines → result ≢ 5 →
         EndsRecord plan result (left_of W.contents w.old) (left_of W.contents w.new) }
     ensures device { result ≡ 5 → failures_of w.old < failures_of w.new }
     ensures quiet { result ≢ 5 → failures_of w.new ≡ failures_of w.old }

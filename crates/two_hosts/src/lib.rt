@@ -9,10 +9,12 @@
 //! - `talking`: what both applications do
 //! - `wire`: what becomes of the segments on their way
 //! - `threads`: both applications and the loops of both recorders
+//! - `ends`: whether a trace tells that all rounds ended
 //! - `recording`: the whole recording
 #![tactic(auto)]
 
 mod caller;
+mod ends;
 mod plan;
 mod recording;
 mod talking;

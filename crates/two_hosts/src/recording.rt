@@ -4,8 +4,10 @@ ghost use Rattle.std.specs.Prelude.{◌≡◌, false, IfOk};
 ghost use Rattle.case_forms.specs.Versions.{is_half};
 ghost use Rattle.case_forms.specs.declared.calls.Host.TheVariants.{Zero, One};
 ghost use Rattle.checker.specs.Explains.{Explains};
+ghost use Rattle.two_hosts.specs.Ends.{has_ended};
 ghost use Rattle.two_hosts.specs.Plans.{AreBooks, header_of};
 
+use crate::ends::has_ended;
 use crate::plan::{
     CLIENT_ISS, CLIENT_THREAD, Plan, SERVER_ISS, SERVER_THREAD, config_of, header_of,
 };
@@ -26,7 +28,7 @@ use thiserror::Error;
 #[derive(Drop)]
 pub struct Recording {
     pub recorded: Recorded,
-    /// Whether all rounds ended, and both applications came to their end.
+    /// Whether the trace tells that host 1 received the bytes of all rounds, and that both applications came to their end.
     pub ended: bool,
     /// The receipts of host 0's thread, and behind them those of host 1's.
     pub receipts: Vec<Receipt>,
@@ -212,6 +214,7 @@ pub fn record<R: Threads + Wait + Sync>(
     ensures header { IfOk result (λ r. r.recorded.trace.header ≡ header_of plan.version) }
     ensures version { IfOk result (λ r. r.recorded.witness.version ≡ plan.version) }
     ensures explains { IfOk result (λ r. Explains r.recorded.trace r.recorded.witness) }
+    ensures ended { IfOk result (λ r. r.ended ≡ has_ended plan.rounds r.recorded.trace.lines) }
 {
     let wire = Wire::losing(plan.lose, TURNS);
     let talk = Talk {
@@ -221,9 +224,10 @@ pub fn record<R: Threads + Wait + Sync>(
     };
     let books = record_books(rt, alloc, plan.version, talk)?;
     let recorded = merge(alloc, books.zero, books.one)?;
+    let ended = has_ended(recorded.trace.lines.as_slice(), plan.rounds);
     Ok(Recording {
         recorded,
-        ended: books.ended,
+        ended,
         receipts: books.receipts,
     })
 }

@@ -1,5 +1,5 @@
 use Rattle.std.proofs.Common.{map}
-use Rattle.cli.proofs.RecordWords.{asks_whole, not_check, not_segment, one_version}
+use Rattle.cli.proofs.RecordWords.{asks_whole, not_check, not_segment, one_count, one_version}
 use Rattle.cli.proofs.Recordings.{ends_alike}
 use Rattle.cli.proofs.record.record_or_run.Goals as goal
 
@@ -18,7 +18,8 @@ returns-in-Ok-Some-clause-segment g c text asks no_device =
 pub returns-in-Ok-Some-clause-recorded : goal.returns-in-Ok-Some-clause-recorded
 returns-in-Ok-Some-clause-recorded g c plan asks no_device =
     let asked = rw c.in-Ok-Some.field-0-is at c.in-Ok-Some.ensures in
-    ends_alike c.in-Ok-Some.plan plan c.answer_record.result _ _ (one_version (map (λ word. word.now) c.args.words.now) c.in-Ok-Some.plan plan asked asks) (c.answer_record.ensures.recorded no_device)
+    let words = map (λ word. word.now) c.args.words.now in
+    ends_alike c.in-Ok-Some.plan plan c.answer_record.result _ _ (one_count words c.in-Ok-Some.plan plan asked asks) (one_version words c.in-Ok-Some.plan plan asked asks) (c.answer_record.ensures.recorded no_device)
 
 pub returns-in-Ok-Some-clause-usage : goal.returns-in-Ok-Some-clause-usage
 returns-in-Ok-Some-clause-usage g c nothing no_record =
