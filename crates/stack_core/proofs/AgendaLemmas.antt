@@ -1,5 +1,5 @@
 -- Endpoints stay covered by an agenda.
-use Rattle.std.proofs.Common.{◌≡◌, ◌≤◌, ◌<◌, ◌⊎◌, ◌+◌, ℕ, zero, suc, Bool, true, false, List, [], ◌∷◌, drop, length, map, Option, None, Some, refl, ap, sym, ◌∙◌, subst, inl, inr, nat_lt, nat_cmp, is_gt, cond, Ordering, Less, Equal, Greater, arith}
+use Rattle.std.proofs.Common.{◌≡◌, ◌≤◌, ◌<◌, ◌⊎◌, ◌+◌, ℕ, zero, suc, Bool, true, false, List, [], ◌∷◌, drop, length, map, None, Some, refl, ap, sym, ◌∙◌, subst, inl, inr, nat_lt, nat_cmp, is_gt, cond, Ordering, Less, Equal, Greater, arith}
 use Rattle.std.specs.Prelude.{slice_get, ◌==◌}
 use Rattle.std.specs.List.{All}
 use Rattle.std.proofs.lemmas.List.Elements.{All-head, All-tail}

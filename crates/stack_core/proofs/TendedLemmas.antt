@@ -1,5 +1,5 @@
 -- Endpoints that are not looked at make nothing and have no timer that is due.
-use Rattle.std.proofs.Common.{◌≡◌, ◌≤◌, ◌<◌, ◌+◌, ◌-◌, ◌*◌, ℕ, zero, suc, min, max, Bool, true, false, List, [], ◌∷◌, map, drop, length, Option, None, Some, refl, ap, sym, ◌∙◌, subst, inl, inr, nat_lt, arith}
+use Rattle.std.proofs.Common.{◌≡◌, ◌≤◌, ◌<◌, ◌*◌, ℕ, zero, suc, Bool, true, false, List, [], ◌∷◌, map, drop, length, Option, None, Some, refl, ap, sym, ◌∙◌, subst, inl, inr, nat_lt, arith}
 use Rattle.std.specs.Prelude.{slice_get, ◌^◌, ◌⊎◌, ◌&&◌, not, is_some, IfNone}
 use Rattle.std.specs.List.{All}
 use Rattle.std.specs.Option.{IfSome, option_map_or}
@@ -9,7 +9,6 @@ use Rattle.std.proofs.lemmas.Option.{none-some, same_Some}
 use Rattle.case_forms.specs.States.{is_closed}
 use Rattle.case_forms.specs.declared.calls.Host.{Host}
 use Rattle.case_forms.specs.declared.calls.Host.TheVariants.{Zero, One}
-use Rattle.case_forms.specs.declared.steps.SegmentPlan.{SegmentPlan}
 use Rattle.case_forms.specs.TakenLines.{timer_of}
 use Rattle.case_forms.specs.declared.taken_line.Expired.{Expired}
 use Rattle.case_forms.specs.declared.taken_line.Expired.TheVariants as expireds
@@ -24,13 +23,12 @@ use Rattle.hosts.specs.Hosts.{Step, World}
 use Rattle.hosts.specs.HostSteps.{after, start}
 use Rattle.timer_rules.specs.Timers.{earliest}
 use Rattle.machine.specs.Bodies.{Body, endpoint_of}
-use Rattle.machine.specs.Bounds.{IsKept, IsKeptBody}
+use Rattle.machine.specs.Bounds.{IsKept}
 use Rattle.machine.specs.declared.endpoint.Endpoint.{Endpoint}
 use Rattle.machine.specs.Endpoints.{is_up, max_made}
-use Rattle.machine.specs.Forgetting.{forget, forget_body, forget_endpoint}
+use Rattle.machine.specs.Forgetting.{forget, forget_endpoint}
 use Rattle.machine.specs.Machine.{tcp, tcp_shape}
 use Rattle.machine.specs.Makes.{making_rules}
-use Rattle.machine.specs.Makes.Payload.{making_length}
 use Rattle.machine.specs.Timeouts.{expiry_rules, has_more}
 use Rattle.machine_laws.proofs.ForgetRules.{expiry_rules-forget}
 use Rattle.endpoint_state.specs.Kept.{AreReadable, IsKeptWorld}
@@ -41,7 +39,7 @@ use Rattle.stack_core.specs.declared.agenda.Touch.{Touch}
 use Rattle.stack_core.specs.declared.agenda.Wake.{Wake}
 use Rattle.stack_core.specs.declared.plans.Opening.{Opening}
 use Rattle.stack_core.specs.declared.tick.Tick.{Tick}
-use Rattle.stack_core.specs.Agendas.{AreCovered, AreFrom, IsListed, IsRenewed, IsTouched, Leaves, from}
+use Rattle.stack_core.specs.Agendas.{AreFrom, IsListed, IsRenewed, IsTouched, Leaves, from}
 use Rattle.stack_core.specs.Entries.{entry_at}
 use Rattle.stack_core.specs.Makings.{NothingToMake, bytes_of, fin_of, syn_of}
 use Rattle.stack_core.specs.Recordings.{Recorded, with_entry, world_left}
@@ -54,7 +52,7 @@ use Rattle.stack_core.proofs.AgendaLemmas.{left_covered, leaves_kept, none_cover
 use Rattle.stack_core.proofs.MakingLemmas.{OneMay, of_ports, one_may}
 use Rattle.stack_core.proofs.ResetLemmas.{own_host}
 use Rattle.stack_core.proofs.TimerLemmas.{kept_there}
-use Rattle.stack_core.proofs.TouchLemmas.{bring_leaves, ends, leaves_same, start_ends, step_leaves}
+use Rattle.stack_core.proofs.TouchLemmas.{bring_leaves, ends, leaves_same, step_leaves}
 
 -- 1. an endpoint makes nothing
 

@@ -1,8 +1,7 @@
 -- A step leaves each endpoint as it was that it does not touch.
-use Rattle.std.proofs.Common.{◌≡◌, ◌≤◌, ◌<◌, ◌⊎◌, ◌+◌, ℕ, zero, suc, Bool, true, false, List, [], ◌∷◌, ◌++◌, length, map, Option, None, Some, refl, ap, sym, ◌∙◌, subst, inl, inr, arith}
+use Rattle.std.proofs.Common.{◌≡◌, ◌<◌, ◌⊎◌, ℕ, zero, suc, Bool, true, false, List, [], ◌∷◌, ◌++◌, length, map, Option, None, Some, refl, ap, sym, ◌∙◌, subst, inl, inr, arith}
 use Rattle.std.specs.Prelude.{slice_get, if◌then◌else◌}
 use Rattle.std.specs.Option.{option_map_or}
-use Rattle.std.proofs.lemmas.Option.{none-some, same_Some}
 use Rattle.case_forms.specs.States.{is_closed}
 use Rattle.case_forms.specs.declared.calls.Answer.{Answer}
 use Rattle.case_forms.specs.declared.calls.Answer.TheVariants as answers
@@ -22,7 +21,7 @@ use Rattle.machine.specs.declared.endpoint.Emission.{Emission}
 use Rattle.machine.specs.declared.endpoint.Endpoint.{Endpoint}
 use Rattle.machine.specs.declared.endpoint.Thing.{Thing}
 use Rattle.machine.specs.declared.endpoint.Thing.TheVariants.{Listens, Ends}
-use Rattle.machine.specs.Arrives.{Taker, Nobody, AtListener, AtEndpoint, after_taking, endpoint_taker, listener_taker, taker}
+use Rattle.machine.specs.Arrives.{Nobody, AtListener, AtEndpoint, after_taking, endpoint_taker, listener_taker, taker}
 use Rattle.machine.specs.Bodies.{Body, at_ports, dead, listener_on, place_of, queue_of, thing_of, with_endpoint}
 use Rattle.machine.specs.Calls.{after_call, change, change_thing}
 use Rattle.machine.specs.Calls.Accept.{accepted_from, after_accept}
@@ -36,10 +35,10 @@ use Rattle.endpoint_state.specs.Turns.{pending_call}
 use Rattle.recordings.specs.Books.{Flying, bring}
 use Rattle.stack_core.specs.declared.agenda.Touch.{Touch}
 use Rattle.stack_core.specs.declared.agenda.Touch.TheVariants as touches
-use Rattle.stack_core.specs.Agendas.{IsTouchAt, Leaves}
-use Rattle.stack_core.specs.ArrivalEvents.{IsHeld, ports_of}
+use Rattle.stack_core.specs.Agendas.{Leaves}
+use Rattle.stack_core.specs.ArrivalEvents.{IsHeld}
 use Rattle.stack_core.specs.Cores.{Core, own_body, world}
-use Rattle.stack_core.specs.Touches.{accept_touch, call_touch, deed_touch, effect_touch, gone_touch, queue_touch, thing_touch, touch_at, touched}
+use Rattle.stack_core.specs.Touches.{accept_touch, call_touch, deed_touch, gone_touch, queue_touch, thing_touch, touch_at, touched}
 
 -- 1. lists
 

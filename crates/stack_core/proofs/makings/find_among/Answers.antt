@@ -1,10 +1,6 @@
-use Rattle.std.proofs.Common.{◌≡◌, Some, ap, subst, sym, ◌∙◌}
-use Rattle.std.specs.Prelude.{slice_get}
+use Rattle.std.proofs.Common.{subst, sym}
 use Rattle.machine.specs.Bodies.{Body}
-use Rattle.machine.specs.declared.endpoint.Endpoint.{Endpoint}
 use Rattle.endpoint_state.specs.Kept.{AreReadable}
-use Rattle.stack_core.specs.Tended.{IsQuiet}
-use Rattle.stack_core.proofs.AgendaLemmas.{left_covered}
 use Rattle.stack_core.proofs.TendedLemmas.{left_quiet, nothing_ready, readable_host}
 use Rattle.stack_core.proofs.makings.find_among.Goals as goal
 

@@ -1,4 +1,4 @@
-use Rattle.std.proofs.Common.{◌<◌, ◌≤◌, ◌^◌, List, length, subst, sym, arith}
+use Rattle.std.proofs.Common.{◌<◌, ◌≤◌, ◌^◌, length, subst, sym, arith}
 use Rattle.hosts.specs.Tables.{pick}
 use Rattle.machine.specs.Bodies.{Body}
 use Rattle.stack_core.specs.Agendas.{IsGrown}

@@ -1,4 +1,4 @@
-use Rattle.std.proofs.Common.{refl, inr, ◌<◌, arith}
+use Rattle.std.proofs.Common.{refl, inr, arith}
 use Rattle.stack_core.proofs.agenda.Agenda.touch_place.Goals as goal
 
 pub returns-then-self-place : goal.returns-then-self-place

@@ -2,9 +2,7 @@ use Rattle.std.proofs.Common.{ap, ◌∙◌, Option}
 use Rattle.std.specs.Option.{option_copied, option_map_or}
 use Rattle.case_forms.specs.declared.calls.Call.{Call}
 use Rattle.hosts.specs.Tables.{pick}
-use Rattle.hosts.specs.Hosts.{turn_of}
 use Rattle.machine.specs.Bodies.{Body}
-use Rattle.endpoint_state.specs.Turns.{pending_call}
 use Rattle.stack_core.specs.declared.agenda.Touch.TheVariants.{Nobody}
 use Rattle.stack_core.specs.Cores.{Core, world}
 use Rattle.stack_core.specs.Recordings.{world_left}
