@@ -25,6 +25,13 @@ pub(crate) fn describe(
             Word(state_name(endpoint.state)),
         ],
     )?;
+    describe_stream(out, endpoint)?;
+    describe_windows(out, endpoint)?;
+    describe_timers(out, endpoint)
+}
+
+fn describe_stream(out: &mut Vec<u8>, endpoint: &Endpoint) -> Result<(), OutOfMemory> {
+    use Piece::{Number, Word};
     say(
         out,
         &[
@@ -51,9 +58,7 @@ pub(crate) fn describe(
             Word(", own windows reached "),
             Number(endpoint.window.edge),
         ],
-    )?;
-    describe_windows(out, endpoint)?;
-    describe_timers(out, endpoint)
+    )
 }
 
 fn describe_windows(out: &mut Vec<u8>, endpoint: &Endpoint) -> Result<(), OutOfMemory> {

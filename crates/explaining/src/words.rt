@@ -3,7 +3,8 @@
 use crate::numbers::{Numbers, other};
 use crate::text::{Piece, add};
 use case_forms::{
-    Answer, Call, Event, Flags, Host, Label, Line, NamedLine, OutOfMemory, SegmentPlan,
+    Answer, Call, Event, Flags, Host, Label, Line, NamedLine, OutOfMemory, Recovery, SegmentPlan,
+    TakeChoice,
 };
 use line_fields::{push_answer, timer_name};
 use segment::{Flag, Segment};
@@ -56,32 +57,44 @@ pub(crate) fn push_flags(out: &mut Vec<u8>, flags: Flags) -> Result<(), OutOfMem
     )
 }
 
+// Writes a call that opens a listener.
+fn push_listen(out: &mut Vec<u8>, host: Host, port: u16, backlog: u16) -> Result<(), OutOfMemory> {
+    use Piece::{At, Number, Word};
+    add(
+        out,
+        &[
+            Word("listen at "),
+            At(host),
+            Word(" on port "),
+            Number(u64::from(port)),
+            Word(", backlog "),
+            Number(u64::from(backlog)),
+        ],
+    )
+}
+
+// Writes a call that opens a connection.
+fn push_connect(out: &mut Vec<u8>, host: Host, lport: u16, rport: u16) -> Result<(), OutOfMemory> {
+    use Piece::{At, Number, Word};
+    add(
+        out,
+        &[
+            Word("open at "),
+            At(host),
+            Word(", port "),
+            Number(u64::from(lport)),
+            Word(" to "),
+            Number(u64::from(rport)),
+        ],
+    )
+}
+
 /// Writes a call, with counts in place of bytes.
 pub(crate) fn push_call(out: &mut Vec<u8>, call: &Call) -> Result<(), OutOfMemory> {
-    use Piece::{At, Number, Word};
+    use Piece::{Number, Word};
     match call {
-        Call::Listen(host, port, backlog) => add(
-            out,
-            &[
-                Word("listen at "),
-                At(*host),
-                Word(" on port "),
-                Number(u64::from(*port)),
-                Word(", backlog "),
-                Number(u64::from(*backlog)),
-            ],
-        ),
-        Call::Connect(host, lport, rport) => add(
-            out,
-            &[
-                Word("open at "),
-                At(*host),
-                Word(", port "),
-                Number(u64::from(*lport)),
-                Word(" to "),
-                Number(u64::from(*rport)),
-            ],
-        ),
+        Call::Listen(host, port, backlog) => push_listen(out, *host, *port, *backlog),
+        Call::Connect(host, lport, rport) => push_connect(out, *host, *lport, *rport),
         Call::Send(socket, bytes) => add(
             out,
             &[
@@ -210,6 +223,47 @@ fn push_plan(out: &mut Vec<u8>, host: Host, plan: &SegmentPlan) -> Result<(), Ou
     )
 }
 
+// Writes that a segment is taken, with what is chosen there.
+fn push_taking(
+    out: &mut Vec<u8>,
+    host: Host,
+    line: u64,
+    choice: TakeChoice,
+) -> Result<(), OutOfMemory> {
+    use Piece::{At, Number, Word};
+    add(
+        out,
+        &[
+            At(host),
+            Word(" takes line "),
+            Number(line),
+            Word(", cwnd "),
+            Number(u64::from(choice.cwnd)),
+            Word(if choice.keep { ", kept" } else { ", not kept" }),
+            Word(if choice.sample { ", measured" } else { "" }),
+        ],
+    )
+}
+
+// Writes that fast recovery begins, with what is chosen there.
+fn push_recovery(out: &mut Vec<u8>, host: Host, recovery: Recovery) -> Result<(), OutOfMemory> {
+    use Piece::{At, Number, Word};
+    add(
+        out,
+        &[
+            At(host),
+            Word(" begins fast recovery at "),
+            Number(u64::from(recovery.lport)),
+            Word(" to "),
+            Number(u64::from(recovery.rport)),
+            Word(", cwnd "),
+            Number(u64::from(recovery.cwnd)),
+            Word(", ssthresh "),
+            Number(u64::from(recovery.ssthresh)),
+        ],
+    )
+}
+
 /// Writes a hidden step.
 pub(crate) fn push_label(out: &mut Vec<u8>, label: &Label<NamedLine>) -> Result<(), OutOfMemory> {
     use Piece::{At, Number, Word};
@@ -227,18 +281,7 @@ pub(crate) fn push_label(out: &mut Vec<u8>, label: &Label<NamedLine>) -> Result<
             push_told(out, answer)
         }
         Label::M { host, plan } => push_plan(out, *host, plan),
-        Label::T { host, line, choice } => add(
-            out,
-            &[
-                At(*host),
-                Word(" takes line "),
-                Number(*line),
-                Word(", cwnd "),
-                Number(u64::from(choice.cwnd)),
-                Word(if choice.keep { ", kept" } else { ", not kept" }),
-                Word(if choice.sample { ", measured" } else { "" }),
-            ],
-        ),
+        Label::T { host, line, choice } => push_taking(out, *host, *line, *choice),
         Label::K { host, line } => add(out, &[At(*host), Word(" drops line "), Number(*line)]),
         Label::R { host, line } => add(
             out,
@@ -249,19 +292,6 @@ pub(crate) fn push_label(out: &mut Vec<u8>, label: &Label<NamedLine>) -> Result<
                 Word(" by a reset"),
             ],
         ),
-        Label::F { host, recovery } => add(
-            out,
-            &[
-                At(*host),
-                Word(" begins fast recovery at "),
-                Number(u64::from(recovery.lport)),
-                Word(" to "),
-                Number(u64::from(recovery.rport)),
-                Word(", cwnd "),
-                Number(u64::from(recovery.cwnd)),
-                Word(", ssthresh "),
-                Number(u64::from(recovery.ssthresh)),
-            ],
-        ),
+        Label::F { host, recovery } => push_recovery(out, *host, *recovery),
     }
 }
