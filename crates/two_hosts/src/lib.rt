@@ -9,18 +9,21 @@
 //! - `talking`: what both applications do
 //! - `wire`: what becomes of the segments on their way
 //! - `threads`: both applications and the loops of both recorders
+//! - `fault`: why there is no recording
 //! - `ends`: whether a trace tells that all rounds ended
 //! - `recording`: the whole recording
 #![tactic(auto)]
 
 mod caller;
 mod ends;
+mod fault;
 mod plan;
 mod recording;
 mod talking;
 mod threads;
 mod wire;
 
+pub use fault::RecordFault;
 pub use plan::Plan;
-pub use recording::{Books, RecordFault, Recording, record, record_books};
+pub use recording::{Books, Recording, record, record_books};
 pub use wire::{Talk, Wire};

@@ -8,21 +8,19 @@ ghost use Rattle.two_hosts.specs.Ends.{has_ended};
 ghost use Rattle.two_hosts.specs.Plans.{AreBooks, header_of};
 
 use crate::ends::has_ended;
+use crate::fault::RecordFault;
 use crate::plan::{
     CLIENT_ISS, CLIENT_THREAD, Plan, SERVER_ISS, SERVER_THREAD, config_of, header_of,
 };
 use crate::threads::{Place, TURNS, Way, run_threads};
 use crate::wire::{Talk, Wire};
-use case_forms::{Header, Host, OutOfMemory, Version};
-use recorder::{
-    Cause, HostBook, MergeFault, RecFault, Receipt, Recorded, Recorder, Seat, Site, WireFate, merge,
-};
+use case_forms::{Header, Host, Version};
+use recorder::{Cause, HostBook, Receipt, Recorded, Recorder, Seat, Site, WireFate, merge};
 use std::alloc::Global;
 use std::marker::Brand;
 use std::sync::Wait;
 use std::sync::ledger::Blank;
 use std::thread::Threads;
-use thiserror::Error;
 
 /// What was recorded.
 #[derive(Drop)]
@@ -43,40 +41,6 @@ pub struct Books {
     pub ended: bool,
     /// The receipts of host 0's thread, and behind them those of host 1's.
     pub receipts: Vec<Receipt>,
-}
-
-/// Why there is no recording.
-#[derive(Clone, Copy, Debug, PartialEq, Eq, Error)]
-pub enum RecordFault {
-    /// A thread could not be started, or the books could not be finished or merged for another cause than memory.
-    #[error("the recording can't be made")]
-    Device,
-    #[error("out of memory")]
-    OutOfMemory,
-}
-
-impl From<OutOfMemory> for RecordFault {
-    fn from(_: OutOfMemory) -> RecordFault {
-        RecordFault::OutOfMemory
-    }
-}
-
-impl From<RecFault> for RecordFault {
-    fn from(fault: RecFault) -> RecordFault {
-        match fault {
-            RecFault::OutOfMemory => RecordFault::OutOfMemory,
-            RecFault::Stopped | RecFault::SeatTaken => RecordFault::Device,
-        }
-    }
-}
-
-impl From<MergeFault> for RecordFault {
-    fn from(fault: MergeFault) -> RecordFault {
-        match fault {
-            MergeFault::OutOfMemory => RecordFault::OutOfMemory,
-            MergeFault::Stranger { .. } => RecordFault::Device,
-        }
-    }
 }
 
 // The book of a recorder of which one seat was given.
@@ -141,8 +105,7 @@ fn let_talk<
         recorder: one,
         seat: one.seat(rt, SERVER_THREAD)?,
     };
-    let both = run_threads(rt, alloc, rounds, client, server, there, back);
-    let (asked, served) = both.ok_or(RecordFault::Device)?;
+    let (asked, served) = run_threads(rt, alloc, rounds, client, server, there, back)?;
     let ended = asked.whole && served.whole;
     let (mut receipts, mut others) = (asked.receipts, served.receipts);
     receipts.append(&mut others)?;

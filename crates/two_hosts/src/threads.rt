@@ -5,6 +5,7 @@ ghost use Rattle.case_forms.specs.declared.calls.Host.TheVariants.{Zero, One};
 ghost use Rattle.hosts.specs.Tables.{lane};
 
 use crate::caller::Caller;
+use crate::fault::RecordFault;
 use crate::talking::{Ended, listen, run_client, run_server};
 use crate::wire::Wire;
 use case_forms::OutOfMemory;
@@ -13,7 +14,7 @@ use recorder::{Flying, Recorder, Seat, Site, WireFate};
 use std::alloc::Global;
 use std::sync::Wait;
 use std::thread;
-use std::thread::{JoinHandle, Threads};
+use std::thread::{JoinHandle, Scope, Threads};
 
 /// How many turns each loop has.
 pub const TURNS: u64 = 2_000_000;
@@ -48,7 +49,8 @@ pub struct Place<'a, L: Site> {
     pub seat: Seat<L>,
 }
 
-/// Runs both applications and all loops until they end. None: a thread could not be started.
+/// Runs both applications and all loops until they end. Where a thread can't be started: out of memory where memory is refused at
+/// that time, else a fault of the device.
 pub fn run_threads<
     L: Site + Send + Sync,
     M: Site + Send + Sync,
@@ -63,7 +65,7 @@ pub fn run_threads<
     server: Place<M>,
     there: Way<F>,
     back: Way<G>,
-) -> Option<(Ended<L>, Ended<M>)>
+) -> Result<(Ended<L>, Ended<M>), RecordFault>
     requires hosts { (L.host ≡ Zero) × (M.host ≡ One) }
     requires lanes { (lane client.seat.thread ≡ Zero) × (lane server.seat.thread ≡ One) }
 {
@@ -97,46 +99,33 @@ pub fn run_threads<
         |scope|
             requires { (L.host ≡ Zero) × (lane asker.thread ≡ L.host) × (lane server.seat.thread ≡ M.host) × IfSome listener (λ n. lane n ≡ M.host) }
         {
-            let lets_out = scope
-                .spawn(move || let_out(rt, zero, one, to_one, fate_there))
-                .ok();
-            let answers = scope
-                .spawn(move || let_out(rt, one, zero, to_zero, fate_back))
-                .ok();
-            let lets_in = scope
-                .spawn(move || let_in(rt, zero, one, from_one, taken_back))
-                .ok();
-            let hears = scope
-                .spawn(move || let_in(rt, one, zero, from_zero, taken_there))
-                .ok();
-            let times = scope.spawn(move || let_pass(rt, zero, one)).ok();
-            let waits = scope.spawn(move || let_pass(rt, one, zero)).ok();
-            let serves = scope
-                .spawn(
-                    move ||
-                        requires { (lane server.seat.thread ≡ M.host) × IfSome listener (λ n. lane n ≡ M.host) }
-                    {
-                        let ended = run_server(rt, one, server, listener, rounds);
-                        stop_unless(rt, zero, one, ended.whole);
-                        ended
-                    },
-                )
-                .ok();
-            let asks = scope
-                .spawn(
-                    move ||
-                        requires { (L.host ≡ Zero) × (lane asker.thread ≡ L.host) }
-                    {
-                        let ended = run_client(rt, alloc, zero, asker, rounds);
-                        stop_unless(rt, zero, one, ended.whole);
-                        ended
-                    },
-                )
-                .ok();
+            let serve = move ||
+                requires { (lane server.seat.thread ≡ M.host) × IfSome listener (λ n. lane n ≡ M.host) }
+            {
+                let ended = run_server(rt, one, server, listener, rounds);
+                stop_unless(rt, zero, one, ended.whole);
+                ended
+            };
+            let ask = move ||
+                requires { (L.host ≡ Zero) × (lane asker.thread ≡ L.host) }
+            {
+                let ended = run_client(rt, alloc, zero, asker, rounds);
+                stop_unless(rt, zero, one, ended.whole);
+                ended
+            };
+            let lets_out = start(scope, move || let_out(rt, zero, one, to_one, fate_there));
+            let answers = start(scope, move || let_out(rt, one, zero, to_zero, fate_back));
+            let lets_in = start(scope, move || let_in(rt, zero, one, from_one, taken_back));
+            let hears = start(scope, move || let_in(rt, one, zero, from_zero, taken_there));
+            let times = start(scope, move || let_pass(rt, zero, one));
+            let waits = start(scope, move || let_pass(rt, one, zero));
+            let serves = start(scope, serve);
+            let asks = start(scope, ask);
             let out = lets_out.is_some() && answers.is_some();
             let into = lets_in.is_some() && hears.is_some();
-            let all = out && into && times.is_some() && waits.is_some();
-            if !all || serves.is_none() || asks.is_none() {
+            let loops = out && into && times.is_some() && waits.is_some();
+            let refusal = why_not(alloc, loops && serves.is_some() && asks.is_some());
+            if refusal.is_some() {
                 stop_both(rt, zero, one);
             }
             let asked = joined(rt, asks);
@@ -148,12 +137,60 @@ pub fn run_threads<
             let _ = joined(rt, hears);
             let _ = joined(rt, times);
             let _ = joined(rt, waits);
-            if !all {
-                return None;
+            if let Some(fault) = refusal {
+                return Err(fault);
             }
-            Some((asked?, served?))
+            Ok((
+                asked.ok_or(RecordFault::Device)?,
+                served.ok_or(RecordFault::Device)?,
+            ))
         },
     )
+}
+
+// How many blocks of memory are asked for, and how large the first is: that of a thread's stack, where nothing else is said.
+const ASKED_BLOCKS: usize = 32;
+
+const STACK_BYTES: usize = 8_388_608;
+
+// More memory than a thread takes as it starts.
+fn ask_room(alloc: Global) -> Result<usize, OutOfMemory> {
+    let mut blocks: Vec<Vec<u8>> = Vec::new(alloc);
+    blocks.reserve(ASKED_BLOCKS)?;
+    let mut bytes = STACK_BYTES;
+    for _ in 0..ASKED_BLOCKS {
+        let mut block = Vec::new(alloc);
+        block.reserve(bytes)?;
+        blocks.push(block)?;
+        bytes = 4_096;
+    }
+    Ok(blocks.len())
+}
+
+// Why not all threads started, asked while those that did hold their memory. A refused thread comes back with no cause, so memory is
+// asked for: where it is refused, memory is the cause.
+fn why_not(alloc: Global, all: bool) -> Option<RecordFault> {
+    if all {
+        return None;
+    }
+    match ask_room(alloc) {
+        Ok(_) => Some(RecordFault::Device),
+        Err(_) => Some(RecordFault::OutOfMemory),
+    }
+}
+
+// A thread of the scope. Where it is refused it is asked for once more: a refusal of memory may be the only one. None: it is refused
+// again.
+fn start<'s, E, F: FnOnce() -> T + Send + Drop + 's, T: Send + Drop + 's>(
+    scope: &Scope<'s, E>,
+    work: F,
+) -> Option<JoinHandle<T>>
+    requires { F.pre work }
+{
+    match scope.spawn(work) {
+        Ok(handle) => Some(handle),
+        Err(refused) => scope.spawn(refused.value).ok(),
+    }
 }
 
 // What a thread answered, once it ended. None: it was not started.
