@@ -5,47 +5,28 @@ ghost use Rattle.case_forms.specs.declared.calls.Host.TheVariants.{Zero, One};
 ghost use Rattle.hosts.specs.Tables.{lane};
 
 use crate::tests::pair::{Pair, carry};
-use case_forms::{Answer, Call, Host};
+use case_forms::{Answer, Call};
 use crossbeam_channel::unbounded;
 use recorder::{Flying, Site};
 use segment::Bytes;
 use std::alloc::Global;
 use std::sync::Wait;
 
-// As many bytes as a ring has room for.
-const RING: usize = 4_096;
+/// As many bytes as a ring has room for.
+pub const RING: usize = 4_096;
 
-// More turns of a millisecond than the first retransmission timeout has.
-const TIMEOUT_TURNS: u64 = 1_100;
+/// More turns of a millisecond than the first retransmission timeout has.
+pub const TIMEOUT_TURNS: u64 = 1_100;
 
-// As many turns of a millisecond as twice the longest life of a segment has, and one more.
-const LIFE_TURNS: u64 = 240_001;
+/// As many turns of a millisecond as twice the longest life of a segment has, and one more.
+pub const LIFE_TURNS: u64 = 4_001;
 
-// So many bytes.
-fn zeros(alloc: Global, count: usize) -> Option<Bytes>
+/// So many bytes.
+pub fn zeros(alloc: Global, count: usize) -> Option<Bytes>
     requires { (0 < count) × (count ≤ 4096) }
     ensures { IfSome result (λ bytes. length bytes ≡ count) }
 {
     Bytes::from_slice(alloc, &[0; RING][..count]).ok()
-}
-
-// A connection: the socket of host 0, and that of host 1.
-fn accepted<L: Site, M: Site, R: Wait>(
-    rt: &R,
-    alloc: Global,
-    pair: &mut Pair<L, M>,
-) -> Option<(u32, u32)>
-    requires lanes { (lane pair.old.zero.seat.thread ≡ L.host) × (lane pair.old.one.seat.thread ≡ M.host) }
-    requires hosts { (L.host ≡ Zero) × (M.host ≡ One) }
-    ensures zero { pair.new.zero.seat.thread ≡ pair.old.zero.seat.thread }
-    ensures one { pair.new.one.seat.thread ≡ pair.old.one.seat.thread }
-    ensures own { IfSome result (λ n. (lane n.0 ≡ Zero) × (lane n.1 ≡ One)) }
-{
-    let listener = pair.one.socket(rt, Call::Listen(Host::One, 80, 1))?;
-    let socket = pair.zero.socket(rt, Call::Connect(Host::Zero, 4_000, 80))?;
-    pair.exchange(rt, alloc, 2)?;
-    let child = pair.one.socket(rt, Call::Accept(listener))?;
-    Some((socket, child))
 }
 
 /// Both hosts close before either hears of it, and wait until TIME-WAIT ends.
@@ -57,13 +38,12 @@ pub fn close_at_once<L: Site, M: Site, R: Wait>(
     requires lanes { (lane pair.old.zero.seat.thread ≡ L.host) × (lane pair.old.one.seat.thread ≡ M.host) }
     requires hosts { (L.host ≡ Zero) × (M.host ≡ One) }
 {
-    let (socket, child) = accepted(rt, alloc, pair)?;
+    let (socket, child) = pair.accepted(rt, alloc)?;
     let closed = pair.zero.call(rt, Call::Close(socket))?;
     let also = pair.one.call(rt, Call::Close(child))?;
     pair.cross(rt, alloc)?;
     pair.exchange(rt, alloc, 1)?;
-    let _ = pair.zero.recorder.timer_loop(rt, LIFE_TURNS);
-    let _ = pair.one.recorder.timer_loop(rt, LIFE_TURNS);
+    pair.wait(rt, LIFE_TURNS);
     Some(matches!((closed, also), (Answer::Done, Answer::Done)))
 }
 
@@ -76,7 +56,7 @@ pub fn probe_a_window<L: Site, M: Site, R: Wait>(
     requires lanes { (lane pair.old.zero.seat.thread ≡ L.host) × (lane pair.old.one.seat.thread ≡ M.host) }
     requires hosts { (L.host ≡ Zero) × (M.host ≡ One) }
 {
-    let (socket, child) = accepted(rt, alloc, pair)?;
+    let (socket, child) = pair.accepted(rt, alloc)?;
     let _ = pair.zero.call(rt, Call::Send(socket, zeros(alloc, RING)?))?;
     pair.exchange(rt, alloc, 6)?;
     let _ = pair.zero.call(rt, Call::Send(socket, zeros(alloc, 10)?))?;
@@ -101,7 +81,7 @@ pub fn lose_the_first<L: Site, M: Site, R: Wait>(
     requires lanes { (lane pair.old.zero.seat.thread ≡ L.host) × (lane pair.old.one.seat.thread ≡ M.host) }
     requires hosts { (L.host ≡ Zero) × (M.host ≡ One) }
 {
-    let (socket, child) = accepted(rt, alloc, pair)?;
+    let (socket, child) = pair.accepted(rt, alloc)?;
     let _ = pair.zero.call(rt, Call::Send(socket, zeros(alloc, RING)?))?;
     let (out, _) = unbounded::<Flying, Global>(alloc).ok()?;
     let _ = pair.zero.recorder.pump_loop(rt, out, 1, 1);

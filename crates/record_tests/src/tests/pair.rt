@@ -9,7 +9,7 @@ ghost use Rattle.stack_core.specs.Cores.{IsCallWithin};
 
 use case_forms::{Answer, Call, Header, Host};
 use crossbeam_channel::unbounded;
-use recorder::{CoreConfig, Flying, HostBook, Recorder, Seat, Site};
+use recorder::{CoreConfig, Flying, HostBook, Recorder, Seat, Site, WireFate};
 use std::alloc::Global;
 use std::sync::Wait;
 use std::sync::ledger::Blank;
@@ -124,6 +124,20 @@ pub fn carry<L: Site, M: Site, R: Wait>(
     Some(())
 }
 
+/// The segments of four turns of one host meet these fates; up to eight come in at the other. None: memory ran out.
+pub fn carry_by<L: Site, M: Site, F: WireFate + Drop, R: Wait>(
+    rt: &R,
+    alloc: Global,
+    from: &Recorder<L>,
+    to: &Recorder<M>,
+    fate: F,
+) -> Option<()> {
+    let (out, into) = unbounded::<Flying, Global>(alloc).ok()?;
+    let _ = from.pump_loop_by(rt, out, fate, 4);
+    let _ = to.receive_loop(rt, into, 8);
+    Some(())
+}
+
 /// Both hosts.
 #[derive(Drop)]
 pub struct Pair<L: Site, M: Site> {
@@ -139,6 +153,41 @@ impl<L: Site, M: Site> Pair<L, M> {
             carry(rt, alloc, &self.one.recorder, &self.zero.recorder, 4)?;
         }
         Some(())
+    }
+
+    /// Host 1 listens, and host 0 opens: the listener, and the socket of host 0.
+    pub fn opened<R: Wait>(&mut self, rt: &R, lport: u16, rport: u16) -> Option<(u32, u32)>
+        requires lanes { (lane self.old.zero.seat.thread ≡ L.host) × (lane self.old.one.seat.thread ≡ M.host) }
+        requires hosts { (L.host ≡ Zero) × (M.host ≡ One) }
+        ensures zero { self.new.zero.seat.thread ≡ self.old.zero.seat.thread }
+        ensures one { self.new.one.seat.thread ≡ self.old.one.seat.thread }
+        ensures own { IfSome result (λ n. (lane n.0 ≡ One) × (lane n.1 ≡ Zero)) }
+    {
+        let listener = self.one.socket(rt, Call::Listen(Host::One, rport, 1))?;
+        let socket = self
+            .zero
+            .socket(rt, Call::Connect(Host::Zero, lport, rport))?;
+        Some((listener, socket))
+    }
+
+    /// A connection: the socket of host 0, and that of host 1.
+    pub fn accepted<R: Wait>(&mut self, rt: &R, alloc: Global) -> Option<(u32, u32)>
+        requires lanes { (lane self.old.zero.seat.thread ≡ L.host) × (lane self.old.one.seat.thread ≡ M.host) }
+        requires hosts { (L.host ≡ Zero) × (M.host ≡ One) }
+        ensures zero { self.new.zero.seat.thread ≡ self.old.zero.seat.thread }
+        ensures one { self.new.one.seat.thread ≡ self.old.one.seat.thread }
+        ensures own { IfSome result (λ n. (lane n.0 ≡ Zero) × (lane n.1 ≡ One)) }
+    {
+        let (listener, socket) = self.opened(rt, 4_000, 80)?;
+        self.exchange(rt, alloc, 2)?;
+        let child = self.one.socket(rt, Call::Accept(listener))?;
+        Some((socket, child))
+    }
+
+    /// Both clocks go on by so many milliseconds.
+    pub fn wait<R: Wait>(&self, rt: &R, milliseconds: u64) {
+        let _ = self.zero.recorder.timer_loop(rt, milliseconds);
+        let _ = self.one.recorder.timer_loop(rt, milliseconds);
     }
 
     /// The segments of both hosts pass each other.

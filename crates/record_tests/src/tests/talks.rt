@@ -3,6 +3,7 @@
 ghost use Rattle.std.specs.Prelude.{◌≡◌, false};
 ghost use Rattle.case_forms.specs.Versions.{is_half};
 
+use crate::tests::fates::Drawn;
 use crate::tests::verdicts::answer;
 use case_forms::{Answer, Event, Line, Version};
 use recorder::{Fate, LoseEach, WireFate, merge, receipt_stands};
@@ -100,32 +101,10 @@ impl WireFate for InTurn {
     }
 }
 
-// Fates drawn from a seed, by a linear congruential generator.
-#[derive(Clone, Copy, Drop)]
-struct Drawn {
-    state: u32,
-}
-
-impl WireFate for Drawn {
-    fn next(&mut self) -> Fate {
-        self.state = self
-            .state
-            .wrapping_mul(1_664_525)
-            .wrapping_add(1_013_904_223);
-        match self.state >> 28 {
-            0 | 1 => Fate::Lose,
-            2 | 3 => Fate::Twice,
-            4 => Fate::Hold(1),
-            5 => Fate::Hold(3),
-            _ => Fate::Pass,
-        }
-    }
-}
-
 // What is wrong with two rounds whose segments have fates drawn from a seed; `yes` where nothing is.
 fn by_chance<R: Threads + Wait + Sync>(rt: &R, alloc: Global, seed: u32) -> &'static str {
     let wire = |state| Wire {
-        fate: Drawn { state },
+        fate: Drawn::new(state),
         taken: MOST,
     };
     let talk = Talk {
@@ -157,6 +136,22 @@ fn rounds_with_losses_are_explained(rt: HostRuntime) -> Result<(), Fail> {
         };
         assert_eq!(rt; planned(&rt, rt.alloc(), plan), "yes", "each {lose}th lost");
     }
+    Ok(())
+}
+
+#[test]
+fn a_recording_that_does_not_end_is_explained(rt: HostRuntime) -> Result<(), Fail> {
+    let plan = Plan {
+        rounds: 20,
+        lose: 1,
+        version: Version::One,
+    };
+    let said = match record(&rt, rt.alloc(), plan) {
+        Ok(recording) if recording.ended => "it ended as ever",
+        Ok(recording) => answer(rt.alloc(), &recording.recorded)?,
+        Err(_) => "no recording",
+    };
+    assert_eq!(rt; said, "yes", "all segments lost");
     Ok(())
 }
 

@@ -5,12 +5,14 @@ ghost use Rattle.case_forms.specs.declared.calls.Host.TheVariants.{Zero, One};
 ghost use Rattle.hosts.specs.Tables.{lane};
 ghost use Rattle.record_tests.specs.Scenes.{test_header};
 
+use crate::tests::chances::talk_by_chance;
 use crate::tests::endings::{close_at_once, lose_the_first, probe_a_window};
 use crate::tests::pair::{Pair, Side};
 use crate::tests::verdicts::answer;
 use crate::tests::wires::{all_twice, comes_in_after};
 use case_forms::{Answer, Call, Event, Header, Host, Initial, Label, Line, Step, Timer, Version};
 use recorder::{HostBook, MergeFault, Recorded, Site, merge};
+use segment::Flag;
 use std::alloc::Global;
 use std::marker::Brand;
 use std::sync::Wait;
@@ -38,6 +40,8 @@ enum Scene {
     Twice,
     // A SYN stays away for so many milliseconds, after which it is let in or not.
     Away(u64, bool),
+    // What the fates drawn from a seed bring.
+    Chance(u32),
 }
 
 /// The header of these recordings.
@@ -47,7 +51,7 @@ pub fn header() -> Header
     Header {
         version: Version::One,
         skew: 0,
-        msl: 120_000_000,
+        msl: 2_000_000,
         grain: 1_000,
         minrto: 200_000,
         extra: 1,
@@ -71,10 +75,7 @@ fn reset<L: Site, M: Site, R: Wait>(rt: &R, alloc: Global, pair: &mut Pair<L, M>
     requires lanes { (lane pair.old.zero.seat.thread ≡ L.host) × (lane pair.old.one.seat.thread ≡ M.host) }
     requires hosts { (L.host ≡ Zero) × (M.host ≡ One) }
 {
-    let listener = pair.one.socket(rt, Call::Listen(Host::One, 80, 1))?;
-    let socket = pair.zero.socket(rt, Call::Connect(Host::Zero, 4_000, 80))?;
-    pair.exchange(rt, alloc, 2)?;
-    let child = pair.one.socket(rt, Call::Accept(listener))?;
+    let (socket, child) = pair.accepted(rt, alloc)?;
     let aborted = pair.one.call(rt, Call::Abort(child))?;
     pair.exchange(rt, alloc, 1)?;
     let told = pair.zero.call(rt, Call::Recv(socket, 1))?;
@@ -90,8 +91,7 @@ fn two_children<L: Site, M: Site, R: Wait>(
     requires lanes { (lane pair.old.zero.seat.thread ≡ L.host) × (lane pair.old.one.seat.thread ≡ M.host) }
     requires hosts { (L.host ≡ Zero) × (M.host ≡ One) }
 {
-    let listener = pair.one.socket(rt, Call::Listen(Host::One, 80, 1))?;
-    let _ = pair.zero.socket(rt, Call::Connect(Host::Zero, 4_000, 80))?;
+    let (listener, _) = pair.opened(rt, 4_000, 80)?;
     let _ = pair.zero.socket(rt, Call::Connect(Host::Zero, 4_001, 80))?;
     pair.exchange(rt, alloc, 3)?;
     let first = pair.one.socket(rt, Call::Accept(listener))?;
@@ -110,10 +110,7 @@ fn connected<L: Site, M: Site, R: Wait>(
     requires lanes { (lane pair.old.zero.seat.thread ≡ L.host) × (lane pair.old.one.seat.thread ≡ M.host) }
     requires hosts { (L.host ≡ Zero) × (M.host ≡ One) }
 {
-    let _ = pair.one.socket(rt, Call::Listen(Host::One, rport, 1))?;
-    let socket = pair
-        .zero
-        .socket(rt, Call::Connect(Host::Zero, lport, rport))?;
+    let (_, socket) = pair.opened(rt, lport, rport)?;
     pair.exchange(rt, alloc, 1)?;
     let told = pair.zero.call(rt, Call::Await(socket))?;
     Some(matches!(told, Answer::Done))
@@ -141,6 +138,7 @@ fn act<L: Site, M: Site, R: Wait>(
         Scene::Away(milliseconds, comes) => {
             Some(comes_in_after(rt, alloc, pair, milliseconds)? == comes)
         }
+        Scene::Chance(seed) => talk_by_chance(rt, alloc, pair, seed),
     }
 }
 
@@ -226,7 +224,8 @@ fn shows(recorded: &Recorded, scene: Scene) -> bool {
         | Scene::TwoChildren
         | Scene::Connected(_, _)
         | Scene::Twice
-        | Scene::Away(_, _) => true,
+        | Scene::Away(_, _)
+        | Scene::Chance(_) => true,
     }
 }
 
@@ -262,11 +261,87 @@ fn scenes_are_explained(rt: HostRuntime) -> Result<(), Fail> {
         Scene::Probe,
         Scene::Recovery,
         Scene::Twice,
-        Scene::Away(120_000, true),
-        Scene::Away(120_001, false),
+        Scene::Away(2_000, true),
+        Scene::Away(2_001, false),
     ] {
         assert_eq!(rt; seen(&rt, rt.alloc(), scene), "yes", "{scene:?}");
     }
+    Ok(())
+}
+
+// How often each kind of event appeared.
+#[derive(Clone, Copy, Debug, PartialEq, Eq)]
+struct Kinds {
+    timeouts: u32,
+    recoveries: u32,
+    probes: u32,
+    closes: u32,
+    ends: u32,
+}
+
+impl Kinds {
+    fn add(&mut self, recorded: &Recorded) {
+        let lines = recorded.trace.lines.as_slice();
+        let steps = recorded.witness.steps.as_slice();
+        self.timeouts = self.timeouts.saturating_add(expiries(lines, Timer::Rto));
+        self.recoveries = self.recoveries.saturating_add(u32::from(recovers(steps)));
+        self.probes = self.probes.saturating_add(expiries(lines, Timer::Persist));
+        self.closes = self.closes.saturating_add(u32::from(cross(lines)));
+        self.ends = self.ends.saturating_add(expiries(lines, Timer::Msl2));
+    }
+
+    fn are_all(&self) -> bool {
+        let sent = self.timeouts > 0 && self.recoveries > 0 && self.probes > 0;
+        sent && self.closes > 0 && self.ends > 0
+    }
+}
+
+// Whether both hosts sent a FIN before one came in.
+fn cross(lines: &[Line]) -> bool {
+    let (mut zero, mut one) = (false, false);
+    for line in lines {
+        match &line.event {
+            Event::Sent(Host::Zero, wire) if wire.seg.has(Flag::Fin) => zero = true,
+            Event::Sent(Host::One, wire) if wire.seg.has(Flag::Fin) => one = true,
+            Event::Came(_, wire) if wire.seg.has(Flag::Fin) => return zero && one,
+            _ => {}
+        }
+    }
+    false
+}
+
+// What the checker says of a talk by chance, which adds to what appeared.
+fn said_by_chance<R: Wait>(rt: &R, alloc: Global, seed: u32, kinds: &mut Kinds) -> &'static str {
+    let Some((zero, one, went)) = books(rt, alloc, Scene::Chance(seed)) else {
+        return "no books";
+    };
+    match merge(alloc, zero, one) {
+        Ok(recorded) => {
+            kinds.add(&recorded);
+            let said = answer(alloc, &recorded).unwrap_or("out of memory");
+            if went { said } else { "another answer" }
+        }
+        Err(_) => "not merged",
+    }
+}
+
+#[test]
+fn talks_by_chance_are_explained(rt: HostRuntime) -> Result<(), Fail> {
+    let mut kinds = Kinds {
+        timeouts: 0,
+        recoveries: 0,
+        probes: 0,
+        closes: 0,
+        ends: 0,
+    };
+    for seed in 0..40 {
+        assert_eq!(rt;
+            said_by_chance(&rt, rt.alloc(), seed, &mut kinds),
+            "yes",
+            "seed {seed}"
+        );
+    }
+    assert!(rt; kinds.are_all(), "{kinds:?}");
     Ok(())
 }
 

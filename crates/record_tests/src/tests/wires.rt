@@ -4,7 +4,7 @@ ghost use Rattle.std.specs.Prelude.{◌≡◌};
 ghost use Rattle.case_forms.specs.declared.calls.Host.TheVariants.{Zero, One};
 ghost use Rattle.hosts.specs.Tables.{lane};
 
-use crate::tests::pair::{Pair, Side};
+use crate::tests::pair::{Pair, Side, carry_by};
 use case_forms::{Answer, Call, Host};
 use crossbeam_channel::unbounded;
 use recorder::{Fate, Flying, Recorder, Site, WireFate};
@@ -22,29 +22,16 @@ impl WireFate for Twice {
     }
 }
 
-// Four segments of one host come in at the other, each twice.
-fn carry_twice<L: Site, M: Site, R: Wait>(
-    rt: &R,
-    alloc: Global,
-    from: &Recorder<L>,
-    to: &Recorder<M>,
-) -> Option<()> {
-    let (out, into) = unbounded::<Flying, Global>(alloc).ok()?;
-    let _ = from.pump_loop_by(rt, out, Twice, 4);
-    let _ = to.receive_loop(rt, into, 8);
-    Some(())
-}
-
-// So do those of host 0, those of host 1, and again those of host 0.
+// The segments of host 0 come in twice, then those of host 1, and again those of host 0.
 fn exchange_twice<L: Site, M: Site, R: Wait>(
     rt: &R,
     alloc: Global,
     zero: &Recorder<L>,
     one: &Recorder<M>,
 ) -> Option<()> {
-    carry_twice(rt, alloc, zero, one)?;
-    carry_twice(rt, alloc, one, zero)?;
-    carry_twice(rt, alloc, zero, one)
+    carry_by(rt, alloc, zero, one, Twice)?;
+    carry_by(rt, alloc, one, zero, Twice)?;
+    carry_by(rt, alloc, zero, one, Twice)
 }
 
 /// A handshake, and 64 bytes from host 0 to host 1.
@@ -56,8 +43,7 @@ pub fn all_twice<L: Site, M: Site, R: Wait>(
     requires lanes { (lane pair.old.zero.seat.thread ≡ L.host) × (lane pair.old.one.seat.thread ≡ M.host) }
     requires hosts { (L.host ≡ Zero) × (M.host ≡ One) }
 {
-    let listener = pair.one.socket(rt, Call::Listen(Host::One, 80, 1))?;
-    let socket = pair.zero.socket(rt, Call::Connect(Host::Zero, 4_000, 80))?;
+    let (listener, socket) = pair.opened(rt, 4_000, 80)?;
     exchange_twice(rt, alloc, &pair.zero.recorder, &pair.one.recorder)?;
     let child = pair.one.socket(rt, Call::Accept(listener))?;
     let sent = pair.zero.call(
