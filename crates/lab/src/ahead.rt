@@ -1,13 +1,10 @@
 //! What later lines of a trace tell of earlier ones. Lines are named by their places among the event lines, from 0.
 
+use crate::chains::{Chains, Ends};
 use case_forms::{Event, Host, Line, OutOfMemory, Wire};
 use indexmap::IndexMap;
 use segment::Flag;
 use std::alloc::Global;
-use std::collections::VecDeque;
-
-/// An endpoint: its host, its own port and the peer's.
-pub(crate) type Ends = (u8, u16, u16);
 
 /// The endpoint of a host with these ports.
 pub(crate) fn ends(host: Host, lport: u16, rport: u16) -> Ends {
@@ -20,42 +17,46 @@ pub(crate) fn ends(host: Host, lport: u16, rport: u16) -> Ends {
 /// What later lines tell.
 #[derive(Drop)]
 pub(crate) struct Ahead {
-    alloc: Global,
     /// For the place of each beginning, that of its end.
     ends: IndexMap<usize, usize>,
-    /// For each thread, the place of the beginning whose end was not met yet.
-    open: IndexMap<u32, usize>,
+    /// For each thread, the place of the first end behind what was read, where no beginning was met before it.
+    ended: IndexMap<u32, usize>,
     /// For each endpoint, the places of what goes out there and was not made yet.
-    outgoing: IndexMap<Ends, VecDeque<usize>>,
+    outgoing: Chains,
     /// The same of resets alone.
-    resets: IndexMap<Ends, VecDeque<usize>>,
+    resets: Chains,
 }
 
 impl Ahead {
     /// What the lines of a trace tell.
     pub(crate) fn of(alloc: Global, lines: &[Line]) -> Result<Ahead, OutOfMemory> {
         let mut ahead = Ahead {
-            alloc,
             ends: IndexMap::new(alloc),
-            open: IndexMap::new(alloc),
-            outgoing: IndexMap::new(alloc),
-            resets: IndexMap::new(alloc),
+            ended: IndexMap::new(alloc),
+            outgoing: Chains::new(alloc),
+            resets: Chains::new(alloc),
         };
-        for (place, line) in lines.iter().enumerate() {
-            ahead.read(place, line)?;
-        }
+        ahead.read_all(lines)?;
         Ok(ahead)
+    }
+
+    // Reads the lines from the last to the first.
+    fn read_all(&mut self, lines: &[Line]) -> Result<(), OutOfMemory> {
+        for (place, line) in lines.iter().enumerate().rev() {
+            self.read(place, line)?;
+        }
+        Ok(())
     }
 
     fn read(&mut self, place: usize, line: &Line) -> Result<(), OutOfMemory> {
         match &line.event {
             Event::CallBegin(_) => {
-                self.open.insert(line.thread, place)?;
+                if let Some(end) = self.ended.swap_remove(&line.thread) {
+                    self.ends.insert(place, end)?;
+                }
             }
             Event::CallEnd(_) => {
-                if let Some(begin) = self.open.swap_remove(&line.thread) {
-                    self.ends.insert(begin, place)?;
-                }
+                self.ended.insert(line.thread, place)?;
             }
             Event::Sent(host, wire) => self.read_sent(place, *host, wire)?,
             Event::Came(_, _) | Event::Expired(_, _, _, _) => {}
@@ -66,9 +67,9 @@ impl Ahead {
     fn read_sent(&mut self, place: usize, host: Host, wire: &Wire) -> Result<(), OutOfMemory> {
         let key = ends(host, wire.seg.src, wire.seg.dst);
         if wire.seg.has(Flag::Rst) {
-            join(self.alloc, &mut self.resets, key, place)?;
+            self.resets.put_first(key, place)?;
         }
-        join(self.alloc, &mut self.outgoing, key, place)
+        self.outgoing.put_first(key, place)
     }
 
     /// The place of the end of the call that begins at a place. None: it is open at the end of the trace.
@@ -78,63 +79,22 @@ impl Ahead {
 
     /// The place of the next segment that goes out at an endpoint and was not made yet.
     pub(crate) fn next_out(&self, key: Ends) -> Option<usize> {
-        first(&self.outgoing, key)
+        self.outgoing.first(key)
     }
 
     /// The place of the next reset that goes out at an endpoint.
     pub(crate) fn next_reset(&self, key: Ends) -> Option<usize> {
-        first(&self.resets, key)
+        self.resets.first(key)
     }
 
     /// What goes out at that place is made; so are the places before it at this endpoint.
     pub(crate) fn pass(&mut self, key: Ends, place: usize) {
-        leave(&mut self.outgoing, key, place);
-        leave(&mut self.resets, key, place);
+        self.outgoing.pass(key, place);
+        self.resets.pass(key, place);
     }
 
     /// The reset that goes out at that place is made.
     pub(crate) fn pass_reset(&mut self, key: Ends, place: usize) {
-        leave(&mut self.resets, key, place);
-    }
-}
-
-fn join(
-    alloc: Global,
-    queues: &mut IndexMap<Ends, VecDeque<usize>>,
-    key: Ends,
-    place: usize,
-) -> Result<(), OutOfMemory> {
-    if let Some(queue) = queues.get_mut(&key) {
-        queue.push_back(place)?;
-        return Ok(());
-    }
-    let mut queue = VecDeque::new(alloc);
-    queue.push_back(place)?;
-    queues.insert(key, queue)?;
-    Ok(())
-}
-
-fn first(queues: &IndexMap<Ends, VecDeque<usize>>, key: Ends) -> Option<usize> {
-    queues.get(&key)?.front().copied()
-}
-
-// Takes the first places out of a queue, up to this one.
-fn leave(queues: &mut IndexMap<Ends, VecDeque<usize>>, key: Ends, place: usize) {
-    if let Some(queue) = queues.get_mut(&key) {
-        drop_upto(queue, place);
-    }
-}
-
-fn drop_upto(queue: &mut VecDeque<usize>, place: usize) {
-    for _ in 0..queue.len() {
-        match queue.front() {
-            Some(first) => {
-                if *first > place {
-                    return;
-                }
-            }
-            None => return,
-        }
-        queue.pop_front();
+        self.resets.pass(key, place);
     }
 }

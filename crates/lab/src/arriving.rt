@@ -1,7 +1,8 @@
 //! A line that comes in is taken at once, or answered by a reset where one follows, or dropped.
 
-use crate::ahead::{Ends, ends};
+use crate::ahead::ends;
 use crate::calls::{endpoint_at, listener_at};
+use crate::chains::Ends;
 use crate::expiring::field;
 use crate::search::Search;
 use crate::sending::{place_of, plan_of};
@@ -94,6 +95,29 @@ fn is_before(endpoint: &Endpoint, changes: &Changes, m: &Arrived<'_>, wire: &Wir
         Some(pos) => changes.una && takes && pos < m.ack(),
         None => false,
     }
+}
+
+// Whether a segment was made before its maker took another one, and whether that shows in what it acknowledges. None: it was made
+// behind it, or that can't be told.
+fn needs_earlier(world: &World, host: Host, m: &Emission, wire: &Wire) -> Option<bool> {
+    let endpoint = finder(world, host, m)?;
+    let read = as_read(world, endpoint, m)?;
+    let changes = changes_by(endpoint, &read);
+    if is_before(endpoint, &changes, &read, wire) {
+        Some(changes.next)
+    } else {
+        None
+    }
+}
+
+// A line that goes out later and was made before an arrival was taken.
+#[derive(Clone, Copy)]
+struct Earlier<'t> {
+    key: Ends,
+    place: usize,
+    wire: &'t Wire,
+    /// Whether what it acknowledges shows that.
+    needed: bool,
 }
 
 impl<'t> Search<'t> {
@@ -233,14 +257,20 @@ impl<'t> Search<'t> {
         }
     }
 
+    // The segment that goes out with the line at a place.
+    fn sent_at(&self, place: usize) -> Option<&'t Wire> {
+        match &self.lines.get(place)?.event {
+            Event::Sent(_, wire) => Some(wire),
+            _ => None,
+        }
+    }
+
     // The line of the reset that answers what came in, and its endpoint.
     fn reset_of(&self, host: Host, line: u64) -> Option<(Ends, usize)> {
         let m = self.world.waiting(host, line)?;
         let key = ends(host, m.rport, m.lport);
         let place = self.ahead.next_reset(key)?;
-        let Event::Sent(_, wire) = &self.lines.get(place)?.event else {
-            return None;
-        };
+        let wire = self.sent_at(place)?;
         let reset = reset_of(self.alloc, m);
         if is_shown(self.world.header(), wire, &reset) {
             Some((key, place))
@@ -252,41 +282,42 @@ impl<'t> Search<'t> {
     // Makes what goes out later and was made before this arrival was taken. The answer is whether the arrival is kept.
     fn make_earlier(&mut self, host: Host, line: u64) -> Result<bool, StepFault> {
         for _ in 0..self.lines.len() {
-            let Some((key, place, wire, needed)) = self.earlier(host, line) else {
+            let Some(earlier) = self.earlier(host, line) else {
                 return Ok(true);
             };
-            let plan = plan_of(&self.world, host, wire);
-            match self.make(host, plan) {
-                Ok(made) => {
-                    self.made.insert(place, made)?;
-                    self.ahead.pass(key, place);
-                }
-                Err(StepFault::Broken(_)) => return Ok(!needed),
-                Err(StepFault::OutOfMemory) => return Err(StepFault::OutOfMemory),
+            if !self.try_making(host, earlier)? {
+                return Ok(!earlier.needed);
             }
         }
         Ok(true)
     }
 
-    // The next line that goes out at the taker of an arrival, where it was made before; and whether that shows in what it
-    // acknowledges.
-    fn earlier(&self, host: Host, line: u64) -> Option<(Ends, usize, &'t Wire, bool)> {
+    // The next line that goes out at the taker of an arrival, where it was made before.
+    fn earlier(&self, host: Host, line: u64) -> Option<Earlier<'t>> {
         let m = self.world.waiting(host, line)?;
-        let endpoint = finder(&self.world, host, m)?;
-        let read = as_read(&self.world, endpoint, m)?;
-        let changes = changes_by(endpoint, &read);
-        if !changes.next && !changes.una {
-            return None;
-        }
         let key = ends(host, m.rport, m.lport);
         let place = self.ahead.next_out(key)?;
-        let Event::Sent(_, wire) = &self.lines.get(place)?.event else {
-            return None;
-        };
-        if is_before(endpoint, &changes, &read, wire) {
-            Some((key, place, wire, changes.next))
-        } else {
-            None
+        let wire = self.sent_at(place)?;
+        let needed = needs_earlier(&self.world, host, m, wire)?;
+        Some(Earlier {
+            key,
+            place,
+            wire,
+            needed,
+        })
+    }
+
+    // Makes a segment before its line. The answer is whether it may be made.
+    fn try_making(&mut self, host: Host, earlier: Earlier<'t>) -> Result<bool, StepFault> {
+        let plan = plan_of(&self.world, host, earlier.wire);
+        match self.make(host, plan) {
+            Ok(made) => {
+                self.made.insert(earlier.place, made)?;
+                self.ahead.pass(earlier.key, earlier.place);
+                Ok(true)
+            }
+            Err(StepFault::Broken(_)) => Ok(false),
+            Err(StepFault::OutOfMemory) => Err(StepFault::OutOfMemory),
         }
     }
 }

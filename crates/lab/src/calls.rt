@@ -40,25 +40,64 @@ pub(crate) struct Pending {
     end: Option<usize>,
 }
 
+/// For each thing, calls that wait there. Some of them may have had their effect.
+#[derive(Drop)]
+struct Waiting {
+    alloc: Global,
+    queues: IndexMap<Meant, VecDeque<Pending>>,
+}
+
+impl Waiting {
+    fn new(alloc: Global) -> Waiting {
+        Waiting {
+            alloc,
+            queues: IndexMap::new(alloc),
+        }
+    }
+
+    // A call waits behind all others.
+    fn put(&mut self, meant: Meant, pending: Pending) -> Result<(), OutOfMemory> {
+        if let Some(queue) = self.queues.get_mut(&meant) {
+            queue.push_back(pending)?;
+            return Ok(());
+        }
+        let mut queue = VecDeque::new(self.alloc);
+        queue.push_back(pending)?;
+        self.queues.insert(meant, queue)?;
+        Ok(())
+    }
+
+    // A call that was tried in vain waits on, before all others.
+    fn put_back(&mut self, meant: Meant, pending: Pending) -> Result<(), OutOfMemory> {
+        if let Some(queue) = self.queues.get_mut(&meant) {
+            queue.push_front(pending)?;
+        }
+        Ok(())
+    }
+
+    // The call that has waited longest waits no more.
+    fn take(&mut self, meant: Meant) -> Option<Pending> {
+        self.queues.get_mut(&meant)?.pop_front()
+    }
+}
+
 /// The calls that had no effect yet.
 #[derive(Drop)]
 pub(crate) struct Calls {
-    alloc: Global,
     /// For each thread, the place at which such a call began.
     open: IndexMap<u32, usize>,
-    /// For each thing, the calls on it whose end is known, in the order of their beginnings; some of them had their effect.
-    on: IndexMap<Meant, VecDeque<Pending>>,
-    /// The same of calls that are open at the end of the trace.
-    unended: IndexMap<Meant, VecDeque<Pending>>,
+    /// The calls whose end is known, in the order of their beginnings.
+    ended: Waiting,
+    /// The calls that are open at the end of the trace.
+    unended: Waiting,
 }
 
 impl Calls {
     pub(crate) fn new(alloc: Global) -> Calls {
         Calls {
-            alloc,
             open: IndexMap::new(alloc),
-            on: IndexMap::new(alloc),
-            unended: IndexMap::new(alloc),
+            ended: Waiting::new(alloc),
+            unended: Waiting::new(alloc),
         }
     }
 
@@ -71,45 +110,11 @@ impl Calls {
     }
 
     fn put(&mut self, meant: Meant, pending: Pending) -> Result<(), OutOfMemory> {
-        let alloc = self.alloc;
         match pending.end {
-            Some(_) => wait(alloc, &mut self.on, meant, pending),
-            None => wait(alloc, &mut self.unended, meant, pending),
+            Some(_) => self.ended.put(meant, pending),
+            None => self.unended.put(meant, pending),
         }
     }
-
-    // The next call on a thing that had no effect yet.
-    fn next_on(&mut self, meant: Meant) -> Option<Pending> {
-        self.on.get_mut(&meant)?.pop_front()
-    }
-
-    // A call that was tried in vain waits on, before all others.
-    fn put_back(&mut self, meant: Meant, pending: Pending) -> Result<(), OutOfMemory> {
-        if let Some(queue) = self.on.get_mut(&meant) {
-            queue.push_front(pending)?;
-        }
-        Ok(())
-    }
-
-    fn next_unended(&mut self, meant: Meant) -> Option<Pending> {
-        self.unended.get_mut(&meant)?.pop_front()
-    }
-}
-
-fn wait(
-    alloc: Global,
-    queues: &mut IndexMap<Meant, VecDeque<Pending>>,
-    meant: Meant,
-    pending: Pending,
-) -> Result<(), OutOfMemory> {
-    if let Some(queue) = queues.get_mut(&meant) {
-        queue.push_back(pending)?;
-        return Ok(());
-    }
-    let mut queue = VecDeque::new(alloc);
-    queue.push_back(pending)?;
-    queues.insert(meant, queue)?;
-    Ok(())
 }
 
 // The socket number that a call names. None: it names none.
@@ -286,7 +291,7 @@ impl Search<'_> {
     pub(crate) fn wake(&mut self, meant: Meant) -> Result<(), StepFault> {
         let mut failed = Vec::new(self.alloc);
         for _ in 0..TRIES {
-            let Some(pending) = self.calls.next_on(meant) else {
+            let Some(pending) = self.calls.ended.take(meant) else {
                 break;
             };
             if self.calls.is_open(pending) && !self.has_effect(pending)? {
@@ -294,14 +299,14 @@ impl Search<'_> {
             }
         }
         for pending in failed.iter().rev() {
-            self.calls.put_back(meant, *pending)?;
+            self.calls.ended.put_back(meant, *pending)?;
         }
         Ok(())
     }
 
     /// Calls on an endpoint that are open at the end of the trace have their effect. The answer is whether one had it.
     pub(crate) fn suppose(&mut self, meant: Meant) -> Result<bool, StepFault> {
-        let Some(pending) = self.calls.next_unended(meant) else {
+        let Some(pending) = self.calls.unended.take(meant) else {
             return Ok(false);
         };
         if !self.calls.is_open(pending) {

@@ -28,15 +28,18 @@ pub fn find(alloc: Global, text: &[u8]) -> Result<Vec<u8>, TextFault> {
 // The lines that are added, and the witness.
 fn search(alloc: Global, trace: &Trace) -> Result<(Vec<Added>, Witness), OutOfMemory> {
     let mut search = Search::new(alloc, &trace.header, trace.lines.as_slice())?;
-    match search.run() {
+    let ran = search.run();
+    let (added, steps) = search.found();
+    drop(search);
+    match ran {
         Ok(()) | Err(StepFault::Broken(_)) => {}
         Err(StepFault::OutOfMemory) => return Err(AllocError),
     }
     let witness = Witness {
         version: trace.header.version,
-        steps: search.steps,
+        steps,
     };
-    Ok((search.added, witness))
+    Ok((added, witness))
 }
 
 // A thread that no line has, if there is one above all others.

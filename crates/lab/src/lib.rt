@@ -7,6 +7,7 @@
 //! - `search`: one pass over the lines, each with the steps that belong to it
 //! - `deeds`: one step of the world, written down where it was done
 //! - `ahead`: what later lines tell of earlier ones: ends of calls, segments that go out
+//! - `chains`: places that stand behind one another, for each endpoint
 //! - `copies`: the lines that went out and have no copy yet
 //! - `calls`: a call has its effect as soon as the machine permits the answer that its end tells
 //! - `sending`: a line that goes out is made at its moment
@@ -17,6 +18,7 @@
 mod ahead;
 mod arriving;
 mod calls;
+mod chains;
 mod copies;
 mod deeds;
 mod expiring;

@@ -8,6 +8,7 @@ use case_forms::{Answer, Call, Event, Header, Host, Line, OutOfMemory, Ports, St
 use endpoint_state::{StepFault, World};
 use indexmap::IndexMap;
 use std::alloc::Global;
+use std::mem::replace;
 
 /// A line that is added: a timer expires.
 #[derive(Clone, Copy)]
@@ -48,11 +49,12 @@ impl<'t> Search<'t> {
         header: &Header,
         lines: &'t [Line],
     ) -> Result<Search<'t>, OutOfMemory> {
+        let ahead = Ahead::of(alloc, lines)?;
         Ok(Search {
             alloc,
             world: World::start(alloc, header),
             lines,
-            ahead: Ahead::of(alloc, lines)?,
+            ahead,
             copies: Copies::new(alloc),
             calls: Calls::new(alloc),
             made: IndexMap::new(alloc),
@@ -62,6 +64,13 @@ impl<'t> Search<'t> {
             number: header.first_event_line(),
             moment: 0,
         })
+    }
+
+    /// What was found, which the search has no more: the lines that are added, and the steps.
+    pub(crate) fn found(&mut self) -> (Vec<Added>, Steps) {
+        let added = replace(&mut self.added, Vec::new(self.alloc));
+        let steps = replace(&mut self.steps, Steps::new(self.alloc));
+        (added, steps)
     }
 
     /// Goes over all lines. An error is the rule that the last step breaks, or that memory ran out.
