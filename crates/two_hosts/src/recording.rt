@@ -117,6 +117,84 @@ fn let_talk<
     })
 }
 
+// The book of host 0, and that of a recorder of which one seat was given. What isn't handed on is dropped by a call, which the proof meets
+// once, and not at the end of its scope.
+fn finish_one<M: Site, R: Wait>(
+    rt: &R,
+    alloc: Global,
+    zero: HostBook,
+    one: Recorder<M>,
+    seat: Seat<M>,
+) -> Result<(HostBook, HostBook), RecordFault>
+    requires { M.parts ≡ 65535 }
+    ensures zero { IfOk result (λ b. b.0 ≡ zero) }
+    ensures one { IfOk result (λ b. (b.1.core.recorded.me ≡ M.host) × (b.1.core.recorded.header ≡ M.header)) }
+{
+    match finish(rt, alloc, one, seat) {
+        Ok(one) => Ok((zero, one)),
+        Err(fault) => {
+            drop(zero);
+            Err(fault)
+        }
+    }
+}
+
+// The books of both recorders, of which each gave one seat.
+fn finish_both<L: Site, M: Site, R: Wait>(
+    rt: &R,
+    alloc: Global,
+    zero: Recorder<L>,
+    one: Recorder<M>,
+    asker: Seat<L>,
+    server: Seat<M>,
+) -> Result<(HostBook, HostBook), RecordFault>
+    requires parts { (L.parts ≡ 65535) × (M.parts ≡ 65535) }
+    ensures zero { IfOk result (λ b. (b.0.core.recorded.me ≡ L.host) × (b.0.core.recorded.header ≡ L.header)) }
+    ensures one { IfOk result (λ b. (b.1.core.recorded.me ≡ M.host) × (b.1.core.recorded.header ≡ M.header)) }
+{
+    match finish(rt, alloc, zero, asker) {
+        Ok(zero) => finish_one(rt, alloc, zero, one, server),
+        Err(fault) => {
+            drop(one);
+            drop(server);
+            Err(fault)
+        }
+    }
+}
+
+// What both recorders have, once both applications ended.
+fn end_talk<L: Site, M: Site, R: Wait>(
+    rt: &R,
+    alloc: Global,
+    zero: Recorder<L>,
+    one: Recorder<M>,
+    talked: Talked<L, M>,
+) -> Result<Books, RecordFault>
+    requires parts { (L.parts ≡ 65535) × (M.parts ≡ 65535) }
+    requires hosts { (L.host ≡ Zero) × (M.host ≡ One) }
+    requires headers { L.header ≡ M.header }
+    ensures { IfOk result (λ b. AreBooks b.zero b.one L.header) }
+{
+    let Talked {
+        zero: asker,
+        one: server,
+        receipts,
+        ended,
+    } = talked;
+    match finish_both(rt, alloc, zero, one, asker, server) {
+        Ok((zero, one)) => Ok(Books {
+            zero,
+            one,
+            ended,
+            receipts,
+        }),
+        Err(fault) => {
+            drop(receipts);
+            Err(fault)
+        }
+    }
+}
+
 // What two new recorders, each of one host, record of the connection.
 fn record_with<
     L: Site + Send + Sync,
@@ -143,15 +221,14 @@ fn record_with<
     let server = config_of(SERVER_ISS);
     let zero: Recorder<L> = Recorder::new(alloc, Host::Zero, header, client, first);
     let one: Recorder<M> = Recorder::new(alloc, Host::One, header, server, second);
-    let talked = let_talk(rt, alloc, &zero, &one, talk)?;
-    let zero = finish(rt, alloc, zero, talked.zero)?;
-    let one = finish(rt, alloc, one, talked.one)?;
-    Ok(Books {
-        zero,
-        one,
-        ended: talked.ended,
-        receipts: talked.receipts,
-    })
+    match let_talk(rt, alloc, &zero, &one, talk) {
+        Ok(talked) => end_talk(rt, alloc, zero, one, talked),
+        Err(fault) => {
+            drop(zero);
+            drop(one);
+            Err(fault)
+        }
+    }
 }
 
 /// What both hosts record where they talk so.

@@ -42,6 +42,32 @@ impl<F: Drop> Way<F> {
     }
 }
 
+// A host's side of both ways: where its segments go out and what becomes of them, and where those of the other host come in.
+#[derive(Drop)]
+struct Link<F: Drop> {
+    out: Sender<Flying, Global>,
+    fate: F,
+    from: Receiver<Flying, Global>,
+    taken: u64,
+}
+
+// Both sides of the way of host 0's segments and of that back.
+fn links_of<F: Drop, G: Drop>(there: Way<F>, back: Way<G>) -> (Link<F>, Link<G>) {
+    let zero = Link {
+        out: there.out,
+        fate: there.fate,
+        from: back.from,
+        taken: back.taken,
+    };
+    let one = Link {
+        out: back.out,
+        fate: back.fate,
+        from: there.from,
+        taken: there.taken,
+    };
+    (zero, one)
+}
+
 /// The recorder of a host, and the seat of its application.
 #[derive(Drop)]
 pub struct Place<'a, L: Site> {
@@ -81,71 +107,88 @@ pub fn run_threads<
     // Host 1 listens before host 0 opens.
     let mut server = Caller::new(alloc, server);
     let listener = listen(rt, one, &mut server).ok();
-    let Way {
-        out: to_one,
-        from: from_zero,
-        fate: fate_there,
-        taken: taken_there,
-    } = there;
-    let Way {
-        out: to_zero,
-        from: from_one,
-        fate: fate_back,
-        taken: taken_back,
-    } = back;
+    let (zero_link, one_link) = links_of(there, back);
     thread::scope(
         thread::scope_env(),
         rt,
         |scope|
             requires { (L.host ≡ Zero) × (lane asker.thread ≡ L.host) × (lane server.seat.thread ≡ M.host) × IfSome listener (λ n. lane n ≡ M.host) }
         {
-            let serve = move ||
-                requires { (lane server.seat.thread ≡ M.host) × IfSome listener (λ n. lane n ≡ M.host) }
-            {
-                let ended = run_server(rt, one, server, listener, rounds);
-                stop_unless(rt, zero, one, ended.whole);
-                ended
-            };
-            let ask = move ||
-                requires { (L.host ≡ Zero) × (lane asker.thread ≡ L.host) }
-            {
-                let ended = run_client(rt, alloc, zero, asker, rounds);
-                stop_unless(rt, zero, one, ended.whole);
-                ended
-            };
-            let lets_out = start(scope, move || let_out(rt, zero, one, to_one, fate_there));
-            let answers = start(scope, move || let_out(rt, one, zero, to_zero, fate_back));
-            let lets_in = start(scope, move || let_in(rt, zero, one, from_one, taken_back));
-            let hears = start(scope, move || let_in(rt, one, zero, from_zero, taken_there));
-            let times = start(scope, move || let_pass(rt, zero, one));
-            let waits = start(scope, move || let_pass(rt, one, zero));
-            let serves = start(scope, serve);
-            let asks = start(scope, ask);
-            let out = lets_out.is_some() && answers.is_some();
-            let into = lets_in.is_some() && hears.is_some();
-            let loops = out && into && times.is_some() && waits.is_some();
-            let refusal = why_not(alloc, loops && serves.is_some() && asks.is_some());
-            if refusal.is_some() {
-                stop_both(rt, zero, one);
-            }
-            let asked = joined(rt, asks);
-            let served = joined(rt, serves);
-            stop_both(rt, zero, one);
-            let _ = joined(rt, lets_out);
-            let _ = joined(rt, answers);
-            let _ = joined(rt, lets_in);
-            let _ = joined(rt, hears);
-            let _ = joined(rt, times);
-            let _ = joined(rt, waits);
-            if let Some(fault) = refusal {
-                return Err(fault);
-            }
-            Ok((
-                asked.ok_or(RecordFault::Device)?,
-                served.ok_or(RecordFault::Device)?,
-            ))
+            let loops = start_loops(scope, rt, zero, one, zero_link);
+            let others = start_loops(scope, rt, one, zero, one_link);
+            let serves = start(
+                scope,
+                move ||
+                    requires { (lane server.seat.thread ≡ M.host) × IfSome listener (λ n. lane n ≡ M.host) }
+                { serve(rt, zero, one, server, listener, rounds) },
+            );
+            let asks = start(
+                scope,
+                move ||
+                    requires { (L.host ≡ Zero) × (lane asker.thread ≡ L.host) }
+                { ask(rt, alloc, zero, one, asker, rounds) },
+            );
+            let all = loops && others && serves.is_some() && asks.is_some();
+            let refusal = why_not(alloc, all);
+            end_both(rt, zero, one, refusal, asks, serves)
         },
     )
+}
+
+// Host 0's application in its thread. Where it halts, all else ends.
+fn ask<L: Site, M: Site, R: Wait>(
+    rt: &R,
+    alloc: Global,
+    zero: &Recorder<L>,
+    one: &Recorder<M>,
+    seat: Seat<L>,
+    rounds: u16,
+) -> Ended<L>
+    requires lane { lane seat.thread ≡ L.host }
+    requires host { L.host ≡ Zero }
+{
+    let ended = run_client(rt, alloc, zero, seat, rounds);
+    stop_unless(rt, zero, one, ended.whole);
+    ended
+}
+
+// That of host 1.
+fn serve<L: Site, M: Site, R: Wait>(
+    rt: &R,
+    zero: &Recorder<L>,
+    one: &Recorder<M>,
+    caller: Caller<M>,
+    listener: Option<u32>,
+    rounds: u16,
+) -> Ended<M>
+    requires lane { lane caller.seat.thread ≡ M.host }
+    requires own { IfSome listener (λ n. lane n ≡ M.host) }
+{
+    let ended = run_server(rt, one, caller, listener, rounds);
+    stop_unless(rt, zero, one, ended.whole);
+    ended
+}
+
+// Waits for both applications, and then ends the loops. Where a thread was refused all is ended at once.
+fn end_both<L: Site, M: Site, R: Threads + Wait>(
+    rt: &R,
+    zero: &Recorder<L>,
+    one: &Recorder<M>,
+    refusal: Option<RecordFault>,
+    asks: Option<JoinHandle<Ended<L>>>,
+    serves: Option<JoinHandle<Ended<M>>>,
+) -> Result<(Ended<L>, Ended<M>), RecordFault> {
+    if refusal.is_some() {
+        stop_both(rt, zero, one);
+    }
+    let asked = joined(rt, asks);
+    let served = joined(rt, serves);
+    stop_both(rt, zero, one);
+    match (refusal, asked, served) {
+        (None, Some(asked), Some(served)) => Ok((asked, served)),
+        (Some(fault), _, _) => Err(fault),
+        _ => Err(RecordFault::Device),
+    }
 }
 
 // How many blocks of memory are asked for, and how large the first is: that of a thread's stack, where nothing else is said.
@@ -191,6 +234,33 @@ fn start<'s, E, F: FnOnce() -> T + Send + Drop + 's, T: Send + Drop + 's>(
         Ok(handle) => Some(handle),
         Err(refused) => scope.spawn(refused.value).ok(),
     }
+}
+
+// Starts the loops of a host, each in a thread of its own, for which the scope waits. Whether all of them started.
+fn start_loops<
+    's,
+    E,
+    L: Site + Send + Sync + 's,
+    M: Site + Send + Sync + 's,
+    F: WireFate + Send + Drop + 's,
+    R: Threads + Wait + Sync + 's,
+>(
+    scope: &Scope<'s, E>,
+    rt: &'s R,
+    mine: &'s Recorder<L>,
+    other: &'s Recorder<M>,
+    link: Link<F>,
+) -> bool {
+    let Link {
+        out,
+        fate,
+        from,
+        taken,
+    } = link;
+    let lets_out = start(scope, move || let_out(rt, mine, other, out, fate)).is_some();
+    let lets_in = start(scope, move || let_in(rt, mine, other, from, taken)).is_some();
+    let lets_pass = start(scope, move || let_pass(rt, mine, other)).is_some();
+    lets_out && lets_in && lets_pass
 }
 
 // What a thread answered, once it ended. None: it was not started.
