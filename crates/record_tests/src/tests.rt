@@ -5,12 +5,14 @@
 //! - `endings`: a close at both ends at once, a window of 0 that is probed, a loss that fast recovery mends
 //! - `chances`: talks whose fates are drawn
 //! - `fates`: what becomes of segments
+//! - `kinds`: what appears in recordings
 //! - `wires`: segments that are sent twice, and one that stays away for long
 //! - `looks`: a book is held while the other host goes on
 
 mod chances;
 mod endings;
 mod fates;
+mod kinds;
 mod looks;
 mod pair;
 mod talks;

@@ -4,7 +4,7 @@ ghost use Rattle.std.specs.Prelude.{◌≡◌, ◌<◌, ◌≤◌, IfSome, lengt
 ghost use Rattle.case_forms.specs.declared.calls.Host.TheVariants.{Zero, One};
 ghost use Rattle.hosts.specs.Tables.{lane};
 
-use crate::tests::pair::{Pair, carry};
+use crate::tests::pair::{Pair, carry, had_memory};
 use case_forms::{Answer, Call};
 use crossbeam_channel::unbounded;
 use recorder::{Flying, Site};
@@ -84,7 +84,7 @@ pub fn lose_the_first<L: Site, M: Site, R: Wait>(
     let (socket, child) = pair.accepted(rt, alloc)?;
     let _ = pair.zero.call(rt, Call::Send(socket, zeros(alloc, RING)?))?;
     let (out, _) = unbounded::<Flying, Global>(alloc).ok()?;
-    let _ = pair.zero.recorder.pump_loop(rt, out, 1, 1);
+    had_memory(pair.zero.recorder.pump_loop(rt, out, 1, 1))?;
     for _ in 0..3 {
         carry(rt, alloc, &pair.zero.recorder, &pair.one.recorder, 1)?;
         carry(rt, alloc, &pair.one.recorder, &pair.zero.recorder, 1)?;

@@ -9,7 +9,7 @@ ghost use Rattle.stack_core.specs.Cores.{IsCallWithin};
 
 use case_forms::{Answer, Call, Header, Host};
 use crossbeam_channel::unbounded;
-use recorder::{CoreConfig, Flying, HostBook, Recorder, Seat, Site, WireFate};
+use recorder::{CoreConfig, Flying, HostBook, LoopEnd, Recorder, Seat, Site, WireFate};
 use std::alloc::Global;
 use std::sync::Wait;
 use std::sync::ledger::Blank;
@@ -23,6 +23,14 @@ fn own_socket(thread: u32, socket: u32) -> Option<u32>
         return None;
     }
     Some(socket)
+}
+
+/// None where a loop ended since memory ran out, so that no call waits for a segment that never comes.
+pub fn had_memory(end: LoopEnd) -> Option<()> {
+    match end {
+        LoopEnd::OutOfMemory => None,
+        LoopEnd::Stopped | LoopEnd::Turns | LoopEnd::Closed => Some(()),
+    }
 }
 
 /// The recorder of a host, with the seat of its one application thread.
@@ -119,9 +127,8 @@ pub fn carry<L: Site, M: Site, R: Wait>(
     turns: u64,
 ) -> Option<()> {
     let (out, into) = unbounded::<Flying, Global>(alloc).ok()?;
-    let _ = from.pump_loop(rt, out, 0, turns);
-    let _ = to.receive_loop(rt, into, turns);
-    Some(())
+    had_memory(from.pump_loop(rt, out, 0, turns))?;
+    had_memory(to.receive_loop(rt, into, turns))
 }
 
 /// The segments of four turns of one host meet these fates; up to eight come in at the other. None: memory ran out.
@@ -133,9 +140,8 @@ pub fn carry_by<L: Site, M: Site, F: WireFate + Drop, R: Wait>(
     fate: F,
 ) -> Option<()> {
     let (out, into) = unbounded::<Flying, Global>(alloc).ok()?;
-    let _ = from.pump_loop_by(rt, out, fate, 4);
-    let _ = to.receive_loop(rt, into, 8);
-    Some(())
+    had_memory(from.pump_loop_by(rt, out, fate, 4))?;
+    had_memory(to.receive_loop(rt, into, 8))
 }
 
 /// Both hosts.
@@ -194,10 +200,9 @@ impl<L: Site, M: Site> Pair<L, M> {
     pub fn cross<R: Wait>(&self, rt: &R, alloc: Global) -> Option<()> {
         let (to_one, from_zero) = unbounded::<Flying, Global>(alloc).ok()?;
         let (to_zero, from_one) = unbounded::<Flying, Global>(alloc).ok()?;
-        let _ = self.zero.recorder.pump_loop(rt, to_one, 0, 4);
-        let _ = self.one.recorder.pump_loop(rt, to_zero, 0, 4);
-        let _ = self.one.recorder.receive_loop(rt, from_zero, 4);
-        let _ = self.zero.recorder.receive_loop(rt, from_one, 4);
-        Some(())
+        had_memory(self.zero.recorder.pump_loop(rt, to_one, 0, 4))?;
+        had_memory(self.one.recorder.pump_loop(rt, to_zero, 0, 4))?;
+        had_memory(self.one.recorder.receive_loop(rt, from_zero, 4))?;
+        had_memory(self.zero.recorder.receive_loop(rt, from_one, 4))
     }
 }

@@ -1,13 +1,11 @@
 //! Whole recordings.
 
-ghost use Rattle.std.specs.Prelude.{◌≡◌, false};
-ghost use Rattle.case_forms.specs.Versions.{is_half};
-
 use crate::tests::fates::Drawn;
 use crate::tests::verdicts::answer;
 use case_forms::{Answer, Event, Line, Version};
 use recorder::{Fate, LoseEach, WireFate, merge, receipt_stands};
 use std::alloc::{AllocError, Global};
+use std::ops::Range;
 use std::sync::Wait;
 use std::test::Fail;
 use std::thread::Threads;
@@ -38,11 +36,15 @@ fn are_rounds(told: &[u8], rounds: u16) -> bool {
             .all(|(place, byte)| usize::from(*byte) == place / 64 % 256)
 }
 
+// What is said of a recording whose rounds did not end, and which the checker explains.
+const UNENDED: &str = "a limit was met";
+
 // What is wrong with a recording of so many rounds; `yes` where nothing is.
 fn judge(alloc: Global, recording: &Recording, rounds: u16) -> Result<&'static str, AllocError> {
     let recorded = &recording.recorded;
-    if !recording.ended {
-        return Ok("a limit was met");
+    let said = answer(alloc, recorded)?;
+    if said != "yes" {
+        return Ok(said);
     }
     if !recording
         .receipts
@@ -51,36 +53,28 @@ fn judge(alloc: Global, recording: &Recording, rounds: u16) -> Result<&'static s
     {
         return Ok("a receipt does not stand");
     }
+    if !recording.ended {
+        return Ok(UNENDED);
+    }
     let told = bytes_told(alloc, recorded.trace.lines.as_slice(), 3)?;
-    if !are_rounds(told.as_slice(), rounds) {
-        return Ok("other bytes");
-    }
-    answer(alloc, recorded)
-}
-
-// What is wrong with a recording that is planned so; `yes` where nothing is.
-fn planned<R: Threads + Wait + Sync>(rt: &R, alloc: Global, plan: Plan) -> &'static str
-    requires { is_half plan.version ≡ false }
-{
-    match record(rt, alloc, plan) {
-        Ok(recording) => judge(alloc, &recording, plan.rounds).unwrap_or("out of memory"),
-        Err(_) => "no recording",
-    }
-}
-
-// The recording of a talk in version 1.
-fn talked<F: WireFate + Send + Drop, G: WireFate + Send + Drop, R: Threads + Wait + Sync>(
-    rt: &R,
-    alloc: Global,
-    talk: Talk<F, G>,
-) -> Result<Recording, RecordFault> {
-    let books = record_books(rt, alloc, Version::One, talk)?;
-    let recorded = merge(alloc, books.zero, books.one)?;
-    Ok(Recording {
-        recorded,
-        ended: books.ended,
-        receipts: books.receipts,
+    Ok(if are_rounds(told.as_slice(), rounds) {
+        "yes"
+    } else {
+        "other bytes"
     })
+}
+
+// What becomes of the segments of two hosts that talk.
+#[derive(Clone, Copy, Debug, PartialEq, Eq)]
+enum Way {
+    // Each segment of this count is lost, none where it is 0.
+    Losing(u32),
+    // The same, in version 2.
+    LosingScaled(u32),
+    // Fates in turn.
+    InTurn,
+    // Fates drawn from a seed.
+    Drawn(u32),
 }
 
 // Twice, behind two others, lost, and passed twice, in turn.
@@ -101,89 +95,138 @@ impl WireFate for InTurn {
     }
 }
 
-// What is wrong with two rounds whose segments have fates drawn from a seed; `yes` where nothing is.
-fn by_chance<R: Threads + Wait + Sync>(rt: &R, alloc: Global, seed: u32) -> &'static str {
-    let wire = |state| Wire {
-        fate: Drawn::new(state),
+// The recording of a talk in version 1.
+fn talked<F: WireFate + Send + Drop, G: WireFate + Send + Drop, R: Threads + Wait + Sync>(
+    rt: &R,
+    alloc: Global,
+    talk: Talk<F, G>,
+) -> Result<Recording, RecordFault> {
+    let books = record_books(rt, alloc, Version::One, talk)?;
+    let recorded = merge(alloc, books.zero, books.one)?;
+    Ok(Recording {
+        recorded,
+        ended: books.ended,
+        receipts: books.receipts,
+    })
+}
+
+// The recording of so many rounds in version 1, with these fates there and back.
+fn fated<F: WireFate + Send + Drop, R: Threads + Wait + Sync>(
+    rt: &R,
+    alloc: Global,
+    rounds: u16,
+    there: F,
+    back: F,
+) -> Result<Recording, RecordFault> {
+    let there = Wire {
+        fate: there,
         taken: MOST,
     };
-    let talk = Talk {
-        rounds: 2,
-        there: wire(seed),
-        back: wire(!seed),
+    let back = Wire {
+        fate: back,
+        taken: MOST,
     };
-    match talked(rt, alloc, talk) {
-        Ok(recording) => judge(alloc, &recording, 2).unwrap_or("out of memory"),
-        Err(_) => "no recording",
+    talked(
+        rt,
+        alloc,
+        Talk {
+            rounds,
+            there,
+            back,
+        },
+    )
+}
+
+// The recording of so many rounds.
+fn recording_of<R: Threads + Wait + Sync>(
+    rt: &R,
+    alloc: Global,
+    rounds: u16,
+    way: Way,
+) -> Result<Recording, RecordFault> {
+    let plan = |lose, version| Plan {
+        rounds,
+        lose,
+        version,
+    };
+    match way {
+        Way::Losing(lose) => record(rt, alloc, plan(lose, Version::One)),
+        Way::LosingScaled(lose) => record(rt, alloc, plan(lose, Version::Two)),
+        Way::InTurn => fated(rt, alloc, rounds, InTurn { turn: 0 }, InTurn { turn: 0 }),
+        Way::Drawn(seed) => fated(rt, alloc, rounds, Drawn::new(seed), Drawn::new(!seed)),
     }
+}
+
+// How often a talk is recorded whose rounds do not end. The clocks of both hosts go on while the system lets another thread of theirs wait, so
+// where it waits for long a host gives up.
+const TRIES: u32 = 5;
+
+// What is wrong with a talk of so many rounds; `yes` where nothing is. Each recording is explained, also one whose rounds did not end.
+fn said<R: Threads + Wait + Sync>(rt: &R, alloc: Global, rounds: u16, way: Way) -> &'static str {
+    for _ in 0..TRIES {
+        let said = match recording_of(rt, alloc, rounds, way) {
+            Ok(recording) => judge(alloc, &recording, rounds).unwrap_or("out of memory"),
+            Err(_) => "no recording",
+        };
+        if said != UNENDED {
+            return said;
+        }
+    }
+    UNENDED
+}
+
+// Talks with fates drawn from so many seeds. A test has a minute, which a busy machine may need for a hundred.
+fn draws<R: Threads + Wait + Sync>(
+    rt: &R,
+    alloc: Global,
+    seeds: Range<u32>,
+) -> (u32, &'static str) {
+    for seed in seeds {
+        let said = said(rt, alloc, 2, Way::Drawn(seed));
+        if said != "yes" {
+            return (seed, said);
+        }
+    }
+    (0, "yes")
 }
 
 #[test]
 fn drawn_fates_are_explained(rt: HostRuntime) -> Result<(), Fail> {
-    for seed in 0..200 {
-        assert_eq!(rt; by_chance(&rt, rt.alloc(), seed), "yes", "seed {seed}");
-    }
+    assert_eq!(rt; draws(&rt, rt.alloc(), 0..100), (0, "yes"));
+    Ok(())
+}
+
+#[test]
+fn further_drawn_fates_are_explained(rt: HostRuntime) -> Result<(), Fail> {
+    assert_eq!(rt; draws(&rt, rt.alloc(), 100..200), (0, "yes"));
     Ok(())
 }
 
 #[test]
 fn rounds_with_losses_are_explained(rt: HostRuntime) -> Result<(), Fail> {
-    for lose in [3, 0, 2, 5, 50] {
-        let plan = Plan {
-            rounds: 20,
-            lose,
-            version: Version::One,
-        };
-        assert_eq!(rt; planned(&rt, rt.alloc(), plan), "yes", "each {lose}th lost");
+    for (rounds, way) in [
+        (20, Way::Losing(3)),
+        (20, Way::Losing(0)),
+        (20, Way::Losing(2)),
+        (20, Way::Losing(5)),
+        (20, Way::Losing(50)),
+        (20, Way::LosingScaled(3)),
+        (20, Way::LosingScaled(0)),
+        (1_000, Way::LosingScaled(50)),
+        (20, Way::InTurn),
+    ] {
+        assert_eq!(rt; said(&rt, rt.alloc(), rounds, way), "yes", "{way:?}");
     }
     Ok(())
 }
 
 #[test]
 fn a_recording_that_does_not_end_is_explained(rt: HostRuntime) -> Result<(), Fail> {
-    let plan = Plan {
-        rounds: 20,
-        lose: 1,
-        version: Version::One,
-    };
-    let said = match record(&rt, rt.alloc(), plan) {
-        Ok(recording) if recording.ended => "it ended as ever",
-        Ok(recording) => answer(rt.alloc(), &recording.recorded)?,
-        Err(_) => "no recording",
-    };
-    assert_eq!(rt; said, "yes", "all segments lost");
-    Ok(())
-}
-
-#[test]
-fn version_2_is_explained(rt: HostRuntime) -> Result<(), Fail> {
-    for (rounds, lose) in [(20, 3), (20, 0), (1_000, 50)] {
-        let plan = Plan {
-            rounds,
-            lose,
-            version: Version::Two,
-        };
-        assert_eq!(rt; planned(&rt, rt.alloc(), plan), "yes", "each {lose}th lost");
-    }
-    Ok(())
-}
-
-#[test]
-fn fates_in_turn_are_explained(rt: HostRuntime) -> Result<(), Fail> {
-    let wire = Wire {
-        fate: InTurn { turn: 0 },
-        taken: MOST,
-    };
-    let talk = Talk {
-        rounds: 20,
-        there: wire,
-        back: wire,
-    };
-    let said = match talked(&rt, rt.alloc(), talk) {
+    let said = match recording_of(&rt, rt.alloc(), 20, Way::Losing(1)) {
         Ok(recording) => judge(rt.alloc(), &recording, 20)?,
         Err(_) => "no recording",
     };
-    assert_eq!(rt; said, "yes");
+    assert_eq!(rt; said, UNENDED, "all segments lost");
     Ok(())
 }
 
@@ -195,10 +238,9 @@ fn a_channel_that_closes_ends_all(rt: HostRuntime) -> Result<(), Fail> {
         back: Wire::losing(0, MOST),
     };
     let said = match talked::<LoseEach, LoseEach, HostRuntime>(&rt, rt.alloc(), talk) {
-        Ok(recording) if recording.ended => "it ended as ever",
-        Ok(recording) => answer(rt.alloc(), &recording.recorded)?,
+        Ok(recording) => judge(rt.alloc(), &recording, 20)?,
         Err(_) => "no recording",
     };
-    assert_eq!(rt; said, "yes");
+    assert_eq!(rt; said, UNENDED);
     Ok(())
 }

@@ -4,7 +4,7 @@ ghost use Rattle.std.specs.Prelude.{◌≡◌};
 ghost use Rattle.case_forms.specs.declared.calls.Host.TheVariants.{Zero, One};
 ghost use Rattle.hosts.specs.Tables.{lane};
 
-use crate::tests::pair::{Pair, Side, carry_by};
+use crate::tests::pair::{Pair, Side, carry_by, had_memory};
 use case_forms::{Answer, Call, Host};
 use crossbeam_channel::unbounded;
 use recorder::{Fate, Flying, Recorder, Site, WireFate};
@@ -76,9 +76,9 @@ pub fn comes_in_after<L: Site, M: Site, R: Wait>(
 {
     let _ = pair.zero.socket(rt, Call::Connect(Host::Zero, 4_000, 80))?;
     let (out, into) = unbounded::<Flying, Global>(alloc).ok()?;
-    let _ = pair.zero.recorder.pump_loop(rt, out, 0, 1);
+    had_memory(pair.zero.recorder.pump_loop(rt, out, 0, 1))?;
     let _ = pair.one.recorder.timer_loop(rt, milliseconds);
     let before = events(rt, &pair.one);
-    let _ = pair.one.recorder.receive_loop(rt, into, 1);
+    had_memory(pair.one.recorder.receive_loop(rt, into, 1))?;
     Some(before < events(rt, &pair.one))
 }
