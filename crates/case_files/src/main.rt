@@ -55,7 +55,8 @@ fn main(rt: HostRuntime) -> io::Result<ExitCode> {
     }
     let long = cases.len().saturating_sub(files).saturating_sub(others);
     println!(rt;
-        "{files} case files, {others} beginnings of two of them, {long} long lines, {pairs} pairs of texts and {rows} command lines are answered as wanted, and {told} cases explained, shown or drawn as wanted"
+        "{files} case files, {others} beginnings of two of them, {long} long lines, {pairs} pairs of texts and {rows} command lines are \
+            answered as wanted, and {told} cases explained, shown or drawn as wanted"
     )?;
     Ok(ExitCode::SUCCESS)
 }

@@ -37,7 +37,8 @@ pub fn record_or_run<R: BufRead, W: Write, H: Threads + Wait + Sync>(
 ) -> u8
     requires { (failures_of r.old < 2 ^ 50) × (failures_of w.old < 2 ^ 50) }
     ensures check { AsksCheck (map (λ word. word.now) words.now) → result ≢ 5 →
-        IfSome (left_of R.remaining r.old) (λ text. Ends (status_of (case_result text)) (line_of (case_result text)) result (left_of W.contents w.old) (left_of W.contents w.new)) }
+        IfSome (left_of R.remaining r.old) (λ text.
+        Ends (status_of (case_result text)) (line_of (case_result text)) result (left_of W.contents w.old) (left_of W.contents w.new)) }
     ensures segment { (text : List ℕ) → AsksSegment (map (λ word. word.now) words.now) text → result ≢ 5 →
         Ends (segment_status (segment_in text)) (segment_line (segment_in text)) result (left_of W.contents w.old) (left_of W.contents w.new) }
     ensures recorded { (plan : Plan) → AsksRecord (map (λ word. word.now) words.now) plan → result ≢ 5 →
