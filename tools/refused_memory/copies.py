@@ -1,0 +1,80 @@
+#!/usr/bin/env python3
+"""Refuses memory to a recording whose segments are sent twice, at each request in turn.
+
+    copies.py TESTS [--most N] [--jobs N]
+
+TESTS is the program of the tests of `record_tests`, which `rt test` in that crate leaves in `out/`. A segment that is sent twice is
+copied, and where memory is refused for the copy the segment goes once: so the test passes all the same. Where another request is
+refused there is no recording, or memory runs out, and the test says so. Anything else (a case that is not answered yes, another signal than
+that of a test that fails, a run of more than 60 seconds) is wrong and is printed. The last line has the counts; the exit status is 1 where a run was wrong, or where
+no refusal met a copy.
+"""
+import argparse
+import concurrent.futures
+import os
+import signal
+import subprocess
+import sys
+import tempfile
+
+HERE = os.path.dirname(os.path.abspath(__file__))
+sys.path.insert(0, HERE)
+
+from sweep import built_library
+
+TEST = "tests::turns::segments_sent_twice_are_explained"
+
+# What the test says where memory ran out elsewhere.
+ENDED = ("no books", "out of memory", "another answer")
+
+
+def run(program, library, environment):
+    """The status and what was printed, or None where it took too long."""
+    surroundings = {"PATH": os.environ.get("PATH", ""), "LD_PRELOAD": library, **environment}
+    try:
+        done = subprocess.run([program, TEST], stdout=subprocess.PIPE, stderr=subprocess.STDOUT, env=surroundings, timeout=60)
+    except subprocess.TimeoutExpired:
+        return None
+    return done.returncode, done.stdout.decode(errors="replace")
+
+
+def told(answer):
+    """What a run says: `copy` where the test passed, `ended` where memory ran out elsewhere, None where it is wrong."""
+    if answer is None:
+        return None
+    status, text = answer
+    if status == 0:
+        return "copy"
+    # What is asserted and false aborts the test.
+    is_told = any(f'left: "{word}"' in text for word in ENDED)
+    return "ended" if status == -signal.SIGABRT and is_told else None
+
+
+def main():
+    words = argparse.ArgumentParser(description=__doc__.splitlines()[0])
+    words.add_argument("tests")
+    words.add_argument("--most", type=int, default=4000)
+    words.add_argument("--jobs", type=int, default=os.cpu_count())
+    words = words.parse_args()
+    program = os.path.abspath(words.tests)
+    with tempfile.TemporaryDirectory() as folder, concurrent.futures.ThreadPoolExecutor(words.jobs) as pool:
+        library = built_library(folder)
+        counts = os.path.join(folder, "count")
+        plain = run(program, library, {"REFUSE_COUNT": counts})
+        if plain is None or plain[0] != 0:
+            print(f"without refusal: {plain}")
+            return 1
+        with open(counts) as file:
+            count = int(file.read())
+        asked = range(1, count + 1, max(1, (count + words.most - 1) // words.most))
+        answers = list(pool.map(lambda n: run(program, library, {"REFUSE_AT": str(n)}), asked))
+    wrong = [f"the request {n}: {answer}" for n, answer in zip(asked, answers) if told(answer) is None]
+    copies = sum(told(answer) == "copy" for answer in answers)
+    for text in wrong:
+        print(text)
+    print(f"{count} requests, {len(answers)} refused: {copies} for a copy, {len(wrong)} wrong")
+    return 1 if wrong or copies == 0 else 0
+
+
+if __name__ == "__main__":
+    sys.exit(main())

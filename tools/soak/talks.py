@@ -1,0 +1,84 @@
+#!/usr/bin/env python3
+"""Lets two recorded hosts talk by chance, many times, and checks each recording.
+
+    talks.py [--first SEED] [--count N]
+
+Copies the repository's last commit into a folder of its own, adds the program below as a crate beside the talks of `record_tests`, and
+runs it by `rt try`, which proves nothing. Each seed draws what becomes of the segments of one talk. Where `check` does not say yes of a
+recording, or a host is told other bytes than it should be, the seed is printed, and the exit status is 1.
+"""
+import argparse
+import pathlib
+import subprocess
+import sys
+import tempfile
+
+# Talks that one run of the program makes: its memory and its time are limited.
+TALKS = 500
+
+PROGRAM = '''
+//! Talks by chance, each of which the checker has to explain.
+#![tactic(auto)]
+
+mod tests;
+
+use crate::tests::kinds::Kinds;
+use crate::tests::turns::said_by_chance;
+
+fn main(rt: HostRuntime) -> std::io::Result<()> {
+    let mut kinds = Kinds::none();
+    let mut seed = FIRSTu32;
+    for _ in 0..COUNTu32 {
+        let said = said_by_chance(&rt, rt.alloc(), seed, &mut kinds);
+        if said != "yes" {
+            println!(rt; "seed {seed}: {said}")?;
+        }
+        seed += 1;
+    }
+    println!(rt; "{kinds:?}")?;
+    Ok(())
+}
+'''
+
+
+def talked(folder, first, count):
+    """What the program printed of these seeds: its lines."""
+    crate = pathlib.Path(folder, "crates", "talks")
+    program = PROGRAM.lstrip().replace("FIRST", str(first)).replace("COUNT", str(count))
+    (crate / "src" / "main.rt").write_text(program)
+    done = subprocess.run(["rt", "try", "--seconds", "3600"], cwd=crate, stdout=subprocess.PIPE, text=True, check=False)
+    return [line for line in done.stdout.splitlines() if line.startswith(("seed ", "Kinds "))]
+
+
+def prepare(folder):
+    """The last commit, with a crate that has the modules of the tests, where nothing else names them."""
+    top = pathlib.Path(__file__).resolve().parent.parent.parent
+    commit = subprocess.run(["git", "-C", top, "archive", "HEAD"], stdout=subprocess.PIPE, check=True).stdout
+    subprocess.run(["tar", "x", "-C", folder], input=commit, check=True)
+    lines = pathlib.Path(folder, "crates.txt")
+    lines.write_text(lines.read_text().replace("record_tests tests_may=Threads+Wait:", "talks:"))
+    crates = pathlib.Path(folder, "crates")
+    (crates / "record_tests").rename(crates / "talks")
+    (crates / "talks" / "src" / "lib.rt").unlink()
+    tests = crates / "talks" / "src" / "tests.rt"
+    tests.write_text(tests.read_text().replace("\nmod ", "\npub mod "))
+
+
+def main():
+    parser = argparse.ArgumentParser()
+    parser.add_argument("--first", type=int, default=0)
+    parser.add_argument("--count", type=int, default=TALKS)
+    given = parser.parse_args()
+    failed = 0
+    with tempfile.TemporaryDirectory() as folder:
+        prepare(folder)
+        for first in range(given.first, given.first + given.count, TALKS):
+            count = min(TALKS, given.first + given.count - first)
+            told = talked(folder, first, count)
+            failed += len(told) != 1
+            print(f"seeds {first} to {first + count - 1}:", *told or ["the program did not end"], sep="\n    ", flush=True)
+    return 1 if failed else 0
+
+
+if __name__ == "__main__":
+    sys.exit(main())
