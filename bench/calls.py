@@ -1,0 +1,28 @@
+#!/usr/bin/env python3
+"""Writes a case of calls one behind the other, to standard output.
+
+One thread asks for the state of a socket number that is nobody's, each time at a moment of its own. The argument is how often,
+100,000 where it is missing. The verdict on N calls is `yes A B` with A = 2 N and B = N.
+"""
+
+import sys
+
+HEADER = "trace 1\nskew 0\nmsl 120000000\ngrain 1000\nminrto 1000000\nextra 0\n"
+FIRST_EVENT_LINE = 7
+PIECE = 10_000
+
+
+def main():
+    count = int(sys.argv[1]) if len(sys.argv) > 1 else 100_000
+    write = sys.stdout.write
+    write(HEADER)
+    for first in range(0, count, PIECE):
+        write("".join(f"{n} 1 B status 5\n{n} 1 E badsocket\n" for n in range(first, min(first + PIECE, count))))
+    write("witness 1\n")
+    for first in range(0, count, PIECE):
+        lines = ((n, FIRST_EVENT_LINE + 2 * n) for n in range(first, min(first + PIECE, count)))
+        write("".join(f"{n} L {line}\n{n} D 1 badsocket\n{n} L {line + 1}\n" for n, line in lines))
+
+
+if __name__ == "__main__":
+    main()
