@@ -38,11 +38,6 @@ earlier_is es thread n link o h = by_test (list_any (λ e. nat_lt e.0 n && e.1.t
                 let found : list_any (λ e. nat_lt e.0 n && e.1.thread == thread) (lines_of es) ≡ true = any_at (λ e. nat_lt e.0 n && e.1.thread == thread) p w es here passes in
                 absurd cc
 
--- whether an earlier line of its thread waits too, by the entry that waits under a number
-pub earlier_at : (es : List (ℕ × Waiting)) (n : ℕ) (w : Waiting) → IsStrictlySortedBy nat_cmp (keys_of es) → waiting_at es n ≡ Some w → Leads (waiting_at es) w.line.thread n w.previous
-    → is_some (option_and_then (waiting_at es) w.previous) ≡ option_map_or (λ line. list_any (λ e. nat_lt e.0 n && e.1.thread == line.thread) (lines_of es)) (lookup (nat_eq n) (lines_of es)) false
-earlier_at es n w o at h = rw (line_is n es, at) (earlier_is es w.line.thread n w.previous o h)
-
 pub none_earlier : (es : List (ℕ × Waiting)) (n : ℕ) (w : Waiting) → waiting_at es n ≡ Some w
     → option_map_or (λ line. list_any (λ e. nat_lt e.0 n && e.1.thread == line.thread) (lines_of es)) (lookup (nat_eq n) (lines_of es)) false ≡ false
     → list_any (λ e. nat_lt e.0 n && e.1.thread == w.line.thread) (lines_of es) ≡ false

@@ -9,21 +9,21 @@
 //!   names does not wait.
 //! - Moments don't fall along the lines, so some line is overdue exactly where the first that waits is.
 
-ghost use Rattle.std.specs.Prelude.{◌≡◌, ℕ, ◌+◌, ◌<◌, ◌≤◌, ◌^◌, [], length, All, IsSome, IfOk, OnOk, OnErr, None, Some, false};
+ghost use Rattle.std.specs.Prelude.{◌≡◌, ℕ, ◌+◌, ◌<◌, ◌≤◌, ◌^◌, [], length, All, IsSome, IfOk, OnOk, OnErr, IfSome, None, Some, false};
 ghost use Rattle.std.specs.Prelude.{true, cond, is_some, nat_eq, nat_lt, slice_get};
 ghost use Rattle.std.specs.Ordering.{nat_cmp};
 ghost use Rattle.std.specs.BTreeMap.{get};
-ghost use Rattle.std.specs.Option.{option_copied, option_map, option_map_or};
+ghost use Rattle.std.specs.Option.{option_and_then, option_map};
 ghost use Rattle.std.specs.Result.{result_err};
 ghost use Rattle.case_forms.specs.Traces.{first_event_line};
 ghost use Rattle.verdict.specs.Rules.{first_broken};
 ghost use Rattle.interval_order.specs.Orders.{taking, passing, held_line, is_offered, with_line, order_after};
 ghost use Rattle.interval_order.specs.Later.{waits, late_by, IsTimed};
-ghost use Rattle.interval_order.specs.Waits.{latest_in};
+ghost use Rattle.interval_order.specs.Waits.{latest_in, waiting_at};
 ghost use Rattle.interval_order.specs.OrderRules.{extras_of, has_earlier, thread_order, order_rules, has_overdue, first_overdue};
 
 use case_forms::{Event, Header, Line, OutOfMemory, Timer, Version};
-use std::alloc::Global;
+use std::alloc::{AllocError, Global};
 use std::collections::BTreeMap;
 use std::marker::Model;
 use verdict::Rule;
@@ -87,12 +87,17 @@ impl Window {
     {
         let number = line.number;
         let thread = line.thread;
-        let previous = latest_of(&self.latest, thread);
-        make_place(&mut self.latest, thread)?;
-        self.waiting.insert(number, Waiting { line, previous })?;
-        note(&mut self.latest, thread, number);
-        self.next = number + 1;
-        Ok(())
+        let previous = note(&mut self.latest, thread, number)?;
+        match self.waiting.insert(number, Waiting { line, previous }) {
+            Ok(_) => {
+                self.next = number + 1;
+                Ok(())
+            }
+            Err(_) => {
+                put_back(&mut self.latest, thread, previous);
+                Err(AllocError)
+            }
+        }
     }
 
     /// Takes a line for a step at this moment, which is followed by that many extra numbers. The window no longer holds it. Where
@@ -199,13 +204,13 @@ impl Window {
         if !self.is_offered(number) {
             return Err(Rule::LineRange);
         }
-        let Some(line) = self.line(number) else {
+        let Some((line, is_second)) = self.line(number) else {
             return Err(Rule::LineAgain);
         };
         if extras != extras_of(self.header.version, &line.event) {
             return Err(Rule::LineRange);
         }
-        if self.has_earlier(number) {
+        if is_second {
             return Err(Rule::ThreadOrder);
         }
         if moment < self.last {
@@ -226,26 +231,14 @@ impl Window {
         self.header.first_event_line() <= number && number < self.next
     }
 
-    // The line of that number, if it waits.
-    fn line(&self, number: u64) -> Option<&Line>
-        ensures { option_copied result ≡ held_line self.now number }
+    // The line of that number, if it waits, and whether an earlier line of its thread does too.
+    fn line(&self, number: u64) -> Option<(&Line, bool)>
+        ensures line { option_map (λ found. found.0.now) result ≡ held_line self.now number }
+        ensures second { IfSome result (λ found. found.1 ≡ has_earlier self.now number found.0.now.thread) }
     {
         match self.waiting.get(&number) {
-            Some(waiting) => Some(&waiting.line),
+            Some(waiting) => Some((&waiting.line, is_held(&self.waiting, waiting.previous))),
             None => None,
-        }
-    }
-
-    // Whether the line waits, and an earlier line of its thread too.
-    fn has_earlier(&self, number: u64) -> bool
-        ensures { result ≡ option_map_or (λ line. has_earlier self.now number line.thread) (held_line self.now number) false }
-    {
-        match self.waiting.get(&number) {
-            Some(waiting) => match waiting.previous {
-                Some(previous) => self.waiting.contains_key(&previous),
-                None => false,
-            },
-            None => false,
         }
     }
 
@@ -264,6 +257,16 @@ impl Window {
     }
 }
 
+// Whether the line waits that is named, if one is.
+fn is_held(waiting: &BTreeMap<u64, Waiting>, number: Option<u64>) -> bool
+    ensures { result ≡ is_some (option_and_then (waiting_at waiting.now.entries) number) }
+{
+    match number {
+        Some(number) => waiting.contains_key(&number),
+        None => false,
+    }
+}
+
 // The number of the last line of a thread.
 fn latest_of(latest: &BTreeMap<u32, Option<u64>>, thread: u32) -> Option<u64>
     ensures { result ≡ latest_in latest.now.entries thread }
@@ -274,23 +277,29 @@ fn latest_of(latest: &BTreeMap<u32, Option<u64>>, thread: u32) -> Option<u64>
     }
 }
 
-// A thread has its place in the table then. Its last line stays what it was.
-fn make_place(latest: &mut BTreeMap<u32, Option<u64>>, thread: u32) -> Result<(), OutOfMemory>
-    ensures same { (t : ℕ) → latest_in latest.new.entries t ≡ latest_in latest.old.entries t }
+// A line is the last one of its thread. The result is the one that was.
+fn note(
+    latest: &mut BTreeMap<u32, Option<u64>>,
+    thread: u32,
+    number: u64,
+) -> Result<Option<u64>, OutOfMemory>
+    ensures last { IfOk result (λ previous. previous ≡ latest_in latest.old.entries thread) }
+    ensures ok { OnOk result ((t : ℕ) → latest_in latest.new.entries t ≡ cond (nat_eq thread t) (Some number) (latest_in latest.old.entries t)) }
     ensures there { OnOk result (is_some (get nat_cmp latest.new thread) ≡ true) }
+    ensures err { OnErr result ((t : ℕ) → latest_in latest.new.entries t ≡ latest_in latest.old.entries t) }
 {
-    if !latest.contains_key(&thread) {
-        latest.insert(thread, None)?;
+    match latest.insert(thread, Some(number))? {
+        Some(previous) => Ok(previous),
+        None => Ok(None),
     }
-    Ok(())
 }
 
-// A line of a thread that has its place is the last one.
-fn note(latest: &mut BTreeMap<u32, Option<u64>>, thread: u32, number: u64)
+// The last line of a thread, which has its place in the table, is the one that was.
+fn put_back(latest: &mut BTreeMap<u32, Option<u64>>, thread: u32, previous: Option<u64>)
     requires { is_some (get nat_cmp latest.old thread) ≡ true }
-    ensures { (t : ℕ) → latest_in latest.new.entries t ≡ cond (nat_eq thread t) (Some number) (latest_in latest.old.entries t) }
+    ensures { (t : ℕ) → latest_in latest.new.entries t ≡ cond (nat_eq thread t) previous (latest_in latest.old.entries t) }
 {
-    match latest.insert(thread, Some(number)) {
+    match latest.insert(thread, previous) {
         Ok(_) => {}
         Err(_) => unreachable!(),
     }
