@@ -1,6 +1,6 @@
 //! What one host recorded, with the count of its answers.
 
-ghost use Rattle.std.specs.Prelude.{◌≡◌, ◌+◌, ◌<◌, ◌≤◌, true, IfNone, IfOk, OnErr};
+ghost use Rattle.std.specs.Prelude.{◌≡◌, ◌↔◌, ◌+◌, ◌<◌, ◌≤◌, true, IsTrue, IfNone, IfOk, OnErr};
 ghost use Rattle.std.specs.Option.{IfSome};
 ghost use Rattle.hosts.specs.Hosts.{Idle, turn_of};
 ghost use Rattle.hosts.specs.Tables.{lane};
@@ -96,7 +96,7 @@ impl HostBook {
 
     // Whether a thread is in no call.
     pub(crate) fn is_idle(&self, thread: u32, call: &Call) -> bool
-        ensures { result ≡ true → turn_of thread (world self.now.core).threads ≡ Idle }
+        ensures { IsTrue result ↔ (turn_of thread (world self.now.core).threads ≡ Idle) }
     {
         self.core.recording().admits_begin(thread, call)
     }

@@ -1,6 +1,6 @@
 //! What one host recorded, and the world to which it leads.
 
-ghost use Rattle.std.specs.Prelude.{◌≡◌, ◌<◌, ◌≤◌, [], length, nat_eq, true, OnOk, OnErr};
+ghost use Rattle.std.specs.Prelude.{◌≡◌, ◌↔◌, IsTrue, ◌<◌, ◌≤◌, [], length, nat_eq, true, OnOk, OnErr};
 ghost use Rattle.std.specs.Map.{lookup};
 ghost use Rattle.std.specs.Option.{IfSome, option_copied};
 ghost use Rattle.std.specs.Result.{result_err};
@@ -126,7 +126,7 @@ impl Recording {
 
     /// Whether a thread is in no call, so that it may begin this one.
     pub fn admits_begin(&self, thread: u32, call: &Call) -> bool
-        ensures { result ≡ true → turn_of thread (world_left self.now).threads ≡ Idle }
+        ensures { IsTrue result ↔ (turn_of thread (world_left self.now).threads ≡ Idle) }
     {
         self.world.admits_begin(thread, call).is_ok()
     }

@@ -25,6 +25,19 @@ pub fn recovers(steps: &[Step]) -> bool {
     false
 }
 
+/// Whether the first SYN that host 0 sends from this port has that sequence number.
+pub fn opens_with(lines: &[Line], port: u16, number: u32) -> bool {
+    for line in lines {
+        match &line.event {
+            Event::Sent(Host::Zero, wire) if wire.seg.has(Flag::Syn) && wire.seg.src == port => {
+                return wire.seg.seq.0 == number;
+            }
+            _ => {}
+        }
+    }
+    false
+}
+
 /// How often each kind of event appeared in talks by chance.
 #[derive(Clone, Copy, Debug, PartialEq, Eq)]
 pub struct Kinds {

@@ -14,6 +14,9 @@ use std::alloc::Global;
 use std::sync::Wait;
 use std::sync::ledger::Blank;
 
+/// The initial send sequence number of a host's first connection.
+pub const FIRST_ISS: u32 = 7;
+
 // A socket number of the thread's own host.
 #[tactic(auto, using(two_hosts::proofs::Lanes::same_lane))]
 fn own_socket(thread: u32, socket: u32) -> Option<u32>
@@ -59,7 +62,7 @@ impl<L: Site> Side<L> {
         let config = CoreConfig {
             mss: 536,
             ring: 4_096,
-            first_iss: 7,
+            first_iss: FIRST_ISS,
             shift: None,
         };
         let recorder: Recorder<L> = Recorder::new(alloc, host, header, config, blank);

@@ -7,8 +7,8 @@ ghost use Rattle.record_tests.specs.Scenes.{test_header};
 
 use crate::tests::chances::talk_by_chance;
 use crate::tests::endings::{close_at_once, lose_the_first, probe_a_window};
-use crate::tests::kinds::{Kinds, expiries, recovers};
-use crate::tests::pair::{Pair, Side};
+use crate::tests::kinds::{Kinds, expiries, opens_with, recovers};
+use crate::tests::pair::{FIRST_ISS, Pair, Side};
 use crate::tests::verdicts::answer;
 use crate::tests::wires::{all_twice, comes_in_after};
 use case_forms::{Answer, Call, Header, Host, Initial, Timer, Version};
@@ -26,7 +26,7 @@ enum Scene {
     Refused,
     // The accepted endpoint is aborted.
     Reset,
-    // Two children wait in a queue for one.
+    // Two children wait in a queue for one. Host 0 opens both, the second with an initial number that is 65,536 more.
     TwoChildren,
     // One connection, between these ports.
     Connected(u16, u16),
@@ -198,9 +198,11 @@ fn shows(recorded: &Recorded, scene: Scene) -> bool {
         Scene::CloseAtOnce => expiries(lines, Timer::Msl2) == 2,
         Scene::Probe => expiries(lines, Timer::Persist) > 0,
         Scene::Recovery => recovers(recorded.witness.steps.as_slice()),
+        Scene::TwoChildren => {
+            opens_with(lines, 4_000, FIRST_ISS) && opens_with(lines, 4_001, FIRST_ISS + 65_536)
+        }
         Scene::Refused
         | Scene::Reset
-        | Scene::TwoChildren
         | Scene::Connected(_, _)
         | Scene::Twice
         | Scene::Away(_, _)
