@@ -5,7 +5,7 @@
 //! event says exactly what it adds (`specs/*Events`), and what it leaves where memory ran out. Whatever is added may join what is
 //! there, so the entries are a run of the host after every event (`IsRecorded`); what two cores recorded of each other, merged,
 //! is a run of both and a placement of its lines (crate `recordings`). What a core chooses among the permitted steps is no
-//! contract's matter, but for what `docs/MACHINE.md` says of it.
+//! contract's matter, but for what `docs/STACK.md` says of it.
 //!
 //! - `tick`, `flying`, `item`, `entry`: when events are, segments on their way, and what a recording has
 //! - `recording`: the entries of one host, with the world that they leave
