@@ -17,6 +17,7 @@ use counted::Counted;
 use line_fields::ReadFault;
 use std::alloc::Global;
 use std::io::BufRead;
+use std::mem::replace;
 use trace_reader::TraceReader;
 
 /// A trace, and its next line.
@@ -96,11 +97,11 @@ impl<A: BufRead> Ahead<A> {
         ensures read { result ≡ Err CaseFault.Read → failures_of (source_ahead self.new) ≡ one_more (failures_of (source_ahead self.old)) }
         ensures same { result ≢ Err CaseFault.Read → failures_of (source_ahead self.new) ≡ failures_of (source_ahead self.old) }
     {
-        let Some(line) = self.line.take() else {
+        if self.line.is_none() {
             return Ok(None);
-        };
-        self.line = next_line(&mut self.reader)?;
-        Ok(Some(line))
+        }
+        let next = next_line(&mut self.reader)?;
+        Ok(replace(&mut self.line, next))
     }
 
     // Passes the line that was read ahead. False where there is none.

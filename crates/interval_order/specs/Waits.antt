@@ -1,10 +1,10 @@
 -- What a window keeps true of the lines that wait.
-use Rattle.std.specs.Prelude.{◌≡◌, ℕ, ◌<◌, ◌≤◌, All, map, List, Option, Some}
+use Rattle.std.specs.Prelude.{◌≡◌, ℕ, ◌<◌, ◌≤◌, All, map, nat_eq, List, Option, None, Some}
 use Rattle.std.specs.List.Sorted.{IsStrictlySortedBy, IsNonDecreasingBy}
 use Rattle.std.specs.Ordering.{nat_cmp}
 use Rattle.std.specs.Map.{keys_of, lookup}
 use Rattle.std.specs.BTreeMap.{is_at}
-use Rattle.std.specs.Option.{option_flatten}
+use Rattle.tables.specs.Tables.{Table}
 use Rattle.case_forms.specs.declared.trace.Line.{Line}
 use Rattle.interval_order.specs.declared.window.Waiting.{Waiting}
 
@@ -17,8 +17,12 @@ abbrev pub waiting_at : List (ℕ × Waiting) → ℕ → Option Waiting
 waiting_at entries n = lookup (is_at (nat_cmp n)) entries
 
 -- the number of the last line of a thread, where a table has one
-abbrev pub latest_in : List (ℕ × Option ℕ) → ℕ → Option ℕ
-latest_in entries thread = option_flatten (lookup (is_at (nat_cmp thread)) entries)
+abbrev pub latest_in : List (ℕ × ℕ) → ℕ → Option ℕ
+latest_in entries thread = lookup (nat_eq thread) entries
+
+-- the number of a thread's last line can be changed with no more memory
+abbrev pub HasRoom : Table ℕ → ℕ → Type 0
+HasRoom latest thread = (latest_in latest.entries thread ≡ None) → latest.ready ≡ Some thread
 
 -- of the lines of a thread that wait and stand before the number, the link names the last
 pub record Leads (waiting : ℕ → Option Waiting) (thread number : ℕ) (link : Option ℕ) : Type 0 where

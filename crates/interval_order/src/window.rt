@@ -10,22 +10,21 @@
 //! - Moments don't fall along the lines, so some line is overdue exactly where the first that waits is.
 
 ghost use Rattle.std.specs.Prelude.{◌≡◌, ℕ, ◌+◌, ◌<◌, ◌≤◌, ◌^◌, [], length, All, IsSome, IfOk, OnOk, OnErr, IfSome, None, Some, false};
-ghost use Rattle.std.specs.Prelude.{true, cond, is_some, nat_eq, nat_lt, slice_get};
-ghost use Rattle.std.specs.Ordering.{nat_cmp};
-ghost use Rattle.std.specs.BTreeMap.{get};
+ghost use Rattle.std.specs.Prelude.{cond, is_some, nat_eq, nat_lt, slice_get};
 ghost use Rattle.std.specs.Option.{option_and_then, option_map};
 ghost use Rattle.std.specs.Result.{result_err};
 ghost use Rattle.case_forms.specs.Traces.{first_event_line};
 ghost use Rattle.verdict.specs.Rules.{first_broken};
 ghost use Rattle.interval_order.specs.Orders.{taking, passing, held_line, is_offered, with_line, order_after};
 ghost use Rattle.interval_order.specs.Later.{waits, late_by, IsTimed};
-ghost use Rattle.interval_order.specs.Waits.{latest_in, waiting_at};
+ghost use Rattle.interval_order.specs.Waits.{HasRoom, latest_in, waiting_at};
 ghost use Rattle.interval_order.specs.OrderRules.{extras_of, has_earlier, thread_order, order_rules, has_overdue, first_overdue};
 
 use case_forms::{Event, Header, Line, OutOfMemory, Timer, Version};
-use std::alloc::{AllocError, Global};
+use std::alloc::Global;
 use std::collections::BTreeMap;
 use std::marker::Model;
+use tables::Table;
 use verdict::Rule;
 
 /// A line that waits for its step.
@@ -44,8 +43,8 @@ pub struct Window {
     next: u64,
     /// The lines that wait, by their numbers.
     waiting: BTreeMap<u64, Waiting>,
-    /// The number of the last line of each thread that was offered, or none where a thread has its place but no line yet.
-    latest: BTreeMap<u32, Option<u64>>,
+    /// The number of the last line of each thread that was offered.
+    latest: Table<u64>,
     /// The moment of the last step.
     last: u64,
 }
@@ -70,7 +69,7 @@ impl Window {
             header: *header,
             next: header.first_event_line(),
             waiting: BTreeMap::new(alloc),
-            latest: BTreeMap::new(alloc),
+            latest: Table::new(alloc),
             last: 0,
         }
     }
@@ -87,17 +86,11 @@ impl Window {
     {
         let number = line.number;
         let thread = line.thread;
-        let previous = note(&mut self.latest, thread, number)?;
-        match self.waiting.insert(number, Waiting { line, previous }) {
-            Ok(_) => {
-                self.next = number + 1;
-                Ok(())
-            }
-            Err(_) => {
-                put_back(&mut self.latest, thread, previous);
-                Err(AllocError)
-            }
-        }
+        let previous = latest_with_room(&mut self.latest, thread)?;
+        self.waiting.insert(number, Waiting { line, previous })?;
+        note(&mut self.latest, thread, number);
+        self.next = number + 1;
+        Ok(())
     }
 
     /// Takes a line for a step at this moment, which is followed by that many extra numbers. The window no longer holds it. Where
@@ -267,40 +260,33 @@ fn is_held(waiting: &BTreeMap<u64, Waiting>, number: Option<u64>) -> bool
     }
 }
 
-// The number of the last line of a thread.
-fn latest_of(latest: &BTreeMap<u32, Option<u64>>, thread: u32) -> Option<u64>
+// The number of the last line of a thread, if one was offered.
+fn latest_of(latest: &Table<u64>, thread: u32) -> Option<u64>
     ensures { result ≡ latest_in latest.now.entries thread }
 {
-    match latest.get(&thread) {
-        Some(number) => *number,
-        None => None,
-    }
+    latest.get(u64::from(thread)).copied()
 }
 
-// A line is the last one of its thread. The result is the one that was.
-fn note(
-    latest: &mut BTreeMap<u32, Option<u64>>,
-    thread: u32,
-    number: u64,
-) -> Result<Option<u64>, OutOfMemory>
-    ensures last { IfOk result (λ previous. previous ≡ latest_in latest.old.entries thread) }
-    ensures ok { OnOk result ((t : ℕ) → latest_in latest.new.entries t ≡ cond (nat_eq thread t) (Some number) (latest_in latest.old.entries t)) }
-    ensures there { OnOk result (is_some (get nat_cmp latest.new thread) ≡ true) }
-    ensures err { OnErr result ((t : ℕ) → latest_in latest.new.entries t ≡ latest_in latest.old.entries t) }
+// The number of the last line of a thread, if one was offered. There is room for another one then.
+fn latest_with_room(latest: &mut Table<u64>, thread: u32) -> Result<Option<u64>, OutOfMemory>
+    ensures previous { IfOk result (λ previous. previous ≡ latest_in latest.old.entries thread) }
+    ensures room { OnOk result (HasRoom latest.new thread) }
+    ensures same { latest.new.entries ≡ latest.old.entries }
 {
-    match latest.insert(thread, Some(number))? {
-        Some(previous) => Ok(previous),
-        None => Ok(None),
+    let previous = latest_of(latest, thread);
+    if previous.is_none() {
+        latest.reserve(u64::from(thread))?;
     }
+    Ok(previous)
 }
 
-// The last line of a thread, which has its place in the table, is the one that was.
-fn put_back(latest: &mut BTreeMap<u32, Option<u64>>, thread: u32, previous: Option<u64>)
-    requires { is_some (get nat_cmp latest.old thread) ≡ true }
-    ensures { (t : ℕ) → latest_in latest.new.entries t ≡ cond (nat_eq thread t) previous (latest_in latest.old.entries t) }
+// A line is the last one of its thread.
+fn note(latest: &mut Table<u64>, thread: u32, number: u64)
+    requires { HasRoom latest.old thread }
+    ensures { (t : ℕ) → latest_in latest.new.entries t ≡ cond (nat_eq thread t) (Some number) (latest_in latest.old.entries t) }
 {
-    match latest.insert(thread, previous) {
-        Ok(_) => {}
+    match latest.insert(u64::from(thread), number) {
+        Ok(()) => {}
         Err(_) => unreachable!(),
     }
 }

@@ -1,6 +1,6 @@
 use Rattle.std.proofs.Common.{◌≤◌, length}
 use Rattle.tables.specs.Tables.{AreNotBelow}
-use Rattle.tables.proofs.rising.count_below.Given as goal
+use Rattle.tables.proofs.rising.count_from_end.Given as goal
 
 abbrev pub invariant-loop-high : goal.invariant-loop-high
 invariant-loop-high l = record {
