@@ -1,14 +1,16 @@
 -- The fields that are left of a line: the first one and those after it.
-use Rattle.std.proofs.Common.{◌≡◌, ℕ, ◌+◌, ◌<◌, ◌≤◌, false, List, [], ◌∷◌, ◌++◌, length, get_or, take, drop, Option, Some, None, refl, sym, ap, ◌∙◌, arith, inl, inr}
+use Rattle.std.proofs.Common.{◌≡◌, ℕ, ◌+◌, ◌<◌, ◌≤◌, Bool, eqb, List, [], ◌∷◌, length, get_or, take, drop, Option, Some, None, refl, sym, ap, ◌∙◌, arith, inl, inr}
 use Rattle.std.specs.Prelude.{unwrap_or, nat_lt, not, IsTrue}
 use Rattle.std.specs.List.{slice_split, position_or_len}
-use Rattle.std.proofs.lemmas.Bool.{cases_lt, le-leb, lt-leb, ltb-true, lt-ltb, eq-eqb, ne_eqb, false_from_ne_true}
+use Rattle.std.proofs.lemmas.Bool.{cases_lt, le-leb, lt-leb, ltb-true, lt-ltb, false_from_ne_true}
 use Rattle.std.proofs.lemmas.List.{length-drop, length-take, drop-drop, take_all}
-use Rattle.std.proofs.lemmas.List.Folds.{prefix_len-append}
 use Rattle.std.proofs.lemmas.List.Splits.{slice_split_first, slice_split_none}
 use Rattle.std.proofs.lemmas.List.Sums.{position_or_len_is, prefix_len-le-length, fails_before_first}
 use Rattle.memchr.specs.Find.{IsFirstByte, is_byte}
-use Rattle.line_fields.specs.Word.{Word, is_space, words_from, words_left}
+use Rattle.line_fields.specs.Word.{Word, words_from, words_left}
+
+abbrev pub is_space : ℕ → Bool
+is_space b = eqb b 32
 
 -- the place that a search for a space gives
 pub place_is : (bytes : List ℕ) (r : Option ℕ) → IsFirstByte (is_byte 32) bytes r → position_or_len is_space bytes ≡ unwrap_or r (length bytes)
@@ -17,24 +19,6 @@ place_is bytes (Some k) h =
     position_or_len_is is_space bytes k 0 (omega arith) (λ i lt. false_from_ne_true (is_space (get_or bytes i 0)) (h.0.before i (omega arith) lt)) (λ lt. h.1)
 place_is bytes None h =
     position_or_len_is is_space bytes (length bytes) 0 (omega arith) (λ i lt. false_from_ne_true (is_space (get_or bytes i 0)) (h i (omega arith) lt)) (λ lt. absurd (omega arith))
-
--- the first space stands among the first bytes
-pub is_near : (near far : List ℕ) (i : ℕ) → i < length near → ((k : ℕ) → k < i → is_space (get_or near k 0) ≡ false) → get_or near i 0 ≡ 32
-    → position_or_len is_space (near ++ far) ≡ i
-is_near near far i lt none here =
-    let place : position_or_len is_space near ≡ i = position_or_len_is is_space near i 0 (omega arith) none (λ below. eq-eqb (get_or near i 0) 32 here) in
-    let joined = prefix_len-append (λ (b : ℕ). not (is_space b)) near far in
-    let other = ne_eqb i (length near) (λ e. omega arith) in
-    joined ∙ rw (place, other) refl
-
--- none of the first bytes is a space
-pub is_far : (near far : List ℕ) (i : ℕ) → length near ≤ i → ((k : ℕ) → k < i → is_space (get_or near k 0) ≡ false)
-    → position_or_len is_space (near ++ far) ≡ length near + position_or_len is_space far
-is_far near far i all none =
-    let place : position_or_len is_space near ≡ length near = position_or_len_is is_space near (length near) 0 (omega arith) (λ k lt. none k (omega arith)) (λ lt. absurd (omega arith)) in
-    let joined = prefix_len-append (λ (b : ℕ). not (is_space b)) near far in
-    let same = eq-eqb (length near) (length near) refl in
-    joined ∙ rw (place, same) refl
 
 words_left-within : (line at : ℕ) (text : List ℕ) → at ≤ length text → words_left line at text ≡ words_from line at (slice_split is_space (drop at text))
 words_left-within line at text le = let test = le-leb at (length text) le in rw test refl
@@ -68,11 +52,11 @@ words_left-next line at text k le e =
           ∙ ap (λ (ws : List Word). record { text = take k (drop at text); line = line; start = at; stop = at + k } ∷ ws) (sym (words_left-past line (at + k + 1) text (omega arith)))
     ]
 
--- what stands before the first space is the first field
-pub next_is : (line at : ℕ) (text rest field : List ℕ) (k : ℕ) → at ≤ length text → rest ≡ drop at text → k ≡ position_or_len is_space rest → field ≡ take k rest
+-- what a search for a space finds is the first field
+pub next_is : (line at : ℕ) (text rest field : List ℕ) (r : Option ℕ) (k : ℕ) → at ≤ length text → rest ≡ drop at text → IsFirstByte (is_byte 32) rest r → k ≡ unwrap_or r (length rest) → field ≡ take k rest
     → words_left line at text ≡ record { text = field; line = line; start = at; stop = at + k } ∷ words_left line (at + k + 1) text
-next_is line at text rest field k le e k-is field-is =
-    let place : position_or_len is_space (drop at text) ≡ k = ap (position_or_len is_space) (sym e) ∙ sym k-is in
+next_is line at text rest field r k le e found k-is field-is =
+    let place : position_or_len is_space (drop at text) ≡ k = ap (position_or_len is_space) (sym e) ∙ place_is rest r found ∙ sym k-is in
     let same : take k (drop at text) ≡ field = ap (take k) (sym e) ∙ sym field-is in
     words_left-next line at text k le place ∙ ap (λ (f : List ℕ). record { text = f; line = line; start = at; stop = at + k } ∷ words_left line (at + k + 1) text) same
 

@@ -1,5 +1,5 @@
 -- Fields joined by spaces, and cut again.
-use Rattle.std.proofs.Common.{◌≡◌, ◌<◌, ◌+◌, ◌^◌, ℕ, List, [], ◌∷◌, false, length, get_or, refl, ap, ◌∙◌, arith}
+use Rattle.std.proofs.Common.{◌≡◌, ◌<◌, ◌+◌, ◌^◌, ℕ, List, [], ◌∷◌, Bool, false, eqb, length, get_or, refl, ap, ◌∙◌, arith}
 use Rattle.std.specs.Prelude.{map, All}
 use Rattle.std.specs.List.{slice_split, join_with_byte, AllByRecursion}
 use Rattle.std.specs.Fmt.{decimal}
@@ -10,8 +10,11 @@ use Rattle.std.proofs.lemmas.Fmt.{digits_decimal}
 use Rattle.std.proofs.lemmas.List.Splits.{slice_split_at, slice_split_none, join_with_byte-slice_split}
 use Rattle.std.proofs.lemmas.List.Elements.{All-from_get_or}
 use Rattle.std.proofs.lemmas.Str.Parse.{IsNumeralModel, numerals_by_value, tells_by_index}
-use Rattle.line_fields.specs.Word.{is_space, words_from, words_of}
+use Rattle.line_fields.specs.Word.{words_from, words_of}
 use Rattle.line_fields.specs.Spelling.{IsClean}
+
+abbrev is_space : ℕ → Bool
+is_space b = eqb b 32
 
 no_space : (text : List ℕ) → IsClean text → All (λ b. is_space b ≡ false) text
 no_space text clean k d lt = false_from_ne_true (is_space (get_or text k d)) (λ hit. let high = clean k d lt in let same = eqb-true _ _ hit in omega arith)

@@ -1,6 +1,6 @@
 -- A line's text and fields are read exactly where the bytes are a line within the limits.
 use Rattle.std.proofs.Common.{◌≡◌, ℕ, List, [], ◌∷◌, Bool, true, false, cond, length, Result, Ok, Err, refl, sym, ap, subst, ◌∙◌, arith}
-use Rattle.std.specs.Prelude.{nat_lt, not, map}
+use Rattle.std.specs.Prelude.{nat_lt, not, map, ◌==◌}
 use Rattle.std.specs.List.{AllByRecursion, slice_split}
 use Rattle.std.specs.Str.{bytes_eq}
 use Rattle.std.proofs.lemmas.Bool.{ltb-false, le-ltb}
@@ -9,7 +9,7 @@ use Rattle.std.proofs.lemmas.Slice.Eq.{bytes_eq-Decides}
 use Rattle.bstr.specs.Text.{without_terminator}
 use Rattle.line_fields.specs.declared.fault.TextFault.{TextFault}
 use Rattle.line_fields.specs.declared.fault.FaultKind.TheVariants.{LineTooLong, Cut, TooManyLines}
-use Rattle.line_fields.specs.Word.{Word, Rest, is_space, words_of, rest_of}
+use Rattle.line_fields.specs.Word.{Word, Rest, words_of, rest_of}
 use Rattle.line_fields.specs.Reading.{◌>>=◌}
 use Rattle.line_fields.specs.Lines.{NoReturn, IsRaw, IsLine, is_ended, whole_line, line_text, line_rest, exact_text, exact_line}
 use Rattle.line_fields.specs.Reader.{texts}
@@ -85,8 +85,8 @@ pub some_word : (number : ℕ) (raw : List ℕ) (r : Rest) → line_rest number 
 some_word number raw r e none =
     let p = rest_takes number raw r e in
     let words : words_of number p.text ≡ [] = ap (λ (q : Rest). q.words) (sym p.is) ∙ none in
-    let parts : slice_split is_space p.text ≡ [] = sym (texts-words_of number p.text) ∙ ap (λ (ws : List Word). map (λ w. w.text) ws) words in
-    let count = length-slice_split is_space p.text in
+    let parts : slice_split (λ b. b == 32) p.text ≡ [] = sym (texts-words_of number p.text) ∙ ap (λ (ws : List Word). map (λ w. w.text) ws) words in
+    let count = length-slice_split (λ b. b == 32) p.text in
     let zero = ap length parts in
     omega (arith, count, zero)
 

@@ -5,8 +5,8 @@ use Rattle.std.specs.List.{position_or_len}
 use Rattle.std.proofs.lemmas.Bool.{cases_lt}
 use Rattle.std.proofs.lemmas.List.{length-drop}
 use Rattle.std.proofs.lemmas.List.Sums.{prefix_len-le-length}
-use Rattle.line_fields.specs.Word.{is_space, words_left, AreSlices}
-use Rattle.line_fields.proofs.Columns.{words_left-past, words_left-next}
+use Rattle.line_fields.specs.Word.{words_left, AreSlices}
+use Rattle.line_fields.proofs.Columns.{is_space, words_left-past, words_left-next}
 
 slices_within : (n line at : ℕ) (text : List ℕ) → length text < at + n → AreSlices text at (words_left line at text)
 slices_within zero line at text past = subst (AreSlices text at) (sym (words_left-past line at text (omega arith))) tt

@@ -1,5 +1,5 @@
 -- The fields of a line, each at its columns.
-use Rattle.std.specs.Prelude.{◌≡◌, ◌≤◌, ◌-◌, take, ℕ, Bool, ◌+◌, ◌==◌, nat_le, if◌then◌else◌, List, [], ◌∷◌, length, drop}
+use Rattle.std.specs.Prelude.{◌≡◌, ◌≤◌, ◌-◌, take, ℕ, ◌+◌, ◌==◌, nat_le, if◌then◌else◌, List, [], ◌∷◌, length, drop}
 use Rattle.std.specs.List.{slice_split}
 
 -- a field: its bytes, and its columns
@@ -14,13 +14,9 @@ abbrev pub words_from : ℕ → ℕ → List (List ℕ) → List Word
 words_from line at [] = []
 words_from line at (text ∷ texts) = record { text = text; line = line; start = at; stop = at + length text } ∷ words_from line (at + length text + 1) texts
 
--- the byte that stands between two fields
-abbrev pub is_space : ℕ → Bool
-is_space b = b == 32
-
 -- the fields of a line from a column on, which may be one past its end
 abbrev pub words_left : ℕ → ℕ → List ℕ → List Word
-words_left line at text = if nat_le at (length text) then words_from line at (slice_split is_space (drop at text)) else []
+words_left line at text = if nat_le at (length text) then words_from line at (slice_split (λ b. b == 32) (drop at text)) else []
 
 -- all fields of a line
 abbrev pub words_of : ℕ → List ℕ → List Word
