@@ -18,69 +18,71 @@ use Rattle.case_forms.specs.declared.trace.Line.{Line}
 use Rattle.interval_order.specs.declared.window.Waiting.{Waiting}
 use Rattle.interval_order.specs.Waits.{lines_of, waiting_at}
 
-pub at_is : (n k : ℕ) → is_at (nat_cmp n) k ≡ nat_eq n k
-at_is n k = search rules
-
 module _ {X : Type 0} where
-  -- a key above all others goes last
-  insert_last : (es : List (ℕ × X)) (k : ℕ) (v : X) → AllByRecursion (λ n. n < k) (keys_of es) → insert_entry nat_cmp es k v ≡ es ++ (k, v) ∷ []
-  insert_last [] k v h = refl
-  insert_last (e ∷ es) k v h =
-      let greater : Greater ≡ nat_cmp k e.0 = nat_cmp_is k e.0 Greater h.0 in
-      rw (← greater) (ap (λ (xs : List (ℕ × X)). e ∷ xs) (insert_last es k v h.1))
+  -- a number above all others goes last, and the numbers rise still
+  front_more : (n k : ℕ) (v : X) (es : List (ℕ × X)) → n < k → AllByRecursion (λ m. nat_cmp n m ≡ Less) (keys_of es) → AllByRecursion (λ m. nat_cmp n m ≡ Less) (keys_of (es ++ (k, v) ∷ []))
+  front_more n k v [] low h = (sym (nat_cmp_is n k Less low), tt)
+  front_more n k v (e ∷ es) low h = (h.0, front_more n k v es low h.1)
 
-  pub entries_with : (es : List (ℕ × X)) (k : ℕ) (v : X) → All (λ n. n < k) (keys_of es) → insert_entry nat_cmp es k v ≡ es ++ (k, v) ∷ []
-  entries_with es k v h = insert_last es k v (recursion_from_All (λ n. n < k) (keys_of es) h)
+  rise_more : (es : List (ℕ × X)) (k : ℕ) (v : X) → AllByRecursion (λ n. n < k) (keys_of es) → IsStrictlySortedBy nat_cmp (keys_of es) → IsStrictlySortedBy nat_cmp (keys_of (es ++ (k, v) ∷ []))
+  unfolding IsStrictlySortedBy
+  rise_more [] k v low h = (tt, tt)
+  rise_more (e ∷ es) k v low h = (front_more e.0 k v es low.0 h.0, rise_more es k v low.1 h.1)
 
-  none_at : (n : ℕ) (es : List (ℕ × X)) → AllByRecursion (λ y. eq_by_cmp nat_cmp n y ≡ false) (keys_of es) → filter (λ e. not (is_at (nat_cmp n) e.0)) es ≡ es
-  none_at n [] h = refl
-  none_at n (e ∷ es) h = rw h.0 (ap (λ (xs : List (ℕ × X)). e ∷ xs) (none_at n es h.1))
+  pub rising_more : (es : List (ℕ × X)) (k : ℕ) (v : X) → All (λ n. n < k) (keys_of es) → IsStrictlySortedBy nat_cmp (keys_of es) → IsStrictlySortedBy nat_cmp (keys_of (es ++ (k, v) ∷ []))
+  rising_more es k v low h = rise_more es k v (recursion_from_All (λ n. n < k) (keys_of es) low) h
 
-  -- one key less
-  remove_at : (n : ℕ) (es : List (ℕ × X)) → IsDistinct (eq_by_cmp nat_cmp) (keys_of es) → remove_entry (is_at (nat_cmp n)) es ≡ filter (λ e. not (is_at (nat_cmp n) e.0)) es
-  remove_at n [] d = refl
-  remove_at n (e ∷ es) d = by_test (remove_at n es (IsDistinct-tail _ _ _ d)) (is_at (nat_cmp n) e.0) refl
+  -- it is found, and what was found before is found still
+  last_found : (es : List (ℕ × X)) (k : ℕ) (v : X) → AllByRecursion (λ n. n < k) (keys_of es) → lookup (nat_eq k) (es ++ (k, v) ∷ []) ≡ Some v
+  last_found [] k v low = let itself : nat_eq k k ≡ true = grind (arith, nat_tests) in rw itself refl
+  last_found (e ∷ es) k v low = let apart : nat_eq k e.0 ≡ false = grind (arith, nat_tests, low.0) in rw apart (last_found es k v low.1)
+
+  pub found_last : (es : List (ℕ × X)) (k : ℕ) (v : X) → All (λ n. n < k) (keys_of es) → lookup (nat_eq k) (es ++ (k, v) ∷ []) ≡ Some v
+  found_last es k v low = last_found es k v (recursion_from_All (λ n. n < k) (keys_of es) low)
+
+  pub found_still : (q k : ℕ) (v : X) (es : List (ℕ × X)) → (q ≡ k → ⊥) → lookup (nat_eq q) (es ++ (k, v) ∷ []) ≡ lookup (nat_eq q) es
+  found_still q k v [] away = let apart : nat_eq q k ≡ false = grind (arith, nat_tests, away) in rw apart refl
+  found_still q k v (e ∷ es) away = by_test (found_still q k v es away) (nat_eq q e.0) refl
     where
-      by_test : remove_entry (is_at (nat_cmp n)) es ≡ filter (λ e. not (is_at (nat_cmp n) e.0)) es
-          → (b : Bool) → is_at (nat_cmp n) e.0 ≡ b
-          → remove_entry (is_at (nat_cmp n)) (e ∷ es) ≡ filter (λ e. not (is_at (nat_cmp n) e.0)) (e ∷ es)
-      by_test rest true is =
-          let same : n ≡ e.0 = grind (arith, nat_tests, at_is n e.0, is) in
-          rw is (sym (none_at n es (subst (λ (m : ℕ). AllByRecursion (λ y. eq_by_cmp nat_cmp m y ≡ false) (keys_of es)) (sym same) (IsDistinct-head _ _ _ d))))
-      by_test rest false is = rw is (ap (λ (xs : List (ℕ × X)). e ∷ xs) rest)
+      by_test : lookup (nat_eq q) (es ++ (k, v) ∷ []) ≡ lookup (nat_eq q) es → (b : Bool) → nat_eq q e.0 ≡ b → lookup (nat_eq q) (e ∷ es ++ (k, v) ∷ []) ≡ lookup (nat_eq q) (e ∷ es)
+      by_test rest true is = rw is refl
+      by_test rest false is = rw is rest
 
-  pub entries_without : (n : ℕ) (es : List (ℕ × X)) → IsStrictlySortedBy nat_cmp (keys_of es) → remove_entry (is_at (nat_cmp n)) es ≡ filter (λ e. not (nat_eq n e.0)) es
-  entries_without n es o = remove_at n es (IsDistinct-from_sorted nat_cmp _ o) ∙ (λ i. filter (λ e. not (at_is n e.0 i)) es)
+  -- the numbers of entries that are kept by their numbers
+  pub keys_kept : (keep : ℕ → Bool) (es : List (ℕ × X)) → filter keep (keys_of es) ≡ keys_of (filter (λ e. keep e.0) es)
+  keys_kept keep [] = refl
+  keys_kept keep (e ∷ es) = by_test (keys_kept keep es) (keep e.0) refl
+    where
+      by_test : filter keep (keys_of es) ≡ keys_of (filter (λ e. keep e.0) es) → (b : Bool) → keep e.0 ≡ b → filter keep (keys_of (e ∷ es)) ≡ keys_of (filter (λ e. keep e.0) (e ∷ es))
+      by_test rest true is = rw is (ap (λ (ns : List ℕ). e.0 ∷ ns) rest)
+      by_test rest false is = rw is rest
 
 -- one line more
-pub lines_with : (es : List (ℕ × Waiting)) (k : ℕ) (w : Waiting) → All (λ n. n < k) (keys_of es) → lines_of (insert_entry nat_cmp es k w) ≡ lines_of es ++ (k, w.line) ∷ []
-lines_with es k w h = ap lines_of (entries_with es k w h) ∙ map-append _ es ((k, w) ∷ [])
+pub lines_with : (es : List (ℕ × Waiting)) (k : ℕ) (w : Waiting) → lines_of (es ++ (k, w) ∷ []) ≡ lines_of es ++ (k, w.line) ∷ []
+lines_with es k w = map-append _ es ((k, w) ∷ [])
 
-filtered : (n : ℕ) (es : List (ℕ × Waiting)) → lines_of (filter (λ e. not (nat_eq n e.0)) es) ≡ filter (λ e. not (nat_eq n e.0)) (lines_of es)
-filtered n [] = refl
-filtered n (e ∷ es) = by_test (filtered n es) (nat_eq n e.0) refl
+-- one line less
+pub lines_without : (n : ℕ) (es : List (ℕ × Waiting)) → lines_of (filter (λ e. not (nat_eq n e.0)) es) ≡ filter (λ e. not (nat_eq n e.0)) (lines_of es)
+lines_without n [] = refl
+lines_without n (e ∷ es) = by_test (lines_without n es) (nat_eq n e.0) refl
   where
     by_test : lines_of (filter (λ e. not (nat_eq n e.0)) es) ≡ filter (λ e. not (nat_eq n e.0)) (lines_of es) → (b : Bool) → nat_eq n e.0 ≡ b
         → lines_of (filter (λ e. not (nat_eq n e.0)) (e ∷ es)) ≡ filter (λ e. not (nat_eq n e.0)) (lines_of (e ∷ es))
     by_test rest true is = rw is rest
     by_test rest false is = rw is (ap (λ (xs : List (ℕ × Line)). (e.0, e.1.line) ∷ xs) rest)
 
--- one line less
-pub lines_without : (n : ℕ) (es : List (ℕ × Waiting)) → IsStrictlySortedBy nat_cmp (keys_of es) → lines_of (remove_entry (is_at (nat_cmp n)) es) ≡ filter (λ e. not (nat_eq n e.0)) (lines_of es)
-lines_without n es o = ap lines_of (entries_without n es o) ∙ filtered n es
-
 -- the line of a number is that of the entry
 pub line_is : (n : ℕ) (es : List (ℕ × Waiting)) → lookup (nat_eq n) (lines_of es) ≡ option_map (λ w. w.line) (waiting_at es n)
-line_is n es = sym (λ i. lookup (λ k. at_is n k i) (lines_of es)) ∙ lookup-map_values (λ (w : Waiting). w.line) (is_at (nat_cmp n)) es
+line_is n es = lookup-map_values (λ (w : Waiting). w.line) (nat_eq n) es
 
 -- an entry that passes is found
 pub any_at : (test : ℕ × Line → Bool) (p : ℕ) (w : Waiting) (es : List (ℕ × Waiting)) → waiting_at es p ≡ Some w → test (p, w.line) ≡ true → list_any test (lines_of es) ≡ true
 any_at test p w [] at passes = absurd cc
-any_at test p w (e ∷ es) at passes = by_test (λ h. any_at test p w es h passes) (is_at (nat_cmp p) e.0) refl
+any_at test p w (e ∷ es) at passes = by_test (λ h. any_at test p w es h passes) (nat_eq p e.0) refl
   where
-    by_test : (waiting_at es p ≡ Some w → list_any test (lines_of es) ≡ true) → (b : Bool) → is_at (nat_cmp p) e.0 ≡ b → list_any test (lines_of (e ∷ es)) ≡ true
+    by_test : (waiting_at es p ≡ Some w → list_any test (lines_of es) ≡ true) → (b : Bool) → nat_eq p e.0 ≡ b → list_any test (lines_of (e ∷ es)) ≡ true
     by_test rest true is =
-        let same : p ≡ e.0 = grind (arith, nat_tests, at_is p e.0, is) in
+        let same : p ≡ e.0 = grind (arith, nat_tests, is) in
         let here : Some e.1 ≡ Some w = rw is at at in
         let equal : e.1 ≡ w = cc in
         let now : test (e.0, e.1.line) ≡ true = ap (λ (k : ℕ). test (k, e.1.line)) (sym same) ∙ ap (λ (v : Waiting). test (p, v.line)) equal ∙ passes in
@@ -92,10 +94,10 @@ any_at test p w (e ∷ es) at passes = by_test (λ h. any_at test p w es h passe
 -- what holds of each number holds of one that is found
 found_key : (P : ℕ → Type 0) (n : ℕ) (w : Waiting) (es : List (ℕ × Waiting)) → AllByRecursion P (keys_of es) → waiting_at es n ≡ Some w → P n
 found_key P n w [] h at = absurd cc
-found_key P n w (e ∷ es) h at = by_test (found_key P n w es h.1) (is_at (nat_cmp n) e.0) refl
+found_key P n w (e ∷ es) h at = by_test (found_key P n w es h.1) (nat_eq n e.0) refl
   where
-    by_test : (waiting_at es n ≡ Some w → P n) → (b : Bool) → is_at (nat_cmp n) e.0 ≡ b → P n
-    by_test rest true is = let same : e.0 ≡ n = grind (arith, nat_tests, at_is n e.0, is) in subst P same h.0
+    by_test : (waiting_at es n ≡ Some w → P n) → (b : Bool) → nat_eq n e.0 ≡ b → P n
+    by_test rest true is = let same : e.0 ≡ n = grind (arith, nat_tests, is) in subst P same h.0
     by_test rest false is = rest (rw is at at)
 
 pub found_below : (next n : ℕ) (w : Waiting) (es : List (ℕ × Waiting)) → All (λ k. k < next) (keys_of es) → waiting_at es n ≡ Some w → n < next
@@ -109,11 +111,12 @@ found_any test (e ∷ es) o h = by_test (found_any test es (sorted_tail nat_cmp 
   where
     by_test : (list_any test (lines_of es) ≡ true → (p : ℕ) × (w : Waiting) × (waiting_at es p ≡ Some w) × (test (p, w.line) ≡ true))
         → (b : Bool) → test (e.0, e.1.line) ≡ b → (p : ℕ) × (w : Waiting) × (waiting_at (e ∷ es) p ≡ Some w) × (test (p, w.line) ≡ true)
-    by_test rest true is = let itself : is_at (nat_cmp e.0) e.0 ≡ true = grind (arith, nat_tests, at_is e.0 e.0) in (e.0, e.1, rw itself refl, is)
+    by_test rest true is = let itself : nat_eq e.0 e.0 ≡ true = grind (arith, nat_tests) in (e.0, e.1, rw itself refl, is)
     by_test rest false is =
         let found : (p : ℕ) × (w : Waiting) × (waiting_at es p ≡ Some w) × (test (p, w.line) ≡ true) = rest (rw is at h) in
         let less : nat_cmp e.0 found.0 ≡ Less = found_key (λ y. nat_cmp e.0 y ≡ Less) found.0 found.1 es (sorted_head nat_cmp _ _ o) found.2 in
-        let apart : is_at (nat_cmp found.0) e.0 ≡ false = grind (arith, nat_tests, at_is found.0 e.0, less) in
+        let less_is = nat_cmp_is e.0 found.0 Less in
+        let apart : nat_eq found.0 e.0 ≡ false = grind (arith, nat_tests, less_is) in
         (found.0, found.1, rw apart found.2, found.3)
 
 module _ (skew moment : ℕ) where
@@ -145,6 +148,11 @@ module _ (skew moment : ℕ) where
       by_test false is =
           let timely : nat_lt (w.line.moment + skew) moment ≡ false = ap (λ (f : ℕ × Waiting). nat_lt (f.1.line.moment + skew) moment) (sym entry) ∙ is in
           rw (is, timely, none_late e.1.line.moment es after is) refl
+
+-- where nothing stands first, nothing is found
+pub none_first : (test : ℕ × Line → Bool) (es : List (ℕ × Waiting)) → None ≡ slice_get es 0 → None ≡ option_map (λ e. e.0) (find test (lines_of es))
+none_first test [] none = refl
+none_first test (e ∷ es) none = absurd cc
 
 -- a test passes somewhere exactly where something is found
 pub any_is_found : {X : Type 0} (f : X → ℕ) (test : X → Bool) (xs : List X) → is_some (option_map f (find test xs)) ≡ list_any test xs

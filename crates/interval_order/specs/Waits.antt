@@ -3,7 +3,6 @@ use Rattle.std.specs.Prelude.{◌≡◌, ℕ, ◌<◌, ◌≤◌, All, map, nat_
 use Rattle.std.specs.List.Sorted.{IsStrictlySortedBy, IsNonDecreasingBy}
 use Rattle.std.specs.Ordering.{nat_cmp}
 use Rattle.std.specs.Map.{keys_of, lookup}
-use Rattle.std.specs.BTreeMap.{is_at}
 use Rattle.tables.specs.Tables.{Table}
 use Rattle.case_forms.specs.declared.trace.Line.{Line}
 use Rattle.interval_order.specs.declared.window.Waiting.{Waiting}
@@ -14,7 +13,7 @@ lines_of entries = map (λ e. (e.0, e.1.line)) entries
 
 -- what waits under that number
 abbrev pub waiting_at : List (ℕ × Waiting) → ℕ → Option Waiting
-waiting_at entries n = lookup (is_at (nat_cmp n)) entries
+waiting_at entries n = lookup (nat_eq n) entries
 
 -- the number of the last line of a thread, where a table has one
 abbrev pub latest_in : List (ℕ × ℕ) → ℕ → Option ℕ

@@ -1,9 +1,11 @@
 //! The lines that no step has taken yet.
 //!
-//! A line that is offered, or a step, costs the logarithm of the number of lines that wait and of the number of threads,
-//! whatever numbers a text gives them. Nothing is scanned:
+//! A line that is offered, or a step, costs the logarithm of the number of threads, whatever numbers a text gives them.
+//! Nothing is scanned:
 //!
-//! - Lines wait in a map by their numbers.
+//! - Lines wait in a queue by their numbers. A line that was placed keeps its slot there while one before it waits, so there
+//!   are as many slots as lines were offered from the first that waits on. If no line is overdue, their moments are at most the
+//!   skew before the last step.
 //! - Each line that waits names the line of its thread that was offered before it. The lines of a thread are placed in
 //!   their order, so those that wait are its last ones, and one of them is the first exactly where the line that it
 //!   names does not wait.
@@ -22,9 +24,8 @@ ghost use Rattle.interval_order.specs.OrderRules.{extras_of, has_earlier, thread
 
 use case_forms::{Event, Header, Line, OutOfMemory, Timer, Version};
 use std::alloc::Global;
-use std::collections::BTreeMap;
 use std::marker::Model;
-use tables::Table;
+use tables::{Queue, Table};
 use verdict::Rule;
 
 /// A line that waits for its step.
@@ -39,10 +40,8 @@ struct Waiting {
 #[derive(Drop)]
 pub struct Window {
     header: Header,
-    /// The number of the next line that is offered.
-    next: u64,
     /// The lines that wait, by their numbers.
-    waiting: BTreeMap<u64, Waiting>,
+    waiting: Queue<Waiting>,
     /// The number of the last line of each thread that was offered.
     latest: Table<u64>,
     /// The moment of the last step.
@@ -55,9 +54,9 @@ impl Model for Window {
 
     ghost Value = { Order };
 
-    ghost view = { λ a. record { header = a.header; next = a.next; held = lines_of a.waiting.entries; last = a.last } };
+    ghost view = { λ a. record { header = a.header; next = a.waiting.next; held = lines_of a.waiting.entries; last = a.last } };
 
-    ghost invariant = { λ a. IsSound a.next a.waiting.entries (latest_in a.latest.entries) };
+    ghost invariant = { λ a. IsSound a.waiting.next a.waiting.entries (latest_in a.latest.entries) };
 }
 
 impl Window {
@@ -67,8 +66,7 @@ impl Window {
     {
         Window {
             header: *header,
-            next: header.first_event_line(),
-            waiting: BTreeMap::new(alloc),
+            waiting: Queue::new(alloc, header.first_event_line()),
             latest: Table::new(alloc),
             last: 0,
         }
@@ -87,9 +85,8 @@ impl Window {
         let number = line.number;
         let thread = line.thread;
         let previous = latest_with_room(&mut self.latest, thread)?;
-        self.waiting.insert(number, Waiting { line, previous })?;
+        self.waiting.push(Waiting { line, previous })?;
         note(&mut self.latest, thread, number);
-        self.next = number + 1;
         Ok(())
     }
 
@@ -103,7 +100,7 @@ impl Window {
         ensures err { OnErr result (self.new ≡ self.old) }
     {
         self.admit(line, extras, moment)?;
-        match self.waiting.remove(&line) {
+        match self.waiting.take(line) {
             Some(waiting) => {
                 self.last = moment;
                 Ok(waiting.line)
@@ -149,10 +146,7 @@ impl Window {
     pub fn waits(&self, thread: u32) -> bool
         ensures { result ≡ waits self.now thread }
     {
-        match latest_of(&self.latest, thread) {
-            Some(last) => self.waiting.contains_key(&last),
-            None => false,
-        }
+        is_held(&self.waiting, latest_of(&self.latest, thread))
     }
 
     /// The least rule that a step breaks which takes this line, where the line is not offered yet and the step's moment
@@ -176,14 +170,14 @@ impl Window {
     pub fn next_number(&self) -> u64
         ensures { result ≡ self.now.next }
     {
-        self.next
+        self.waiting.next_number()
     }
 
     /// The number of the first line that waits, if one does.
     pub fn first_left(&self) -> Option<u64>
         ensures { result ≡ option_map (λ e. e.0) (slice_get self.now.held 0) }
     {
-        self.waiting.first_key_value().map(|(number, _)| *number)
+        self.waiting.first().map(|(number, _)| number)
     }
 }
 
@@ -221,7 +215,7 @@ impl Window {
     fn is_offered(&self, number: u64) -> bool
         ensures { result ≡ is_offered self.now number }
     {
-        self.header.first_event_line() <= number && number < self.next
+        self.header.first_event_line() <= number && number < self.next_number()
     }
 
     // The line of that number, if it waits, and whether an earlier line of its thread does too.
@@ -229,7 +223,7 @@ impl Window {
         ensures line { option_map (λ found. found.0.now) result ≡ held_line self.now number }
         ensures second { IfSome result (λ found. found.1 ≡ has_earlier self.now number found.0.now.thread) }
     {
-        match self.waiting.get(&number) {
+        match self.waiting.get(number) {
             Some(waiting) => Some((&waiting.line, is_held(&self.waiting, waiting.previous))),
             None => None,
         }
@@ -239,8 +233,8 @@ impl Window {
     fn first_late(&self, moment: u64) -> Option<u64>
         ensures { result ≡ first_overdue self.now moment }
     {
-        let (number, waiting) = self.waiting.first_key_value()?;
-        is_past(waiting.line.moment, self.header.skew, moment).then_some(*number)
+        let (number, waiting) = self.waiting.first()?;
+        is_past(waiting.line.moment, self.header.skew, moment).then_some(number)
     }
 
     fn has_overdue(&self, moment: u64) -> bool
@@ -251,11 +245,11 @@ impl Window {
 }
 
 // Whether the line waits that is named, if one is.
-fn is_held(waiting: &BTreeMap<u64, Waiting>, number: Option<u64>) -> bool
+fn is_held(waiting: &Queue<Waiting>, number: Option<u64>) -> bool
     ensures { result ≡ is_some (option_and_then (waiting_at waiting.now.entries) number) }
 {
     match number {
-        Some(number) => waiting.contains_key(&number),
+        Some(number) => waiting.get(number).is_some(),
         None => false,
     }
 }

@@ -9,7 +9,7 @@ use Rattle.interval_order.proofs.window.Window.line.Goals as goal
 
 pub returns-in-Some-clause-line : goal.returns-in-Some-clause-line
 returns-in-Some-clause-line c =
-    ap (option_map (λ (w : Waiting). w.line)) c.in-Some.ensures.value
+    ap (option_map (λ (w : Waiting). w.line)) c.in-Some.ensures
     ∙ sym (line_is c.args.number c.self.inside.waiting.entries)
     ∙ ap (λ (o : Order). held_line o c.args.number) c.self.view_is
 
@@ -17,11 +17,11 @@ pub returns-in-Some-clause-second : goal.returns-in-Some-clause-second
 returns-in-Some-clause-second c =
     let w = c.in-Some.waiting.now in
     c.is_held.ensures
-    ∙ earlier_is c.self.inside.waiting.entries w.line.thread c.args.number w.previous c.self.invariant.ordered (c.self.invariant.linked.previous _ _ (sym c.in-Some.ensures.value))
+    ∙ earlier_is c.self.inside.waiting.entries w.line.thread c.args.number w.previous c.self.invariant.ordered (c.self.invariant.linked.previous _ _ (sym c.in-Some.ensures))
     ∙ ap (λ (o : Order). has_earlier o c.args.number w.line.thread) c.self.view_is
 
 pub returns-in-None-clause-line : goal.returns-in-None-clause-line
 returns-in-None-clause-line c =
-    ap (option_map (λ (w : Waiting). w.line)) c.in-None.ensures.value
+    ap (option_map (λ (w : Waiting). w.line)) c.in-None.ensures
     ∙ sym (line_is c.args.number c.self.inside.waiting.entries)
     ∙ ap (λ (o : Order). held_line o c.args.number) c.self.view_is

@@ -6,15 +6,9 @@ use Rattle.interval_order.specs.Waits.{waiting_at, latest_in}
 use Rattle.interval_order.proofs.LaterLemmas.{waits_is}
 use Rattle.interval_order.proofs.window.Window.waits.Goals as goal
 
-pub returns-in-Some : goal.returns-in-Some
-returns-in-Some c =
-    c.contains_key.ensures
-    ∙ ap (λ (l : Option ℕ). is_some (option_and_then (waiting_at c.self.inside.waiting.entries) l)) c.in-Some.ensures
-    ∙ waits_is c.self.inside.next c.self.inside.waiting.entries (latest_in c.self.inside.latest.entries) c.args.thread c.self.invariant
-    ∙ ap (λ (o : Order). waits o c.args.thread) c.self.view_is
-
-pub returns-in-None : goal.returns-in-None
-returns-in-None c =
-    ap (λ (l : Option ℕ). is_some (option_and_then (waiting_at c.self.inside.waiting.entries) l)) c.in-None.ensures
-    ∙ waits_is c.self.inside.next c.self.inside.waiting.entries (latest_in c.self.inside.latest.entries) c.args.thread c.self.invariant
+pub returns : goal.returns
+returns c =
+    c.is_held.ensures
+    ∙ ap (λ (l : Option ℕ). is_some (option_and_then (waiting_at c.self.inside.waiting.entries) l)) c.latest_of.ensures
+    ∙ waits_is c.self.inside.waiting.next c.self.inside.waiting.entries (latest_in c.self.inside.latest.entries) c.args.thread c.self.invariant
     ∙ ap (λ (o : Order). waits o c.args.thread) c.self.view_is
