@@ -1,4 +1,4 @@
-use Rattle.std.proofs.Common.{◌≡◌, ℕ, ◌≤◌, ◌+◌, All, List, Option, Some, cond, nat_eq, ap, sym, subst, ◌∙◌}
+use Rattle.std.proofs.Common.{◌≡◌, ℕ, ◌≤◌, ◌+◌, All, List, Some, cond, nat_eq, ap, sym, subst, ◌∙◌}
 use Rattle.case_forms.specs.declared.trace.Line.{Line}
 use Rattle.tables.specs.Queues.{Queue}
 use Rattle.interval_order.specs.declared.window.Waiting.{Waiting}

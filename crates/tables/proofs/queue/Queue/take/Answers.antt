@@ -1,4 +1,4 @@
-use Rattle.std.proofs.Common.{◌≡◌, ap, filter, nat_eq, not, length, Option, slice_set, Some, sym, subst, ◌∙◌, arith}
+use Rattle.std.proofs.Common.{ap, filter, nat_eq, not, length, Option, slice_set, Some, sym, ◌∙◌, arith}
 use Rattle.std.proofs.lemmas.List.{length-set}
 use Rattle.std.specs.Map.{lookup}
 use Rattle.tables.specs.Queues.{Queue, standing}
