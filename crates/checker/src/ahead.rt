@@ -87,6 +87,7 @@ impl<A: BufRead> Ahead<A> {
     }
 
     /// The line that was read ahead; the one behind it is read.
+    #[inline(always)]
     pub(crate) fn next(&mut self) -> Result<Option<Line>, CaseFault>
         requires { IsAhead self.old }
         ensures ahead { IfOk result (λ item. IsAhead self.new) }
@@ -132,6 +133,7 @@ impl<A: BufRead> Ahead<A> {
 }
 
 // The next event line of a trace whose header was read.
+#[inline(always)]
 fn next_line<A: BufRead>(reader: &mut TraceReader<A>) -> Result<Option<Line>, CaseFault>
     requires working { fault_of reader.old ≡ None }
     requires begun { IsBegun reader.old }

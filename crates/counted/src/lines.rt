@@ -76,6 +76,7 @@ impl<B: BufRead> Counted<B> {
 
     /// Reads one line with its LF, or all that is left where none follows. Of a line of more than `most` bytes only the
     /// last ones may be kept, and the answer is how many bytes stand before those. None at the end of the input.
+    #[inline(always)]
     pub fn read_line(&mut self, most: usize, line: &mut Vec<u8>) -> Result<Option<u64>, ReadFault>
         requires { most < 2 ^ 32 }
         ensures line { IfOk result (λ before. GivesLine most (left_of B.remaining self.old) (left_of B.remaining self.new) before line.new.items) }

@@ -173,6 +173,7 @@ fn place_in(threads: &Table<Turn>, thread: u32) -> Option<&Place>
     }
 }
 
+#[inline(always)]
 fn put(threads: &mut Table<Turn>, thread: u32, place: Place) -> Result<(), OutOfMemory>
     ensures ok { OnOk result (threads.new.entries ≡ insert_entry nat_eq threads.old.entries thread (turn_shown place)) }
     ensures err { OnErr result (threads.new.entries ≡ threads.old.entries) }

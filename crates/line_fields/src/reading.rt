@@ -13,6 +13,7 @@ use std::io::BufRead;
 
 /// The next line with its end, of a text whose next line has this number, and whether there is one. A line that is too
 /// long is not kept.
+#[inline(always)]
 pub fn next_line<B: BufRead>(
     source: &mut Counted<B>,
     number: u64,

@@ -95,6 +95,7 @@ fn event(alloc: Global, version: Version, fields: &mut Fields) -> Result<Event, 
 /// before it, in microseconds, or 0 where there is none; a moment below it is MomentFalls at its field. Fields are
 /// looked at from left to right, and a field too many last.
 #[tactic(auto, unfolding(crate::specs::EventLines::line_of))]
+#[inline(always)]
 pub fn event_line(
     alloc: Global,
     version: Version,

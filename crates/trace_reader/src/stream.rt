@@ -61,6 +61,7 @@ impl<A> TraceReader<A> {
     }
 
     // What was read; a fault is kept for the calls to come.
+    #[inline(always)]
     fn keep_fault<T>(&mut self, read: Result<T, ReadFault>) -> Result<T, ReadFault>
         requires { fault_of self.old ≡ None }
         ensures read { result ≡ read }
@@ -103,6 +104,7 @@ impl<A: BufRead> TraceReader<A> {
     }
 
     /// The next event line, or none at the end of the text. The header is read before.
+    #[inline(always)]
     pub fn next(&mut self) -> Result<Option<Line>, ReadFault>
         requires { IsBegun self.old }
         ensures next { fault_of self.old ≡ None → IfOk result (Yields (lines_left A.remaining self.old) (lines_left A.remaining self.new)) }
@@ -124,6 +126,7 @@ impl<A: BufRead> TraceReader<A> {
     }
 
     // The next event line, where no fault was met.
+    #[inline(always)]
     fn read(&mut self) -> Result<Option<Line>, ReadFault>
         ensures next { IfOk result (Yields (lines_left A.remaining self.old) (lines_left A.remaining self.new)) }
         ensures place { IfOk result (λ item. IfSome item (λ line. StandsAt (place_of self.old) line × (place_of self.new ≡ behind (place_of self.old) line))) }

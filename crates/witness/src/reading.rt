@@ -23,6 +23,7 @@ const MAX_MOMENT: u64 = 1_000_000_000_000_000_000;
 /// The step of the line of that number in this version, whose bytes are given with the line's end. Its span is the whole
 /// line.
 #[tactic(auto, unfolding(crate::specs::Steps::step_of))]
+#[inline(always)]
 pub fn read_step(
     alloc: Global,
     version: Version,

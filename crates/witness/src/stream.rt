@@ -76,6 +76,7 @@ impl<B> StepReader<B> {
     }
 
     // What was read; a fault is kept for the calls to come.
+    #[inline(always)]
     fn keep_fault(
         &mut self,
         read: Result<Option<Step>, ReadFault>,
@@ -97,6 +98,7 @@ impl<B> StepReader<B> {
 
 impl<B: BufRead> StepReader<B> {
     /// The next step, or none at the end of the text.
+    #[inline(always)]
     pub fn next(&mut self) -> Result<Option<Step>, ReadFault>
         ensures next { fault_of self.old ≡ None → IfOk result (Yields (steps_left B.remaining self.old) (steps_left B.remaining self.new)) }
         ensures place { IfOk result (λ item. IfSome item (λ step. StandsAt (version_of self.old) (number_of self.old) step
@@ -117,6 +119,7 @@ impl<B: BufRead> StepReader<B> {
     }
 
     // The next step, where no fault was met.
+    #[inline(always)]
     fn read(&mut self) -> Result<Option<Step>, ReadFault>
         ensures next { IfOk result (Yields (steps_left B.remaining self.old) (steps_left B.remaining self.new)) }
         ensures place { IfOk result (λ item. IfSome item (λ step. StandsAt (version_of self.old) (number_of self.old) step
@@ -132,6 +135,7 @@ impl<B: BufRead> StepReader<B> {
     }
 
     // The number of the next line. Before the first step the first line is read.
+    #[inline(always)]
     fn begin(&mut self) -> Result<u64, ReadFault>
         ensures remains { OnOk result (Remains (steps_left B.remaining self.old) (steps_left B.remaining self.new)) }
         ensures number { IfOk result (λ number. (number_read self.new ≡ Some number) × (number ≡ number_of self.old)) }
@@ -150,6 +154,7 @@ impl<B: BufRead> StepReader<B> {
     }
 
     // The step of the next line, which has this number.
+    #[inline(always)]
     fn read_line(&mut self, number: u64) -> Result<Option<Step>, ReadFault>
         requires { number_read self.old ≡ Some number }
         ensures next { IfOk result (Yields (steps_left B.remaining self.old) (steps_left B.remaining self.new)) }
