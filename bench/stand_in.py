@@ -1,0 +1,114 @@
+#!/usr/bin/env python3
+"""Builds a program without proving it, to count its instructions.
+
+    python3 bench/stand_in.py OUT [--crate NAME] [--inline REGEX].. [--apart REGEX]..
+
+What `rt try` builds is no measure: it is full of tests that the proved program doesn't have. This takes the module that `rt try` hands
+to its compiler, takes those tests out, marks the functions that the sources mark `#[inline(always)]` and those that match a REGEX
+(--inline: put into their callers; --apart: never), and optimises it as a proved program is. The result takes 1 to 5 percent fewer
+instructions than the proved program, and is good for counting them and for nothing else: where a proof would be missing its answer may
+be anything. It takes two minutes. It leans on how the kit of November 2026 lays out its folder.
+"""
+import argparse
+import glob
+import os
+import re
+import shutil
+import subprocess
+import tempfile
+
+FLAGS = """--target=x86_64-unknown-linux-gnu -march=x86-64 -mllvm -no-trap-after-noreturn -ffunction-sections -fdata-sections
+ -mllvm -trap-unreachable -mllvm -no-x86-call-frame-opt -mllvm -disable-machine-licm -mllvm -disable-postra-machine-licm
+ -mllvm -sink-common-insts=false --no-default-config -no-canonical-prefixes -fintegrated-cc1 -c -x ir -fPIE -O3 -Xclang -fmerge-functions
+ -mllvm -mergefunc-use-aliases""".split()
+LIKE_PROVED = '"probe-stack"="inline-asm" "stack-probe-size"="3072" "target-cpu"="x86-64-v2"'
+# Keeps the module of the whole program, and ends the try there.
+KEEPER = """#!/bin/sh
+for word in "$@"; do
+  case "$word" in *.bc) if [ "$(stat -c %s "$word")" -gt 300000 ]; then cp "$word" {kept}; exit 1; fi;; esac
+done
+exec {clang} "$@"
+"""
+
+
+def kit_beside(kit, folder, kept):
+    """A folder like the kit's, whose compiler keeps what it is handed."""
+    for at in glob.glob(f"{kit}/*") + glob.glob(f"{kit}/bin/*") + glob.glob(f"{kit}/toolchain/*"):
+        to = os.path.join(folder, os.path.relpath(at, kit))
+        if to.endswith(("/bin", "/toolchain")):
+            os.makedirs(to, exist_ok=True)
+        elif to.endswith(("/rt", "/rtlib.py")):
+            os.makedirs(os.path.dirname(to), exist_ok=True)
+            shutil.copy(at, to)
+        else:
+            os.makedirs(os.path.dirname(to), exist_ok=True)
+            os.symlink(at, to)
+    for at in glob.glob(f"{kit}/toolchain/bin/*"):
+        to = os.path.join(folder, "toolchain/bin", os.path.basename(at))
+        if not to.endswith("/clang"):
+            os.symlink(at, to)
+    clang = f"{folder}/toolchain/bin/clang"
+    with open(clang, "w") as file:
+        file.write(KEEPER.format(kept=kept, clang=f"{kit}/toolchain/bin/clang"))
+    os.chmod(clang, 0o755)
+
+
+def marked(sources):
+    """The functions that the sources mark, as the module names them."""
+    for path in sources:
+        crate, module = re.search(r"crates/(\w+)/src/([\w/]+)\.rt$", path).groups()
+        holder = ""
+        lines = open(path).read().split("\n")
+        for line, after in zip(lines, lines[1:]):
+            if impl := re.match(r"impl(?:<.*?>)? (\w+)", line):
+                holder = impl[1] + "::"
+            if "#[inline(always)]" in line:
+                name = re.search(r"fn (\w+)", after)[1]
+                # A method is named by the module of its type.
+                path_to = rf"(\w+::)+{holder}" if after.startswith(" ") else f"{module.replace('/', '::')}::"
+                yield re.compile(rf"^{crate}::{path_to}{name}(::<|$)")
+
+
+def without_tests(lines, inline, apart):
+    for line in lines:
+        if flag := re.match(r"  (%\S+) = load volatile i8, ptr @static\.\d+, align 1", line):
+            line = f"  {flag[1]} = add i8 0, 0\n"
+        elif re.match(r"  call void @llvm\.(trap\(\)|memset\.p0\.i64\(ptr %\S+, i8 -86,)", line) or re.match(r'  call void @"rattle-llvm-checks::', line):
+            continue
+        elif line.startswith("attributes #"):
+            line = line.replace(" sanitize_address", "").replace('"frame-pointer"="all"', "").replace('"target-cpu"="x86-64" }', '"target-cpu"="x86-64-v2" }')
+            line = re.sub(r"\{ +\}", "{ nounwind }", line)
+        elif line.startswith("define "):
+            name = re.search(r'@("[^"]*"|[^\s(]+)\(', line)[1].strip('"')
+            for patterns, mark in ((inline, 9001), (apart, 9002)):
+                if any(pattern.search(name) for pattern in patterns):
+                    line = re.sub(r"\) #\d+ \{$", f") #{mark} {{", line)
+        yield line
+    yield f"\nattributes #9001 = {{ alwaysinline nounwind {LIKE_PROVED} }}\nattributes #9002 = {{ noinline nounwind {LIKE_PROVED} }}\n"
+
+
+def main():
+    words = argparse.ArgumentParser()
+    words.add_argument("out")
+    words.add_argument("--crate", default="tcpwit")
+    words.add_argument("--inline", action="append", type=re.compile, default=[])
+    words.add_argument("--apart", action="append", type=re.compile, default=[])
+    words = words.parse_args()
+    top = os.path.dirname(os.path.dirname(os.path.abspath(__file__)))
+    kit = os.path.dirname(os.path.realpath(subprocess.check_output(["rt", "doc"], text=True).strip()))
+    clang = f"{kit}/toolchain/bin/clang"
+    with tempfile.TemporaryDirectory() as folder:
+        kept = f"{folder}/kept.bc"
+        kit_beside(kit, f"{folder}/kit", kept)
+        subprocess.run([f"{folder}/kit/bin/rt", "try", words.crate], cwd=f"{top}/crates/{words.crate}", stdin=subprocess.DEVNULL, capture_output=True)
+        text = f"{folder}/kept.ll"
+        subprocess.run([clang, "-x", "ir", kept, "-S", "-emit-llvm", "-Xclang", "-disable-llvm-passes", "-o", text], check=True)
+        inline = words.inline + list(marked(glob.glob(f"{top}/crates/*/src/**/*.rt", recursive=True)))
+        with open(text) as lines, open(f"{folder}/plain.ll", "w") as plain:
+            plain.writelines(without_tests(lines, inline, words.apart))
+        subprocess.run([clang, *FLAGS, f"{folder}/plain.ll", "-o", f"{folder}/plain.o"], check=True)
+        libraries = [f"{kit}/c/libos_c.a", f"{kit}/c/liblibc_c.a", "-lm", "-lpthread", "-ldl"]
+        subprocess.run(["cc", "-pie", "-Wl,--gc-sections", "-o", words.out, f"{folder}/plain.o", *libraries], check=True)
+
+
+main()
