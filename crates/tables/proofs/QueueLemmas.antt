@@ -1,25 +1,20 @@
 -- What stands in the slots of a queue.
 use Rattle.std.proofs.Common.{◌≡◌, ℕ, zero, suc, ◌+◌, ◌<◌, ◌≤◌, Bool, true, false, not, filter, List, [], ◌∷◌, ◌++◌, length, Option, None, Some, slice_get, slice_set, slice_index_or, length-append, nat_eq, refl, sym, ap, ◌∙◌, arith}
-use Rattle.std.proofs.lemmas.Bool.Decides.{nat_tests}
 use Rattle.std.specs.Map.{lookup}
 use Rattle.std.specs.Option.{option_flatten}
 use Rattle.tables.specs.Queues.{Queue, standing, IsTrimmed}
+use Rattle.tables.proofs.RisingLemmas.{same, smaller, greater}
 
-same : (n k : ℕ) → n ≡ k → nat_eq n k ≡ true
-same n k is = grind (arith, nat_tests, is)
-
-smaller : (n k : ℕ) → n < k → nat_eq n k ≡ false
-smaller n k low = grind (arith, nat_tests, low)
-
-greater : (n k : ℕ) → k < n → nat_eq n k ≡ false
-greater n k high = grind (arith, nat_tests, high)
+-- slots 4 to 6, of which the second is empty
+three_slots : standing {V = ℕ} 4 (Some 1 ∷ None ∷ Some 3 ∷ []) ≡ (4, 1) ∷ (6, 3) ∷ []
+three_slots = refl
 
 module _ {V : Type 0} where
   -- nothing stands under a number below the first
   pub none_below : (n first : ℕ) (slots : List (Option V)) → n < first → lookup (nat_eq n) (standing first slots) ≡ None
   none_below n first [] low = refl
   none_below n first (None ∷ slots) low = none_below n (first + 1) slots (omega arith)
-  none_below n first (Some item ∷ slots) low = rw (smaller n first low) (none_below n (first + 1) slots (omega arith))
+  none_below n first (Some item ∷ slots) low = rw (greater n first low) (none_below n (first + 1) slots (omega arith))
 
   pub there : (slots : List (Option V)) (place : ℕ) (x : Option V) → place < length slots → x ≡ slice_index_or slots place x → slice_get slots place ≡ Some x
   there [] place x low is = absurd (omega arith)
@@ -32,12 +27,12 @@ module _ {V : Type 0} where
   slot_is n first zero (None ∷ slots) is = none_below n (first + 1) slots (omega (arith, is))
   slot_is n first zero (Some item ∷ slots) is = rw (same n first (omega (arith, is))) refl
   slot_is n first (suc place) (None ∷ slots) is = slot_is n (first + 1) place slots (omega (arith, is))
-  slot_is n first (suc place) (Some item ∷ slots) is = rw (greater n first (omega (arith, is))) (slot_is n (first + 1) place slots (omega (arith, is)))
+  slot_is n first (suc place) (Some item ∷ slots) is = rw (smaller n first (omega (arith, is))) (slot_is n (first + 1) place slots (omega (arith, is)))
 
   pub none_beyond : (n first : ℕ) (slots : List (Option V)) → first + length slots ≤ n → lookup (nat_eq n) (standing first slots) ≡ None
   none_beyond n first [] far = refl
   none_beyond n first (None ∷ slots) far = none_beyond n (first + 1) slots (omega arith)
-  none_beyond n first (Some item ∷ slots) far = rw (greater n first (omega arith)) (none_beyond n (first + 1) slots (omega arith))
+  none_beyond n first (Some item ∷ slots) far = rw (smaller n first (omega arith)) (none_beyond n (first + 1) slots (omega arith))
 
   -- an entry is the slot that an index gives
   pub slot_has : (n first place : ℕ) (slots : List (Option V)) (x : Option V) → n ≡ first + place → place < length slots → x ≡ slice_index_or slots place x
@@ -89,7 +84,7 @@ module _ {V : Type 0} where
   one_less n first zero (Some item ∷ slots) is = rw (same n first (omega (arith, is))) (sym (none_gone n (standing (first + 1) slots) (none_below n (first + 1) slots (omega (arith, is)))))
   one_less n first (suc place) (None ∷ slots) is = one_less n (first + 1) place slots (omega (arith, is))
   one_less n first (suc place) (Some item ∷ slots) is =
-      rw (greater n first (omega (arith, is))) (ap (λ (es : List (ℕ × V)). (first, item) ∷ es) (one_less n (first + 1) place slots (omega (arith, is))))
+      rw (smaller n first (omega (arith, is))) (ap (λ (es : List (ℕ × V)). (first, item) ∷ es) (one_less n (first + 1) place slots (omega (arith, is))))
 
   -- so there is one item fewer
   pub fewer : (first place : ℕ) (slots : List (Option V)) (item : V) → slice_get slots place ≡ Some (Some item) → suc (length (standing first (slice_set slots place None))) ≡ length (standing first slots)

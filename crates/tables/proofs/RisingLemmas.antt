@@ -7,13 +7,13 @@ use Rattle.std.specs.Prelude.{nat_eq}
 use Rattle.std.specs.Map.{lookup}
 use Rattle.tables.specs.Tables.{number_at, AreBelow, AreNotBelow, IsRising}
 
-same : (n k : ℕ) → k ≡ n → nat_eq n k ≡ true
+pub same : (n k : ℕ) → k ≡ n → nat_eq n k ≡ true
 same n k is = grind (arith, nat_tests, is)
 
-smaller : (n k : ℕ) → k < n → nat_eq n k ≡ false
+pub smaller : (n k : ℕ) → k < n → nat_eq n k ≡ false
 smaller n k low = grind (arith, nat_tests, low)
 
-greater : (n k : ℕ) → n < k → nat_eq n k ≡ false
+pub greater : (n k : ℕ) → n < k → nat_eq n k ≡ false
 greater n k high = grind (arith, nat_tests, high)
 
 -- the first that isn't below a number, where it is that number
