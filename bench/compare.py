@@ -4,10 +4,10 @@
     python3 bench/compare.py OURS [OTHER] [--runs N] [--only WORD]
 
 OURS and OTHER are programs that answer `check` and `many --workers 1` on standard input. The runs of both are interleaved, and
-of N runs, 5 where N is missing, the least processor time counts, with the system's part, and the greatest memory. Answers
-that differ are told. A case that grows is run at one size and at twice that size, and OURS has to take at most 2.3 times
-as long for the second: if it takes longer, the last line says so, and the status is 1. Of OURS each case is also timed by
-its two texts in two files, where it is one case.
+of N runs, 5 where N is missing, the least processor time counts, with the system's part, and the greatest memory. A case
+that grows is run at one size and at twice that size, and OURS has to take at most 2.3 times as long for the second. Of OURS
+each case is also timed by its two texts in two files, where it is one case. If OURS takes longer, or answers differ, the last
+lines say so, and the status is 1.
 """
 
 import argparse
@@ -44,7 +44,9 @@ class Cost:
         with open(text, "rb") as given, tempfile.TemporaryFile() as printed:
             child = subprocess.Popen(words, stdin=given, stdout=printed)
             _, status, usage = os.wait4(child.pid, 0)
-            child.returncode = status
+            child.returncode = os.waitstatus_to_exitcode(status)
+            if child.returncode not in (0, 1, 2):
+                sys.exit(f"{' '.join(words)} ended with status {child.returncode}")
             printed.seek(0)
             self.printed = printed.read()
         self.seconds = min(self.seconds, usage.ru_utime + usage.ru_stime)
@@ -87,8 +89,6 @@ def row(name, costs, by_files):
     if len(costs) == 2:
         ours, other = costs
         cells.append(f"{ours.seconds / other.seconds:.2f} / {ours.megabytes / other.megabytes:.2f}")
-        if ours.printed != other.printed:
-            cells.append("THE ANSWERS DIFFER")
     return f"| {name} | " + " | ".join(cells) + " |"
 
 
@@ -103,7 +103,7 @@ def main():
     if len(programs) == 1:
         heads = ["case", "ours", "ours, two files"]
     print("| " + " | ".join(heads) + " |\n|" + "---|" * len(heads))
-    slow = []
+    wrong = []
     with tempfile.TemporaryDirectory() as folder:
         path = os.path.join(folder, "case")
         for name, script, sizes, words in CASES:
@@ -112,13 +112,16 @@ def main():
             seconds = []
             for arguments in sizes or ([],):
                 costs, by_files = measured(programs, words, written(script, arguments, path), given.runs)
-                print(row(" ".join([name, *arguments]), costs, by_files), flush=True)
+                case = " ".join([name, *arguments])
+                print(row(case, costs, by_files), flush=True)
                 seconds.append(costs[0].seconds)
+                if len({cost.printed for cost in [*costs, by_files] if cost}) > 1:
+                    wrong.append(f"{case}: the answers differ")
             if sizes and seconds[1] > MOST_GROWTH * seconds[0]:
-                slow.append(f"{name}: {seconds[1] / seconds[0]:.2f} times as long for twice the size")
-    for line in slow:
+                wrong.append(f"{name}: {seconds[1] / seconds[0]:.2f} times as long for twice the size")
+    for line in wrong:
         print(line)
-    return 1 if slow else 0
+    return 1 if wrong else 0
 
 
 if __name__ == "__main__":

@@ -15,6 +15,7 @@ import os
 import re
 import shutil
 import subprocess
+import sys
 import tempfile
 
 FLAGS = """--target=x86_64-unknown-linux-gnu -march=x86-64 -mllvm -no-trap-after-noreturn -ffunction-sections -fdata-sections
@@ -101,6 +102,8 @@ def main():
         kept = f"{folder}/kept.bc"
         kit_beside(kit, f"{folder}/kit", kept)
         subprocess.run([f"{folder}/kit/bin/rt", "try", words.crate], cwd=f"{top}/crates/{words.crate}", stdin=subprocess.DEVNULL, capture_output=True)
+        if not os.path.exists(kept):
+            sys.exit("rt try handed its compiler no module")
         text = f"{folder}/kept.ll"
         subprocess.run([clang, "-x", "ir", kept, "-S", "-emit-llvm", "-Xclang", "-disable-llvm-passes", "-o", text], check=True)
         inline = words.inline + list(marked(glob.glob(f"{top}/crates/*/src/**/*.rt", recursive=True)))
@@ -111,4 +114,5 @@ def main():
         subprocess.run(["cc", "-pie", "-Wl,--gc-sections", "-o", words.out, f"{folder}/plain.o", *libraries], check=True)
 
 
-main()
+if __name__ == "__main__":
+    main()

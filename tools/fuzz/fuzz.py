@@ -19,6 +19,8 @@ import tempfile
 
 LIMITS = [0, 1, 2, 7, 14, 15, 536, 1095, 1096, 2190, 2191, 65515, 65516, 65535, 65536, 2**31 - 1, 2**31, 2**32 - 1, 2**32,
           10**12, 10**12 + 1, 10**18, 10**18 + 1, 2**63, 2**64 - 1, 2**64]
+# What stands in the place of an answer where a program is ended by a signal.
+ENDED = b"ended by signal"
 
 
 def changed_number(text, random_):
@@ -84,7 +86,8 @@ def changed(text, random_):
 
 def answer(words, text):
     done = subprocess.run(words, input=text, capture_output=True, timeout=60)
-    return done.stdout + done.stderr
+    ended = b"%s %d\n" % (ENDED, -done.returncode) if done.returncode < 0 else b""
+    return done.stdout + done.stderr + ended
 
 
 def cut(text):
@@ -119,7 +122,8 @@ def compared(words, seed, text, many_line, folder):
         found["two files"] = two
     if words.other:
         found["other"] = answer([words.other], text)
-    return found if len(set(found.values())) > 1 else None
+    is_wrong = len(set(found.values())) > 1 or any(ENDED in line for line in found.values())
+    return found if is_wrong else None
 
 
 def batch(words, cases, first, count, folder):
@@ -132,6 +136,9 @@ def batch(words, cases, first, count, folder):
     joined = b"".join(text + (b"" if text.endswith(b"\n") or not text else b"\n") + b"end\n" for text in texts)
     lines = answer([words.program, "many", "--workers", "2"], joined).splitlines(keepends=True) if all(usable) else [None] * count
     differing, judged = [], 0
+    if len(lines) != count:
+        differing.append((first, joined, {"many": b"%d lines for %d cases" % (len(lines), count)}))
+        lines = [None] * count
     for seed, text, line in zip(range(first, first + count), texts, lines):
         # a text without an end of its last line gets one in the joined input, so `many` answers another text
         alone = line if line is not None and (text.endswith(b"\n") or not text) else answer([words.program, "check"], text)

@@ -56,7 +56,11 @@ def prepare(folder):
     commit = subprocess.run(["git", "-C", top, "archive", "HEAD"], stdout=subprocess.PIPE, check=True).stdout
     subprocess.run(["tar", "x", "-C", folder], input=commit, check=True)
     lines = pathlib.Path(folder, "crates.txt")
-    lines.write_text(lines.read_text().replace("record_tests tests_may=Threads+Wait:", "talks:"))
+    before = lines.read_text()
+    after = before.replace("record_tests tests_may=Threads+Wait:", "talks:")
+    if after == before:
+        sys.exit("crates.txt has no such line of record_tests")
+    lines.write_text(after)
     crates = pathlib.Path(folder, "crates")
     (crates / "record_tests").rename(crates / "talks")
     (crates / "talks" / "src" / "lib.rt").unlink()
