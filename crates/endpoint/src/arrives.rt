@@ -1,4 +1,8 @@
 //! A segment arrives (RFC 9293, 3.10.7).
+//!
+//! - `listen`: in LISTEN, where a child is made (3.10.7.2)
+//! - `syn_sent`: in SYN-SENT, where the peer is met (3.10.7.3)
+//! - `otherwise`: in any other state (3.10.7.4)
 
 ghost use Rattle.case_forms.specs.States.{is_closed};
 ghost use Rattle.machine.specs.Arrives.{endpoint_taken};

@@ -1,4 +1,8 @@
 //! What socket calls may be answered at one endpoint (RFC 9293, 3.10.1 to 3.10.6).
+//!
+//! - `accept`: what may be answered at a listener, and an endpoint that is accepted
+//! - `send`, `receive`: SEND and RECEIVE, and the endpoint then
+//! - `close`: CLOSE and ABORT, and the endpoint then
 
 ghost use Rattle.machine.specs.Calls.Await.{await_allows, is_not_connected, tells, tells_fault, is_closed_answer};
 ghost use Rattle.machine.specs.Calls.{endpoint_allows};
@@ -46,7 +50,7 @@ pub fn endpoint_allows(endpoint: &Endpoint, call: &Call, answer: &Answer) -> boo
     }
 }
 
-pub(crate) fn tells(fault: Fault, answer: &Answer) -> bool
+fn tells(fault: Fault, answer: &Answer) -> bool
     ensures { result ≡ tells fault answer.now }
 {
     match fault {
@@ -65,7 +69,7 @@ pub(crate) fn tells_fault(endpoint: &Endpoint, answer: &Answer) -> bool
     }
 }
 
-pub(crate) fn await_allows(endpoint: &Endpoint, answer: &Answer) -> bool
+fn await_allows(endpoint: &Endpoint, answer: &Answer) -> bool
     ensures { result ≡ await_allows endpoint.now answer.now }
 {
     match answer {
@@ -97,7 +101,7 @@ pub(crate) fn is_closed_answer(answer: &Answer) -> bool
     matches!(answer, Answer::Closed)
 }
 
-pub(crate) fn is_state(told: State, state: State) -> bool
+fn is_state(told: State, state: State) -> bool
     ensures { result ≡ same_state told state }
 {
     told == state

@@ -6,6 +6,7 @@
 //! - `arrives`: a segment arrives (3.10.7): in LISTEN, in SYN-SENT, and in the other states, in the order of the RFC
 //! - `timeouts`: a timer expires (3.10.8); `recovery`: fast recovery begins (RFC 5681, 3.2)
 //! - `reset`: the reset that answers a segment (3.5.2); `wire`: segments as bytes on the wire (3.1)
+//! - `same`: comparisons that the rules speak of
 //!
 //! An error is the first rule that is broken, by the order of `Rule`. An effect asks nothing again: its caller asked the rules.
 //! How endpoints are found, and what is under numbers of lines and of made segments, is `endpoint_state`'s.
@@ -33,5 +34,5 @@ pub use calls::send::send;
 pub use makes::{admits_making, make};
 pub use recovery::{admits_recovery, recover};
 pub use reset::reset_of;
-pub use timeouts::{admits_expiry, expire, greatest_values};
+pub use timeouts::{admits_expiry, expire, greatest_values, has_more};
 pub use wire::{admits_in, heard, is_shown, sent};

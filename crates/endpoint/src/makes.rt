@@ -1,4 +1,8 @@
 //! A segment is made (RFC 9293, 3.8 and 3.10): all rules in their order, and the endpoint then.
+//!
+//! - `kind`: which kinds of segments a state makes
+//! - `payload`: the bytes of a segment, and where they begin
+//! - `edges`: its acknowledgment, and the windows in which its bytes end
 
 ghost use Rattle.endpoint.specs.Small.{IsSmall};
 ghost use Rattle.machine.specs.Bounds.{IsSmallEmission, greatest_position};
@@ -81,7 +85,7 @@ pub fn make(
     Ok(emission)
 }
 
-pub(crate) fn emission_of(
+fn emission_of(
     alloc: Global,
     endpoint: &Endpoint,
     me: Name,
@@ -119,11 +123,7 @@ pub(crate) fn emission_of(
 }
 
 // What the endpoint has then, but for a reset.
-pub(crate) fn change(
-    endpoint: &mut Endpoint,
-    making: &SegmentPlan,
-    moment: u64,
-) -> Result<(), OutOfMemory>
+fn change(endpoint: &mut Endpoint, making: &SegmentPlan, moment: u64) -> Result<(), OutOfMemory>
     requires { IsSmall endpoint.old making.now }
     ensures ok { OnOk result (endpoint.new ≡ endpoint_made endpoint.old making.now moment) }
     ensures err { OnErr result (endpoint.new ≡ endpoint.old) }
@@ -143,7 +143,7 @@ pub(crate) fn change(
     Ok(())
 }
 
-pub(crate) fn timed(timers: Timers, making: &SegmentPlan, moment: u64) -> Timers
+fn timed(timers: Timers, making: &SegmentPlan, moment: u64) -> Timers
     ensures { result ≡ timed timers making.now moment }
 {
     let mut timers = timers;

@@ -29,7 +29,7 @@ pub fn admits_recovery(endpoint: &Endpoint, cwnd: u32, ssthresh: u32) -> Result<
     Ok(())
 }
 
-pub(crate) fn is_bad_recovery(endpoint: &Endpoint, cwnd: u32, ssthresh: u32) -> bool
+fn is_bad_recovery(endpoint: &Endpoint, cwnd: u32, ssthresh: u32) -> bool
     ensures { result ≡ is_bad_recovery endpoint.now cwnd ssthresh }
 {
     let greatest = on_fast(&endpoint.congestion, endpoint.flight()).1;

@@ -50,7 +50,7 @@ pub fn reset_of(alloc: Global, m: &Emission) -> Emission
 }
 
 // The number so many positions further.
-pub(crate) fn number_behind(base: Word, length: u128) -> Word
+fn number_behind(base: Word, length: u128) -> Word
     ensures { result ≡ number_of base length }
 {
     let turned = (length % TURN) as u32;

@@ -88,7 +88,8 @@ fn is_off(endpoint: &Endpoint, timer: Timer) -> bool
     }
 }
 
-fn has_more(endpoint: &Endpoint) -> bool
+/// Whether data or the FIN is unsent or not acknowledged.
+pub fn has_more(endpoint: &Endpoint) -> bool
     ensures { result ≡ has_more endpoint.now }
 {
     let end = endpoint.stream.accepted.end();

@@ -24,9 +24,9 @@ const FAR_NAME: Name = Name {
 /// No segment carries more bytes.
 const MOST_BYTES: usize = 65_535;
 
-/// Whether the segment's fields are those of the made one: the acknowledgment number where there is one, the window of
-/// all but a reset that answers.
-pub(crate) fn shows(segment: &Segment, m: &Emission) -> bool
+// Whether the segment's fields are those of the made one: the acknowledgment number where there is one, the window of
+// all but a reset that answers.
+fn shows(segment: &Segment, m: &Emission) -> bool
     ensures { result ≡ shows segment.now m.now }
 {
     segment.src == m.lport
@@ -39,14 +39,14 @@ pub(crate) fn shows(segment: &Segment, m: &Emission) -> bool
 }
 
 #[tactic(auto, using(crate::proofs::Bytes::same_bytes_is))]
-pub(crate) fn same_bytes(a: &[u8], b: &[u8]) -> bool
+fn same_bytes(a: &[u8], b: &[u8]) -> bool
     ensures { result ≡ same_bytes a.now b.now }
 {
     a == b
 }
 
 // The flags ACK, RST, SYN and FIN alone.
-pub(crate) fn same_flags(segment: &Segment, flags: Flags) -> bool
+fn same_flags(segment: &Segment, flags: Flags) -> bool
     ensures { result ≡ same_flags segment.now flags }
 {
     same_bool(segment.has(Flag::Ack), flags.ack)
@@ -56,7 +56,7 @@ pub(crate) fn same_flags(segment: &Segment, flags: Flags) -> bool
 }
 
 // A SYN tells the shift that its maker gave, or none. A byte above 14 is read as 14 (RFC 7323, 2.3).
-pub(crate) fn shows_shift(segment: &Segment, m: &Emission) -> bool
+fn shows_shift(segment: &Segment, m: &Emission) -> bool
     ensures { result ≡ shows_shift segment.now m.now }
 {
     match (segment.scale, m.shift) {
@@ -164,7 +164,7 @@ pub fn admits_in(header: &Header, moment: u64, wire: &Wire, m: &Emission) -> Res
     Ok(())
 }
 
-pub(crate) fn is_past_lifetime(header: &Header, moment: u64, m: &Emission) -> bool
+fn is_past_lifetime(header: &Header, moment: u64, m: &Emission) -> bool
     ensures { result ≡ nat_lt (m.now.moment + header.now.msl) moment }
 {
     m.moment as u128 + (header.msl as u128) < moment as u128

@@ -1,4 +1,7 @@
 //! A segment arrives in any other state (RFC 9293, 3.10.7.4).
+//!
+//! In the order of the RFC: `sequence` (first), `reset` (second), `ack` (fifth), `text` (seventh), `fin` (eighth). Beside them
+//! `peer`: whose segment it is; `congestion`, `timers`, `window`: what these are then.
 
 ghost use Rattle.machine.specs.Arrives.Otherwise.{taken, rules_with_queue};
 ghost use Rattle.machine.specs.Bounds.{HasRoom, IsSmallEmission};

@@ -53,14 +53,14 @@ pub fn admits_syn_sent(
     Ok(())
 }
 
-/// Whether it acknowledges, in SYN-SENT, the endpoint's SYN, which is all that was made.
-pub(crate) fn answers_syn(endpoint: &Endpoint, m: &Arrived<'_>) -> bool
+// Whether it acknowledges, in SYN-SENT, the endpoint's SYN, which is all that was made.
+fn answers_syn(endpoint: &Endpoint, m: &Arrived<'_>) -> bool
     ensures { result ≡ answers_syn endpoint.now m.now }
 {
     m.flags().ack && endpoint.max_made() == 1 && has_syn_number(endpoint, m)
 }
 
-pub(crate) fn has_syn_number(endpoint: &Endpoint, m: &Arrived<'_>) -> bool
+fn has_syn_number(endpoint: &Endpoint, m: &Arrived<'_>) -> bool
     ensures { result ≡ option_map_or (λ iss. same_word m.now.ack_seq (number_of iss 1)) endpoint.now.iss false }
 {
     match endpoint.iss {
@@ -129,7 +129,7 @@ pub(crate) fn met_peer(
     endpoint.makings.forget_below(una);
 }
 
-pub(crate) fn state_met(m: &Arrived<'_>) -> State
+fn state_met(m: &Arrived<'_>) -> State
     ensures { result ≡ (if m.now.flags.ack then states.Established else states.SynReceived) }
 {
     if m.flags().ack {
@@ -139,14 +139,14 @@ pub(crate) fn state_met(m: &Arrived<'_>) -> State
     }
 }
 
-pub(crate) fn una_met(endpoint: &Endpoint, m: &Arrived<'_>) -> u64
+fn una_met(endpoint: &Endpoint, m: &Arrived<'_>) -> u64
     ensures { result ≡ una_met endpoint.now m.now }
 {
     let una = endpoint.stream.una;
     if m.flags().ack { una.max(1) } else { una }
 }
 
-pub(crate) fn window_met(endpoint: &Endpoint, m: &Arrived<'_>) -> Window
+fn window_met(endpoint: &Endpoint, m: &Arrived<'_>) -> Window
     ensures { result ≡ record endpoint.now.window { wnd = m.now.window; wl1 = m.now.pos; wl2 = if m.now.flags.ack then 1 else 0 } }
 {
     let mut window = endpoint.window;
@@ -156,7 +156,7 @@ pub(crate) fn window_met(endpoint: &Endpoint, m: &Arrived<'_>) -> Window
     window
 }
 
-pub(crate) fn congestion_met(endpoint: &Endpoint, how: TakeChoice, m: &Arrived<'_>) -> Congestion
+fn congestion_met(endpoint: &Endpoint, how: TakeChoice, m: &Arrived<'_>) -> Congestion
     ensures { result ≡ record endpoint.now.congestion {
       cwnd = how.cwnd;
       smss = told_smss m.now.mss;
@@ -170,9 +170,9 @@ pub(crate) fn congestion_met(endpoint: &Endpoint, how: TakeChoice, m: &Arrived<'
     congestion
 }
 
-/// The timers once the peer's SYN was taken in SYN-SENT. A round trip is that of the own SYN, while it is not
-/// acknowledged.
-pub(crate) fn timers_met(
+// The timers once the peer's SYN was taken in SYN-SENT. A round trip is that of the own SYN, while it is not
+// acknowledged.
+fn timers_met(
     header: &Header,
     endpoint: &Endpoint,
     how: TakeChoice,

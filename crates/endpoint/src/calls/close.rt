@@ -77,7 +77,7 @@ pub(crate) fn shut_down(endpoint: &mut Endpoint)
     endpoint.timers.stop_all();
 }
 
-pub(crate) fn ended_state(state: State) -> State
+fn ended_state(state: State) -> State
     ensures { result ≡ ended_state state }
 {
     match state {
@@ -95,14 +95,14 @@ pub(crate) fn ended_state(state: State) -> State
     }
 }
 
-pub(crate) fn end_sending(endpoint: &mut Endpoint)
+fn end_sending(endpoint: &mut Endpoint)
     ensures { endpoint.new ≡ after_shut endpoint.old }
 {
     endpoint.stream.ended = true;
     endpoint.state = ended_state(endpoint.state);
 }
 
-pub(crate) fn resets_at_abort(state: State) -> bool
+fn resets_at_abort(state: State) -> bool
     ensures { result ≡ resets_at_abort state }
 {
     matches!(
@@ -115,7 +115,7 @@ pub(crate) fn resets_at_abort(state: State) -> bool
     )
 }
 
-pub(crate) fn end_at_once(endpoint: &mut Endpoint)
+fn end_at_once(endpoint: &mut Endpoint)
     ensures { endpoint.new ≡ after_abort endpoint.old }
 {
     let reset_due = endpoint.reset_due || resets_at_abort(endpoint.state);

@@ -10,7 +10,7 @@ use crate::calls::tells_fault;
 use case_forms::Answer;
 use machine::Endpoint;
 
-pub(crate) fn is_read_out(endpoint: &Endpoint) -> bool
+fn is_read_out(endpoint: &Endpoint) -> bool
     ensures { result ≡ is_read_out endpoint.now }
 {
     endpoint.stream.receive.is_ended() && !endpoint.stream.receive.has_waiting()

@@ -10,7 +10,7 @@ use case_forms::{Answer, State};
 use machine::Endpoint;
 use segment::OutOfMemory;
 
-pub(crate) fn sends_some(bytes: &[u8], answer: &Answer) -> bool
+fn sends_some(bytes: &[u8], answer: &Answer) -> bool
     ensures { result ≡ sends_some bytes.now answer.now }
 {
     match answer {
@@ -30,7 +30,7 @@ pub(crate) fn sends_some(bytes: &[u8], answer: &Answer) -> bool
     }
 }
 
-pub(crate) fn open_send_allows(state: State, bytes: &[u8], answer: &Answer) -> bool
+fn open_send_allows(state: State, bytes: &[u8], answer: &Answer) -> bool
     ensures { result ≡ open_send_allows state bytes.now answer.now }
 {
     match state {
@@ -73,7 +73,7 @@ pub fn send(endpoint: &mut Endpoint, bytes: &[u8], count: u32) -> Result<(), Out
     Ok(())
 }
 
-pub(crate) fn first_bytes(bytes: &[u8], count: u32) -> &[u8]
+fn first_bytes(bytes: &[u8], count: u32) -> &[u8]
     ensures { result.now ≡ take count bytes.now }
 {
     let count = bytes.len().min(count as usize);

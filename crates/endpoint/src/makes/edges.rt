@@ -54,7 +54,7 @@ pub(crate) fn acknowledgment(endpoint: &Endpoint, making: &SegmentPlan) -> (u64,
 }
 
 // The window that it offers, in bytes.
-pub(crate) fn own_window(endpoint: &Endpoint, making: &SegmentPlan) -> u32
+fn own_window(endpoint: &Endpoint, making: &SegmentPlan) -> u32
     ensures value { result ≡ own_window endpoint.now making.now }
     ensures small { result < 2 ^ 30 }
 {

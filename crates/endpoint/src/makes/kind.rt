@@ -6,11 +6,12 @@ ghost use Rattle.machine.specs.Makes.Kind.{may_carry, may_finish, may_not_send, 
 ghost use Rattle.machine.specs.Makes.Kind.{makes_nothing, is_bad_iss, given_shift, numbered};
 ghost use Rattle.std.specs.Prelude.{◌≡◌, if◌then◌else◌, false};
 
+use crate::calls::close::shut_down;
 use case_forms::{SegmentPlan, State};
 use machine::Endpoint;
 use seqno::{Word, number};
 
-pub(crate) fn may_carry(state: State) -> bool
+fn may_carry(state: State) -> bool
     ensures { result ≡ may_carry state }
 {
     matches!(
@@ -19,29 +20,29 @@ pub(crate) fn may_carry(state: State) -> bool
     )
 }
 
-pub(crate) fn may_finish(state: State) -> bool
+fn may_finish(state: State) -> bool
     ensures { result ≡ may_finish state }
 {
     matches!(state, State::FinWait1 | State::Closing | State::LastAck)
 }
 
-pub(crate) fn may_not_send(state: State) -> bool
+fn may_not_send(state: State) -> bool
     ensures { result ≡ may_not_send state }
 {
     matches!(state, State::Closed | State::Listen | State::SynSent)
 }
 
-pub(crate) fn is_syn_state(state: State, ack: bool) -> bool
+fn is_syn_state(state: State, ack: bool) -> bool
     ensures { result ≡ (if ack then is_syn_received state else is_syn_sent state) }
 {
     if ack {
-        matches!(state, State::SynReceived)
+        state.is_syn_received()
     } else {
-        matches!(state, State::SynSent)
+        state.is_syn_sent()
     }
 }
 
-pub(crate) fn may_make_syn(endpoint: &Endpoint, making: &SegmentPlan) -> bool
+fn may_make_syn(endpoint: &Endpoint, making: &SegmentPlan) -> bool
     ensures { result ≡ may_make_syn endpoint.now making.now }
 {
     is_syn_state(endpoint.state, making.flags.ack)
@@ -50,14 +51,14 @@ pub(crate) fn may_make_syn(endpoint: &Endpoint, making: &SegmentPlan) -> bool
         && !making.flags.rst
 }
 
-pub(crate) fn may_make_reset(endpoint: &Endpoint, making: &SegmentPlan) -> bool
+fn may_make_reset(endpoint: &Endpoint, making: &SegmentPlan) -> bool
     ensures { result ≡ may_make_reset endpoint.now making.now }
 {
     (endpoint.reset_due || endpoint.closed && !endpoint.state.is_closed() && 1 <= endpoint.next())
         && !making.flags.fin
 }
 
-pub(crate) fn may_make_other(endpoint: &Endpoint, making: &SegmentPlan) -> bool
+fn may_make_other(endpoint: &Endpoint, making: &SegmentPlan) -> bool
     ensures { result ≡ may_make_other endpoint.now making.now }
 {
     !may_not_send(endpoint.state)
@@ -108,8 +109,7 @@ pub(crate) fn given_shift(endpoint: &Endpoint, making: &SegmentPlan) -> Option<u
 pub(crate) fn close_after_reset(endpoint: &mut Endpoint)
     ensures { endpoint.new ≡ record (shut_down endpoint.old) { reset_due = false } }
 {
-    endpoint.state = State::Closed;
-    endpoint.timers.stop_all();
+    shut_down(endpoint);
     endpoint.reset_due = false;
 }
 

@@ -39,14 +39,14 @@ pub(crate) fn is_bad_payload(endpoint: &Endpoint, making: &SegmentPlan) -> bool
         || (making.flags.fin && !(endpoint.stream.ended && end == accepted))
 }
 
-pub(crate) fn old_end(endpoint: &Endpoint, making: &SegmentPlan) -> u64
+fn old_end(endpoint: &Endpoint, making: &SegmentPlan) -> u64
     requires { making.now.pos ≤ greatest_position }
     ensures { result ≡ old_end endpoint.now making.now }
 {
     (making.pos + making_length(making)).min(endpoint.max_made())
 }
 
-pub(crate) fn is_bad_empty_place(endpoint: &Endpoint, making: &SegmentPlan) -> bool
+fn is_bad_empty_place(endpoint: &Endpoint, making: &SegmentPlan) -> bool
     requires { making.now.pos ≤ greatest_position }
     ensures { result ≡ is_bad_empty_place endpoint.now making.now }
 {

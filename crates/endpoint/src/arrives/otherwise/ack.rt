@@ -83,32 +83,17 @@ pub(crate) fn acknowledged(endpoint: &Endpoint, m: &Arrived<'_>) -> State
 {
     match endpoint.state {
         State::SynReceived => syn_acknowledged(endpoint, m),
-        State::FinWait1 => {
-            if fin_acknowledged(endpoint, m) {
-                State::FinWait2
-            } else {
-                State::FinWait1
-            }
-        }
-        State::Closing => {
-            if fin_acknowledged(endpoint, m) {
-                State::TimeWait
-            } else {
-                State::Closing
-            }
-        }
-        State::LastAck => {
-            if fin_acknowledged(endpoint, m) {
-                State::Closed
-            } else {
-                State::LastAck
-            }
-        }
+        State::FinWait1 if fin_acknowledged(endpoint, m) => State::FinWait2,
+        State::Closing if fin_acknowledged(endpoint, m) => State::TimeWait,
+        State::LastAck if fin_acknowledged(endpoint, m) => State::Closed,
         State::Listen
         | State::SynSent
         | State::Established
+        | State::FinWait1
         | State::FinWait2
         | State::CloseWait
+        | State::Closing
+        | State::LastAck
         | State::TimeWait
         | State::Closed => endpoint.state,
     }
@@ -151,7 +136,7 @@ pub(crate) fn backs_taken(endpoint: &Endpoint, m: &Arrived<'_>) -> u32
     }
 }
 
-pub(crate) fn syn_acknowledged(endpoint: &Endpoint, m: &Arrived<'_>) -> State
+fn syn_acknowledged(endpoint: &Endpoint, m: &Arrived<'_>) -> State
     ensures { result ≡ acknowledged states.SynReceived endpoint.now m.now }
 {
     if !acknowledges_syn(endpoint, m) {
@@ -164,7 +149,7 @@ pub(crate) fn syn_acknowledged(endpoint: &Endpoint, m: &Arrived<'_>) -> State
     }
 }
 
-pub(crate) fn fin_acknowledged(endpoint: &Endpoint, m: &Arrived<'_>) -> bool
+fn fin_acknowledged(endpoint: &Endpoint, m: &Arrived<'_>) -> bool
     ensures { result ≡ fin_acknowledged endpoint.now m.now }
 {
     endpoint.stream.ended && endpoint.stream.accepted.end() < una_after(endpoint, m)

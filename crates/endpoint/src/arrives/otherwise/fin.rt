@@ -1,10 +1,9 @@
 //! Eighth, the FIN bit.
 
-ghost use Rattle.machine.specs.Arrives.Otherwise.Fin.{fin_place, keeps_fin, finished};
-ghost use Rattle.machine.specs.Bounds.{IsSmallEmission};
-ghost use Rattle.std.specs.Prelude.{◌≡◌};
+ghost use Rattle.machine.specs.Arrives.Otherwise.Fin.{first_byte, fin_place, keeps_fin, finished};
+ghost use Rattle.machine.specs.Bounds.{IsSmallEmission, greatest_position};
+ghost use Rattle.std.specs.Prelude.{◌≡◌, ◌≤◌, ◌+◌};
 
-use crate::arrives::otherwise::text::first_byte;
 use case_forms::{State, TakeChoice};
 use machine::{Arrived, Endpoint};
 
@@ -21,6 +20,14 @@ pub(crate) fn fin_place(m: &Arrived<'_>) -> u64
     ensures { result ≡ fin_place m.now }
 {
     first_byte(m) + m.payload().len() as u64
+}
+
+pub(crate) fn first_byte(m: &Arrived<'_>) -> u64
+    requires { m.now.pos ≤ greatest_position }
+    ensures value { result ≡ first_byte m.now }
+    ensures small { result ≤ greatest_position + 1 }
+{
+    m.pos() + m.flags().syn as u64
 }
 
 // The state once the peer's FIN was passed, where it was (RFC 9293, 3.10.7.4, eighth).

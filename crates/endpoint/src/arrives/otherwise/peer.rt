@@ -19,7 +19,7 @@ pub(crate) fn is_from_peer(me: Name, endpoint: &Endpoint, m: &Arrived<'_>) -> bo
     is_peer(endpoint, m.maker()) && may_be_for(m, me)
 }
 
-pub(crate) fn is_peer(endpoint: &Endpoint, maker: Name) -> bool
+fn is_peer(endpoint: &Endpoint, maker: Name) -> bool
     ensures { result ≡ option_map_or (λ peer. same_name peer maker) endpoint.now.stream.peer false }
 {
     match endpoint.stream.peer {
@@ -28,7 +28,7 @@ pub(crate) fn is_peer(endpoint: &Endpoint, maker: Name) -> bool
     }
 }
 
-pub(crate) fn may_be_for(m: &Arrived<'_>, me: Name) -> bool
+fn may_be_for(m: &Arrived<'_>, me: Name) -> bool
     ensures { result ≡ option_map_or (λ knew. same_name knew me) m.now.knew true }
 {
     match m.knew() {

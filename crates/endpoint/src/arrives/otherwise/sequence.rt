@@ -10,9 +10,9 @@ use seqno::{Word, number, read_near};
 /// A position that is no further above another reads ahead of it, one no further below reads behind.
 const HALF_TURN: u64 = 1 << 31;
 
-/// The position at which the segment begins; of a reset that answers, what its number reads as near the next position.
-/// None: that would be below position 0, or the endpoint took no SYN.
-pub(crate) fn place_taken(endpoint: &Endpoint, m: &Arrived<'_>) -> Option<u64>
+// The position at which the segment begins; of a reset that answers, what its number reads as near the next position.
+// None: that would be below position 0, or the endpoint took no SYN.
+fn place_taken(endpoint: &Endpoint, m: &Arrived<'_>) -> Option<u64>
     ensures { result ≡ place_taken endpoint.now m.now }
 {
     if !m.is_answer() {
@@ -36,7 +36,7 @@ pub(crate) fn is_bad_number(endpoint: &Endpoint, m: &Arrived<'_>) -> bool
         || (m.flags().ack && !reads_as(endpoint.stream.una, endpoint.iss, m.ack_seq(), m.ack()))
 }
 
-pub(crate) fn reads_as(near: u64, base: Option<Word>, w: Word, pos: u64) -> bool
+fn reads_as(near: u64, base: Option<Word>, w: Word, pos: u64) -> bool
     ensures { result ≡ reads_as near base w pos }
 {
     match base {
@@ -45,7 +45,7 @@ pub(crate) fn reads_as(near: u64, base: Option<Word>, w: Word, pos: u64) -> bool
     }
 }
 
-pub(crate) fn is_near(near: u64, pos: u64) -> bool
+fn is_near(near: u64, pos: u64) -> bool
     ensures { result ≡ nat_le near (pos + 2 ^ 31) && nat_lt pos (near + 2 ^ 31) }
 {
     near.saturating_sub(pos) <= HALF_TURN && pos.saturating_sub(near) < HALF_TURN
@@ -74,7 +74,7 @@ pub(crate) fn is_acceptable(endpoint: &Endpoint, m: &Arrived<'_>) -> bool
     }
 }
 
-pub(crate) fn is_acceptable_at(endpoint: &Endpoint, m: &Arrived<'_>, pos: u64) -> bool
+fn is_acceptable_at(endpoint: &Endpoint, m: &Arrived<'_>, pos: u64) -> bool
     ensures { result ≡ is_acceptable_at endpoint.now m.now pos }
 {
     if endpoint.receive_window() == 0 {
@@ -90,7 +90,7 @@ pub(crate) fn is_acceptable_at(endpoint: &Endpoint, m: &Arrived<'_>, pos: u64) -
     is_in_window(endpoint, pos as u128 + (length - 1))
 }
 
-pub(crate) fn is_in_window(endpoint: &Endpoint, pos: u128) -> bool
+fn is_in_window(endpoint: &Endpoint, pos: u128) -> bool
     ensures { result ≡ is_in_window endpoint.now pos }
 {
     let next = endpoint.next() as u128;

@@ -1,14 +1,13 @@
 //! Seventh, the segment text.
 
-ghost use Rattle.machine.specs.Arrives.Otherwise.Fin.{first_byte};
 ghost use Rattle.machine.specs.Arrives.Otherwise.Text.{kept_bytes, kept_start, receive_after};
 ghost use Rattle.machine.specs.Bounds.{IsSmallEmission, greatest_position};
 ghost use Rattle.machine.specs.Endpoints.{next};
-ghost use Rattle.std.specs.Prelude.{◌≡◌, ◌≤◌, IfOk, OnOk, OnErr, ◌+◌};
+ghost use Rattle.std.specs.Prelude.{◌≡◌, ◌≤◌, IfOk, OnOk, OnErr};
 ghost use Rattle.streams.specs.Forgetting.{forgotten};
 ghost use Rattle.streams.specs.Received.{is_ended};
 
-use crate::arrives::otherwise::fin::{fin_place, keeps_fin};
+use crate::arrives::otherwise::fin::{fin_place, first_byte, keeps_fin};
 use case_forms::TakeChoice;
 use machine::{Arrived, Endpoint};
 use segment::OutOfMemory;
@@ -37,7 +36,7 @@ pub(crate) fn receive(
     Ok(endpoint.stream.receive.is_ended())
 }
 
-pub(crate) fn kept_bytes<'a>(endpoint: &Endpoint, how: TakeChoice, m: &'a Arrived<'_>) -> &'a [u8]
+fn kept_bytes<'a>(endpoint: &Endpoint, how: TakeChoice, m: &'a Arrived<'_>) -> &'a [u8]
     requires { IsSmallEmission m.now }
     ensures { result.now ≡ kept_bytes endpoint.now how m.now }
 {
@@ -50,17 +49,9 @@ pub(crate) fn kept_bytes<'a>(endpoint: &Endpoint, how: TakeChoice, m: &'a Arrive
     &m.payload()[start as usize..end as usize]
 }
 
-pub(crate) fn kept_start(endpoint: &Endpoint, m: &Arrived<'_>) -> u64
+fn kept_start(endpoint: &Endpoint, m: &Arrived<'_>) -> u64
     requires { m.now.pos ≤ greatest_position }
     ensures { result ≡ kept_start endpoint.now m.now }
 {
     endpoint.next().max(first_byte(m))
-}
-
-pub(crate) fn first_byte(m: &Arrived<'_>) -> u64
-    requires { m.now.pos ≤ greatest_position }
-    ensures value { result ≡ first_byte m.now }
-    ensures small { result ≤ greatest_position + 1 }
-{
-    m.pos() + m.flags().syn as u64
 }

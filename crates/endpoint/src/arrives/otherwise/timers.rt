@@ -99,7 +99,7 @@ pub(crate) fn timeout_taken(
 }
 
 // How long ago a position was made.
-pub(crate) fn since_made(endpoint: &Endpoint, pos: u64, moment: u64) -> u64
+fn since_made(endpoint: &Endpoint, pos: u64, moment: u64) -> u64
     ensures { result ≡ since_made endpoint.now pos moment }
 {
     moment.saturating_sub(endpoint.makings.moment(pos).unwrap_or(moment))
