@@ -1,7 +1,16 @@
 //! What one host has, and how it is found.
+//!
+//! In its folder each event, asked and done:
+//!
+//! - `calls`: socket calls
+//! - `makes`: a segment is made
+//! - `arrives`: a segment arrives, and the rules of a reset that answers one
+//! - `timeouts`: a timer expires
+//! - `recovery`: fast recovery begins
 
-ghost use Rattle.std.specs.Prelude.{◌≡◌, length, slice_get};
+ghost use Rattle.std.specs.Prelude.{◌≡◌, length, slice_get, None, Some, IfErr, IfOk, OnErr};
 ghost use Rattle.std.specs.Option.{option_copied};
+ghost use Rattle.verdict.specs.declared.rule.Rule.TheVariants.{NoEndpoint};
 ghost use Rattle.machine.specs.Bodies.{empty, endpoint_of, given, is_connected, if_live, is_listening, listener_on, place_of, thing_of};
 
 mod arrives;
@@ -16,6 +25,7 @@ use machine::{Endpoint, Listener, Socket, Thing};
 use std::alloc::Global;
 use std::marker::Model;
 use tables::Table;
+use verdict::Rule;
 
 /// What one host has. Contracts see it as the record `Body` of the definitions.
 #[derive(Drop)]
@@ -99,6 +109,22 @@ impl Body {
             Some(place) => self.endpoint_at(place),
             None => None,
         }
+    }
+
+    // The place of the endpoint created last with these ports, and the endpoint. An error: there was none.
+    fn endpoint_on(&self, lport: u16, rport: u16) -> Result<(u32, &Endpoint), Rule>
+        ensures place { IfOk result (λ found. place_of self.now lport rport ≡ Some found.0) }
+        ensures there { IfOk result (λ found. slice_get self.now.endpoints found.0 ≡ Some found.1.now) }
+        ensures rule { IfErr result (λ rule. rule ≡ NoEndpoint) }
+        ensures none { OnErr result (endpoint_of self.now lport rport ≡ None) }
+    {
+        let Some(place) = self.place_of(lport, rport) else {
+            return Err(Rule::NoEndpoint);
+        };
+        let Some(endpoint) = self.endpoint_at(place) else {
+            return Err(Rule::NoEndpoint);
+        };
+        Ok((place, endpoint))
     }
 
     /// Whether there is an endpoint of these ports that is not CLOSED.

@@ -5,7 +5,7 @@
 //! `specs/Worlds.antt` says what a case has come to, `specs/Kinds.antt` what a host has after each kind of step,
 //! `specs/Calls.antt` what a call may answer, and `specs/Sides.antt` what both hosts have once one of them did something.
 //! `specs/Kept.antt` says what holds of every world here, so that counts and positions never overflow. Which step a label asks
-//! for is told by `spec_step`.
+//! for is said by `step_of` of `machine`.
 //!
 //! - `world`: what a case has come to, and every step but the effect of a call
 //! - `calls`: the effect of a call, and the two rules of its answer

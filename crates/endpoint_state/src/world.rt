@@ -44,7 +44,7 @@ pub struct World {
     pub(crate) hosts: Hosts,
     /// Each thread that called, with where it is. None is ever taken out.
     pub(crate) threads: Table<Turn>,
-    /// How many segments were made: the next has this number and one.
+    /// How many segments were made; the next one's number is one more.
     count: u32,
     /// How many steps were done.
     pub(crate) steps: u64,

@@ -29,12 +29,7 @@ impl Body {
         ensures place { IfOk result (λ place. place_of self.now plan.now.lport plan.now.rport ≡ Some place) }
         ensures there { IfOk result (λ place. is_some (slice_get self.now.endpoints place) ≡ true) }
     {
-        let Some(place) = self.place_of(plan.lport, plan.rport) else {
-            return Err(Rule::NoEndpoint);
-        };
-        let Some(endpoint) = self.endpoint_at(place) else {
-            return Err(Rule::NoEndpoint);
-        };
+        let (place, endpoint) = self.endpoint_on(plan.lport, plan.rport)?;
         admits_making(endpoint, plan)?;
         Ok(place)
     }

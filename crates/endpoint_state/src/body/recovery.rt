@@ -20,12 +20,7 @@ impl Body {
         ensures rule { result_err result ≡ first_broken (recovering_rules recovery self.now) }
         ensures place { IfOk result (λ place. place_of self.now recovery.lport recovery.rport ≡ Some place) }
     {
-        let Some(place) = self.place_of(recovery.lport, recovery.rport) else {
-            return Err(Rule::NoEndpoint);
-        };
-        let Some(endpoint) = self.endpoint_at(place) else {
-            return Err(Rule::NoEndpoint);
-        };
+        let (place, endpoint) = self.endpoint_on(recovery.lport, recovery.rport)?;
         admits_recovery(endpoint, recovery.cwnd, recovery.ssthresh)?;
         Ok(place)
     }

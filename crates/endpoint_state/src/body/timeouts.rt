@@ -27,12 +27,7 @@ impl Body {
         ensures rule { result_err result ≡ first_broken (expiring_rules header.now moment ports expired self.now) }
         ensures place { IfOk result (λ place. place_of self.now ports.lport ports.rport ≡ Some place) }
     {
-        let Some(place) = self.place_of(ports.lport, ports.rport) else {
-            return Err(Rule::NoEndpoint);
-        };
-        let Some(endpoint) = self.endpoint_at(place) else {
-            return Err(Rule::NoEndpoint);
-        };
+        let (place, endpoint) = self.endpoint_on(ports.lport, ports.rport)?;
         admits_expiry(header, moment, endpoint, expired)?;
         Ok(place)
     }
