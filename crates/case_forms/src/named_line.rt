@@ -9,8 +9,11 @@ use crate::steps::Takes;
 /// The extra numbers of a step that takes a line.
 #[derive(Clone, Copy, Debug, PartialEq, Eq)]
 pub enum Extras {
+    /// No extra number.
     Bare,
+    /// One: of a line that goes out, the number of the made segment; of one that comes in, the line that it copies.
     One(u32),
+    /// Two: the congestion window and the slow start threshold, in bytes.
     Two(u32, u32),
 }
 

@@ -51,8 +51,11 @@ pub struct Window {
 /// Why an endpoint failed.
 #[derive(Clone, Copy, Debug, PartialEq, Eq)]
 pub enum Fault {
+    /// The peer refused the connection by a reset.
     Refused,
+    /// The peer reset the connection.
     Reset,
+    /// The endpoint gave up (RFC 9293, 3.8.3).
     Timeout,
 }
 
@@ -222,10 +225,13 @@ pub struct Emission {
     pub knew: Option<Name>,
     pub lport: u16,
     pub rport: u16,
-    /// The true positions of its number and its acknowledgment.
+    /// The true position of its sequence number; 0 where that is not known.
     pub pos: u64,
+    /// The true position of its acknowledgment number; 0 where it has none, or that is not known.
     pub ack: u64,
+    /// The sequence number, 32 bits (SEG.SEQ).
     pub seq: Word,
+    /// The acknowledgment number, 32 bits (SEG.ACK).
     pub ack_seq: Word,
     pub flags: Flags,
     pub window: u16,

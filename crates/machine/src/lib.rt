@@ -5,6 +5,11 @@
 //! thread and no other host. In code there are only the values of which they speak: endpoints, segments that were made,
 //! listeners with their queues, sockets. What is done with them is in the crates above.
 //!
+//! - `endpoint`: endpoints, segments that were made, listeners, and what socket numbers name
+//! - `arrived`: a segment as the endpoint reads it that takes it; `queue`: a listen queue
+//!
+//! The definitions:
+//!
 //! - `specs/Endpoints`: endpoints; `specs/Bodies`: what a host has, and how it is found; `specs/Same`: comparisons
 //! - `specs/Calls`, `specs/Makes`, `specs/Arrives`, each with its folder: socket calls, making segments, taking segments
 //! - `specs/Timeouts`, `specs/Recovery`, `specs/Reset`, `specs/Wire`: expiries, fast recovery, resets that answer, the wire;

@@ -24,7 +24,7 @@ ghost use Rattle.machine_laws.specs.Consequences.{ReceivedIsAPrefix, EndIsWhole,
 
 use seqno::numbers_are_found_near;
 
-/// What the reads on a socket number were told is how the bytes that its peer's sends accepted begin.
+/// The bytes that reads on a socket number were told are a prefix of the bytes that its peer's sends accepted.
 pub fn received_is_a_prefix()
     ensures { (h : Header) → is_half h.version ≡ false → (steps : List (Stamped tcp_shape)) → Lawful (tcp h) (start (tcp h)) steps → ReceivedIsAPrefix h steps }
 {}

@@ -3,10 +3,10 @@
 ghost use Rattle.std.specs.Prelude.{◌≡◌, ◌<◌};
 ghost use Rattle.segment.specs.Flags.{mask_of};
 
-/// A flag of a segment.
+/// A flag of a segment. `Cwr`, `Ece`, `Urg` and `Psh` have no effect here.
 #[derive(Clone, Copy, Debug, PartialEq, Eq)]
 pub enum Flag {
-    /// Congestion window reduced. Its meaning is not looked at, nor are those of `Ece`, `Urg` and `Psh`.
+    /// Congestion window reduced.
     Cwr,
     /// ECN echo.
     Ece,

@@ -7,6 +7,7 @@
 //! - `cell`: what stands at one position
 //! - `receive`: what was taken of the peer, until it is delivered; `leading` reads the bytes in front
 //! - `send`: what sends accepted, until it is acknowledged
+//! - `front`: drops what stands in front of a queue
 //! - `making`, `makings`: when a position was made, and whether it was made again; `runs` keeps the first by segments, `marks`
 //!   the second by ranges
 //! - `laws`: that nothing reads what is forgotten, and that reads are given what the peer sent, in order

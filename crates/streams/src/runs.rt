@@ -13,7 +13,9 @@ use std::collections::VecDeque;
 /// Positions in a row that were made first at one moment.
 #[derive(Clone, Copy)]
 pub(crate) struct Run {
+    /// How many positions.
     pub(crate) count: u64,
+    /// When they were made first, in microseconds.
     pub(crate) moment: u64,
 }
 

@@ -68,7 +68,7 @@ fn count_from_end(risen: &[(u64, usize)], number: u64) -> usize
     0
 }
 
-// The same, where so many at least and at most are below it.
+// The same, where at least `least` and at most `most` numbers are below it.
 fn count_between(risen: &[(u64, usize)], number: u64, least: usize, most: usize) -> usize
     requires rising { IsRising risen.now }
     requires order { least ≤ most }

@@ -1,10 +1,10 @@
 //! The text of a witness, read and printed.
 //!
-//! A text is bytes. Its first line is `witness 1` or `witness 2`, after its version, and each further line is a step: a moment
-//! in microseconds and a label, one of `L`, `D`, `M`, `T`, `K`, `R` and `F` with its fields. What a text stands for is told by
-//! specs/WitnessText.antt (`IsWitnessText`), which is the file to read first; how a label is spelled by specs/Labels.antt;
-//! which fault comes first, and where, by `witness_of` in the first. Whether moments rise and lines are named once is not
-//! asked here: that is `interval_order`'s. Lines, fields and answers are `line_fields`'.
+//! A text is bytes. Its first line is `witness 1`, `witness 2` or `witness 3`, by its version, and each further line is a step:
+//! a moment in microseconds and a label, one of `L`, `D`, `M`, `T`, `K`, `R` and `F` with its fields. What a text stands for is
+//! told by specs/WitnessText.antt (`IsWitnessText`), which is the file to read first; how a label is spelled by
+//! specs/Labels.antt; which fault comes first, and where, by `witness_of` in the first. Whether moments rise and lines are named
+//! once is not asked here: that is `interval_order`'s. Lines, fields and answers are `line_fields`'.
 //!
 //! - `first_line`: the line that a witness begins with
 //! - `labels`: what a step does

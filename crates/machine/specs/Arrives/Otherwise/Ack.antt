@@ -19,7 +19,7 @@ is_new_ack e m = m.flags.ack && not m.flags.rst && nat_lt e.stream.una m.ack
 abbrev pub acknowledges_syn : Endpoint → Emission → Bool
 acknowledges_syn e m = is_new_ack e m && e.stream.una == 0
 
--- how many positions it acknowledges, the SYN not counted
+-- how many positions it acknowledges first, the own SYN's among them; asked only where that was acknowledged before
 abbrev pub acked : Endpoint → Emission → ℕ
 acked e m = m.ack - e.stream.una
 

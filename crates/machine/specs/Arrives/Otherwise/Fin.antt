@@ -1,5 +1,4 @@
 -- Eighth, the FIN bit (RFC 9293, 3.10.7.4).
--- In code `first_byte` stands in `text`; here in this file, which `Text` cites.
 use Rattle.std.specs.Prelude.{ℕ, ◌+◌, nat_le, Bool, true, ◌&&◌, length}
 use Rattle.case_forms.specs.declared.calls.State.{State}
 use Rattle.case_forms.specs.declared.calls.State.TheVariants as states
