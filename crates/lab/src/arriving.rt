@@ -3,7 +3,7 @@
 use crate::ahead::ends;
 use crate::calls::{endpoint_at, listener_at};
 use crate::chains::Ends;
-use crate::expiring::field;
+use crate::expiring::saturated;
 use crate::search::Search;
 use crate::sending::{place_of, plan_of};
 use case_forms::{Event, Extras, Host, Ports, TakeChoice, Timer, Wire};
@@ -25,7 +25,7 @@ fn other(host: Host) -> Host {
 }
 
 // The endpoint that a segment finds, where it is not CLOSED.
-fn finder<'w>(world: &'w World, host: Host, m: &Emission) -> Option<&'w Endpoint> {
+fn endpoint_found<'w>(world: &'w World, host: Host, m: &Emission) -> Option<&'w Endpoint> {
     let endpoint = world.body(host).endpoint_of(m.rport, m.lport)?;
     if endpoint.state.is_closed() {
         None
@@ -46,16 +46,16 @@ fn as_read<'m>(world: &World, endpoint: &Endpoint, m: &'m Emission) -> Option<Ar
 // The greatest congestion window with which a segment may be taken; 0 at a listener.
 fn greatest(world: &World, host: Host, m: &Emission) -> u32 {
     let initial = world.header().initial;
-    let Some(endpoint) = finder(world, host, m) else {
+    let Some(endpoint) = endpoint_found(world, host, m) else {
         return 0;
     };
     let Some(m) = as_read(world, endpoint, m) else {
         return 0;
     };
     if endpoint.state.is_syn_sent() {
-        field(greatest_at_syn(initial, endpoint, &m))
+        saturated(greatest_at_syn(initial, endpoint, &m))
     } else {
-        field(greatest_window(initial, endpoint, &m))
+        saturated(greatest_window(initial, endpoint, &m))
     }
 }
 
@@ -100,7 +100,7 @@ fn is_before(endpoint: &Endpoint, changes: &Changes, m: &Arrived<'_>, wire: &Wir
 // Whether a segment was made before its maker took another one, and whether that shows in what it acknowledges. None: it was made
 // behind it, or that can't be told.
 fn needs_earlier(world: &World, host: Host, m: &Emission, wire: &Wire) -> Option<bool> {
-    let endpoint = finder(world, host, m)?;
+    let endpoint = endpoint_found(world, host, m)?;
     let read = as_read(world, endpoint, m)?;
     let changes = changes_by(endpoint, &read);
     if is_before(endpoint, &changes, &read, wire) {
@@ -130,7 +130,7 @@ impl<'t> Search<'t> {
             return self.settle(host, line);
         }
         let copied = self.copied(host, wire)?;
-        self.note_line(Extras::One(field(copied)))?;
+        self.note_line(Extras::One(saturated(copied)))?;
         self.arrive_in_world(host, copied, wire)?;
         self.copies.pass(other(host), wire.bytes.as_slice());
         self.settle(host, line)
@@ -232,7 +232,7 @@ impl<'t> Search<'t> {
             lport: m.rport,
             rport: m.lport,
         };
-        let Some(endpoint) = finder(&self.world, host, m) else {
+        let Some(endpoint) = endpoint_found(&self.world, host, m) else {
             return Ok(false);
         };
         if !(m.flags.syn && endpoint.state.is_time_wait()) {

@@ -194,7 +194,6 @@ impl Search<'_> {
         call: &Call,
     ) -> Result<(), StepFault> {
         self.note_line(Extras::Bare)?;
-        crate::deeds::has_room(&self.world)?;
         self.begin_in_world(thread, call)?;
         let pending = Pending {
             thread,

@@ -51,9 +51,7 @@ impl Search<'_> {
 
     /// A thread's open call has its effect, with this answer.
     pub(crate) fn effect(&mut self, thread: u32, answer: &Answer) -> Result<(), StepFault> {
-        if self.world.steps() >= MOST_STEPS {
-            return Err(StepFault::OutOfMemory);
-        }
+        has_room(&self.world)?;
         self.world.effect(thread, answer)?;
         let answer = answer.copy()?;
         self.note(Label::D { thread, answer })
@@ -61,7 +59,8 @@ impl Search<'_> {
 
     /// A host makes a segment. The answer is its number.
     pub(crate) fn make(&mut self, host: Host, plan: SegmentPlan) -> Result<u32, StepFault> {
-        if self.world.steps() >= MOST_STEPS || plan.pos > GREATEST_POSITION {
+        has_room(&self.world)?;
+        if plan.pos > GREATEST_POSITION {
             return Err(StepFault::OutOfMemory);
         }
         self.world.make(host, &plan, self.moment)?;
@@ -76,27 +75,21 @@ impl Search<'_> {
         line: u64,
         choice: TakeChoice,
     ) -> Result<(), StepFault> {
-        if self.world.steps() >= MOST_STEPS {
-            return Err(StepFault::OutOfMemory);
-        }
+        has_room(&self.world)?;
         self.world.take(host, line, choice, self.moment)?;
         self.note(Label::T { host, line, choice })
     }
 
     /// A host drops the segment that came in with a line.
     pub(crate) fn drop_arrival(&mut self, host: Host, line: u64) -> Result<(), StepFault> {
-        if self.world.steps() >= MOST_STEPS {
-            return Err(StepFault::OutOfMemory);
-        }
+        has_room(&self.world)?;
         self.world.drop_arrival(host, line, self.moment)?;
         self.note(Label::K { host, line })
     }
 
     /// A host answers the segment that came in with a line by a reset. The answer is the reset's number.
     pub(crate) fn answer(&mut self, host: Host, line: u64) -> Result<u32, StepFault> {
-        if self.world.steps() >= MOST_STEPS {
-            return Err(StepFault::OutOfMemory);
-        }
+        has_room(&self.world)?;
         self.world.answer(host, line, self.moment)?;
         self.note(Label::R { host, line })?;
         Ok(self.world.count())
@@ -104,9 +97,7 @@ impl Search<'_> {
 
     /// An endpoint enters fast recovery.
     pub(crate) fn recover(&mut self, host: Host, recovery: Recovery) -> Result<(), StepFault> {
-        if self.world.steps() >= MOST_STEPS {
-            return Err(StepFault::OutOfMemory);
-        }
+        has_room(&self.world)?;
         self.world.recover(host, recovery, self.moment)?;
         self.note(Label::F { host, recovery })
     }
@@ -118,9 +109,7 @@ impl Search<'_> {
         ports: Ports,
         expired: Expired,
     ) -> Result<(), StepFault> {
-        if self.world.steps() >= MOST_STEPS {
-            return Err(StepFault::OutOfMemory);
-        }
+        has_room(&self.world)?;
         self.world.expire(host, ports, expired, self.moment)?;
         self.note_line(extras_of(expired))
     }

@@ -8,9 +8,9 @@ use endpoint::greatest_values;
 use endpoint_state::{Endpoint, StepFault};
 use window_rules::on_fast;
 
-// A number of bytes that fits a field.
-pub(crate) fn field(bytes: u64) -> u32 {
-    u32::try_from(bytes).unwrap_or(u32::MAX)
+/// The number, or the greatest of 32 bits where it is above.
+pub(crate) fn saturated(number: u64) -> u32 {
+    u32::try_from(number).unwrap_or(u32::MAX)
 }
 
 // A timer with the greatest values that may be chosen where it expires.
@@ -19,8 +19,8 @@ fn expired_at(endpoint: &Endpoint, timer: Timer) -> Expired {
         Timer::Rto => {
             let (cwnd, ssthresh) = greatest_values(endpoint);
             Expired::Rto(Growth {
-                cwnd: field(cwnd),
-                ssthresh: field(ssthresh),
+                cwnd: saturated(cwnd),
+                ssthresh: saturated(ssthresh),
             })
         }
         Timer::Persist => Expired::Persist,
@@ -117,8 +117,8 @@ impl Search<'_> {
         let recovery = Recovery {
             lport: ports.lport,
             rport: ports.rport,
-            cwnd: field(cwnd),
-            ssthresh: field(ssthresh),
+            cwnd: saturated(cwnd),
+            ssthresh: saturated(ssthresh),
         };
         match self.recover(host, recovery) {
             Ok(()) => Ok(true),

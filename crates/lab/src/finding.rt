@@ -59,32 +59,35 @@ fn trace_text(
     added: &[Added],
     thread: u32,
 ) -> Result<Vec<u8>, OutOfMemory> {
+    let first = trace.header.first_event_line();
     let mut out = Vec::new(alloc);
-    let mut left = added.iter();
-    let mut next = left.next();
+    let mut left = added;
     let mut number: u64 = 1;
     for raw in text.lines_with_terminator() {
-        for _ in 0..added.len() {
-            match next {
-                Some(line) => {
-                    if number
-                        < trace
-                            .header
-                            .first_event_line()
-                            .saturating_add(line.before as u64)
-                    {
-                        break;
-                    }
-                    push_expiry(&mut out, line, thread)?;
-                    next = left.next();
-                }
-                None => break,
-            }
-        }
+        left = push_before(&mut out, left, first, number, thread)?;
         out.extend_from_slice(raw)?;
         number = number.saturating_add(1);
     }
     Ok(out)
+}
+
+// Writes the lines that are added before the line of this number, and answers those that are left. The event lines begin at `first`.
+fn push_before<'a>(
+    out: &mut Vec<u8>,
+    added: &'a [Added],
+    first: u64,
+    number: u64,
+    thread: u32,
+) -> Result<&'a [Added], OutOfMemory> {
+    let mut left = added;
+    while let [line, behind @ ..] = left {
+        if number < first.saturating_add(line.before as u64) {
+            break;
+        }
+        push_expiry(out, line, thread)?;
+        left = behind;
+    }
+    Ok(left)
 }
 
 // Writes a line that tells of an expiry.
