@@ -1,9 +1,9 @@
 //! Lines that are offered to the window when their moment is reached.
 
-ghost use Rattle.std.specs.Prelude.{◌≡◌, ◌≢◌, ◌<◌, ◌≤◌, ◌++◌, ◌||◌, ◌==◌, ℕ, List, Err, IfOk, IfErr, IfSome, is_some};
+ghost use Rattle.std.specs.Prelude.{◌≡◌, ◌≢◌, ◌<◌, ◌≤◌, ◌++◌, ◌||◌, ◌==◌, ℕ, List, Err, IfOk, IfErr, IfSome};
 ghost use Rattle.case_forms.specs.declared.trace.Line.{Line};
 ghost use Rattle.std.specs.Ordering.{nat_cmp};
-ghost use Rattle.std.specs.BTreeMap.{get};
+ghost use Rattle.std.specs.BTreeSet.{contains};
 ghost use Rattle.counted.specs.Counting.{failures_of, one_more};
 ghost use Rattle.interval_order.specs.Later.{with_lines};
 ghost use Rattle.checker.specs.Ahead.{source_ahead, line_ahead, left_ahead, IsAhead, IsInStep, Passes, TraceFails};
@@ -14,7 +14,7 @@ use crate::case::CaseFault;
 use case_forms::Line;
 use interval_order::Window;
 use std::alloc::{AllocError, Global};
-use std::collections::BTreeMap;
+use std::collections::BTreeSet;
 use std::io::BufRead;
 use verdict::Rule;
 
@@ -63,10 +63,10 @@ pub(crate) fn refuse_late<A: BufRead>(
     ensures read { result ≡ Err CaseFault.Read → failures_of (source_ahead lines.new) ≡ one_more (failures_of (source_ahead lines.old)) }
     ensures same { result ≢ Err CaseFault.Read → failures_of (source_ahead lines.new) ≡ failures_of (source_ahead lines.old) }
 {
-    let mut threads = BTreeMap::new(alloc);
+    let mut threads = BTreeSet::new(alloc);
     while let Some(line) = lines.next()? {
         if line.number == number {
-            let is_behind = threads.contains_key(&line.thread);
+            let is_behind = threads.contains(&line.thread);
             return Ok(window.late_rule(&line, is_behind, extras, moment));
         }
         note(&mut threads, line)?;
@@ -75,9 +75,9 @@ pub(crate) fn refuse_late<A: BufRead>(
 }
 
 // Keeps a line's thread.
-fn note(threads: &mut BTreeMap<u32, u64>, line: Line) -> Result<(), AllocError>
-    ensures { IfOk result (λ u. (t : ℕ) → is_some (get nat_cmp threads.new t) ≡ (line.thread == t || is_some (get nat_cmp threads.old t))) }
+fn note(threads: &mut BTreeSet<u32, Global>, line: Line) -> Result<(), AllocError>
+    ensures { IfOk result (λ u. (t : ℕ) → contains nat_cmp threads.new t ≡ (line.thread == t || contains nat_cmp threads.old t)) }
 {
-    threads.insert(line.thread, line.number)?;
+    threads.insert(line.thread)?;
     Ok(())
 }

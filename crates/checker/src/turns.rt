@@ -183,7 +183,7 @@ fn turn_of(broken: Option<Rule>, step: Step) -> Turn
     }
 }
 
-/// Does one step after the other, up to the first that breaks a rule. Before the first line of the witness is read.
+/// Does one step after the other, up to the first that breaks a rule. It is called before any line of the witness is read.
 pub(crate) fn replay_steps<A: BufRead, B: BufRead>(
     alloc: Global,
     window: &mut Window,

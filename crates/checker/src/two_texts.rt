@@ -1,7 +1,8 @@
 //! A case in two texts that are read while it is judged.
 //!
 //! Of the trace those lines are kept whose moment is reached and that are not placed, and one more; of the witness one
-//! step. What the world keeps does not grow with the length of the trace but with what its endpoints have outstanding.
+//! step. The world keeps what endpoints have outstanding, and each segment that was made or went out, since later steps
+//! may name it.
 
 ghost use Rattle.std.specs.Prelude.{◌≡◌, ◌≢◌, ◌⊎◌, ◌↔◌, List, [], Err, IfOk, IfSome, None, Option, Result};
 ghost use Rattle.case_forms.specs.declared.trace.Header.{Header};

@@ -1,6 +1,6 @@
-use Rattle.std.proofs.Common.{◌≡◌, List, is_some}
+use Rattle.std.proofs.Common.{◌≡◌, List}
 use Rattle.std.specs.Ordering.{nat_cmp}
-use Rattle.std.specs.BTreeMap.{get}
+use Rattle.std.specs.BTreeSet.{contains}
 use Rattle.case_forms.specs.declared.trace.Line.{Line}
 use Rattle.counted.specs.Counting.{failures_of}
 use Rattle.checker.specs.Ahead.{lines_after, left_ahead, line_ahead, source_ahead, IsAhead}
@@ -11,7 +11,7 @@ use Rattle.checker.proofs.offering.refuse_late.Given as goal
 abbrev pub invariant-loop-threads : goal.invariant-loop-threads
 invariant-loop-threads g l = record {
   ahead : IsAhead l.lines;
-  so_far : (between : List Line) × Between l.window (left_ahead g.A.Read.remaining l.fn.lines) (left_ahead g.A.Read.remaining l.lines) (line_ahead l.lines) (λ t. is_some (get nat_cmp l.threads t)) l.number l.moment between;
+  so_far : (between : List Line) × Between l.window (left_ahead g.A.Read.remaining l.fn.lines) (left_ahead g.A.Read.remaining l.lines) (line_ahead l.lines) (λ t. contains nat_cmp l.threads t) l.number l.moment between;
   counts : failures_of (source_ahead l.lines) ≡ failures_of (source_ahead l.fn.lines);
 }
 
