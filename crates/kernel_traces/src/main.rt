@@ -1,22 +1,23 @@
-//! Finds a witness for each recording of the Linux kernel in `data/`, and holds the verdict on it to the line of
-//! `data/expected.txt`, which another search found. Where all is as wanted one line is printed; else each trace that differs has
-//! a line on standard error, and the program ends with status 1.
+//! Finds a witness for each recording of the Linux kernel in `data/`, and holds the verdict on it to its line of
+//! `data/expected.txt`. Where all is as wanted one line is printed; else each trace that differs has a line on standard error,
+//! and the program ends with status 1.
 #![tactic(auto)]
 
 use checker::check_case;
 use lab::find;
 use std::alloc::{AllocError, Global};
+use std::io::ErrorKind;
 use std::process::ExitCode;
 use std::{fs, io};
 
 fn main(rt: HostRuntime) -> io::Result<ExitCode> {
     let alloc = rt.alloc();
     let table = fs::read_to_string(&rt, "expected.txt")?;
-    let mut names = Vec::new(alloc);
+    let mut count = 0usize;
     let mut status = ExitCode::SUCCESS;
     for row in table.as_str().lines() {
         let Some((name, wanted)) = row.split_once('\t') else {
-            continue;
+            return Err(io::Error::new(ErrorKind::InvalidData, "a line without a tab"));
         };
         let trace = fs::read(&rt, format!(in alloc; "{name}.trace")?.as_str())?;
         let found = verdict_found(alloc, trace.as_slice())?;
@@ -24,9 +25,8 @@ fn main(rt: HostRuntime) -> io::Result<ExitCode> {
             eprintln!(rt; "{name}: wanted {wanted}, found {found}")?;
             status = ExitCode::FAILURE;
         }
-        names.push(name)?;
+        count = count.saturating_add(1);
     }
-    let count = names.len();
     println!(rt; "{count} recordings of the kernel were looked at")?;
     Ok(status)
 }
