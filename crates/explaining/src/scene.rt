@@ -1,13 +1,14 @@
 //! A case up to the step that is refused: the world before it, and what was taken.
 
-ghost use Rattle.std.specs.Prelude.{◌<◌, OnOk};
+ghost use Rattle.std.specs.Prelude.{◌<◌, IsTrue, OnOk};
+ghost use Rattle.case_forms.specs.Witnesses.{IsWithinLimits};
 ghost use Rattle.machine.specs.Bounds.{most_steps};
 
 use case_forms::{Flags, Header, Host, Label, Line, NamedLine, OutOfMemory, SegmentPlan, Step};
 use endpoint_state::{Endpoint, StepFault, World};
 use indexmap::IndexMap;
 use machine::{Arrived, Emission};
-use spec_step::apply_line;
+use spec_step::{apply_hidden, apply_line};
 use std::alloc::{AllocError, Global};
 use verdict::Rule;
 
@@ -141,26 +142,25 @@ impl<'t> Scene<'t> {
     }
 }
 
+// Whether the positions that a label names are within limits; no witness that `check` reads has others.
+fn is_within_limits(label: &Label<NamedLine>) -> bool
+    ensures { IsTrue result → IsWithinLimits label.now }
+{
+    match label {
+        Label::M { plan, .. } => plan.pos <= GREATEST_POSITION,
+        Label::L(_)
+        | Label::D { .. }
+        | Label::T { .. }
+        | Label::K { .. }
+        | Label::R { .. }
+        | Label::F { .. } => true,
+    }
+}
+
 fn do_hidden(world: &mut World, moment: u64, label: &Label<NamedLine>) -> Result<(), StepFault> {
     has_room(world)?;
-    match label {
-        Label::L(_) => Ok(()),
-        Label::D { thread, answer } => world.effect(*thread, answer),
-        Label::M { host, plan } => {
-            if plan.pos > GREATEST_POSITION {
-                return Ok(());
-            }
-            world.make(*host, plan, moment)
-        }
-        Label::T { host, line, choice } => world.take(*host, *line, *choice, moment),
-        Label::K { host, line } => {
-            world.drop_arrival(*host, *line, moment)?;
-            Ok(())
-        }
-        Label::R { host, line } => world.answer(*host, *line, moment),
-        Label::F { host, recovery } => {
-            world.recover(*host, *recovery, moment)?;
-            Ok(())
-        }
+    if !is_within_limits(label) {
+        return Ok(());
     }
+    apply_hidden(world, moment, label)
 }
