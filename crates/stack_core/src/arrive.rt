@@ -67,20 +67,14 @@ impl HostCore {
         let asks = !m.flags.rst && 0 < m.length();
         let body = self.recording.body();
         let place = body.place_of(ports.lport, ports.rport);
-        let endpoint = match place {
-            Some(place) => body.endpoint_at(place),
-            None => None,
-        };
+        let endpoint = place.and_then(|place| body.endpoint_at(place));
         Before {
             place,
             window: match endpoint {
                 Some(endpoint) => cwnd_at_arrival(self.recording.header(), endpoint, m),
                 None => 0,
             },
-            seen: match endpoint {
-                Some(endpoint) => Some(Seen::of(endpoint)),
-                None => None,
-            },
+            seen: endpoint.map(Seen::of),
             asks,
             syn: m.flags.syn,
         }

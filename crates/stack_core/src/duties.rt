@@ -42,7 +42,7 @@ pub(crate) struct Duties {
 }
 
 impl Duties {
-    /// Of no endpoint anything.
+    /// Nothing is remembered of any endpoint yet.
     pub(crate) fn new(alloc: Global) -> Duties {
         Duties {
             all: Vec::new(alloc),
@@ -60,10 +60,7 @@ impl Duties {
 
     /// What is remembered of the endpoint at a place.
     pub(crate) fn of(&self, place: u32) -> Duty {
-        match self.all.get(place as usize) {
-            Some(duty) => *duty,
-            None => NOTHING,
-        }
+        self.all.get(place as usize).copied().unwrap_or(NOTHING)
     }
 
     /// This is remembered of the endpoint at a place, and something may be made there. Without room for it, it is forgotten.
@@ -110,7 +107,7 @@ pub(crate) struct Seen {
 }
 
 impl Seen {
-    /// Of this one.
+    /// What is told of this endpoint now.
     pub(crate) fn of(endpoint: &Endpoint) -> Seen {
         Seen {
             una: endpoint.stream.una,

@@ -66,7 +66,8 @@ impl Model for HostCore {
 
     ghost view = { λ a. record { recorded = a.recording; ring = a.config.ring; last = a.last; events = a.events } };
 
-    ghost invariant = { λ a. IsCore a.recording a.line a.last a.events × AreAwaited (made_of a.recording) a.resets.items × IsTended a.recording a.ready a.wakes };
+    ghost invariant = { λ a. IsCore a.recording a.line a.last a.events
+        × AreAwaited (made_of a.recording) a.resets.items × IsTended a.recording a.ready a.wakes };
 }
 
 impl HostCore {

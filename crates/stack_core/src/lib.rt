@@ -48,5 +48,5 @@ pub use flying::Flying;
 pub use host_core::{CoreConfig, HostCore};
 pub use item::Item;
 pub use laws::what_flew_is_named;
-pub use recording::Recording;
+pub use recording::{Recording, other};
 pub use tick::{Key, Tick};

@@ -173,10 +173,7 @@ fn may_make(endpoint: &Endpoint, plan: SegmentPlan) -> bool
     requires small { plan.pos ≤ greatest_position }
     ensures { result ≡ false → first_broken (making_rules endpoint.now plan) ≡ None → ⊥ }
 {
-    match admits_making(endpoint, &plan) {
-        Ok(()) => true,
-        Err(_) => false,
-    }
+    admits_making(endpoint, &plan).is_ok()
 }
 
 // What a core would make at an endpoint that is listed, and may make. None: at none of these.
@@ -240,8 +237,7 @@ fn try_wishes(world: &World, me: Host, wishes: &[Option<SegmentPlan>]) -> Option
 }
 
 // A segment that may be made, at any endpoint: this goes over all of them, where memory is refused for a list of those that are
-// to be looked at. None: no segment without RST may be made that takes
-// new positions.
+// to be looked at. None: no segment without RST may be made that takes new positions.
 #[tactic(auto, using(crate::proofs::MakingLemmas::short_host))]
 fn find_making(
     world: &World,

@@ -39,7 +39,7 @@ pub(crate) fn wire_of(alloc: Global, m: &Emission, mss: Option<u16>) -> Result<W
         Err(_) => unreachable!(),
     };
     Ok(Wire {
-        bytes: Bytes::from_slice(alloc, bytes.as_slice())?,
+        bytes: Bytes::from(bytes),
         seg,
     })
 }

@@ -9,9 +9,10 @@ use endpoint_state::Endpoint;
 use seqno::Word;
 use window_rules::{congestion_edge, offered_edge};
 
-// The greatest payload that a core lets out, and the greatest position that a step names.
+// The greatest payload that a core lets out, in bytes: with a header and both options it fits into a segment.
 pub(crate) const GREATEST_PAYLOAD: u16 = 65_487;
 
+// The greatest position that a step names.
 pub(crate) const GREATEST_POSITION: u64 = 1_000_000_000_000_000_000;
 
 /// What an endpoint is given with its first SYN.
@@ -56,31 +57,18 @@ pub(crate) fn wishes(endpoint: &Endpoint, duty: Duty, offer: Offer) -> [Option<S
     let fresh = endpoint.max_made() == 0;
     let bytes = new_bytes(endpoint, offer);
     [
-        if endpoint.reset_due {
-            Some(reset_of(endpoint, offer))
-        } else {
-            None
-        },
-        match duty.again {
-            Some(again) => made_again(endpoint, again, offer),
-            None => None,
-        },
-        if fresh {
-            Some(syn_of(endpoint, offer.opening, offer.at_syn))
-        } else {
-            None
-        },
+        endpoint.reset_due.then_some(reset_of(endpoint, offer)),
+        duty.again
+            .and_then(|again| made_again(endpoint, again, offer)),
+        fresh.then_some(syn_of(endpoint, offer.opening, offer.at_syn)),
         if fresh {
             None
         } else {
             with_fin(endpoint, bytes)
         },
-        if bytes.len == 0 { None } else { Some(bytes) },
-        if duty.acknowledges {
-            Some(plain(endpoint, endpoint.max_made(), 0, offer.window))
-        } else {
-            None
-        },
+        (bytes.len != 0).then_some(bytes),
+        duty.acknowledges
+            .then_some(plain(endpoint, endpoint.max_made(), 0, offer.window)),
     ]
 }
 
@@ -108,7 +96,7 @@ fn made_again(endpoint: &Endpoint, again: Again, offer: Offer) -> Option<Segment
             return Some(plan);
         }
     }
-    if bytes.len == 0 { None } else { Some(bytes) }
+    (bytes.len != 0).then_some(bytes)
 }
 
 // The position at which bytes end at most by both windows.
@@ -138,7 +126,9 @@ fn with_fin(endpoint: &Endpoint, plan: SegmentPlan) -> Option<SegmentPlan> {
 }
 
 // A segment without SYN, FIN and RST.
-fn plain(endpoint: &Endpoint, pos: u64, len: u16, window: u16) -> SegmentPlan {
+fn plain(endpoint: &Endpoint, pos: u64, len: u16, window: u16) -> SegmentPlan
+    ensures { result ≡ record (bytes_of endpoint.now len window) { pos = pos } }
+{
     SegmentPlan {
         lport: endpoint.lport,
         rport: endpoint.rport,
@@ -196,40 +186,14 @@ pub(crate) fn syn_of(endpoint: &Endpoint, opening: Opening, window: u16) -> Segm
 pub(crate) fn byte_of(endpoint: &Endpoint, window: u16) -> SegmentPlan
     ensures { result ≡ bytes_of endpoint.now 1 window }
 {
-    SegmentPlan {
-        lport: endpoint.lport,
-        rport: endpoint.rport,
-        pos: endpoint.max_made(),
-        len: 1,
-        flags: Flags {
-            ack: 1 <= endpoint.next(),
-            rst: false,
-            syn: false,
-            fin: false,
-        },
-        window,
-        iss: None,
-        shift: None,
-    }
+    plain(endpoint, endpoint.max_made(), 1, window)
 }
 
 /// Its FIN alone.
 pub(crate) fn fin_of(endpoint: &Endpoint, window: u16) -> SegmentPlan
     ensures { result ≡ fin_of endpoint.now window }
 {
-    SegmentPlan {
-        lport: endpoint.lport,
-        rport: endpoint.rport,
-        pos: endpoint.max_made(),
-        len: 0,
-        flags: Flags {
-            ack: 1 <= endpoint.next(),
-            rst: false,
-            syn: false,
-            fin: true,
-        },
-        window,
-        iss: None,
-        shift: None,
-    }
+    let mut plan = plain(endpoint, endpoint.max_made(), 0, window);
+    plan.flags.fin = true;
+    plan
 }

@@ -179,11 +179,7 @@ impl HostCore {
             unreachable!();
         };
         let m = made.emission();
-        let mss = if m.flags.syn {
-            Some(self.config.mss)
-        } else {
-            None
-        };
+        let mss = m.flags.syn.then_some(self.config.mss);
         let wire = wire_of(self.recording.allocator(), m, mss)?;
         let tick = self.last_tick();
         let flying = Flying {

@@ -215,7 +215,7 @@ impl Recording {
 }
 
 /// The other of the two hosts.
-pub(crate) fn other(host: Host) -> Host
+pub fn other(host: Host) -> Host
     ensures { result ≡ other host }
 {
     match host {

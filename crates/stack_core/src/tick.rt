@@ -5,7 +5,9 @@ use case_forms::Host;
 /// When an event is, in microseconds, and a count that rises with each event of its host.
 #[derive(Clone, Copy, Debug, PartialEq, Eq)]
 pub struct Tick {
+    /// In microseconds.
     pub moment: u64,
+    /// Above that of the event before.
     pub counter: u64,
 }
 

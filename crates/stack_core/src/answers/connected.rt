@@ -163,5 +163,5 @@ fn read_answer(alloc: Global, endpoint: &Endpoint, most: u16) -> Result<Answer, 
     ensures once { IfOk result (λ a. is_again a ≡ false) }
 {
     let bytes = endpoint.stream.receive.read(alloc, most as usize)?;
-    Ok(Answer::Bytes(Bytes::from_slice(alloc, bytes.as_slice())?))
+    Ok(Answer::Bytes(Bytes::from(bytes)))
 }
