@@ -39,6 +39,7 @@ pub enum MergeFault {
     /// which it came in, or would have.
     #[error("a segment of line {arrival_line} is not one that the other host let out")]
     Stranger { arrival_line: u64 },
+    /// Memory ran out. No recording is changed.
     #[error("out of memory")]
     OutOfMemory,
 }

@@ -1,7 +1,7 @@
 //! Steps as lines of a trace, and as steps of a witness.
 
 ghost use Rattle.std.specs.Prelude.{◌≡◌, ◌≤◌, ◌+◌, ◌++◌, ◌∷◌, [], Some, IfOk, OnOk};
-ghost use Rattle.hosts.specs.Tables.{on, other};
+ghost use Rattle.hosts.specs.Tables.{on};
 ghost use Rattle.machine.specs.Steps.{line_step, step_of};
 ghost use Rattle.merging.specs.Numbers.{AllSmall, IsSmallItem, IsSmallStep, names_by};
 ghost use Rattle.merging.specs.Saying.{all_renumbered, event_said, extras_said, growth_said, label_said, line_said, lines_said};
@@ -14,7 +14,7 @@ use case_forms::{
     Event, Expired, Extras, Host, Line, Lines, NamedLine, OutOfMemory, Span, Step, Steps, TakenLine,
 };
 use spec_step::Label;
-use stack_core::{Entry, Item};
+use stack_core::{Entry, Item, other};
 use std::alloc::Global;
 
 // What a step tells: its label in a witness, and the line that it takes.
@@ -32,15 +32,6 @@ fn nowhere() -> Span
         line: 0,
         start: 0,
         stop: 0,
-    }
-}
-
-fn other(host: Host) -> Host
-    ensures { result ≡ other host }
-{
-    match host {
-        Host::Zero => Host::One,
-        Host::One => Host::Zero,
     }
 }
 
