@@ -45,6 +45,7 @@ pub(crate) struct Desk<L: Site> {
     counts: Book<L>,
     // The parts of the ledger that no seat has.
     rest: Share<L>,
+    // How many seats are left.
     left: u32,
     // The threads that have seats.
     threads: BTreeSet<u32, Global>,
@@ -168,10 +169,8 @@ impl<L: Site> Desk<L> {
         if !book.is_idle(thread, call) {
             return Err(RecFault::Stopped);
         }
-        match book.begin(thread, call, tick) {
-            Ok(()) => Ok(()),
-            Err(_) => Err(RecFault::OutOfMemory),
-        }
+        book.begin(thread, call, tick)?;
+        Ok(())
     }
 
     /// Ends the seat's open call where it may have its effect.
@@ -214,10 +213,7 @@ impl<L: Site> Desk<L> {
         let Some(tick) = next_tick(book, clock, 0) else {
             return Err(LoopEnd::Stopped);
         };
-        match book.pump(tick) {
-            Ok(flying) => Ok(flying),
-            Err(_) => Err(LoopEnd::OutOfMemory),
-        }
+        Ok(book.pump(tick)?)
     }
 
     /// A segment of the other host arrives. Whether it was let in.
@@ -235,10 +231,7 @@ impl<L: Site> Desk<L> {
         let Some(tick) = next_tick(book, moment, counter) else {
             return Err(LoopEnd::Stopped);
         };
-        match book.arrive(flying, tick) {
-            Ok(let_in) => Ok(let_in),
-            Err(_) => Err(LoopEnd::OutOfMemory),
-        }
+        Ok(book.arrive(flying, tick)?)
     }
 
     /// A turn of the timers: the clock goes on, and a timer that is due expires. Whether there was one.
@@ -252,10 +245,7 @@ impl<L: Site> Desk<L> {
         let Some(tick) = next_tick(book, clock, 0) else {
             return Err(LoopEnd::Stopped);
         };
-        match book.timers(tick) {
-            Ok(found) => Ok(found),
-            Err(_) => Err(LoopEnd::OutOfMemory),
-        }
+        Ok(book.timers(tick)?)
     }
 
     /// The book, where all seats are handed in.

@@ -9,7 +9,7 @@ pub enum Fate {
     Lose,
     /// It is sent twice.
     Twice,
-    /// It is sent behind so many further ones of its host, or never where the loop ends first.
+    /// It is sent once that many further segments of its host were, or never if the loop ends first.
     Hold(u32),
 }
 

@@ -102,7 +102,7 @@ impl HostBook {
     }
 
     // A thread begins a call.
-    #[tactic(auto, using(crate::proofs::BookLemmas::begun_book,))]
+    #[tactic(auto, using(crate::proofs::BookLemmas::begun_book))]
     pub(crate) fn begin(&mut self, thread: u32, call: &Call, tick: Tick) -> Result<(), OutOfMemory>
         requires tick { IsAfter self.old.core.last tick }
         requires events { self.old.core.events < 10000000 }
@@ -118,7 +118,7 @@ impl HostBook {
     }
 
     // The open call of a thread has its effect, and ends.
-    #[tactic(auto, using(crate::proofs::BookLemmas::attempted_book, crate::proofs::BookLemmas::attempted_site, crate::proofs::BookLemmas::short_book, crate::proofs::BookLemmas::short_site,))]
+    #[tactic(auto, using(crate::proofs::BookLemmas::attempted_book, crate::proofs::BookLemmas::attempted_site, crate::proofs::BookLemmas::short_book, crate::proofs::BookLemmas::short_site))]
     pub(crate) fn attempt(
         &mut self,
         thread: u32,
@@ -142,7 +142,7 @@ impl HostBook {
     }
 
     // A segment of the other host arrives.
-    #[tactic(auto, using(crate::proofs::BookLemmas::arrival_book, crate::proofs::BookLemmas::arrival_site, crate::proofs::BookLemmas::arrived_short_book, crate::proofs::BookLemmas::arrived_short_site,))]
+    #[tactic(auto, using(crate::proofs::BookLemmas::arrival_book, crate::proofs::BookLemmas::arrival_site, crate::proofs::BookLemmas::arrived_short_book, crate::proofs::BookLemmas::arrived_short_site))]
     pub(crate) fn arrive(&mut self, flying: Flying, tick: Tick) -> Result<bool, OutOfMemory>
         requires tick { IsAfter self.old.core.last tick }
         requires events { self.old.core.events < 10000000 }
@@ -155,7 +155,7 @@ impl HostBook {
     }
 
     // A segment is made, and goes out.
-    #[tactic(auto, using(crate::proofs::BookLemmas::pumped_book, crate::proofs::BookLemmas::pumped_site, crate::proofs::BookLemmas::pumped_short_book, crate::proofs::BookLemmas::pumped_short_site,))]
+    #[tactic(auto, using(crate::proofs::BookLemmas::pumped_book, crate::proofs::BookLemmas::pumped_site, crate::proofs::BookLemmas::pumped_short_book, crate::proofs::BookLemmas::pumped_short_site))]
     pub(crate) fn pump(&mut self, tick: Tick) -> Result<Option<Flying>, OutOfMemory>
         requires tick { IsAfter self.old.core.last tick }
         requires events { self.old.core.events < 10000000 }
@@ -167,7 +167,7 @@ impl HostBook {
     }
 
     // A timer that is due expires.
-    #[tactic(auto, using(crate::proofs::BookLemmas::timed_book, crate::proofs::BookLemmas::timed_site,))]
+    #[tactic(auto, using(crate::proofs::BookLemmas::timed_book, crate::proofs::BookLemmas::timed_site))]
     pub(crate) fn timers(&mut self, tick: Tick) -> Result<bool, OutOfMemory>
         requires tick { IsAfter self.old.core.last tick }
         requires events { self.old.core.events < 10000000 }

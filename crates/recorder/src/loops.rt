@@ -4,6 +4,7 @@ use crate::fate::{Fate, LoseEach, WireFate};
 use crate::held_back::HeldBack;
 use crate::recorder::Recorder;
 use crate::site::Site;
+use case_forms::OutOfMemory;
 use crossbeam_channel::{Receiver, SendError, Sender};
 use stack_core::Flying;
 use std::alloc::Global;
@@ -19,7 +20,14 @@ pub enum LoopEnd {
     Turns,
     /// The other end of the channel is gone.
     Closed,
+    /// Memory ran out.
     OutOfMemory,
+}
+
+impl From<OutOfMemory> for LoopEnd {
+    fn from(_: OutOfMemory) -> LoopEnd {
+        LoopEnd::OutOfMemory
+    }
 }
 
 // Sends a segment.
@@ -49,10 +57,7 @@ fn meet<R: Wait>(
             }
             send(rt, out, flying)
         }
-        Fate::Hold(further) => match held.hold(further, flying) {
-            Ok(()) => Ok(()),
-            Err(_) => Err(LoopEnd::OutOfMemory),
-        },
+        Fate::Hold(further) => Ok(held.hold(further, flying)?),
     }
 }
 

@@ -13,7 +13,7 @@ use crate::host_book::HostBook;
 use crate::receipt::Receipt;
 use crate::seat::Seat;
 use crate::site::Site;
-use case_forms::{Call, Header, Host};
+use case_forms::{Call, Header, Host, OutOfMemory};
 use stack_core::CoreConfig;
 use std::alloc::Global;
 use std::sync::ledger::Blank;
@@ -27,12 +27,18 @@ pub enum RecFault {
     /// call. The seat is as it was.
     #[error("the recorder is stopped")]
     Stopped,
-    /// A call that is refused behind the line that begins it stays pending.
+    /// Memory ran out. A call whose beginning was recorded stays pending.
     #[error("out of memory")]
     OutOfMemory,
     /// The thread has a seat, or is one of segments or timers; or there were 65,535 seats.
     #[error("the seat is taken")]
     SeatTaken,
+}
+
+impl From<OutOfMemory> for RecFault {
+    fn from(_: OutOfMemory) -> RecFault {
+        RecFault::OutOfMemory
+    }
 }
 
 /// Why a recorder is not finished.
@@ -41,6 +47,7 @@ pub enum Cause {
     /// A seat is missing among those that were handed in.
     #[error("a seat is missing")]
     SeatMissing,
+    /// Memory ran out.
     #[error("out of memory")]
     OutOfMemory,
 }
