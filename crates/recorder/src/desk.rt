@@ -119,9 +119,9 @@ impl<L: Site> Desk<L> {
 
     /// Whether these are all seats that were given out.
     pub(crate) fn are_all(&self, seats: &[Seat<L>]) -> bool
-        ensures { IsTrue result ↔ (length seats.now + self.now.left ≡ 65535) }
+        ensures { IsTrue result ↔ (65535 ≤ length seats.now + self.now.left) }
     {
-        seats.len() + self.left as usize == SEATS as usize
+        seats.len() + self.left as usize >= SEATS as usize
     }
 
     /// No event follows.
@@ -251,7 +251,7 @@ impl<L: Site> Desk<L> {
     /// The book, where all seats are handed in.
     pub(crate) fn close(self, seats: Vec<Seat<L>>) -> HostBook
         requires parts { L.parts ≡ 65535 }
-        requires all { length seats.items + self.left ≡ 65535 }
+        requires all { 65535 ≤ length seats.items + self.left }
         ensures host { result.core.recorded.me ≡ L.host }
         ensures header { result.core.recorded.header ≡ L.header }
         ensures total { result.total ≡ sum_by (λ s. s.count) seats.items }
@@ -278,9 +278,11 @@ fn is_reserved(thread: u32) -> bool
 
 // All parts in one share.
 fn gather<L: Site>(mut rest: Share<L>, seats: Vec<Seat<L>>) -> Share<L>
-    requires { rest.amount ≡ 0 }
+    requires idle { rest.amount ≡ 0 }
+    requires fits { rest.parts ≤ L.parts }
     ensures parts { result.parts ≡ rest.parts + length seats.items }
     ensures amount { result.amount ≡ sum_by (λ s. s.count) seats.items }
+    ensures fits { result.parts ≤ L.parts }
 {
     for seat in seats {
         seat.give_up(&mut rest);

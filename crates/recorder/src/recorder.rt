@@ -1,6 +1,6 @@
 //! A recorder: a host's book under a lock, beside the ledger of what its seats were answered.
 
-ghost use Rattle.std.specs.Prelude.{◌≡◌, ◌+◌, IfOk, IfErr, OnOk, OnErr, sum_by};
+ghost use Rattle.std.specs.Prelude.{◌≡◌, ◌+◌, ◌<◌, IfOk, IfErr, OnOk, OnErr, sum_by, length};
 ghost use Rattle.hosts.specs.Tables.{lane};
 ghost use Rattle.machine.specs.Machine.{aim};
 ghost use Rattle.recordings.specs.Books.{Aims};
@@ -135,7 +135,8 @@ impl<L: Site> Recorder<L> {
         self.moved.notify_all();
     }
 
-    /// Ends the recording, where all seats are handed in. The book's total is the sum of their counts.
+    /// Ends the recording, where all seats are handed in. The book's total is the sum of their counts. There are 65,535 seats, so
+    /// none is missing among as many.
     pub fn finish<R: Wait>(self, rt: &R, seats: Vec<Seat<L>>) -> Result<HostBook, Unfinished<L>>
         requires { L.parts ≡ 65535 }
         ensures host { IfOk result (λ b. b.core.recorded.me ≡ L.host) }
@@ -143,6 +144,7 @@ impl<L: Site> Recorder<L> {
         ensures total { IfOk result (λ b. b.total ≡ sum_by (λ s. s.count) seats.items) }
         ensures back { IfErr result (λ u. u.seats.items ≡ seats.items) }
         ensures cause { IfErr result (λ u. u.cause ≡ SeatMissing) }
+        ensures missing { OnErr result (length seats.items < 65535) }
     {
         let _ = rt;
         let Recorder { desk, moved, alloc } = self;

@@ -1,6 +1,6 @@
 //! Seats.
 
-ghost use Rattle.std.specs.Prelude.{◌≡◌, ◌+◌, ◌<◌, ◌^◌};
+ghost use Rattle.std.specs.Prelude.{◌≡◌, ◌+◌, ◌<◌, ◌≤◌, ◌^◌};
 
 use std::marker::Model;
 use std::sync::ledger::{Book, Ledger, Share};
@@ -70,6 +70,7 @@ impl<L: Ledger> Seat<L> {
     pub(crate) fn give_up(self, to: &mut Share<L>)
         ensures parts { to.new.parts ≡ to.old.parts + 1 }
         ensures amount { to.new.amount ≡ to.old.amount + self.count }
+        ensures fits { to.new.parts ≤ L.parts }
     {
         let Seat {
             thread: _,
