@@ -13,9 +13,10 @@ use std::sync::Wait;
 
 /// Why an application ended before its time.
 #[derive(Clone, Copy, Debug, PartialEq, Eq)]
-pub enum Halt {
+pub(crate) enum Halt {
     /// A call was refused, or was answered otherwise than the application goes on with.
     Refused,
+    /// Memory ran out.
     OutOfMemory,
 }
 
@@ -47,14 +48,14 @@ fn own_socket(thread: u32, socket: u32) -> Result<u32, Halt>
 
 /// One application thread, with what it was answered.
 #[derive(Drop)]
-pub struct Caller<L: Site> {
+pub(crate) struct Caller<L: Site> {
     seat: Seat<L>,
     receipts: Vec<Receipt>,
 }
 
 impl<L: Site> Caller<L> {
     /// A thread with that seat, which has called nothing yet.
-    pub fn new(alloc: Global, seat: Seat<L>) -> Caller<L>
+    pub(crate) fn new(alloc: Global, seat: Seat<L>) -> Caller<L>
         ensures { result.seat.thread ≡ seat.thread }
     {
         Caller {
@@ -64,13 +65,18 @@ impl<L: Site> Caller<L> {
     }
 
     /// Its seat, and what it was answered.
-    pub fn leave(self) -> (Seat<L>, Vec<Receipt>) {
+    pub(crate) fn leave(self) -> (Seat<L>, Vec<Receipt>) {
         let Caller { seat, receipts } = self;
         (seat, receipts)
     }
 
     /// Calls.
-    pub fn ask<R: Wait>(&mut self, rt: &R, recorder: &Recorder<L>, call: Call) -> Result<(), Halt>
+    pub(crate) fn ask<R: Wait>(
+        &mut self,
+        rt: &R,
+        recorder: &Recorder<L>,
+        call: Call,
+    ) -> Result<(), Halt>
         requires lane { lane self.old.seat.thread ≡ L.host }
         requires aims { Aims L.host (aim call) }
         requires within { IsCallWithin call }
@@ -83,13 +89,13 @@ impl<L: Site> Caller<L> {
     }
 
     /// What the last call was answered. None: there was no call.
-    pub fn answer(&self) -> Option<&Answer> {
+    pub(crate) fn answer(&self) -> Option<&Answer> {
         let last = self.receipts.last()?;
         Some(last.answered.answer())
     }
 
     /// A call that is answered by a socket number of its own host.
-    pub fn socket<R: Wait>(
+    pub(crate) fn socket<R: Wait>(
         &mut self,
         rt: &R,
         recorder: &Recorder<L>,
@@ -107,7 +113,7 @@ impl<L: Site> Caller<L> {
     }
 
     /// The number that the last call was answered.
-    pub fn number(&self) -> Result<u32, Halt> {
+    pub(crate) fn number(&self) -> Result<u32, Halt> {
         match self.answer() {
             Some(Answer::Given(number)) => Ok(*number),
             _ => Err(Halt::Refused),
@@ -115,7 +121,12 @@ impl<L: Site> Caller<L> {
     }
 
     /// A call that is answered `ok`.
-    pub fn done<R: Wait>(&mut self, rt: &R, recorder: &Recorder<L>, call: Call) -> Result<(), Halt>
+    pub(crate) fn done<R: Wait>(
+        &mut self,
+        rt: &R,
+        recorder: &Recorder<L>,
+        call: Call,
+    ) -> Result<(), Halt>
         requires lane { lane self.old.seat.thread ≡ L.host }
         requires aims { Aims L.host (aim call) }
         requires within { IsCallWithin call }

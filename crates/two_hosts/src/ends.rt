@@ -57,7 +57,7 @@ fn adds_up(measure: Measure, thread: u32, lines: &[Line], total: u64) -> bool
 }
 
 /// Whether the lines tell that host 1 received all bytes of so many rounds, and that both applications came to their end.
-pub fn has_ended(lines: &[Line], rounds: u16) -> bool
+pub(crate) fn has_ended(lines: &[Line], rounds: u16) -> bool
     ensures { result ≡ has_ended rounds lines.now }
 {
     let bytes = ROUND_BYTES as u64 * u64::from(rounds);

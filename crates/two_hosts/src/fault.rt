@@ -10,6 +10,7 @@ pub enum RecordFault {
     /// A thread could not be started, or the books could not be finished or merged for another cause than memory.
     #[error("the recording can't be made")]
     Device,
+    /// Memory ran out.
     #[error("out of memory")]
     OutOfMemory,
 }

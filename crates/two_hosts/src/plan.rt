@@ -6,24 +6,26 @@ ghost use Rattle.two_hosts.specs.Plans.{header_of};
 use case_forms::{Header, Initial, Version};
 use recorder::CoreConfig;
 
-/// The initial send sequence numbers of the first endpoints of host 0 and of host 1 (RFC 9293, 3.4.1). Host 0's is two short of
-/// the end of the number space.
-pub const CLIENT_ISS: u32 = 4_294_967_294;
+/// Host 0's first initial send sequence number, two short of the end of the number space (RFC 9293, 3.4.1).
+pub(crate) const CLIENT_ISS: u32 = 4_294_967_294;
 
-pub const SERVER_ISS: u32 = 100;
+/// Host 1's first initial send sequence number.
+pub(crate) const SERVER_ISS: u32 = 100;
 
-/// The port on which host 1 listens, and that from which host 0 opens.
-pub const SERVER_PORT: u16 = 80;
+/// The port on which host 1 listens.
+pub(crate) const SERVER_PORT: u16 = 80;
 
-pub const CLIENT_PORT: u16 = 4_000;
+/// The port from which host 0 opens.
+pub(crate) const CLIENT_PORT: u16 = 4_000;
 
-/// The application threads of host 0 and of host 1.
-pub const CLIENT_THREAD: u32 = 2;
+/// The application thread of host 0.
+pub(crate) const CLIENT_THREAD: u32 = 2;
 
-pub const SERVER_THREAD: u32 = 3;
+/// The application thread of host 1.
+pub(crate) const SERVER_THREAD: u32 = 3;
 
 /// How many bytes are sent in a round.
-pub const ROUND_BYTES: usize = 64;
+pub(crate) const ROUND_BYTES: usize = 64;
 
 /// What is asked of a recording.
 #[derive(Clone, Copy, Debug, PartialEq, Eq)]
@@ -37,7 +39,7 @@ pub struct Plan {
 }
 
 /// The header of a recording. Version 2 has the initial window of RFC 6928.
-pub fn header_of(version: Version) -> Header
+pub(crate) fn header_of(version: Version) -> Header
     ensures { result ≡ header_of version }
 {
     Header {
@@ -55,7 +57,7 @@ pub fn header_of(version: Version) -> Header
 }
 
 /// How the core of a host chooses. A header of version 1 has no scaled windows, so there the shift means nothing.
-pub fn config_of(first_iss: u32) -> CoreConfig {
+pub(crate) fn config_of(first_iss: u32) -> CoreConfig {
     CoreConfig {
         mss: 536,
         ring: 4_096,

@@ -105,7 +105,7 @@ fn talk_as_client<L: Site, R: Wait>(
 }
 
 /// Host 1's application listens. That is answered at once.
-pub fn listen<L: Site, R: Wait>(
+pub(crate) fn listen<L: Site, R: Wait>(
     rt: &R,
     recorder: &Recorder<L>,
     caller: &mut Caller<L>,
@@ -144,15 +144,15 @@ fn talk_as_server<L: Site, R: Wait>(
 
 /// An application thread that ended.
 #[derive(Drop)]
-pub struct Ended<L: Site> {
-    pub seat: Seat<L>,
-    pub receipts: Vec<Receipt>,
+pub(crate) struct Ended<L: Site> {
+    pub(crate) seat: Seat<L>,
+    pub(crate) receipts: Vec<Receipt>,
     /// Whether it came to its end.
-    pub whole: bool,
+    pub(crate) whole: bool,
 }
 
 /// Runs host 0's application.
-pub fn run_client<L: Site, R: Wait>(
+pub(crate) fn run_client<L: Site, R: Wait>(
     rt: &R,
     alloc: Global,
     recorder: &Recorder<L>,
@@ -173,7 +173,7 @@ pub fn run_client<L: Site, R: Wait>(
 }
 
 /// Runs host 1's application, where it listens.
-pub fn run_server<L: Site, R: Wait>(
+pub(crate) fn run_server<L: Site, R: Wait>(
     rt: &R,
     recorder: &Recorder<L>,
     caller: Caller<L>,

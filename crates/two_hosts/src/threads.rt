@@ -17,11 +17,11 @@ use std::thread;
 use std::thread::{JoinHandle, Scope, Threads};
 
 /// How many turns each loop has.
-pub const TURNS: u64 = 2_000_000;
+pub(crate) const TURNS: u64 = 2_000_000;
 
 /// Both ends of the way of a host's segments, and what becomes of them.
 #[derive(Drop)]
-pub struct Way<F: Drop> {
+pub(crate) struct Way<F: Drop> {
     out: Sender<Flying, Global>,
     from: Receiver<Flying, Global>,
     fate: F,
@@ -30,7 +30,7 @@ pub struct Way<F: Drop> {
 
 impl<F: Drop> Way<F> {
     /// A new way for segments of which this becomes.
-    pub fn new(alloc: Global, wire: Wire<F>) -> Result<Way<F>, OutOfMemory> {
+    pub(crate) fn new(alloc: Global, wire: Wire<F>) -> Result<Way<F>, OutOfMemory> {
         let (out, from) = unbounded::<Flying, Global>(alloc)?;
         let Wire { fate, taken } = wire;
         Ok(Way {
@@ -70,14 +70,14 @@ fn links_of<F: Drop, G: Drop>(there: Way<F>, back: Way<G>) -> (Link<F>, Link<G>)
 
 /// The recorder of a host, and the seat of its application.
 #[derive(Drop)]
-pub struct Place<'a, L: Site> {
-    pub recorder: &'a Recorder<L>,
-    pub seat: Seat<L>,
+pub(crate) struct Place<'a, L: Site> {
+    pub(crate) recorder: &'a Recorder<L>,
+    pub(crate) seat: Seat<L>,
 }
 
 /// Runs both applications and all loops until they end. Where a thread can't be started: out of memory where memory is refused at
 /// that time, else a fault of the device.
-pub fn run_threads<
+pub(crate) fn run_threads<
     L: Site + Send + Sync,
     M: Site + Send + Sync,
     F: WireFate + Send + Drop,
