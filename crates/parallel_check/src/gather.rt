@@ -10,7 +10,7 @@ use case_forms::OutOfMemory;
 use std::alloc::Global;
 
 /// One answer to each case, in their order: that of a worker, or else its own.
-pub fn gather<C: Cases, G: Gate>(
+pub(crate) fn gather<C: Cases, G: Gate>(
     alloc: Global,
     cases: &[&[u8]],
     parts: Vec<Vec<Done<C>>>,

@@ -25,7 +25,7 @@ pub fn check_many_plain(alloc: Global, cases: &[Vec<u8>]) -> Result<Vec<CaseResu
 
 /// The answer to one case.
 #[tactic(auto, using(crate::proofs::Slots::gives_answer))]
-pub fn answer_to(alloc: Global, text: &[u8]) -> CaseResult
+pub(crate) fn answer_to(alloc: Global, text: &[u8]) -> CaseResult
     ensures { IsAnswer text.now result }
 {
     check_case(alloc, text)

@@ -23,7 +23,7 @@ pub trait Gate {
 }
 
 /// Which cases are checked. Each call picks them.
-pub trait Cases {
+pub(crate) trait Cases {
     /// The texts of the cases, in order.
     ghost cases: { List (List ℕ) };
 }
@@ -34,7 +34,7 @@ impl Cases for Brand {
 
 /// The answer to one of these cases, beside the number of the case.
 #[derive(Drop)]
-pub struct Done<C: Cases> {
+pub(crate) struct Done<C: Cases> {
     pub index: usize,
     pub answer: CaseResult,
     pub of: PhantomData<C>,
@@ -43,7 +43,7 @@ pub struct Done<C: Cases> {
 }
 
 /// Checks one case, between the two calls of the gate.
-pub fn check_one<C: Cases, G: Gate>(
+pub(crate) fn check_one<C: Cases, G: Gate>(
     alloc: Global,
     cases: &[&[u8]],
     index: usize,
