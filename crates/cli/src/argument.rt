@@ -10,7 +10,7 @@ use thiserror::Error;
 
 /// Why a text stands for no segment.
 #[derive(Clone, Copy, Debug, PartialEq, Eq, Error)]
-pub enum ArgumentFault {
+pub(crate) enum ArgumentFault {
     /// It is no hex: the count of its digits is odd, or a digit is wrong.
     #[error("the text is no hex")]
     Hex,
@@ -23,7 +23,7 @@ pub enum ArgumentFault {
 }
 
 /// The segment that a hex text stands for, in either case, or the first fault.
-pub fn read_segment(alloc: Global, text: &str) -> Result<Segment, ArgumentFault>
+pub(crate) fn read_segment(alloc: Global, text: &str) -> Result<Segment, ArgumentFault>
     ensures { Gives result text.now }
 {
     let bytes = match hex::decode(alloc, text.as_bytes()) {

@@ -41,7 +41,8 @@ pub fn run_files<A: BufRead, B: BufRead, W: Write>(
     (status, a, b)
 }
 
-/// Answers that a file cannot be opened: one line, and the status 5. The count of failures has to be below 2^50 before.
+/// Answers that a device failed, as where a file cannot be opened or read: one line, and the status 5. The count of failures has to
+/// be below 2^50 before.
 pub fn answer_bad_device<W: Write>(w: &mut Counted<W>) -> u8
     requires { failures_of w.old < 2 ^ 50 }
     ensures status { result ≡ 5 }

@@ -14,20 +14,20 @@ use std::io::Write;
 use verdict::{Verdict, print_verdict};
 
 /// The steps explain the trace, or a segment is printed.
-pub const YES: u8 = 0;
+pub(crate) const YES: u8 = 0;
 /// They do not.
-pub const NO: u8 = 1;
+pub(crate) const NO: u8 = 1;
 /// A text or a segment is refused.
-pub const REFUSED: u8 = 2;
+pub(crate) const REFUSED: u8 = 2;
 /// The words ask for nothing that the program does.
-pub const USAGE: u8 = 3;
+pub(crate) const USAGE: u8 = 3;
 /// Memory ran out.
-pub const MEMORY: u8 = 4;
+pub(crate) const MEMORY: u8 = 4;
 /// A read or a write failed.
-pub const DEVICE: u8 = 5;
+pub(crate) const DEVICE: u8 = 5;
 
 /// The status of a case's answer.
-pub fn status_of(answer: &Result<Verdict, CaseFault>) -> u8
+pub(crate) fn status_of(answer: &Result<Verdict, CaseFault>) -> u8
     ensures { result ≡ status_of answer.now }
 {
     match answer {
@@ -40,7 +40,10 @@ pub fn status_of(answer: &Result<Verdict, CaseFault>) -> u8
 }
 
 /// The line of a case's answer, with its end.
-pub fn line_of(alloc: Global, answer: &Result<Verdict, CaseFault>) -> Result<Vec<u8>, OutOfMemory>
+pub(crate) fn line_of(
+    alloc: Global,
+    answer: &Result<Verdict, CaseFault>,
+) -> Result<Vec<u8>, OutOfMemory>
     ensures { IfOk result (λ line. line.items ≡ line_of answer.now) }
 {
     let mut line = Vec::new(alloc);
@@ -76,7 +79,7 @@ fn push_column(line: &mut Vec<u8>, number: u64) -> Result<(), OutOfMemory>
 }
 
 /// Writes a line, and answers this status, or 5 where the writer failed.
-pub fn say<W: Write>(w: &mut Counted<W>, line: &[u8], status: u8) -> u8
+pub(crate) fn say<W: Write>(w: &mut Counted<W>, line: &[u8], status: u8) -> u8
     requires { failures_of w.old < 2 ^ 50 }
     ensures said { result ≢ 5 → (result ≡ status) × Appends (left_of W.contents w.old) (left_of W.contents w.new) line.now ×
         (failures_of w.new ≡ failures_of w.old) }

@@ -15,7 +15,8 @@ ghost use Rattle.cli.specs.Output.{Ends, line_of, status_of};
 ghost use Rattle.cli.specs.SegmentText.{segment_line, segment_status};
 ghost use Rattle.cli.specs.Many.{cases_of, ends_case, greatest_status, lines_of_all, EndsMany};
 
-use crate::lines::{DEVICE, YES, line_of, say, status_of};
+use crate::files::answer_bad_device;
+use crate::lines::{YES, line_of, say, status_of};
 use crate::many_words::asked_workers;
 use crate::record::record_or_run;
 use crate::running::answer_bad_memory;
@@ -88,10 +89,7 @@ fn many<R: BufRead, W: Write, H: Threads + Wait + Sync>(
     let mut text = Vec::new(alloc);
     match r.append_all(&mut text) {
         Ok(()) => answer_cases(rt, alloc, text.as_slice(), workers, w),
-        Err(ReadFault::Read) => {
-            let _ = say(w, b"bad device\n", DEVICE);
-            DEVICE
-        }
+        Err(ReadFault::Read) => answer_bad_device(w),
         Err(ReadFault::OutOfMemory) => answer_bad_memory(w),
     }
 }

@@ -60,7 +60,10 @@ fn is_option(option: &str, text: &str) -> bool
 }
 
 /// The number of workers, where the words ask for many cases; None where they do not.
-pub fn asked_workers<'a>(alloc: Global, words: &'a [&'a str]) -> Result<Option<usize>, OutOfMemory>
+pub(crate) fn asked_workers<'a>(
+    alloc: Global,
+    words: &'a [&'a str],
+) -> Result<Option<usize>, OutOfMemory>
     ensures { IfOk result (λ asked. MatchOption asked ((n : ℕ) →
         ¬ AsksMany (map (λ word. word.now) words.now) n) (AsksMany (map (λ word. word.now) words.now))) }
 {

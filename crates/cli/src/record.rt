@@ -16,7 +16,8 @@ ghost use Rattle.cli.specs.RecordWords.{AsksRecord};
 ghost use Rattle.cli.specs.Recorded.{EndsRecord};
 ghost use Rattle.cli.specs.SegmentText.{segment_line, segment_status};
 
-use crate::lines::{DEVICE, NO, YES, say};
+use crate::files::answer_bad_device;
+use crate::lines::{NO, YES, say};
 use crate::record_words::asked_plan;
 use crate::running::{answer_bad_memory, run};
 use checker::print_case;
@@ -28,7 +29,7 @@ use std::thread::Threads;
 use two_hosts::{Plan, RecordFault, Recording, record};
 
 /// Does what the words behind the program's name ask for, where they don't ask for many cases: a recording, or what `run` does.
-pub fn record_or_run<R: BufRead, W: Write, H: Threads + Wait + Sync>(
+pub(crate) fn record_or_run<R: BufRead, W: Write, H: Threads + Wait + Sync>(
     rt: &H,
     alloc: Global,
     words: &[&str],
@@ -74,10 +75,7 @@ fn answer_record<W: Write, H: Threads + Wait + Sync>(
 {
     match record(rt, alloc, plan) {
         Ok(recording) => print(alloc, &recording, w),
-        Err(RecordFault::Device) => {
-            let _ = say(w, b"bad device\n", DEVICE);
-            DEVICE
-        }
+        Err(RecordFault::Device) => answer_bad_device(w),
         Err(RecordFault::OutOfMemory) => answer_bad_memory(w),
     }
 }

@@ -15,7 +15,7 @@ use two_hosts::Plan;
 
 /// An option of a recording.
 #[derive(Clone, Copy, Debug, PartialEq, Eq)]
-pub enum Setting {
+pub(crate) enum Setting {
     /// How many rounds there are.
     Rounds,
     /// Each so many segments of a host one is lost.
@@ -26,7 +26,7 @@ pub enum Setting {
 
 /// The numbers that options told so far.
 #[derive(Clone, Copy, Debug, PartialEq, Eq)]
-pub struct Told {
+pub(crate) struct Told {
     rounds: Option<u16>,
     lose: Option<u16>,
     format: Option<u16>,
@@ -214,7 +214,10 @@ fn plan_told<'a>(
 }
 
 /// What is recorded, where the words ask for a recording; None where they do not.
-pub fn asked_plan<'a>(alloc: Global, words: &'a [&'a str]) -> Result<Option<Plan>, OutOfMemory>
+pub(crate) fn asked_plan<'a>(
+    alloc: Global,
+    words: &'a [&'a str],
+) -> Result<Option<Plan>, OutOfMemory>
     ensures { IfOk result (λ asked. MatchOption asked ((plan : Plan) →
         ¬ AsksRecord (map (λ word. word.now) words.now) plan) (AsksRecord (map (λ word. word.now) words.now))) }
 {

@@ -10,7 +10,8 @@ ghost use Rattle.cli.specs.Output.{Ends, line_of, status_of};
 ghost use Rattle.cli.specs.SegmentText.{segment_line, segment_status};
 
 use crate::argument::{ArgumentFault, read_segment};
-use crate::lines::{DEVICE, MEMORY, USAGE, line_of, say, status_of};
+use crate::files::answer_bad_device;
+use crate::lines::{MEMORY, USAGE, line_of, say, status_of};
 use crate::segment_line::{segment_line, segment_status};
 use crate::words::{Asked, judge};
 use checker::{CaseFault, check_case};
@@ -86,10 +87,7 @@ fn check<R: BufRead, W: Write>(alloc: Global, r: &mut Counted<R>, w: &mut Counte
     let mut text = Vec::new(alloc);
     match r.append_all(&mut text) {
         Ok(()) => answer(alloc, text.as_slice(), w),
-        Err(ReadFault::Read) => {
-            let _ = say(w, b"bad device\n", DEVICE);
-            DEVICE
-        }
+        Err(ReadFault::Read) => answer_bad_device(w),
         Err(ReadFault::OutOfMemory) => answer_bad_memory(w),
     }
 }

@@ -13,7 +13,7 @@ use seqno::{Word, number};
 use std::alloc::Global;
 
 /// The status of an argument's segment or fault.
-pub fn segment_status(answer: &Result<Segment, ArgumentFault>) -> u8
+pub(crate) fn segment_status(answer: &Result<Segment, ArgumentFault>) -> u8
     ensures { result ≡ segment_status answer.now }
 {
     match answer {
@@ -24,7 +24,7 @@ pub fn segment_status(answer: &Result<Segment, ArgumentFault>) -> u8
 }
 
 /// The line of an argument's segment or fault, with its end.
-pub fn segment_line(
+pub(crate) fn segment_line(
     alloc: Global,
     answer: &Result<Segment, ArgumentFault>,
 ) -> Result<Vec<u8>, OutOfMemory>

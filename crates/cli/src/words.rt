@@ -11,7 +11,7 @@ use std::alloc::{AllocError, Global};
 
 /// What words ask for.
 #[derive(Clone, Copy, Debug, PartialEq, Eq)]
-pub enum Asked<'a> {
+pub(crate) enum Asked<'a> {
     /// That a case is checked.
     Check,
     /// The segment of this hex text.
@@ -68,14 +68,14 @@ fn parse<'a>(alloc: Global, words: &'a [&'a str]) -> Result<ArgMatches<'a>, Erro
 }
 
 /// Whether a text begins with a dash.
-pub fn is_dashed(text: &str) -> bool
+pub(crate) fn is_dashed(text: &str) -> bool
     ensures { result ≡ is_dashed text.now }
 {
     text.as_bytes().first() == Some(&b'-')
 }
 
 /// What the words ask for, unless memory ran out.
-pub fn judge<'a>(alloc: Global, words: &'a [&'a str]) -> Result<Asked<'a>, AllocError>
+pub(crate) fn judge<'a>(alloc: Global, words: &'a [&'a str]) -> Result<Asked<'a>, AllocError>
     ensures { IfOk result (λ asked. IsAsked asked (map (λ word. word.now) words.now)) }
 {
     match parse(alloc, words) {
