@@ -8,6 +8,7 @@
 //! - `kinds`: what appears in recordings
 //! - `wires`: segments that are sent twice, and one that stays away for long
 //! - `looks`: a book is held while the other host goes on
+//! - `seats`: a recording ends with all seats, and comes back without one of them
 
 mod chances;
 mod endings;
@@ -15,6 +16,7 @@ mod fates;
 mod kinds;
 mod looks;
 mod pair;
+mod seats;
 mod talks;
 mod turns;
 mod verdicts;
