@@ -19,6 +19,9 @@ use witness::begins_witness;
 // How many threads check the cases of one input.
 const WORKERS: &str = "4";
 
+// How many threads check the cases of the input that is asked for with several numbers of them.
+const CREWS: [&str; 3] = ["1", "2", "64"];
+
 /// How many bytes of each of two texts are read at once.
 pub const PIECES: [usize; 3] = [1, 7, 4096];
 
@@ -71,7 +74,7 @@ pub fn ask_many<H: Threads + Wait + Sync>(
 ) -> Result<(), AllocError> {
     ask_together(rt, alloc, cases, differing)?;
     for case in cases.iter().filter(|case| !case.is_ended()) {
-        let found = by_many(rt, alloc, case.text.as_slice())?;
+        let found = by_many(rt, alloc, WORKERS, case.text.as_slice())?;
         compare(alloc, case, "many, alone", found.as_str(), differing)?;
     }
     Ok(())
@@ -84,10 +87,29 @@ pub fn ask_ends<H: Threads + Wait + Sync>(
     differing: &mut Vec<String>,
 ) -> Result<(), AllocError> {
     for (input, wanted) in &ENDS {
-        let found = by_many(rt, alloc, input.as_bytes())?;
+        let found = by_many(rt, alloc, WORKERS, input.as_bytes())?;
         if found.as_str() != *wanted {
             differing.push(format!(in alloc;
                 "many of {input:?}: wanted {wanted:?}, found {found:?}"
+            )?)?;
+        }
+    }
+    Ok(())
+}
+
+/// Asks for an input of `many` with each of several numbers of threads. The same is wanted of each, as it is printed, then the status.
+pub fn ask_crews<H: Threads + Wait + Sync>(
+    rt: &H,
+    alloc: Global,
+    input: &[u8],
+    wanted: &str,
+    differing: &mut Vec<String>,
+) -> Result<(), AllocError> {
+    for workers in CREWS {
+        let found = by_many(rt, alloc, workers, input)?;
+        if found.as_str() != wanted {
+            differing.push(format!(in alloc;
+                "many by {workers} threads: wanted {wanted:?}, found {found:?}"
             )?)?;
         }
     }
@@ -102,7 +124,7 @@ fn ask_together<H: Threads + Wait + Sync>(
     differing: &mut Vec<String>,
 ) -> Result<(), AllocError> {
     let input = join(alloc, cases)?;
-    let answer = by_many(rt, alloc, input.as_slice())?;
+    let answer = by_many(rt, alloc, WORKERS, input.as_slice())?;
     let mut lines = answer.as_str().lines();
     let mut greatest = 0;
     for case in cases.iter().filter(|case| case.is_ended()) {
@@ -226,16 +248,17 @@ pub fn witness_begins(text: &[u8]) -> usize
     at.min(text.len())
 }
 
-// What the words of `many` print for an input, then the status.
+// What the words of `many` with so many threads print for an input, then the status.
 fn by_many<H: Threads + Wait + Sync>(
     rt: &H,
     alloc: Global,
+    workers: &str,
     input: &[u8],
 ) -> Result<String, AllocError> {
     let mut output = Vec::new(alloc);
     let mut reader = Counted::new(input);
     let mut writer = Counted::new(&mut output);
-    let words = ["many", "--workers", WORKERS];
+    let words = ["many", "--workers", workers];
     let status = run_all(rt, alloc, &words, &mut reader, &mut writer);
     let printed = String::from_utf8_lossy(alloc, output.as_slice())?;
     format!(in alloc; "{printed}{status}")

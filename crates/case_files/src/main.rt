@@ -28,6 +28,9 @@ mod told;
 use std::process::ExitCode;
 use std::{fs, io};
 
+// What is printed for the three cases of `three_cases.txt`, and the status.
+const THREE: &str = "yes 4 2\nno 3 0 no-call\nbad witness 7 0 7 cut\n2";
+
 fn main(rt: HostRuntime) -> io::Result<ExitCode> {
     let alloc = rt.alloc();
     let mut differing = Vec::new(alloc);
@@ -42,6 +45,8 @@ fn main(rt: HostRuntime) -> io::Result<ExitCode> {
     asking::ask_each(alloc, cases.as_slice(), &mut differing)?;
     asking::ask_many(&rt, alloc, cases.as_slice(), &mut differing)?;
     asking::ask_ends(&rt, alloc, &mut differing)?;
+    let three = fs::read(&rt, "three_cases.txt")?;
+    asking::ask_crews(&rt, alloc, three.as_slice(), THREE, &mut differing)?;
     let pairs = pairs::ask_pairs(&rt, "handshake_and_five_bytes", &mut differing)?;
     let table = fs::read_to_string(&rt, "command_lines.txt")?;
     let rows = command_lines::ask_rows(&rt, alloc, table.as_str(), &mut differing)?;
