@@ -5,7 +5,6 @@ ghost use Rattle.case_forms.specs.declared.timer.Timer.TheVariants.{Msl2, Persis
 ghost use Rattle.std.specs.Option.{IfSome};
 ghost use Rattle.machine.specs.Bounds.{most_steps};
 ghost use Rattle.machine.specs.declared.endpoint.Endpoint.{Endpoint};
-ghost use Rattle.machine.specs.Timeouts.{has_more};
 ghost use Rattle.stack_core.specs.Cores.{IsAfter, IsRecorded, opened};
 ghost use Rattle.stack_core.specs.Entries.{steps_in};
 ghost use Rattle.stack_core.specs.TimerEvents.{HasTried, IfGivesUp, IsDueAt, IsNotDueAt, IsRefused, IsTimed, NoneDue, NoneDueAt};
@@ -17,6 +16,7 @@ use crate::host_core::HostCore;
 use crate::recording::Recording;
 use crate::tick::Tick;
 use case_forms::{Expired, Growth, Header, OutOfMemory, Ports, TakenLine};
+use endpoint::has_more;
 use endpoint_state::{Body, Endpoint};
 use spec_step::Label;
 
@@ -215,18 +215,6 @@ fn wait_over(header: &Header, endpoint: &Endpoint) -> Option<u64>
 {
     let time = header.msl.saturating_mul(2);
     due_since(endpoint.timers.msl_armed, time, header.grain)
-}
-
-// Whether data or the FIN is unsent or not acknowledged.
-fn has_more(endpoint: &Endpoint) -> bool
-    ensures { result ≡ has_more endpoint.now }
-{
-    let end = endpoint.stream.accepted.end();
-    if endpoint.stream.ended {
-        endpoint.stream.una <= end
-    } else {
-        endpoint.stream.una < end
-    }
 }
 
 // When a timer that is armed since a moment and runs for so long may expire at the earliest, by a clock of this grain.
