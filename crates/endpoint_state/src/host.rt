@@ -23,7 +23,7 @@ ghost use Rattle.endpoint_state.specs.Faults.{fault_rule};
 ghost use Rattle.endpoint_state.specs.Kinds.{answered_one, dropped_one, made_one, sent_one, taken_one, answering_rules, dropping_rules, expired_body};
 ghost use Rattle.endpoint_state.specs.Kinds.{expiring_rules, recovered_body, recovering_rules, taking_rules};
 
-use crate::arriving::{admitted_arrival, settle, waiting};
+use crate::arriving::{Arrival, admitted_arrival, settle, waiting};
 use crate::body::Body;
 use crate::fault::StepFault;
 use crate::made::{Made, admitted_sending, send};
@@ -45,7 +45,7 @@ pub(crate) struct HostState {
     body: Body,
     made: Table<Made>,
     wire: Table<Emission>,
-    inbox: Table<Option<Emission>>,
+    inbox: Table<Option<Arrival>>,
 }
 
 impl Model for HostState {
@@ -109,11 +109,16 @@ pub(crate) fn send_made(
 }
 
 /// A segment joins the inbox with this line. Where memory runs out nothing is changed.
-pub(crate) fn arrive(host: &mut HostState, line: u64, m: Emission) -> Result<(), OutOfMemory>
+pub(crate) fn arrive(
+    alloc: Global,
+    host: &mut HostState,
+    line: u64,
+    m: Emission,
+) -> Result<(), OutOfMemory>
     ensures ok { OnOk result (host.new ≡ record host.old { inbox = insert_entry nat_eq host.old.inbox line (Some m) }) }
     ensures err { OnErr result (host.new ≡ host.old) }
 {
-    host.inbox.insert(line, Some(m))?;
+    host.inbox.insert(line, Some(Arrival::new(alloc, m)?))?;
     Ok(())
 }
 

@@ -348,7 +348,7 @@ impl World {
             .far(host)
             .admitted_arrival(&self.header, moment, copied, wire)?
             .copy()?;
-        host::arrive(self.hosts.side(host), line, copy)?;
+        host::arrive(self.alloc, self.hosts.side(host), line, copy)?;
         self.steps += 1;
         Ok(())
     }
@@ -363,7 +363,7 @@ impl World {
     {
         self.admits_hearing(host, wire)?;
         let heard = heard(self.alloc, moment, wire)?;
-        host::arrive(self.hosts.side(host), line, heard)?;
+        host::arrive(self.alloc, self.hosts.side(host), line, heard)?;
         self.steps += 1;
         Ok(())
     }
