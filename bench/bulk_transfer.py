@@ -6,8 +6,9 @@ and arrive; host 1 receives them and acknowledges, and the acknowledgment arrive
 The numbers of host 0 wrap in the first or second round, those of host 1 behind its SYN. The congestion window grows by all
 that is acknowledged, each round trip is measured, and nothing is lost.
 
-The one argument is the count of rounds, 160,000 where it is missing: then the case has 1,280,012 event lines, 2,240,021 steps
-and 232 million bytes. The verdict on N rounds is `yes A B` with A = 12 + 8 N and B = 9 + 6 N.
+The first argument is the count of rounds, 160,000 where it is missing: then the case has 1,280,012 event lines, 2,240,021 steps
+and 232 million bytes. The verdict on N rounds is `yes A B` with A = 12 + 8 N and B = 9 + 6 N. The second argument, at most 1460,
+is how many bytes are sent in a round in place of 64 to 100; then both SYNs tell an MSS of 1460.
 """
 
 import random
@@ -22,7 +23,11 @@ PORTS = (4000, 80)
 FIRST_NUMBERS = (4_294_967_200, 4_294_967_295)
 LISTENER, SENDER, RECEIVER = 5, 6, 7
 WINDOW = 65535
+
+# The MSS that a SYN tells where a size is given, and the initial windows without it and with it (RFC 5681, 3.1).
+MSS = 1460
 INITIAL_WINDOW = 4 * 536
+INITIAL_WINDOW_OF_MSS = 3 * MSS
 
 # Which thread calls at which host, and which records the segments there.
 CALLERS = (2, 1)
@@ -34,7 +39,9 @@ FLAG_BITS = {"S": 0x02, "A": 0x10, "AS": 0x12}
 class Case:
     """The event lines and the steps so far, the moment of the last of them, and how many segments were made."""
 
-    def __init__(self):
+    def __init__(self, tells_mss=False):
+        self.options = f"0204{MSS:04x}" if tells_mss else ""
+        self.initial_window = INITIAL_WINDOW_OF_MSS if tells_mss else INITIAL_WINDOW
         self.moment = 0
         self.events = []
         self.steps = []
@@ -63,9 +70,10 @@ class Case:
         other = 1 - host
         sequence = (FIRST_NUMBERS[host] + position) % 2**32
         acknowledgment = 0 if acked is None else (FIRST_NUMBERS[other] + acked) % 2**32
+        options = self.options if "S" in flags else ""
         hexed = (
             f"{PORTS[host]:04x}{PORTS[other]:04x}{sequence:08x}{acknowledgment:08x}"
-            f"50{FLAG_BITS[flags]:02x}{WINDOW:04x}00000000{payload.hex()}"
+            f"{5 + len(options) // 8:x}0{FLAG_BITS[flags]:02x}{WINDOW:04x}00000000{options}{payload.hex()}"
         )
         self.made += 1
         self.step(f"M {host} {PORTS[host]} {PORTS[other]} {position} {len(payload)} {flags} {WINDOW}{first}")
@@ -84,9 +92,9 @@ def connect(case):
     line = case.segment(0, 0, "S", None, first=f" {FIRST_NUMBERS[0]}")
     case.take(1, line, 0, 0, 0)
     line = case.segment(1, 0, "AS", 1, first=f" {FIRST_NUMBERS[1]}")
-    case.take(0, line, INITIAL_WINDOW, 0, 1)
+    case.take(0, line, case.initial_window, 0, 1)
     line = case.segment(0, 1, "A", 1)
-    case.take(1, line, INITIAL_WINDOW, 0, 1)
+    case.take(1, line, case.initial_window, 0, 1)
     case.call(CALLERS[1], f"accept {LISTENER}", f"ok {RECEIVER}")
 
 
@@ -96,20 +104,21 @@ def transfer(case, sent, payload):
     position = 1 + sent
     case.call(CALLERS[0], f"send {SENDER} {payload.hex()}", f"ok {size}")
     line = case.segment(0, position, "A", 1, payload)
-    case.take(1, line, INITIAL_WINDOW, 1, 0)
+    case.take(1, line, case.initial_window, 1, 0)
     case.call(CALLERS[1], f"recv {RECEIVER} {size}", f"data {payload.hex()}")
     line = case.segment(1, 1, "A", position + size)
-    case.take(0, line, INITIAL_WINDOW + sent + size, 0, 1)
+    case.take(0, line, case.initial_window + sent + size, 0, 1)
 
 
 def main():
     rounds = int(sys.argv[1]) if len(sys.argv) > 1 else ROUNDS
+    size = int(sys.argv[2]) if len(sys.argv) > 2 else None
     chosen = random.Random(1)
-    case = Case()
+    case = Case(size is not None)
     connect(case)
     sent = 0
     for _ in range(rounds):
-        payload = chosen.randbytes(chosen.randint(64, 100))
+        payload = chosen.randbytes(size or chosen.randint(64, 100))
         transfer(case, sent, payload)
         sent += len(payload)
     for lines in (HEADER, case.events, ["witness 1"], case.steps):

@@ -1,7 +1,7 @@
 -- Lists whose front gave way to one value, and pieces of lists.
-use Rattle.std.proofs.Common.{◌≡◌, ℕ, zero, suc, ◌+◌, ◌-◌, ◌<◌, ◌≤◌, List, [], ◌∷◌, ◌++◌, length, length-drop, take, drop, get_or, replicate, min, refl, sym, ap, ◌∙◌, arith, append_assoc, inl, inr}
+use Rattle.std.proofs.Common.{◌≡◌, ℕ, zero, suc, ◌+◌, ◌-◌, ◌≤◌, List, [], ◌∷◌, ◌++◌, length, take, drop, replicate, min, refl, sym, ap, ◌∙◌, arith, append_assoc, inl, inr}
 use Rattle.std.specs.Prelude.{slice_get}
-use Rattle.std.proofs.lemmas.List.{get_or-drop, replicate-append-replicate, take_all, take_more}
+use Rattle.std.proofs.lemmas.List.{replicate-append-replicate, take_all}
 use Rattle.std.proofs.lemmas.Bool.{cases_lt}
 use Rattle.streams.specs.Lists.{covered}
 
@@ -59,8 +59,11 @@ take_cut {X} n m xs h = elim (cases_lt m n) [
   | inr ge ↦ (let same : min n m ≡ n = omega arith in rw same refl)
 ]
 
--- a piece is one element longer
-pub take_piece : {X : Type 0} (xs : List X) (start i : ℕ) (d : X) → start + i < length xs → take (i + 1) (drop start xs) ≡ take i (drop start xs) ++ get_or xs (start + i) d ∷ []
-take_piece xs start i d h =
-    let long = length-drop start xs in
-    rw (take_more (drop start xs) i d (omega arith), get_or-drop start xs i d) refl
+-- a piece of what stands behind a value so many times: some of these, and the rest
+pub piece_parts : {X : Type 0} (y : X) (gone start count : ℕ) (xs : List X) (ones : ℕ) → ones ≡ min (gone - start) count
+    → replicate ones y ++ take (count - ones) (drop (start - gone) xs) ≡ take count (drop start (replicate gone y ++ xs))
+piece_parts y zero start count xs ones h = let none : ones ≡ 0 = omega arith in let all : count - 0 ≡ count = omega arith in let there : start - 0 ≡ start = omega arith in rw (none, all, there) refl
+piece_parts y (suc gone) (suc start) count xs ones h = let there : suc start - suc gone ≡ start - gone = omega arith in rw there (piece_parts y gone start count xs ones (omega arith))
+piece_parts y (suc gone) zero zero xs ones h = let none : ones ≡ 0 = omega arith in rw none refl
+piece_parts y (suc gone) zero (suc count) xs zero h = absurd (omega arith)
+piece_parts {X} y (suc gone) zero (suc count) xs (suc ones) h = let less : suc count - suc ones ≡ count - ones = omega arith in let there : 0 - suc gone ≡ 0 - gone = omega arith in rw (less, there) (ap (λ (ys : List X). y ∷ ys) (piece_parts y gone zero count xs ones (omega arith)))

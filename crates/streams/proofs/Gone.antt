@@ -1,7 +1,6 @@
 -- A receive buffer against what it shows: the cells that were discarded stand in front of those that it keeps.
-use Rattle.std.proofs.Common.{ℕ, ◌+◌, ◌-◌, ◌<◌, ◌≤◌, List, [], ◌∷◌, ◌++◌, length, drop, get_or, replicate, Option, None, Some, Bool, false, ◌≡◌, refl, sym, ap, ◌∙◌, arith, append_assoc, zero, suc}
+use Rattle.std.proofs.Common.{ℕ, ◌+◌, ◌-◌, ◌<◌, ◌≤◌, List, [], ◌∷◌, ◌++◌, length, drop, replicate, Option, None, Some, Bool, false, ◌≡◌, refl, sym, ap, ◌∙◌, arith, append_assoc, zero, suc}
 use Rattle.std.proofs.lemmas.List.{replicate-append-replicate}
-use Rattle.std.proofs.lemmas.Option.{slice_get_read}
 use Rattle.streams.specs.declared.cell.Cell.{Cell}
 use Rattle.streams.specs.declared.cell.Cell.TheVariants.{Syn, Byte, Fin}
 use Rattle.std.specs.List.{slice_get}
@@ -9,7 +8,8 @@ use Rattle.streams.specs.Received.{is_ended}
 use Rattle.streams.specs.Cells.{body, front, is_fin, leading, put, put_all}
 use Rattle.streams.specs.Forgetting.{fade}
 use Rattle.streams.specs.Views.{gone_cells}
-use Rattle.streams.proofs.Writes.{front_from, leading_front, length_body, length_front, length_put_all}
+use Rattle.streams.proofs.ReadLemmas.{front_none}
+use Rattle.streams.proofs.Writes.{front_from, leading_front, length_body, length_put_all}
 
 -- what was discarded stands in front
 pub replicated : (n : ℕ) (xs : List (Option Cell)) → length (front (replicate n (Some (Byte 0)) ++ xs)) ≡ n + length (front xs)
@@ -111,18 +111,21 @@ gone_fin zero (x ∷ xs) h = let no = h refl in absurd (omega arith)
 gone_fin (suc zero) xs h = refl
 gone_fin (suc (suc n)) xs h = let same : suc (suc n) - 1 ≡ suc n = omega arith in rw same (faded_fin (suc n) xs n (omega arith))
 
-pub ended_none : (gone : ℕ) (xs : List (Option Cell)) → (gone ≡ 0 → length xs ≡ 0) → length (front xs) ≡ 0 → is_ended (record { taken = gone_cells gone ++ xs; delivered = gone - 1 }) ≡ false
+ended_none : (gone : ℕ) (xs : List (Option Cell)) → (gone ≡ 0 → length xs ≡ 0) → length (front xs) ≡ 0 → is_ended (record { taken = gone_cells gone ++ xs; delivered = gone - 1 }) ≡ false
 ended_none gone xs empty none =
     let all = front_gone gone xs in
     let here : length (front (gone_cells gone ++ xs)) ≡ gone = omega arith in
     rw here (gone_fin gone xs empty)
 
-pub ended_at : (gone ready : ℕ) (xs : List (Option Cell)) (x : Option Cell) → ready ≡ length (front xs) → 0 < ready → x ≡ get_or xs (ready - 1) x → is_ended (record { taken = gone_cells gone ++ xs; delivered = gone - 1 }) ≡ is_fin (Some x)
-ended_at gone ready xs x e h r =
-    let all = front_gone gone xs in
-    let most = length_front xs in
-    let here : length (front (gone_cells gone ++ xs)) - 1 ≡ gone + (ready - 1) = omega arith in
-    rw (here, get_gone gone xs (ready - 1)) (ap is_fin (slice_get_read xs (length xs) (ready - 1) x refl (omega arith) r))
+pub ended_gone : (gone : ℕ) (xs : List (Option Cell)) → (gone ≡ 0 → length xs ≡ 0) → is_ended (record { taken = gone_cells gone ++ xs; delivered = gone - 1 }) ≡ is_fin (slice_get xs (length (front xs) - 1))
+ended_gone gone xs empty = by (length (front xs)) refl
+  where
+    by : (n : ℕ) → length (front xs) ≡ n → is_ended (record { taken = gone_cells gone ++ xs; delivered = gone - 1 }) ≡ is_fin (slice_get xs (length (front xs) - 1))
+    by zero none = let here : length (front xs) - 1 ≡ 0 = omega arith in ended_none gone xs empty none ∙ sym (rw here (front_none xs none))
+    by (suc n) some =
+        let all = front_gone gone xs in
+        let here : length (front (gone_cells gone ++ xs)) - 1 ≡ gone + (length (front xs) - 1) = omega arith in
+        rw here (ap is_fin (get_gone gone xs (length (front xs) - 1)))
 
 -- what a buffer shows is forgotten already
 pub view_faded : (gone : ℕ) (xs : List (Option Cell)) → (gone ≡ 0 → length xs ≡ 0) → fade (suc (gone - 1)) (gone_cells gone ++ xs) ≡ gone_cells gone ++ xs

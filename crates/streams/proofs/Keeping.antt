@@ -50,7 +50,7 @@ part_short taken position bytes = go (has_end taken)
 pub body_kept-fade : (n : ℕ) (taken : List (Option Cell)) (position : ℕ) (bytes : List ℕ) (fin : Bool) → body_kept (fade n taken) position bytes fin ≡ body_kept taken position bytes fin
 body_kept-fade n taken position bytes fin = rw (length-fade n taken, is_fin-fade n taken (length taken - 1)) refl
 
-same_order : (n a b : ℕ) → nat_le (n + a) (n + b) ≡ nat_le a b
+pub same_order : (n a b : ℕ) → nat_le (n + a) (n + b) ≡ nat_le a b
 same_order n a b = go (nat_le a b) refl
   where
     go : (x : Bool) → nat_le a b ≡ x → nat_le (n + a) (n + b) ≡ nat_le a b

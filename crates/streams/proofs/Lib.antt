@@ -11,3 +11,4 @@ pub mod RunLemmas
 pub mod MarkLemmas
 pub mod MadeLemmas
 pub mod ReadLemmas
+pub mod Thens

@@ -83,7 +83,7 @@ fin_at (Some (Byte v) ∷ xs) zero h f = absurd (cc)
 fin_at (Some (Byte v) ∷ xs) (suc i) h f = fin_at xs i (omega arith) f
 fin_at (Some Fin ∷ xs) i h f = refl
 
-front_none : (xs : List (Option Cell)) → length (front xs) ≡ 0 → is_fin (slice_get xs 0) ≡ false
+pub front_none : (xs : List (Option Cell)) → length (front xs) ≡ 0 → is_fin (slice_get xs 0) ≡ false
 front_none [] h = refl
 front_none (None ∷ xs) h = refl
 front_none (Some x ∷ xs) h = absurd (omega arith)

@@ -1,7 +1,7 @@
 -- What the buffers show of what they discarded: something fixed at each position.
-use Rattle.std.specs.Prelude.{ℕ, zero, suc, List, [], ◌∷◌, ◌++◌, Option, Some, replicate}
+use Rattle.std.specs.Prelude.{ℕ, zero, suc, Bool, true, false, List, [], ◌∷◌, ◌++◌, Option, Some, replicate}
 use Rattle.streams.specs.declared.cell.Cell.{Cell}
-use Rattle.streams.specs.declared.cell.Cell.TheVariants.{Syn, Byte}
+use Rattle.streams.specs.declared.cell.Cell.TheVariants.{Syn, Byte, Fin}
 use Rattle.streams.specs.declared.making.Made.{Made}
 use Rattle.streams.specs.declared.runs.Run.{Run}
 use Rattle.streams.specs.Makings.{once}
@@ -10,6 +10,16 @@ use Rattle.streams.specs.Makings.{once}
 abbrev pub gone_cells : ℕ → List (Option Cell)
 gone_cells zero = []
 gone_cells (suc n) = Some Syn ∷ replicate n (Some (Byte 0))
+
+-- these bytes, which were taken, and what stands behind them
+abbrev pub bytes_then : List ℕ → List (Option Cell) → List (Option Cell)
+bytes_then [] rest = rest
+bytes_then (value ∷ bytes) rest = Some (Byte value) ∷ bytes_then bytes rest
+
+-- a FIN where there is one, and nothing else
+abbrev pub fin_alone : Bool → List (Option Cell)
+fin_alone true = Some Fin ∷ []
+fin_alone false = []
 
 -- runs, position by position
 abbrev pub expand : List Run → List Made

@@ -4,8 +4,10 @@
 //! wrap. Each list here is by position, so that "the byte at a position" is an element of a list, and "the next
 //! position expected" is the length of the part in front without a gap.
 //!
+//! - `byte_queue`: bytes that join at the end and leave in front
 //! - `cell`: what stands at one position
-//! - `receive`: what was taken of the peer, until it is delivered; `leading` reads the bytes in front
+//! - `receive`: what was taken of the peer, until it is delivered; `cell_queue` holds it, `placing` writes cells, and `leading` reads
+//!   the bytes in front
 //! - `send`: what sends accepted, until it is acknowledged
 //! - `front`: drops what stands in front of a queue
 //! - `making`, `makings`: when a position was made, and whether it was made again; `runs` keeps the first by segments, `marks`
@@ -17,13 +19,16 @@
 //! `Forgetting` what may be discarded. Which bytes may be kept, read or made is for the rules above to say.
 #![tactic(auto)]
 
+mod byte_queue;
 mod cell;
+mod cell_queue;
 mod front;
 mod laws;
 mod leading;
 mod making;
 mod makings;
 mod marks;
+mod placing;
 mod receive;
 mod runs;
 mod send;

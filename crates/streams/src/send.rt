@@ -3,22 +3,19 @@
 //! The buffer keeps the bytes from the oldest on that may be made again. Bytes that were discarded show as 0.
 //! `specs/Sent` says what each call does.
 
-ghost use Rattle.std.specs.Prelude.{◌≡◌, ℕ, ◌+◌, ◌≤◌, ◌<◌, ◌^◌, List, [], ◌++◌, OnOk, OnErr, IfOk, length, slice_index_or, drop, replicate, take};
-ghost use Rattle.std.specs.VecDeque.{deque_capacity};
-ghost use Rattle.std.specs.Vec.{vec_capacity, vec_len};
+ghost use Rattle.std.specs.Prelude.{◌≡◌, ℕ, ◌+◌, ◌≤◌, ◌<◌, ◌^◌, List, [], ◌++◌, OnOk, OnErr, IfOk, length, take, drop};
 ghost use Rattle.streams.specs.Sent.{end_of, piece};
 ghost use Rattle.streams.specs.Forgetting.{below};
 
-use super::front::drop_front;
+use super::byte_queue::ByteQueue;
 use std::alloc::{AllocError, Global};
-use std::collections::VecDeque;
 use std::marker::Model;
 
 /// The bytes that were accepted and may be made again.
 #[derive(Drop)]
 pub struct SendBuffer {
     /// The bytes, from data byte `gone` on.
-    bytes: VecDeque<u8>,
+    bytes: ByteQueue,
     /// How many bytes were discarded.
     gone: u64,
 }
@@ -28,9 +25,9 @@ impl Model for SendBuffer {
 
     ghost Value = { List ℕ };
 
-    ghost view = { λ a. replicate a.gone 0 ++ a.bytes.items };
+    ghost view = { λ a. replicate a.gone 0 ++ a.bytes };
 
-    ghost invariant = { λ a. a.gone + length a.bytes.items < 2 ^ 63 };
+    ghost invariant = { λ a. a.gone + length a.bytes < 2 ^ 63 };
 }
 
 impl SendBuffer {
@@ -39,7 +36,7 @@ impl SendBuffer {
         ensures { result ≡ [] }
     {
         SendBuffer {
-            bytes: VecDeque::new(alloc),
+            bytes: ByteQueue::new(alloc),
             gone: 0,
         }
     }
@@ -57,20 +54,21 @@ impl SendBuffer {
         ensures ok { OnOk result (self.new ≡ self.old ++ bytes.now) }
         ensures err { OnErr result (self.new ≡ self.old) }
     {
-        self.bytes.reserve(bytes.len())?;
-        append(&mut self.bytes, bytes);
-        Ok(())
+        self.bytes.append(bytes)
     }
 
     /// A copy of the bytes from this position on, so many or as many as there are, for a segment to be made.
     pub fn piece(&self, alloc: Global, position: u64, count: usize) -> Result<Vec<u8>, AllocError>
         ensures { IfOk result (λ bytes. bytes.items ≡ piece self.now position count) }
     {
-        let all = self.gone + self.bytes.len() as u64;
-        let start = position.saturating_sub(1).min(all);
-        let count = (count as u64).min(all - start) as usize;
-        let mut piece = Vec::with_capacity(alloc, count)?;
-        copy_piece(&self.bytes, self.gone, start, count, &mut piece);
+        let start = position.saturating_sub(1);
+        let zeros = self.gone.saturating_sub(start).min(count as u64) as usize;
+        let mut piece = Vec::from_elem(alloc, 0, zeros)?;
+        piece.extend_from_slice(part(
+            self.bytes.as_slice(),
+            start.saturating_sub(self.gone),
+            count - zeros,
+        ))?;
         Ok(piece)
     }
 
@@ -80,40 +78,16 @@ impl SendBuffer {
     {
         let count = una.saturating_sub(1).saturating_sub(self.gone);
         let count = count.min(self.bytes.len() as u64);
-        drop_front(&mut self.bytes, count as usize);
+        self.bytes.drop_front(count as usize);
         self.gone += count;
     }
 }
 
-// Puts these bytes at the end, where there is room.
-fn append(all: &mut VecDeque<u8>, bytes: &[u8])
-    requires { length all.old.items + length bytes.now ≤ deque_capacity all.old }
-    ensures { all.new.items ≡ all.old.items ++ bytes.now }
+// Of these bytes those from a place on, so many or as many as there are.
+fn part(bytes: &[u8], start: u64, count: usize) -> &[u8]
+    ensures { result.now ≡ take count (drop start bytes.now) }
 {
-    for byte in bytes {
-        all.push_back_reserved(*byte);
-    }
-}
-
-// The byte at a place, `gone` of which were discarded.
-fn byte_at(bytes: &VecDeque<u8>, gone: u64, place: u64) -> u8
-    requires { place < length (replicate gone 0 ++ bytes.now.items) }
-    ensures { result ≡ slice_index_or (replicate gone 0 ++ bytes.now.items) place 0 }
-{
-    if place < gone {
-        return 0;
-    }
-    bytes[(place - gone) as usize]
-}
-
-// Copies so many bytes from a place on behind those of `piece`, where there is room.
-fn copy_piece(bytes: &VecDeque<u8>, gone: u64, start: u64, count: usize, piece: &mut Vec<u8>)
-    requires within { start + count ≤ length (replicate gone 0 ++ bytes.now.items) }
-    requires small { start + count < 2 ^ 64 }
-    requires room { vec_len piece.old + count ≤ vec_capacity piece.old }
-    ensures { piece.new.items ≡ piece.old.items ++ take count (drop start (replicate gone 0 ++ bytes.now.items)) }
-{
-    for i in 0..count {
-        piece.push_reserved(byte_at(bytes, gone, start + i as u64));
-    }
+    let start = start.min(bytes.len() as u64) as usize;
+    let rest = &bytes[start..];
+    &rest[..count.min(rest.len())]
 }

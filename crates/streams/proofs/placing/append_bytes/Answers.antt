@@ -1,6 +1,6 @@
 use Rattle.std.proofs.Common.{arith, ◌∙◌}
 use Rattle.streams.proofs.Writes.{put_all_behind}
-use Rattle.streams.proofs.receive.append_bytes.Goals as goal
+use Rattle.streams.proofs.placing.append_bytes.Goals as goal
 
 pub loop-byte-preserved : goal.loop-byte-preserved
 loop-byte-preserved c = record {

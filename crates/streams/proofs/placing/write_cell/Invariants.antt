@@ -1,7 +1,7 @@
 use Rattle.std.proofs.Common.{◌≡◌}
 use Rattle.std.specs.VecDeque.{deque_len, deque_capacity}
 use Rattle.streams.specs.Cells.{put}
-use Rattle.streams.proofs.receive.write_cell.Given as goal
+use Rattle.streams.proofs.placing.write_cell.Given as goal
 
 abbrev pub invariant-loop : goal.invariant-loop
 invariant-loop l = record {

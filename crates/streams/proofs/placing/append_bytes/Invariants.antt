@@ -1,7 +1,7 @@
 use Rattle.std.proofs.Common.{◌≡◌, ◌+◌, drop, length}
 use Rattle.std.specs.VecDeque.{deque_capacity}
 use Rattle.streams.specs.Cells.{put_all, cells_of}
-use Rattle.streams.proofs.receive.append_bytes.Given as goal
+use Rattle.streams.proofs.placing.append_bytes.Given as goal
 
 abbrev pub invariant-loop-byte : goal.invariant-loop-byte
 invariant-loop-byte l = record {

@@ -1,7 +1,7 @@
 use Rattle.std.proofs.Common.{◌-◌, ◌≤◌, length}
 use Rattle.std.specs.VecDeque.{deque_len}
 use Rattle.streams.specs.Cells.{front}
-use Rattle.streams.proofs.receive.advanced.Given as goal
+use Rattle.streams.proofs.placing.advanced.Given as goal
 
 abbrev pub invariant-loop-ready : goal.invariant-loop-ready
 invariant-loop-ready l = l.ready ≤ length (front l.cells.items)

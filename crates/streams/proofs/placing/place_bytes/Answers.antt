@@ -1,6 +1,6 @@
 use Rattle.std.proofs.Common.{arith, ◌∙◌}
 use Rattle.streams.proofs.Writes.{put_all_more}
-use Rattle.streams.proofs.receive.place_bytes.Goals as goal
+use Rattle.streams.proofs.placing.place_bytes.Goals as goal
 
 pub loop-i-preserved : goal.loop-i-preserved
 loop-i-preserved c = record {

@@ -1,7 +1,7 @@
 use Rattle.std.proofs.Common.{◌≡◌, ◌+◌, drop}
 use Rattle.std.specs.VecDeque.{deque_capacity}
 use Rattle.streams.specs.Cells.{put_all, cells_of}
-use Rattle.streams.proofs.receive.place_bytes.Given as goal
+use Rattle.streams.proofs.placing.place_bytes.Given as goal
 
 abbrev pub invariant-loop-i : goal.invariant-loop-i
 invariant-loop-i l = record {

@@ -1,6 +1,6 @@
 use Rattle.std.proofs.Common.{arith, sym, ◌∙◌}
 use Rattle.streams.proofs.Writes.{put-set, put-stays, put-end, put-gap}
-use Rattle.streams.proofs.receive.write_cell.Goals as goal
+use Rattle.streams.proofs.placing.write_cell.Goals as goal
 
 pub loop-preserved : goal.loop-preserved
 loop-preserved c = record {

@@ -1,0 +1,77 @@
+//! Bytes that join at the end and leave in front, in one piece of memory.
+
+ghost use Rattle.std.specs.Prelude.{◌≡◌, ◌≤◌, ◌<◌, ◌^◌, ◌++◌, [], length, drop, OnOk, OnErr};
+
+use std::alloc::{AllocError, Global};
+use std::marker::Model;
+
+/// Bytes in their order, which are read and copied as a slice.
+#[derive(Drop)]
+pub(crate) struct ByteQueue {
+    /// Those that left and those that are there.
+    bytes: Vec<u8>,
+    /// How many of them left.
+    gone: usize,
+}
+
+impl Model for ByteQueue {
+    ghost use Rattle.std.specs.Prelude.{List, ℕ, ◌≤◌, drop, length};
+
+    ghost Value = { List ℕ };
+
+    ghost view = { λ q. drop q.gone q.bytes.items };
+
+    ghost invariant = { λ q. q.gone ≤ length q.bytes.items };
+}
+
+impl ByteQueue {
+    /// No bytes.
+    pub(crate) fn new(alloc: Global) -> Self
+        ensures { result ≡ [] }
+    {
+        ByteQueue {
+            bytes: Vec::new(alloc),
+            gone: 0,
+        }
+    }
+
+    /// How many bytes there are.
+    pub(crate) fn len(&self) -> usize
+        ensures value { result ≡ length self.now }
+        ensures small { result < 2 ^ 63 }
+    {
+        self.bytes.len() - self.gone
+    }
+
+    /// The bytes in their order.
+    pub(crate) fn as_slice(&self) -> &[u8]
+        ensures { result.now ≡ self.now }
+    {
+        &self.bytes[self.gone..]
+    }
+
+    /// These bytes join at the end, all or none.
+    pub(crate) fn append(&mut self, bytes: &[u8]) -> Result<(), AllocError>
+        ensures ok { OnOk result (self.new ≡ self.old ++ bytes.now) }
+        ensures err { OnErr result (self.new ≡ self.old) }
+    {
+        self.bytes.extend_from_slice(bytes)
+    }
+
+    /// The first so many bytes leave. What is there is moved to the beginning once no more bytes are there than left, so at most one
+    /// byte is moved for each that leaves.
+    pub(crate) fn drop_front(&mut self, count: usize)
+        requires { count ≤ length self.old }
+        ensures { self.new ≡ drop count self.old }
+    {
+        let gone = self.gone + count;
+        let left = self.bytes.len() - gone;
+        if gone < left {
+            self.gone = gone;
+            return;
+        }
+        self.bytes.copy_within(gone.., 0);
+        self.bytes.truncate(left);
+        self.gone = 0;
+    }
+}
