@@ -22,6 +22,7 @@ MOST_GROWTH = 2.3
 # What is run: a name, the script, its arguments at one size and at twice that size (or None), and the words.
 CASES = [
     ("whole transfer", "bulk_transfer.py", (["20000"], ["40000"]), ["check"]),
+    ("large segments", "bulk_transfer.py", (["5000", "1000"], ["10000", "1000"]), ["check"]),
     ("calls in turn", "calls.py", (["200000"], ["400000"]), ["check"]),
     ("calls open at once", "overlapping_calls.py", None, ["check"]),
     ("reading alone", "long_trace.py", None, ["check"]),
