@@ -29,3 +29,4 @@ pub mod Ascending
 pub mod Old
 pub mod Transitions
 pub mod HeardNumbers
+pub mod Sameness

@@ -6,3 +6,4 @@ pub mod Bounds
 pub mod ForgettingLaws
 pub mod Ascending
 pub mod Transitions
+pub mod Sameness

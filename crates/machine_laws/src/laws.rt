@@ -19,6 +19,7 @@ ghost use Rattle.machine_laws.specs.Ascending.{RulesAscend};
 ghost use Rattle.machine_laws.specs.Transitions.{StatesFollow, PositionsNeverFall};
 ghost use Rattle.machine_laws.specs.Carried.{ReadsWereCarried};
 ghost use Rattle.machine_laws.specs.HeardNumbers.{HeardNumbersAreRead};
+ghost use Rattle.machine_laws.specs.Sameness.{SamenessIsEquality};
 ghost use Rattle.seqno.specs.declared.word.Word.{Word};
 ghost use Rattle.machine_laws.specs.Consequences.{ReceivedIsAPrefix, EndIsWhole, AcknowledgedWasTaken};
 
@@ -96,3 +97,9 @@ pub fn heard_numbers_are_read()
 {
     numbers_are_found_near();
 }
+
+/// Two answers, and two lists of bytes, states, numbers, names or flags, are the same to the machine exactly where they are equal. So
+/// a call ends with the very answer that it had, and what is compared byte by byte is equal.
+pub fn sameness_is_equality()
+    ensures { SamenessIsEquality }
+{}

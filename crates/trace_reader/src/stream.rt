@@ -87,6 +87,7 @@ impl<A: BufRead> TraceReader<A> {
         ensures version { IfOk result (λ header. version_of self.new ≡ header.version) }
         ensures fault { (e : TextFault) → fault_of self.old ≡ None → result ≡ Err (ReadFault.Text e) → FailsLeft e (trace_left A.remaining self.old) }
         ensures again { (f : ReadFault) → fault_of self.old ≡ Some f → result ≡ Err f }
+        ensures stays { (f : ReadFault) → fault_of self.old ≡ Some f → self.new ≡ self.old }
         ensures kept { (f : ReadFault) → result ≡ Err f → fault_of self.new ≡ Some f }
         ensures open { IfOk result (λ header. fault_of self.new ≡ None) }
         ensures begun { IsBegun self.new }
@@ -111,6 +112,7 @@ impl<A: BufRead> TraceReader<A> {
         ensures place { IfOk result (λ item. IfSome item (λ line. StandsAt (place_of self.old) line × (place_of self.new ≡ behind (place_of self.old) line))) }
         ensures fault { (e : TextFault) → fault_of self.old ≡ None → result ≡ Err (ReadFault.Text e) → FailsLeft e (lines_left A.remaining self.old) }
         ensures again { (f : ReadFault) → fault_of self.old ≡ Some f → result ≡ Err f }
+        ensures stays { (f : ReadFault) → fault_of self.old ≡ Some f → self.new ≡ self.old }
         ensures kept { (f : ReadFault) → result ≡ Err f → fault_of self.new ≡ Some f }
         ensures open { IfOk result (λ item. fault_of self.new ≡ None) }
         ensures begun { IsBegun self.new }

@@ -105,6 +105,7 @@ impl<B: BufRead> StepReader<B> {
             × (number_of self.new ≡ number_after (number_of self.old) step))) }
         ensures fault { (e : TextFault) → fault_of self.old ≡ None → result ≡ Err (ReadFault.Text e) → FailsLeft e (steps_left B.remaining self.old) }
         ensures again { (f : ReadFault) → fault_of self.old ≡ Some f → result ≡ Err f }
+        ensures stays { (f : ReadFault) → fault_of self.old ≡ Some f → self.new ≡ self.old }
         ensures kept { (f : ReadFault) → result ≡ Err f → fault_of self.new ≡ Some f }
         ensures open { IfOk result (λ item. fault_of self.new ≡ None) }
         ensures version { version_of self.new ≡ version_of self.old }
