@@ -1,5 +1,5 @@
 -- What two recordings tell, merged.
-use Rattle.std.proofs.Common.{◌≡◌, ℕ, ◌+◌, ◌≤◌, false, List, map, refl, sym, ap, ◌∙◌, subst, arith}
+use Rattle.std.proofs.Common.{◌≡◌, ℕ, ◌+◌, ◌≤◌, false, List, [], ◌∷◌, map, refl, sym, ap, ◌∙◌, subst, arith}
 use Rattle.case_forms.specs.declared.calls.Host.{Host}
 use Rattle.case_forms.specs.declared.calls.Host.TheVariants.{Zero, One}
 use Rattle.case_forms.specs.declared.trace.Header.{Header}
@@ -11,9 +11,10 @@ use Rattle.case_forms.specs.declared.version.Version.{Version}
 use Rattle.case_forms.specs.declared.version.Version.TheVariants as versions
 use Rattle.case_forms.specs.Traces.{first_event_line, IsRecorded}
 use Rattle.case_forms.specs.Versions.{first_line_of, is_half}
+use Rattle.hosts.specs.Hosts.{Step, Does, Expires, Makes, Sends, Gets, Hears, Takes, Drops, Answers, Begin, Finish, Effect, At, Stamped}
 use Rattle.hosts.specs.HostSteps.{start}
-use Rattle.hosts.specs.Tables.{pick}
-use Rattle.machine.specs.Machine.{tcp}
+use Rattle.hosts.specs.Tables.{on, pick}
+use Rattle.machine.specs.Machine.{tcp, tcp_shape}
 use Rattle.recordings.specs.Keys as keys
 use Rattle.recordings.specs.Keys.{Books}
 use Rattle.recordings.specs.Merging.{Names, names_of, steps_of}
@@ -29,9 +30,9 @@ use Rattle.merging.specs.Faults.{NamesAll}
 use Rattle.merging.specs.Naming.{AllAbove, AllNamed, line_keys}
 use Rattle.merging.specs.Numbers.{AllSmall, counted, names_in, no_counts}
 use Rattle.merging.specs.Order.{in_order}
-use Rattle.merging.specs.Saying.{all_renumbered, lines_said, steps_said}
+use Rattle.merging.specs.Saying.{all_renumbered, line_said, lines_said, steps_said}
 use Rattle.checker.specs.Seen.{stamped}
-use Rattle.merging.specs.Told.{AllTakeWell, Tells, line_told}
+use Rattle.merging.specs.Told.{AllOwnThreads, AllTakeWell, Tells, line_told}
 use Rattle.merging.proofs.JoinLemmas.{named_sent, small_merged}
 use Rattle.merging.proofs.OrderLemmas.{names_are, order_is, steps_are}
 use Rattle.merging.proofs.SayLemmas.{AllWhole, lines_are, recorded_in, run_whole, told_from}
@@ -151,3 +152,23 @@ told_as h t w zs os both is version lines_is steps_is books =
     (lines_is ∙ ap (λ (g : Header). lines_said (all_renumbered (new_names g (in_order zs os)) (in_order zs os))) (sym is))
     (steps_is ∙ ap (λ (g : Header). steps_said (all_renumbered (new_names g (in_order zs os)) (in_order zs os))) (sym is))
     (subst (λ (g : Header). Books (tcp g) (first_event_line g) zs os) (sym is) books))
+
+-- ---- the threads of what is told
+
+pub own_threads : (xs : List (Stamped tcp_shape)) → AllOwnThreads (lines_said xs)
+own_threads [] = tt
+own_threads (x ∷ xs) = go x.step (own_threads xs)
+  where
+    go : (s : Step tcp_shape) → AllOwnThreads (lines_said xs) → AllOwnThreads (on (line_said x.moment s) (lines_said xs) (λ line. line ∷ lines_said xs))
+    go (Begin line t call) more = (tt, more)
+    go (Finish line t answer) more = (tt, more)
+    go (Effect t answer) more = more
+    go (At host (Expires line y)) more = (refl, more)
+    go (At host (Sends line number wire)) more = (refl, more)
+    go (At host (Gets line copied wire)) more = (refl, more)
+    go (At host (Hears line wire)) more = (refl, more)
+    go (At host (Does y)) more = more
+    go (At host (Makes plan)) more = more
+    go (At host (Takes line choice)) more = more
+    go (At host (Drops line)) more = more
+    go (At host (Answers line)) more = more

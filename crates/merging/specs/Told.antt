@@ -1,5 +1,5 @@
 -- What a trace and a witness say of a run of the machine.
-use Rattle.std.specs.Prelude.{◌≡◌, ℕ, List, [], ◌∷◌, Some, map}
+use Rattle.std.specs.Prelude.{◌≡◌, ◌+◌, ℕ, List, [], ◌∷◌, Some, map}
 use Rattle.case_forms.specs.declared.trace.Header.{Header}
 use Rattle.case_forms.specs.declared.trace.Event.{Event}
 use Rattle.case_forms.specs.declared.trace.Event.TheVariants as events
@@ -14,6 +14,7 @@ use Rattle.case_forms.specs.Steps.{extras_count}
 use Rattle.case_forms.specs.Traces.{line_at, IsTrace}
 use Rattle.interval_order.specs.OrderRules.{extras_of}
 use Rattle.hosts.specs.Hosts.{Stamped}
+use Rattle.recordings.specs.Keys.{rank}
 use Rattle.recordings.specs.Placing as placing
 use Rattle.machine.specs.Machine.{tcp, tcp_shape}
 use Rattle.checker.specs.Seen.{stamped}
@@ -48,3 +49,15 @@ pub record Tells (t : Trace) (w : Witness) (steps : List (Stamped tcp_shape)) : 
   pub takes : AllTakeWell t.header t.lines w.steps
   pub steps_are : stamped t.header t.lines w.steps ≡ steps
   pub lines_are : map line_told t.lines ≡ placing.lines_of (tcp t.header) steps
+
+-- lines of segments that come in, of timers, and of segments that go out have threads of their host's own
+abbrev pub HasOwnThread : ℕ → Event → Type 0
+HasOwnThread thread (events.Came host wire) = thread ≡ 4 + rank host
+HasOwnThread thread (events.Expired host lport rport timer) = thread ≡ 6 + rank host
+HasOwnThread thread (events.Sent host wire) = thread ≡ 8 + rank host
+HasOwnThread thread _ = Unit {0}
+
+-- each of these lines does
+abbrev pub AllOwnThreads : List Line → Type 0
+AllOwnThreads [] = Unit {0}
+AllOwnThreads (line ∷ lines) = HasOwnThread line.thread line.event × AllOwnThreads lines

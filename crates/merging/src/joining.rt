@@ -12,7 +12,7 @@ ghost use Rattle.merging.specs.Naming.{AllAbove};
 ghost use Rattle.merging.specs.Numbers.{AllSmall};
 ghost use Rattle.merging.specs.Order.{in_order};
 ghost use Rattle.merging.specs.Saying.{both_renumbered, lines_said, steps_said};
-ghost use Rattle.merging.specs.Told.{Tells};
+ghost use Rattle.merging.specs.Told.{AllOwnThreads, Tells};
 
 use crate::laws::what_is_told_explains;
 use crate::naming::first_stranger;
@@ -94,6 +94,7 @@ pub fn merge_recordings(
     ensures header { IfOk result (λ r. r.trace.header ≡ zero.now.header) }
     ensures told { IfOk result (λ r.
         Tells r.trace r.witness (merged zero.now.header (first_event_line zero.now.header) zero.now.entries one.now.entries)) }
+    ensures threads { IfOk result (λ r. AllOwnThreads r.trace.lines) }
     ensures explains { IfOk result (λ r. Explains r.trace r.witness) }
     ensures stranger { IfErr result (λ f. IfStranger f (IsFirstStranger zero.now one.now)) }
 {

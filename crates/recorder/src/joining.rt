@@ -8,7 +8,7 @@ ghost use Rattle.recordings.specs.Recordings.{merged};
 ghost use Rattle.checker.specs.Explains.{Explains, IsYes};
 ghost use Rattle.checker.specs.Verdicts.{verdict};
 ghost use Rattle.merging.specs.Faults.{IfStranger, IsFirstStranger};
-ghost use Rattle.merging.specs.Told.{Tells};
+ghost use Rattle.merging.specs.Told.{AllOwnThreads, Tells};
 
 use crate::host_book::HostBook;
 use checker::explained_is_yes;
@@ -26,6 +26,7 @@ pub fn merge(alloc: Global, zero: HostBook, one: HostBook) -> Result<Recorded, M
     ensures told { IfOk result (λ r.
         Tells r.trace r.witness (merged zero.core.recorded.header (first_event_line zero.core.recorded.header)
         zero.core.recorded.entries one.core.recorded.entries)) }
+    ensures threads { IfOk result (λ r. AllOwnThreads r.trace.lines) }
     ensures explains { IfOk result (λ r. Explains r.trace r.witness) }
     ensures yes { IfOk result (λ r. IsYes (verdict r.trace r.witness)) }
     ensures stranger { IfErr result (λ f. IfStranger f (IsFirstStranger zero.core.recorded one.core.recorded)) }

@@ -1,11 +1,13 @@
-use Rattle.std.proofs.Common.{sym, subst}
+use Rattle.std.proofs.Common.{List, sym, subst}
 use Rattle.case_forms.specs.declared.trace.Header.{Header}
+use Rattle.case_forms.specs.declared.trace.Line.{Line}
 use Rattle.case_forms.specs.Traces.{first_event_line}
 use Rattle.machine.specs.Machine.{tcp}
 use Rattle.recordings.specs.Keys.{Books}
 use Rattle.recordings.specs.Recordings.{merged}
-use Rattle.merging.specs.Told.{Tells}
-use Rattle.merging.proofs.MergeLemmas.{beside, beside_books, beside_small, told_as}
+use Rattle.merging.specs.Saying.{both_renumbered}
+use Rattle.merging.specs.Told.{AllOwnThreads, Tells}
+use Rattle.merging.proofs.MergeLemmas.{beside, beside_books, beside_small, own_threads, told_as}
 use Rattle.merging.proofs.joining.merge_recordings.Goals as goal
 
 pub tell-requires-clause-small : goal.tell-requires-clause-small
@@ -15,6 +17,10 @@ pub returns-clause-told : goal.returns-clause-told
 returns-clause-told c =
     told_as c.args.zero.now.header c.in_ok-recorded.recorded.trace c.in_ok-recorded.recorded.witness c.args.zero.now.entries c.args.one.now.entries c.requires.whole c.in_ok-recorded.ensures.header c.in_ok-recorded.ensures.version c.in_ok-recorded.ensures.lines
     c.in_ok-recorded.ensures.steps (beside_books c.books_grow.ensures.finished c.args.zero.now c.args.one.now (beside c.args.zero.now c.args.one.now c.requires.hosts c.requires.headers c.is_recording.ensures c.is_recording-2.ensures c.requires.few c.requires.above (rw c.in_default.is at c.in_ok-arrival_line.ensures.none) (rw c.in_default-2.is at c.in_ok-arrival_line-2.ensures.none)))
+
+pub returns-clause-threads : goal.returns-clause-threads
+returns-clause-threads c = subst (λ (lines : List Line). AllOwnThreads lines) (sym c.in_ok-recorded.ensures.lines)
+    (own_threads (both_renumbered (first_event_line c.args.zero.now.header) c.args.zero.now.entries c.args.one.now.entries))
 
 pub returns-clause-explains : goal.returns-clause-explains
 returns-clause-explains c =
