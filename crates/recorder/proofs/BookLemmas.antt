@@ -98,7 +98,7 @@ attempted_grows c d tick thread a is = to c (answered c tick thread a.answer) d 
 
 pub attempt_short_grows : (c d : Core) (tick : Tick) (thread : ℕ) → IsAttemptShort c tick thread d → Grows c d 0
 attempt_short_grows c d tick thread (inl is) = ticked_grows c d tick is
-attempt_short_grows c d tick thread (inr is) = to c (effected c tick thread is.0) d 0 is.1 (effected_grows c tick thread is.0)
+attempt_short_grows c d tick thread (inr is) = to c (effected c tick thread is.0) d 0 is.2 (effected_grows c tick thread is.0)
 
 -- ---- arrivals
 
