@@ -134,11 +134,11 @@ made_grows c tick plan = step_grows c (opened c tick) 0 (At c.recorded.me (Makes
 
 pub pumped_grows : (c d : Core) (tick : Tick) (f : Flying tcp_shape) → IsPumped c tick f d → Grows c d 0
 pumped_grows c d tick f (pumps.Answered number waited out) = to c _ d 0 out.row (step_grows c (opened c tick) 0 (At c.recorded.me (Sends (line_to_come (opened c tick)) number out.wire)) (opened_grows c tick))
-pumped_grows c d tick f (pumps.Made plan out) = to c _ d 0 out.row (step_grows c (made c tick plan) 0 (At c.recorded.me (Sends (line_to_come (made c tick plan)) _ out.wire)) (made_grows c tick plan))
+pumped_grows c d tick f (pumps.Made free plan out) = to c _ d 0 out.row (step_grows c (made c tick plan) 0 (At c.recorded.me (Sends (line_to_come (made c tick plan)) _ out.wire)) (made_grows c tick plan))
 
 pub pumped_short_grows : (c d : Core) (tick : Tick) → IsPumpedShort c tick d → Grows c d 0
 pumped_short_grows c d tick (inl is) = ticked_grows c d tick is
-pumped_short_grows c d tick (inr is) = to c (made c tick is.0) d 0 is.1 (made_grows c tick is.0)
+pumped_short_grows c d tick (inr is) = to c (made c tick is.1.0) d 0 is.1.1 (made_grows c tick is.1.0)
 
 -- ---- books
 
