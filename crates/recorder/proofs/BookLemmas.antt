@@ -124,8 +124,8 @@ module _ (c : Core) (tick : Tick) (f : Flying tcp_shape) (up : before f.key (key
   pub arrived_short_grows : (d : Core) → IsArrivedShort c tick f d → Grows c d 0
   arrived_short_grows d (arrivals.Ticked row) = ticked_grows c d tick row
   arrived_short_grows d (arrivals.Brought row) = to c (brought c tick f) d 0 row brought_grows
-  arrived_short_grows d (arrivals.Came wire row) = to c (came c tick f wire) d 0 row (came_grows wire)
-  arrived_short_grows d (arrivals.Took wire choice row) = to c (with_step (came c tick f wire) (At c.recorded.me (Takes (line_to_come c) choice))) d 0 row (step_grows c (came c tick f wire) 0 (At c.recorded.me (Takes (line_to_come c) choice)) (came_grows wire))
+  arrived_short_grows d (arrivals.Came wire bytes row) = to c (came c tick f wire) d 0 row (came_grows wire)
+  arrived_short_grows d (arrivals.Took wire bytes choice keep may due row) = to c (with_step (came c tick f wire) (At c.recorded.me (Takes (line_to_come c) choice))) d 0 row (step_grows c (came c tick f wire) 0 (At c.recorded.me (Takes (line_to_come c) choice)) (came_grows wire))
 
 -- ---- segments that go out, and timers
 
