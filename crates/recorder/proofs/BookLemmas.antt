@@ -98,7 +98,7 @@ attempted_grows c d tick thread a is = to c (answered c tick thread a.answer) d 
 
 pub attempt_short_grows : (c d : Core) (tick : Tick) (thread : ℕ) → IsAttemptShort c tick thread d → Grows c d 0
 attempt_short_grows c d tick thread (inl is) = ticked_grows c d tick is
-attempt_short_grows c d tick thread (inr is) = to c (effected c tick thread is.0) d 0 is.1 (effected_grows c tick thread is.0)
+attempt_short_grows c d tick thread (inr is) = to c (effected c tick thread is.0) d 0 is.2 (effected_grows c tick thread is.0)
 
 -- ---- arrivals
 
@@ -124,8 +124,8 @@ module _ (c : Core) (tick : Tick) (f : Flying tcp_shape) (up : before f.key (key
   pub arrived_short_grows : (d : Core) → IsArrivedShort c tick f d → Grows c d 0
   arrived_short_grows d (arrivals.Ticked row) = ticked_grows c d tick row
   arrived_short_grows d (arrivals.Brought row) = to c (brought c tick f) d 0 row brought_grows
-  arrived_short_grows d (arrivals.Came wire row) = to c (came c tick f wire) d 0 row (came_grows wire)
-  arrived_short_grows d (arrivals.Took wire choice row) = to c (with_step (came c tick f wire) (At c.recorded.me (Takes (line_to_come c) choice))) d 0 row (step_grows c (came c tick f wire) 0 (At c.recorded.me (Takes (line_to_come c) choice)) (came_grows wire))
+  arrived_short_grows d (arrivals.Came wire bytes row) = to c (came c tick f wire) d 0 row (came_grows wire)
+  arrived_short_grows d (arrivals.Took wire bytes choice keep may due row) = to c (with_step (came c tick f wire) (At c.recorded.me (Takes (line_to_come c) choice))) d 0 row (step_grows c (came c tick f wire) 0 (At c.recorded.me (Takes (line_to_come c) choice)) (came_grows wire))
 
 -- ---- segments that go out, and timers
 
@@ -134,11 +134,11 @@ made_grows c tick plan = step_grows c (opened c tick) 0 (At c.recorded.me (Makes
 
 pub pumped_grows : (c d : Core) (tick : Tick) (f : Flying tcp_shape) → IsPumped c tick f d → Grows c d 0
 pumped_grows c d tick f (pumps.Answered number waited out) = to c _ d 0 out.row (step_grows c (opened c tick) 0 (At c.recorded.me (Sends (line_to_come (opened c tick)) number out.wire)) (opened_grows c tick))
-pumped_grows c d tick f (pumps.Made plan out) = to c _ d 0 out.row (step_grows c (made c tick plan) 0 (At c.recorded.me (Sends (line_to_come (made c tick plan)) _ out.wire)) (made_grows c tick plan))
+pumped_grows c d tick f (pumps.Made free plan out) = to c _ d 0 out.row (step_grows c (made c tick plan) 0 (At c.recorded.me (Sends (line_to_come (made c tick plan)) _ out.wire)) (made_grows c tick plan))
 
 pub pumped_short_grows : (c d : Core) (tick : Tick) → IsPumpedShort c tick d → Grows c d 0
 pumped_short_grows c d tick (inl is) = ticked_grows c d tick is
-pumped_short_grows c d tick (inr is) = to c (made c tick is.0) d 0 is.1 (made_grows c tick is.0)
+pumped_short_grows c d tick (inr is) = to c (made c tick is.1.0) d 0 is.1.1 (made_grows c tick is.1.0)
 
 -- ---- books
 

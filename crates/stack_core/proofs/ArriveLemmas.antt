@@ -9,12 +9,13 @@ use Rattle.case_forms.specs.declared.calls.Host.{Host}
 use Rattle.case_forms.specs.declared.calls.Host.TheVariants.{Zero, One}
 use Rattle.case_forms.specs.declared.calls.Ports.{Ports}
 use Rattle.case_forms.specs.declared.steps.TakeChoice.{TakeChoice}
+use Rattle.case_forms.specs.declared.timer.Recovery.{Recovery}
 use Rattle.case_forms.specs.declared.trace.Header.{Header}
 use Rattle.case_forms.specs.declared.trace.Wire.{Wire}
 use Rattle.verdict.specs.Rules.{first_broken}
 use Rattle.verdict.specs.declared.rule.Rule.TheVariants as rules
 use Rattle.hosts.specs.Tables.{on, other, pick, waiting}
-use Rattle.hosts.specs.Hosts.{World, Answers, At, Drops, Gets, Takes}
+use Rattle.hosts.specs.Hosts.{World, Answers, At, Does, Drops, Gets, Takes}
 use Rattle.hosts.specs.HostRules.{Permitted, just}
 use Rattle.hosts.specs.HostSteps.{after, start}
 use Rattle.hosts.proofs.Entries.{lookup_insert}
@@ -25,8 +26,8 @@ use Rattle.recordings.specs.Books.{Bring, Flying, bring}
 use Rattle.recordings.proofs.Growing.{end_more}
 use Rattle.recordings.proofs.Lines.{next_more}
 use Rattle.stack_core.specs.declared.tick.Tick.{Tick}
-use Rattle.stack_core.specs.ArrivalEvents.{Brought, Came, Dropped, Taken, Ticked, Took, IsArrived, IsArrivedShort, IsCameIn, IsHeld, IsRecovered, IsSettled, IsSettledShort, MayDrop, MayTake, came, ports_of}
-use Rattle.stack_core.specs.Cores.{Core, Fits, line_to_come, opened, with_item, with_step, world}
+use Rattle.stack_core.specs.ArrivalEvents.{Brought, Came, Dropped, Taken, Ticked, Took, IsArrived, IsArrivedShort, IsCameIn, IsChoice, IsHeld, IsRecovered, IsRecoveryAt, IsSettled, IsSettledShort, MayDrop, MayRecover, MayTake, came, ports_of}
+use Rattle.stack_core.specs.Cores.{Core, Fits, MayDo, line_to_come, opened, with_item, with_step, world}
 use Rattle.stack_core.specs.Entries.{entry_at, steps_in}
 use Rattle.stack_core.proofs.Cores.{leads}
 use Rattle.stack_core.proofs.Growing.{steps_more}
@@ -128,16 +129,18 @@ pub came_short : (c o d : Core) (tick : Tick) (f : Flying tcp_shape) → o ≡ o
 came_short c o d tick f is (inl row) = Ticked (row ∙ is)
 came_short c o d tick f is (inr row) = Brought (row ∙ ap (λ (x : Core). with_item x (Bring f)) is)
 
-pub settled_short : (c o d e : Core) (tick : Tick) (f : Flying tcp_shape) (line : ℕ) → o ≡ opened c tick → IsCameIn o f d → line ≡ line_to_come o → IsSettledShort d line e → IsArrivedShort c tick f e
-settled_short c o d e tick f line is came_d line_is short = by short
+pub settled_short : (c o d e : Core) (tick : Tick) (f : Flying tcp_shape) (line : ℕ) (ports : Ports) → o ≡ opened c tick → IsCameIn o f d → line ≡ line_to_come o → ports ≡ ports_of f.emission → IsSettledShort d line ports e → IsArrivedShort c tick f e
+settled_short c o d e tick f line ports is came_d line_is ports_is short = by
+    (subst (λ (p : Ports). IsSettledShort (came c tick f came_d.0) (line_to_come c) p e) ports_is
+    (subst (λ (n : ℕ). IsSettledShort (came c tick f came_d.0) n ports e) (line_is ∙ ap line_to_come is)
+    (subst (λ (x : Core). IsSettledShort x line ports e) d_is short)))
   where
     d_is : d ≡ came c tick f came_d.0
     d_is = came_d.2 ∙ ap (λ (x : Core). with_step (with_item x (Bring f)) (At x.recorded.me (Gets (line_to_come x) f.line came_d.0))) is
 
-    by : IsSettledShort d line e → IsArrivedShort c tick f e
-    by (inl row) = Came came_d.0 (row ∙ d_is)
-    by (inr (choice, row)) = Took came_d.0 choice (row ∙ ap (λ (x : Core). with_step x (At x.recorded.me (Takes line choice))) d_is
-        ∙ ap (λ (n : ℕ). with_step (came c tick f came_d.0) (At c.recorded.me (Takes n choice))) (line_is ∙ ap line_to_come is))
+    by : IsSettledShort (came c tick f came_d.0) (line_to_come c) (ports_of f.emission) e → IsArrivedShort c tick f e
+    by (inl row) = Came came_d.0 came_d.1 row
+    by (inr (choice, keep, may, due, row)) = Took came_d.0 came_d.1 choice keep may due row
 
 -- what holds anyway holds of an error
 pub any_error : {A E : Type 0} {P : Type 0} (result : Result A E) → P → OnErr result P
@@ -152,3 +155,18 @@ settled_taken c d e n ports choice me may is row recovered = Taken choice may.0 
 
 pub settled_dropped : (c d : Core) (n : ℕ) (ports : Ports) (me : Host) → me ≡ c.recorded.me → (MayTake c n → ⊥) → (Permitted (tcp c.recorded.header) c.last.moment (world c) (At me (Answers n)) → ⊥) → d ≡ with_step c (At me (Drops n)) → IsSettled c n ports d
 settled_dropped c d n ports me is not_taken no_reset row = Dropped not_taken (subst (λ (h : Host). Permitted (tcp c.recorded.header) c.last.moment (world c) (At h (Answers n)) → ⊥) is no_reset) (row ∙ ap (λ (h : Host). with_step c (At h (Drops n))) is)
+
+-- how fast recovery may begin shows that it may
+pub may_recover : (c : Core) (ports : Ports) (x : Recovery) → IsRecoveryAt c ports x → MayRecover c ports
+may_recover c ports x (left, right, may) = (
+  x.cwnd,
+  x.ssthresh,
+  subst (λ (n : ℕ). MayDo c (At c.recorded.me (Does (record { lport = n; rport = ports.rport; cwnd = x.cwnd; ssthresh = x.ssthresh })))) left
+      (subst (λ (n : ℕ). MayDo c (At c.recorded.me (Does (record { lport = x.lport; rport = n; cwnd = x.cwnd; ssthresh = x.ssthresh })))) right may),
+)
+
+-- what was taken stands, where memory ran out at the recovery that was to begin behind
+pub taken_short : (c d e : Core) (n : ℕ) (ports : Ports) (choice : TakeChoice) (me : Host) → IsChoice c n choice → me ≡ c.recorded.me → d ≡ with_step c (At me (Takes n choice)) → e ≡ d → MayRecover d ports → IsSettledShort c n ports e
+taken_short c d e n ports choice me may is row same due =
+    let d_is : d ≡ with_step c (At c.recorded.me (Takes n choice)) = row ∙ ap (λ (h : Host). with_step c (At h (Takes n choice))) is in
+    inr (choice, may.0, may.1, subst (λ (x : Core). MayRecover x ports) d_is due, same ∙ d_is)

@@ -234,4 +234,4 @@ pub pumped_flown : {E : Type 0} (c d : Core) (tick : Tick) (res : Result (Option
 pumped_flown c d tick (Err e) is kept = tt
 pumped_flown c d tick (Ok None) is kept = tt
 pumped_flown c d tick (Ok (Some f)) (ResetGoes number waited out) kept = gone_flown (opened c tick) d number f out kept
-pumped_flown c d tick (Ok (Some f)) (MadeGoes plan out) kept = gone_flown (made c tick plan) d (world (made c tick plan)).count f out kept
+pumped_flown c d tick (Ok (Some f)) (MadeGoes free plan out) kept = gone_flown (made c tick plan) d (world (made c tick plan)).count f out kept

@@ -79,9 +79,12 @@ pub data IsSettled (c : Core) (n : ℕ) (ports : Ports) (d : Core) : Type 0 wher
   Reset : (not_taken : MayTake c n → ⊥) (may : MayReset c n) (row : d ≡ with_step c (At c.recorded.me (Answers n))) → IsSettled c n ports d
   Dropped : (not_taken : MayTake c n → ⊥) (no_reset : MayReset c n → ⊥) (row : d ≡ with_step c (At c.recorded.me (Drops n))) → IsSettled c n ports d
 
--- what memory may leave of it: nothing, or that it was taken
-abbrev pub IsSettledShort : Core → ℕ → Core → Type 0
-IsSettledShort c n d = (d ≡ c) ⊎ ((choice : TakeChoice) × (d ≡ with_step c (At c.recorded.me (Takes n choice))))
+-- what memory may leave of it: nothing, or that it was taken with its bytes, where fast recovery was to begin behind
+abbrev pub IsSettledShort : Core → ℕ → Ports → Core → Type 0
+IsSettledShort c n ports d =
+    (d ≡ c) ⊎ ((choice : TakeChoice) × (choice.keep ≡ true) × MayTake c n ×
+    MayRecover (with_step c (At c.recorded.me (Takes n choice))) ports ×
+    (d ≡ with_step c (At c.recorded.me (Takes n choice))))
 
 -- an event let a segment arrive
 pub record IsArrived (c : Core) (tick : Tick) (f : Flying tcp_shape) (d : Core) : Type 0 where
@@ -97,12 +100,14 @@ IsNotLetIn c tick f = (f.key.host ≡ c.recorded.me) ⊎ (nat_lt (f.emission.mom
 abbrev pub IsYoung : Core → Tick → Flying tcp_shape → Type 0
 IsYoung c tick f = nat_lt (f.emission.moment + c.recorded.header.msl) tick.moment ≡ false
 
--- what memory may leave of it: the tick has passed, it was brought, came in, or was taken too
+-- what memory may leave of it: the tick has passed, it was brought, came in, or was taken with its bytes too, where fast recovery was to begin
 pub data IsArrivedShort (c : Core) (tick : Tick) (f : Flying tcp_shape) (d : Core) : Type 0 where
   Ticked : (row : d ≡ opened c tick) → IsArrivedShort c tick f d
   Brought : (row : d ≡ brought c tick f) → IsArrivedShort c tick f d
-  Came : (wire : Wire) (row : d ≡ came c tick f wire) → IsArrivedShort c tick f d
-  Took : (wire : Wire) (choice : TakeChoice)
+  Came : (wire : Wire) (bytes : wire.bytes ≡ f.emission.bytes) (row : d ≡ came c tick f wire) → IsArrivedShort c tick f d
+  Took : (wire : Wire) (bytes : wire.bytes ≡ f.emission.bytes) (choice : TakeChoice) (keep : choice.keep ≡ true)
+      (may : MayTake (came c tick f wire) (line_to_come c))
+      (due : MayRecover (with_step (came c tick f wire) (At c.recorded.me (Takes (line_to_come c) choice))) (ports_of f.emission))
       (row : d ≡ with_step (came c tick f wire) (At c.recorded.me (Takes (line_to_come c) choice))) → IsArrivedShort c tick f d
 
 abbrev pub IsArrival : Core → Tick → Flying tcp_shape → Bool → Core → Type 0

@@ -1,5 +1,5 @@
 -- What the events of a call add.
-use Rattle.std.specs.Prelude.{◌≡◌, ◌⊎◌, ℕ}
+use Rattle.std.specs.Prelude.{◌≡◌, ◌⊎◌, ℕ, false}
 use Rattle.case_forms.specs.declared.calls.Answer.{Answer}
 use Rattle.case_forms.specs.declared.calls.Call.{Call}
 use Rattle.hosts.specs.Hosts.{Begin, Called, Effect, Finish, turn_of}
@@ -8,7 +8,7 @@ use Rattle.machine.specs.Forgetting.{forget_body}
 use Rattle.machine.specs.Machine.{tcp}
 use Rattle.stack_core.specs.declared.answered.Answered.{Answered}
 use Rattle.stack_core.specs.declared.tick.Tick.{Tick}
-use Rattle.stack_core.specs.Answers.{Waits}
+use Rattle.stack_core.specs.Answers.{Waits, is_again}
 use Rattle.stack_core.specs.Cores.{Core, line_to_come, opened, own_body, with_step, world}
 
 -- a call began: its line
@@ -31,9 +31,9 @@ answered c tick thread answer = with_step (effected c tick thread answer) (Finis
 abbrev pub IsAttempted : Core → Tick → ℕ → Answered → Core → Type 0
 IsAttempted c tick thread a d = (a.thread ≡ thread) × (d ≡ answered c tick thread a.answer)
 
--- what memory may leave of it: the tick has passed, or the effect stands too
+-- what memory may leave of it: the tick has passed, or an effect stands too, which is not `again`
 abbrev pub IsAttemptShort : Core → Tick → ℕ → Core → Type 0
-IsAttemptShort c tick thread d = (d ≡ opened c tick) ⊎ ((answer : Answer) × (d ≡ effected c tick thread answer))
+IsAttemptShort c tick thread d = (d ≡ opened c tick) ⊎ ((answer : Answer) × (is_again answer ≡ false) × (d ≡ effected c tick thread answer))
 
 -- no call of the thread is open without effect, or it waits
 abbrev pub NoAnswer : Core → ℕ → Type 0

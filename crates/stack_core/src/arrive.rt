@@ -140,7 +140,7 @@ impl HostCore {
         requires waits { MayDrop self.old line }
         requires holds { IsHeld self.old line ports }
         ensures ok { OnOk result (IsSettled self.old line ports self.new) }
-        ensures err { OnErr result (IsSettledShort self.old line self.new) }
+        ensures err { OnErr result (IsSettledShort self.old line ports self.new) }
     {
         let Some(choice) = self.choice(line, window) else {
             return self.turn_away(line, ports);
@@ -213,6 +213,7 @@ impl HostCore {
         requires events { self.old.events ≤ 10000000 }
         ensures ok { OnOk result (IsRecovered self.old ports self.new) }
         ensures err { OnErr result (self.new ≡ self.old) }
+        ensures due { OnErr result (MayRecover self.old ports) }
     {
         let Some(recovery) = self.recovery(ports) else {
             return Ok(());

@@ -32,15 +32,17 @@ enum Subject {
 }
 
 impl HostCore {
-    /// The open call of a thread of this host has its effect, and ends with that answer: its line. None, and nothing is changed:
-    /// the thread has no open call without effect, or the call waits (for `send`: before the handshake is done, or while the
-    /// ring is full). The error is that memory ran out; then the tick has passed, and the effect may stand without the end.
+    /// The open call of a thread of this host has its effect, and ends with that answer: its line. A socket number that it gives
+    /// is the next one. None, and nothing is changed: the thread has no open call without effect, or the call waits (for `send`:
+    /// before the handshake is done, or while the ring is full). The error is that memory ran out; then the tick has passed, and
+    /// the effect may stand without the end.
     pub fn attempt(&mut self, thread: u32, tick: Tick) -> Result<Option<Answered>, OutOfMemory>
         requires tick { IsAfter self.old.last tick }
         requires events { self.old.events < 10000000 }
         requires lane { lane thread ≡ self.old.recorded.me }
         ensures some { IfOk result (λ o. IfSome o (λ a. IsAttempted self.old tick thread a self.new)) }
         ensures once { IfOk result (λ o. IfSome o (λ a. is_again a.answer ≡ false)) }
+        ensures gives { IfOk result (λ o. IfSome o (λ a. GivesNext self.old.recorded.me (own_body self.old) (turn_of thread (world self.old).threads) a.answer)) }
         ensures none { IfOk result (λ o. IfNone o ((self.new ≡ self.old) × NoAnswer self.old thread)) }
         ensures err { OnErr result (IsAttemptShort self.old tick thread self.new) }
         ensures kept { IsRecorded self.new }
@@ -57,6 +59,7 @@ impl HostCore {
         requires lane { lane thread ≡ self.old.recorded.me }
         ensures some { IfOk result (λ o. IfSome o (λ a. IsAttempted self.old tick thread a self.new)) }
         ensures once { IfOk result (λ o. IfSome o (λ a. is_again a.answer ≡ false)) }
+        ensures gives { IfOk result (λ o. IfSome o (λ a. GivesNext self.old.recorded.me (own_body self.old) (turn_of thread (world self.old).threads) a.answer)) }
         ensures none { IfOk result (λ o. IfNone o ((self.new ≡ self.old) × NoAnswer self.old thread)) }
         ensures err { OnErr result (IsAttemptShort self.old tick thread self.new) }
     {

@@ -6,7 +6,8 @@ use Rattle.stack_core.proofs.ArriveLemmas.{any_error, arrived, settled_short}
 use Rattle.stack_core.proofs.host_core.HostCore.record_arrival.Goals as goal
 
 pub returns-in_err-settle-clause-err : goal.returns-in_err-settle-clause-err
-returns-in_err-settle-clause-err c = any_error c.from_residual-in_err-settle.result (settled_short c.args.self.now c.open_with_room.new.self c.come_in.new.self c.settle.new.self c.args.tick c.args.flying c.line-line.result c.open_with_room.ensures.opened c.in_ok-come_in.ensures.ok c.line-line.ensures c.in_err-settle.ensures.err)
+returns-in_err-settle-clause-err c = any_error c.from_residual-in_err-settle.result (settled_short c.args.self.now c.open_with_room.new.self c.come_in.new.self c.settle.new.self c.args.tick c.args.flying c.line-line.result c.ports_of-ports.result c.open_with_room.ensures.opened c.in_ok-come_in.ensures.ok c.line-line.ensures
+    (c.ports_of-ports.ensures ∙ ap ports_of c.emission.ensures) c.in_err-settle.ensures.err)
 
 pub returns-clause-ok : goal.returns-clause-ok
 returns-clause-ok c = subst (λ (d : Core). IsArrived c.args.self.now c.args.tick c.args.flying d) (sym c.note_arrival.ensures) (arrived c.args.self.now c.open_with_room.new.self c.come_in.new.self c.settle.new.self c.args.tick c.args.flying c.line-line.result c.ports_of-ports.result c.open_with_room.ensures.opened c.in_ok-come_in.ensures.ok c.line-line.ensures

@@ -33,5 +33,10 @@ returns-clause-some c = (
       c.in_ok-copy.ensures c.in_ok-ending.ensures c.line.ensures,
 )
 
+pub returns-clause-gives : goal.returns-clause-gives
+returns-clause-gives c =
+    let now : Core = c.args.self.now in
+    subst (λ (o : Option Answer). IfSome o (λ a. GivesNext now.recorded.me (own_body now) (turn_of c.args.thread (world now).threads) a)) c.in-Ok-Some.field-0-is c.in-Ok-Some.ensures.gives
+
 pub returns-in-Ok-None-clause-none : goal.returns-in-Ok-None-clause-none
 returns-in-Ok-None-clause-none c = (refl, no_answer c.args.self.now c.args.thread (subst (λ (o : Option Answer). IfNone o (KeptNoAnswer c.args.self.now c.args.thread)) c.in-Ok-None.field-0-is c.in-Ok-None.ensures.none))

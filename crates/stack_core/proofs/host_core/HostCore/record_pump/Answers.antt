@@ -15,5 +15,5 @@ returns-clause-some c =
     let plan = c.in-Some-plan.plan in
     let same : c.note_making.new.self ≡ made c.args.self.now c.args.tick plan = c.note_making.ensures ∙ c.spend_iss.ensures ∙ c.in_ok-make.ensures.ok
     ∙ ap (λ (x : Core). with_step x (At x.recorded.me (Makes plan))) (c.open-2.ensures.opened ∙ ap (λ (x : Core). opened x c.args.tick) (c.plan.ensures.same ∙ c.reset_to_go.ensures.same)) in
-    Made plan (subst (λ (x : Core). GoesOut x (world x).count c.in_ok-flying-2.flying c.send-2.new.self) same
+    Made c.in_default.ensures.none plan (subst (λ (x : Core). GoesOut x (world x).count c.in_ok-flying-2.flying c.send-2.new.self) same
     (subst (λ (n : ℕ). GoesOut c.note_making.new.self n c.in_ok-flying-2.flying c.send-2.new.self) c.count-number.ensures c.in_ok-flying-2.ensures.ok))
