@@ -7,8 +7,9 @@
 //! - `fates`: what becomes of segments
 //! - `kinds`: what appears in recordings
 //! - `wires`: segments that are sent twice, and one that stays away for long
+//! - `profile`: what both hosts tell in their first segments, and the threads of lines
 //! - `looks`: a book is held while the other host goes on
-//! - `seats`: a recording ends with all seats, and comes back without one of them
+//! - `seats`: a recording ends with all seats, and comes back without one of them; threads that get no seat
 
 mod chances;
 mod endings;
@@ -16,6 +17,7 @@ mod fates;
 mod kinds;
 mod looks;
 mod pair;
+mod profile;
 mod seats;
 mod talks;
 mod turns;

@@ -1,4 +1,5 @@
 //! A recording ends where all seats are handed in; where one is missing, all that was handed in comes back.
+//! A thread that has a seat gets no second one, and the threads of segments and timers get none.
 
 ghost use Rattle.std.specs.Prelude.{◌≡◌};
 ghost use Rattle.case_forms.specs.declared.calls.Host.TheVariants.{Zero};
@@ -7,7 +8,7 @@ ghost use Rattle.record_tests.specs.Scenes.{test_header};
 use crate::tests::pair::Side;
 use crate::tests::turns::header;
 use case_forms::Host;
-use recorder::{Cause, Recorder, Seat, Site, Unfinished};
+use recorder::{Cause, RecFault, Recorder, Seat, Site, Unfinished};
 use std::alloc::Global;
 use std::marker::Brand;
 use std::sync::Wait;
@@ -37,6 +38,16 @@ fn ends_with_both<L: Site, R: Wait>(
     Some(came_back && recorder.finish(rt, seats).is_ok())
 }
 
+// Whether thread 2, which has a seat, gets no second one, and the threads of segments and timers get none.
+fn are_refused<L: Site, R: Wait>(rt: &R, recorder: &Recorder<L>) -> bool {
+    for thread in [2, 4, 5, 6, 7, 8, 9] {
+        if !matches!(recorder.seat(rt, thread), Err(RecFault::SeatTaken)) {
+            return false;
+        }
+    }
+    true
+}
+
 // The same of a new recorder.
 fn finish_twice<L: Site, R: Wait>(rt: &R, alloc: Global, blank: Blank) -> Option<bool>
     requires name { blank.name ≡ L.name }
@@ -46,6 +57,9 @@ fn finish_twice<L: Site, R: Wait>(rt: &R, alloc: Global, blank: Blank) -> Option
 {
     let side: Side<L> = Side::new(rt, alloc, Host::Zero, header(), blank, 2)?;
     let Side { recorder, seat } = side;
+    if !are_refused(rt, &recorder) {
+        return Some(false);
+    }
     let second = recorder.seat(rt, 10).ok()?;
     ends_with_both(rt, alloc, recorder, seat, second)
 }

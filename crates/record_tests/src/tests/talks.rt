@@ -157,9 +157,9 @@ fn recording_of<R: Threads + Wait + Sync>(
     }
 }
 
-// How often a talk is recorded whose rounds do not end. The clocks of both hosts go on while the system lets another thread of theirs wait, so
-// where it waits for long a host gives up.
-const TRIES: u32 = 5;
+/// How often a talk is recorded whose rounds do not end. The clocks of both hosts go on while the system lets another thread of theirs wait, so
+/// where it waits for long a host gives up.
+pub const TRIES: u32 = 5;
 
 // What is wrong with a talk of so many rounds; `yes` where nothing is. Each recording is explained, also one whose rounds did not end.
 fn said<R: Threads + Wait + Sync>(rt: &R, alloc: Global, rounds: u16, way: Way) -> &'static str {
