@@ -16,3 +16,4 @@ pub mod ArriveLemmas
 pub mod AgendaLemmas
 pub mod TouchLemmas
 pub mod TendedLemmas
+pub mod CoreWorldLemmas

@@ -1,14 +1,17 @@
 //! What holds of segments that fly, for callers that prove more: the contract of a call that does nothing.
 
-ghost use Rattle.std.specs.Prelude.{◌++◌, List};
+ghost use Rattle.std.specs.Prelude.{◌≡◌, ◌++◌, List};
 ghost use Rattle.case_forms.specs.Traces.{first_event_line};
 ghost use Rattle.case_forms.specs.declared.calls.Host.{Host};
+ghost use Rattle.case_forms.specs.declared.calls.Host.TheVariants.{Zero, One};
 ghost use Rattle.case_forms.specs.declared.trace.Header.{Header};
+ghost use Rattle.hosts.specs.Tables.{Both};
 ghost use Rattle.machine.specs.Machine.{tcp, tcp_shape};
 ghost use Rattle.recordings.specs.Books.{Bring, Flying};
-ghost use Rattle.recordings.specs.Keys.{NamesOne};
+ghost use Rattle.recordings.specs.Keys.{Books, NamesOne};
 ghost use Rattle.recordings.specs.Recordings.{IsKept, TcpEntry};
 ghost use Rattle.stack_core.specs.declared.tick.Tick.{Tick};
+ghost use Rattle.stack_core.specs.CoreWorlds.{Event, IsCoreWorld, Talker, entries_of};
 ghost use Rattle.stack_core.specs.Flown.{HasFlown, IsAbove};
 ghost use Rattle.stack_core.specs.Keys.{key_of};
 ghost use Rattle.stack_core.specs.Recordings.{Recorded, world_left};
@@ -22,4 +25,14 @@ pub fn what_flew_is_named()
         → HasFlown (record { header = h; me = me; entries = old ++ more }) f }
     ensures named { (r : Recorded) (me : Host) (f : Flying tcp_shape) (tick : Tick) → HasFlown r f → IsAbove f tick
         → NamesOne (tcp r.header) r.me (world_left r) r.entries (key_of me tick) (Bring f) }
+{}
+
+/// Two cores with one header, after any list of events, some of which memory stopped, where what flew from one arrives at the other
+/// any number of times, in any order, or never: what they recorded are two books beside each other.
+pub fn core_worlds_are_books()
+    ensures books { (h : Header) (events : List Event) (cores : Both Talker) → IsCoreWorld h events cores
+        → Books (tcp h) (first_event_line h) (entries_of Zero cores) (entries_of One cores) }
+    ensures hosts { (h : Header) (events : List Event) (cores : Both Talker) → IsCoreWorld h events cores
+        → (cores.zero.core.recorded ≡ record { header = h; me = Zero; entries = entries_of Zero cores })
+        × (cores.one.core.recorded ≡ record { header = h; me = One; entries = entries_of One cores }) }
 {}

@@ -47,6 +47,6 @@ pub use entry::Entry;
 pub use flying::Flying;
 pub use host_core::{CoreConfig, HostCore};
 pub use item::Item;
-pub use laws::what_flew_is_named;
+pub use laws::{core_worlds_are_books, what_flew_is_named};
 pub use recording::{Recording, other};
 pub use tick::{Key, Tick};

@@ -1,0 +1,98 @@
+-- Two cores with one header, and what events may make of them.
+use Rattle.core.specs.declared.alloc.AllocError.{AllocError}
+use Rattle.std.specs.Prelude.{◌≡◌, ◌<◌, ℕ, Bool, List, [], ◌∷◌, ◌++◌, Contains, Option, None, Some, Result, Ok, Err}
+use Rattle.case_forms.specs.declared.calls.Call.{Call}
+use Rattle.case_forms.specs.declared.calls.Host.{Host}
+use Rattle.case_forms.specs.declared.calls.Host.TheVariants.{Zero, One}
+use Rattle.case_forms.specs.declared.trace.Header.{Header}
+use Rattle.hosts.specs.Hosts.{Idle, turn_of}
+use Rattle.hosts.specs.Tables.{Both, lane, other, pick, with_host}
+use Rattle.machine.specs.Machine.{aim, tcp_shape}
+use Rattle.recordings.specs.Books.{Aims, Flying}
+use Rattle.recordings.specs.Recordings.{TcpEntry}
+use Rattle.stack_core.specs.declared.answered.Answered.{Answered}
+use Rattle.stack_core.specs.declared.tick.Tick.{Tick}
+use Rattle.stack_core.specs.ArrivalEvents.{IsArrival, IsArrivedShort}
+use Rattle.stack_core.specs.CallEvents.{IsAttempted, IsAttemptShort, NoAnswer, begun}
+use Rattle.stack_core.specs.Cores.{Core, IsAfter, IsCallWithin, IsRecorded, new_core, opened, world}
+use Rattle.stack_core.specs.Flown.{IsAbove}
+use Rattle.stack_core.specs.PumpEvents.{IsPumped, IsPumpedShort, NothingToPump}
+use Rattle.stack_core.specs.TimerEvents.{IsTimed}
+
+-- a call of a core that is an event, and what it answered; an error is that memory ran out
+pub data CoreCall : Type 0 where
+  Begin : (thread : ℕ) (call : Call) (answer : Result (Unit {0}) AllocError) → CoreCall
+  Attempt : (thread : ℕ) (answer : Result (Option Answered) AllocError) → CoreCall
+  Arrive : (flying : Flying tcp_shape) (answer : Result Bool AllocError) → CoreCall
+  Pump : (answer : Result (Option (Flying tcp_shape)) AllocError) → CoreCall
+  Timers : (answer : Result Bool AllocError) → CoreCall
+
+-- when a core may be called so, where these segments flew from the other core
+abbrev pub MayCall : Core → List (Flying tcp_shape) → Tick → CoreCall → Type 0
+MayCall c theirs tick (Begin thread call answer) =
+    (turn_of thread (world c).threads ≡ Idle) × (lane thread ≡ c.recorded.me) × Aims c.recorded.me (aim call) × IsCallWithin call
+MayCall c theirs tick (Attempt thread answer) = lane thread ≡ c.recorded.me
+MayCall c theirs tick (Arrive f answer) = Contains theirs f × IsAbove f tick
+MayCall c theirs tick (Pump answer) = Unit {0}
+MayCall c theirs tick (Timers answer) = Unit {0}
+
+-- what the call makes of the core, with that answer
+abbrev pub Leaves : Core → Tick → CoreCall → Core → Type 0
+Leaves c tick (Begin thread call (Ok done)) d = d ≡ begun c tick thread call
+Leaves c tick (Begin thread call (Err memory)) d = d ≡ opened c tick
+Leaves c tick (Attempt thread (Ok (Some a))) d = IsAttempted c tick thread a d
+Leaves c tick (Attempt thread (Ok None)) d = (d ≡ c) × NoAnswer c thread
+Leaves c tick (Attempt thread (Err memory)) d = IsAttemptShort c tick thread d
+Leaves c tick (Arrive f (Ok let_in)) d = IsArrival c tick f let_in d
+Leaves c tick (Arrive f (Err memory)) d = IsArrivedShort c tick f d
+Leaves c tick (Pump (Ok (Some f))) d = IsPumped c tick f d
+Leaves c tick (Pump (Ok None)) d = (d ≡ c) × NothingToPump c
+Leaves c tick (Pump (Err memory)) d = IsPumpedShort c tick d
+Leaves c tick (Timers (Ok found)) d = IsTimed c tick found d
+Leaves c tick (Timers (Err memory)) d = d ≡ opened c tick
+
+-- the segment that flew in the call
+abbrev pub flown_in : CoreCall → List (Flying tcp_shape)
+flown_in (Pump (Ok (Some f))) = f ∷ []
+flown_in call = []
+
+-- a core, and the segments that flew from it
+pub record Talker : Type 0 where
+  pub core : Core
+  pub flown : List (Flying tcp_shape)
+
+-- one that did nothing yet
+abbrev pub new_talker : Header → Host → ℕ → Talker
+new_talker h me ring = record { core = new_core h me ring; flown = [] }
+
+-- the core is called at this tick, as it may be, and is then this one, with a run of its host recorded
+pub record IsCalled (old : Talker) (theirs : List (Flying tcp_shape)) (tick : Tick) (call : CoreCall) (new : Talker) : Type 0 where
+  pub after : IsAfter old.core.last tick
+  pub few : old.core.events < 10000000
+  pub may : MayCall old.core theirs tick call
+  pub leaves : Leaves old.core tick call new.core
+  pub kept : IsRecorded new.core
+  pub flown : new.flown ≡ old.flown ++ flown_in call
+
+-- an event: a call of one host's core at a tick
+pub record Event : Type 0 where
+  pub host : Host
+  pub tick : Tick
+  pub call : CoreCall
+
+-- these events lead from two cores to these. So what flew from one comes to the other whenever it is handed to an `Arrive` there: never,
+-- or often, in any order
+abbrev pub Lead : List Event → Both Talker → Both Talker → Type 0
+Lead [] old new = new ≡ old
+Lead (e ∷ es) old new =
+    (talker : Talker) × IsCalled (pick old e.host) (pick old (other e.host)).flown e.tick e.call talker × Lead es (with_host old e.host talker) new
+
+-- a core world: the cores of host 0 and of host 1, with one header, after these events
+pub record IsCoreWorld (h : Header) (events : List Event) (cores : Both Talker) : Type 0 where
+  pub zero_ring : ℕ
+  pub one_ring : ℕ
+  pub lead : Lead events (record { zero = new_talker h Zero zero_ring; one = new_talker h One one_ring }) cores
+
+-- what a host's core recorded
+abbrev pub entries_of : Host → Both Talker → List TcpEntry
+entries_of host cores = (pick cores host).core.recorded.entries
