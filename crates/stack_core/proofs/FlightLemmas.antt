@@ -1,5 +1,5 @@
 -- What flew from a host stands on its wire from then on.
-use Rattle.std.proofs.Common.{◌≡◌, ◌≤◌, ◌<◌, ℕ, suc, Bool, true, false, List, [], ◌∷◌, ◌++◌, Option, None, Some, refl, ap, sym, ◌∙◌, subst, nat_eq, nat_lt, arith}
+use Rattle.std.proofs.Common.{◌≡◌, ◌≤◌, ◌<◌, ℕ, suc, Bool, true, false, List, [], ◌∷◌, ◌++◌, Option, None, Some, refl, ap, sym, ◌∙◌, subst, nat_eq, nat_lt, arith, ◌⊎◌, inl, inr}
 use Rattle.std.specs.Prelude.{cond, if◌then◌else◌, IfOk, Ok, Err, Result}
 use Rattle.std.specs.Option.{IfSome}
 use Rattle.std.specs.Map.{lookup}
@@ -104,16 +104,21 @@ both_keyed h line key (x ∷ xs) ys p q = (p.0, both_keyed h line key xs ys p.1 
 
 -- 2. wires
 
-other_line : (line n : ℕ) → line < n → nat_eq line n ≡ false
-other_line line n p = grind (arith, nat_tests)
+line_below : (line n : ℕ) → line < n → nat_eq line n ≡ false
+line_below line n p = grind (arith, nat_tests)
 
-wire_kept : (line n moment number : ℕ) (wire : Wire) (made : List (ℕ × Made Emission)) (out : List (ℕ × Emission)) (e : Emission) → line < n → lookup (nat_eq line) out ≡ Some e
-    → lookup (nat_eq line) (on (lookup (nat_eq number) made) out (λ m. insert_entry nat_eq out n (sent moment wire m.emission))) ≡ Some e
-wire_kept line n moment number wire made out e below is = by (lookup (nat_eq number) made)
+line_above : (line n : ℕ) → n < line → nat_eq line n ≡ false
+line_above line n p = grind (arith, nat_tests)
+
+-- what stands under a line, or that nothing does, stays where another line is taken
+
+wire_kept : (line n moment number : ℕ) (wire : Wire) (made : List (ℕ × Made Emission)) (out : List (ℕ × Emission)) (e : Option Emission) → nat_eq line n ≡ false → lookup (nat_eq line) out ≡ e
+    → lookup (nat_eq line) (on (lookup (nat_eq number) made) out (λ m. insert_entry nat_eq out n (sent moment wire m.emission))) ≡ e
+wire_kept line n moment number wire made out e apart is = by (lookup (nat_eq number) made)
   where
-    by : (o : Option (Made Emission)) → lookup (nat_eq line) (on o out (λ m. insert_entry nat_eq out n (sent moment wire m.emission))) ≡ Some e
+    by : (o : Option (Made Emission)) → lookup (nat_eq line) (on o out (λ m. insert_entry nat_eq out n (sent moment wire m.emission))) ≡ e
     by None = is
-    by (Some m) = lookup_insert line n (sent moment wire m.emission) out ∙ ap (λ (b : Bool). cond b (Some (sent moment wire m.emission)) (lookup (nat_eq line) out)) (other_line line n below) ∙ is
+    by (Some m) = lookup_insert line n (sent moment wire m.emission) out ∙ ap (λ (b : Bool). cond b (Some (sent moment wire m.emission)) (lookup (nat_eq line) out)) apart ∙ is
 
 picked : (me : Host) (hosts : Both (HostState tcp_shape)) (s : HostState tcp_shape) → pick (with_host hosts me s) me ≡ s
 picked Zero hosts s = refl
@@ -125,58 +130,90 @@ called_wire Zero One hosts b = refl
 called_wire One Zero hosts b = refl
 called_wire One One hosts b = refl
 
-deed_kept : (h : Header) (me : Host) (moment fresh : ℕ) (far : List (ℕ × Emission)) (s : HostState tcp_shape) (d : Deed tcp_shape) (line n : ℕ) (e : Emission) → If (deed_line (tcp h) d) (Unit {0}) (λ l. l ≡ n) → line < n
-    → lookup (nat_eq line) s.wire ≡ Some e → lookup (nat_eq line) (deed_after (tcp h) me moment fresh far s d).wire ≡ Some e
-deed_kept h me moment fresh far s (Does x) line n e at below is = is
-deed_kept h me moment fresh far s (Expires l x) line n e at below is = is
-deed_kept h me moment fresh far s (Makes plan) line n e at below is = is
-deed_kept h me moment fresh far s (Sends l number wire) line n e at below is = wire_kept line l moment number wire s.made s.wire e (subst (λ (m : ℕ). line < m) (sym at) below) is
-deed_kept h me moment fresh far s (Gets l copied wire) line n e at below is = is
-deed_kept h me moment fresh far s (Hears l wire) line n e at below is = is
-deed_kept h me moment fresh far s (Takes l choice) line n e at below is = is
-deed_kept h me moment fresh far s (Drops l) line n e at below is = is
-deed_kept h me moment fresh far s (Answers l) line n e at below is = is
+deed_kept : (h : Header) (me : Host) (moment fresh : ℕ) (far : List (ℕ × Emission)) (s : HostState tcp_shape) (d : Deed tcp_shape) (line : ℕ) (e : Option Emission) → If (deed_line (tcp h) d) (Unit {0}) (λ l. nat_eq line l ≡ false)
+    → lookup (nat_eq line) s.wire ≡ e → lookup (nat_eq line) (deed_after (tcp h) me moment fresh far s d).wire ≡ e
+deed_kept h me moment fresh far s (Does x) line e at is = is
+deed_kept h me moment fresh far s (Expires l x) line e at is = is
+deed_kept h me moment fresh far s (Makes plan) line e at is = is
+deed_kept h me moment fresh far s (Sends l number wire) line e at is = wire_kept line l moment number wire s.made s.wire e at is
+deed_kept h me moment fresh far s (Gets l copied wire) line e at is = is
+deed_kept h me moment fresh far s (Hears l wire) line e at is = is
+deed_kept h me moment fresh far s (Takes l choice) line e at is = is
+deed_kept h me moment fresh far s (Drops l) line e at is = is
+deed_kept h me moment fresh far s (Answers l) line e at is = is
 
-module _ (h : Header) (me : Host) (moment : ℕ) (w : World tcp_shape) (line n : ℕ) (e : Emission) (below : line < n) (is : lookup (nat_eq line) (pick w.hosts me).wire ≡ Some e) where
-  effect_kept : (t : ℕ) (answer : Answer) (u : Turn tcp_shape) → lookup (nat_eq line) (pick (effect_after (tcp h) moment w t answer u).hosts me).wire ≡ Some e
+module _ (h : Header) (me : Host) (moment : ℕ) (w : World tcp_shape) (line : ℕ) (e : Option Emission) (is : lookup (nat_eq line) (pick w.hosts me).wire ≡ e) where
+  effect_kept : (t : ℕ) (answer : Answer) (u : Turn tcp_shape) → lookup (nat_eq line) (pick (effect_after (tcp h) moment w t answer u).hosts me).wire ≡ e
   effect_kept t answer Idle = is
   effect_kept t answer (Answered a) = is
   effect_kept t answer (Called call) = by (aim_of (tcp h) w.hosts (aim call))
     where
-      by : (o : Option Host) → lookup (nat_eq line) (pick (call_after (tcp h) moment w.hosts (acts.Calls call answer) o) me).wire ≡ Some e
+      by : (o : Option Host) → lookup (nat_eq line) (pick (call_after (tcp h) moment w.hosts (acts.Calls call answer) o) me).wire ≡ e
       by None = is
-      by (Some host) = subst (λ (out : List (ℕ × Emission)). lookup (nat_eq line) out ≡ Some e) (sym (called_wire me host w.hosts _)) is
+      by (Some host) = subst (λ (out : List (ℕ × Emission)). lookup (nat_eq line) out ≡ e) (sym (called_wire me host w.hosts _)) is
 
-  step_kept : (step : Step tcp_shape) → ((host : Host) (d : Deed tcp_shape) → step ≡ At host d → host ≡ me) → If (step_line (tcp h) step) (Unit {0}) (λ l. l ≡ n)
-      → lookup (nat_eq line) (pick (after (tcp h) moment w step).hosts me).wire ≡ Some e
+  step_kept : (step : Step tcp_shape) → ((host : Host) (d : Deed tcp_shape) → step ≡ At host d → host ≡ me) → If (step_line (tcp h) step) (Unit {0}) (λ l. nat_eq line l ≡ false)
+      → lookup (nat_eq line) (pick (after (tcp h) moment w step).hosts me).wire ≡ e
   step_kept (Begin l t call) own at = is
   step_kept (Finish l t answer) own at = is
   step_kept (Effect t answer) own at = effect_kept t answer (turn_of t w.threads)
-  step_kept (At host d) own at = subst (λ (x : Host). lookup (nat_eq line) (pick (with_host w.hosts x (deed_after (tcp h) x moment (suc w.count) (pick w.hosts (other x)).wire (pick w.hosts x) d)) me).wire ≡ Some e) (sym (own host d refl))
-      (subst (λ (s : HostState tcp_shape). lookup (nat_eq line) s.wire ≡ Some e) (sym (picked me w.hosts (deed_after (tcp h) me moment (suc w.count) (pick w.hosts (other me)).wire (pick w.hosts me) d)))
-      (deed_kept h me moment (suc w.count) (pick w.hosts (other me)).wire (pick w.hosts me) d line n e at below is))
+  step_kept (At host d) own at = subst (λ (x : Host). lookup (nat_eq line) (pick (with_host w.hosts x (deed_after (tcp h) x moment (suc w.count) (pick w.hosts (other x)).wire (pick w.hosts x) d)) me).wire ≡ e) (sym (own host d refl))
+      (subst (λ (s : HostState tcp_shape). lookup (nat_eq line) s.wire ≡ e) (sym (picked me w.hosts (deed_after (tcp h) me moment (suc w.count) (pick w.hosts (other me)).wire (pick w.hosts me) d)))
+      (deed_kept h me moment (suc w.count) (pick w.hosts (other me)).wire (pick w.hosts me) d line e at is))
 
-  item_kept : (x : Item tcp_shape) → FitsItem (tcp h) me moment w x → If (item_line (tcp h) x) (Unit {0}) (λ l. l ≡ n) → lookup (nat_eq line) (pick (next_item (tcp h) me moment w x).hosts me).wire ≡ Some e
+  item_kept : (x : Item tcp_shape) → FitsItem (tcp h) me moment w x → If (item_line (tcp h) x) (Unit {0}) (λ l. nat_eq line l ≡ false) → lookup (nat_eq line) (pick (next_item (tcp h) me moment w x).hosts me).wire ≡ e
   item_kept (Do step) fits at = step_kept step (own_host h me w step fits.1) at
   item_kept (Bring f) fits at = by me is
     where
-      by : (x : Host) → lookup (nat_eq line) (pick w.hosts x).wire ≡ Some e → lookup (nat_eq line) (pick (next_item (tcp h) x moment w (Bring f)).hosts x).wire ≡ Some e
+      by : (x : Host) → lookup (nat_eq line) (pick w.hosts x).wire ≡ e → lookup (nat_eq line) (pick (next_item (tcp h) x moment w (Bring f)).hosts x).wire ≡ e
       by Zero there = there
       by One there = there
 
-all_kept : (h : Header) (me : Host) (n : ℕ) (w : World tcp_shape) (xs : List TcpEntry) (line : ℕ) (e : Emission) → HostRun (tcp h) me w xs → Numbered (tcp h) n xs → line < n → lookup (nat_eq line) (pick w.hosts me).wire ≡ Some e
-    → lookup (nat_eq line) (pick (end (tcp h) me w xs).hosts me).wire ≡ Some e
-all_kept h me n w [] line e run numbered below is = is
-all_kept h me n w (x ∷ xs) line e run numbered below is = go (item_line (tcp h) x.item) refl numbered (λ m. all_kept h me m (next (tcp h) me w x) xs line e run.2)
-  where
-    there : If (item_line (tcp h) x.item) (Unit {0}) (λ l. l ≡ n) → lookup (nat_eq line) (pick (next (tcp h) me w x).hosts me).wire ≡ Some e
-    there at = item_kept h me x.key.moment w line n e below is x.item run.0 at
+-- a line that these don't take, as it is below the first of them, or not below the one to come
+abbrev Apart : Header → ℕ → List TcpEntry → ℕ → Type 0
+Apart h n xs line = (line < n) ⊎ (next_line h n xs ≤ line)
 
-    go : (l : Option ℕ) → item_line (tcp h) x.item ≡ l → If l (Numbered (tcp h) n xs) (λ a. (a ≡ n) × Numbered (tcp h) (suc n) xs)
-        → ((m : ℕ) → Numbered (tcp h) m xs → line < m → lookup (nat_eq line) (pick (next (tcp h) me w x).hosts me).wire ≡ Some e → lookup (nat_eq line) (pick (end (tcp h) me (next (tcp h) me w x) xs).hosts me).wire ≡ Some e)
-        → lookup (nat_eq line) (pick (end (tcp h) me (next (tcp h) me w x) xs).hosts me).wire ≡ Some e
-    go None at p rest = rest n p below (there (subst (λ (l : Option ℕ). If l (Unit {0}) (λ a. a ≡ n)) (sym at) tt))
-    go (Some a) at p rest = rest (suc n) p.1 (omega arith) (there (subst (λ (l : Option ℕ). If l (Unit {0}) (λ a. a ≡ n)) (sym at) p.0))
+all_kept : (h : Header) (me : Host) (n : ℕ) (w : World tcp_shape) (xs : List TcpEntry) (line : ℕ) (e : Option Emission) → HostRun (tcp h) me w xs → Numbered (tcp h) n xs → Apart h n xs line
+    → lookup (nat_eq line) (pick w.hosts me).wire ≡ e → lookup (nat_eq line) (pick (end (tcp h) me w xs).hosts me).wire ≡ e
+all_kept h me n w [] line e run numbered apart is = is
+all_kept h me n w (x ∷ xs) line e run numbered apart is = go (item_line (tcp h) x.item) refl numbered apart (λ m. all_kept h me m (next (tcp h) me w x) xs line e run.2)
+  where
+    there : If (item_line (tcp h) x.item) (Unit {0}) (λ l. nat_eq line l ≡ false) → lookup (nat_eq line) (pick (next (tcp h) me w x).hosts me).wire ≡ e
+    there at = item_kept h me x.key.moment w line e is x.item run.0 at
+
+    other_line : (a : ℕ) → a ≡ n → (line < n) ⊎ (next_line h (suc n) xs ≤ line) → nat_eq line a ≡ false
+    other_line a at (inl q) = line_below line a (omega (arith, at, q))
+    other_line a at (inr q) = let low = line_grows h (suc n) xs in line_above line a (omega (arith, at, q, low))
+
+    later : (line < n) ⊎ (next_line h (suc n) xs ≤ line) → Apart h (suc n) xs line
+    later (inl q) = inl (omega (arith, q))
+    later (inr q) = inr q
+
+    go : (l : Option ℕ) → item_line (tcp h) x.item ≡ l → If l (Numbered (tcp h) n xs) (λ a. (a ≡ n) × Numbered (tcp h) (suc n) xs) → (line < n) ⊎ (next_line h (on l n (λ a. suc n)) xs ≤ line)
+        → ((m : ℕ) → Numbered (tcp h) m xs → Apart h m xs line → lookup (nat_eq line) (pick (next (tcp h) me w x).hosts me).wire ≡ e → lookup (nat_eq line) (pick (end (tcp h) me (next (tcp h) me w x) xs).hosts me).wire ≡ e)
+        → lookup (nat_eq line) (pick (end (tcp h) me (next (tcp h) me w x) xs).hosts me).wire ≡ e
+    go None at p apart rest = rest n p apart (there (subst (λ (l : Option ℕ). If l (Unit {0}) (λ a. nat_eq line a ≡ false)) (sym at) tt))
+    go (Some a) at p apart rest = rest (suc n) p.1 (later apart) (there (subst (λ (l : Option ℕ). If l (Unit {0}) (λ a. nat_eq line a ≡ false)) (sym at) (other_line a p.0 apart)))
+
+-- what stands on the wire in the end stands under a line that was taken
+pub wire_recorded : (h : Header) (me : Host) (xs : List TcpEntry) (line : ℕ) (e : Emission) → IsKept h me (first_event_line h) xs → lookup (nat_eq line) (pick (world_of h me xs).hosts me).wire ≡ Some e
+    → (first_event_line h ≤ line) × (line < next_line h (first_event_line h) xs)
+wire_recorded h me xs line e kept stands = (first (nat_lt line (first_event_line h)) refl, last (nat_lt line (next_line h (first_event_line h) xs)) refl)
+  where
+    nothing : (x : Host) → lookup (nat_eq line) (pick (start (tcp h)).hosts x).wire ≡ None
+    nothing Zero = refl
+    nothing One = refl
+
+    taken : Apart h (first_event_line h) xs line → ⊥
+    taken apart = none-some e (sym (all_kept h me (first_event_line h) (start (tcp h)) xs line None kept.runs kept.numbered apart (nothing me)) ∙ stands)
+
+    first : (b : Bool) → nat_lt line (first_event_line h) ≡ b → first_event_line h ≤ line
+    first true is = absurd (taken (inl (grind (arith, nat_tests))))
+    first false is = grind (arith, nat_tests)
+
+    last : (b : Bool) → nat_lt line (next_line h (first_event_line h) xs) ≡ b → line < next_line h (first_event_line h) xs
+    last true is = grind (arith, nat_tests)
+    last false is = absurd (taken (inr (grind (arith, nat_tests))))
 
 -- 3. what flew
 
@@ -189,7 +226,7 @@ flown_stays h me old more f flown kept =
     let grown = line_grows h (next_line h first old) more in
     record {
       stands = subst (λ (w : World tcp_shape). lookup (nat_eq f.line) (pick w.hosts me).wire ≡ Some f.emission) (sym (end_more (tcp h) me (start (tcp h)) old more))
-          (all_kept h me (next_line h first old) (world_of h me old) more f.line f.emission (split_run h me (start (tcp h)) old more kept.runs) lines.1 recorded flown.stands);
+          (all_kept h me (next_line h first old) (world_of h me old) more f.line (Some f.emission) (split_run h me (start (tcp h)) old more kept.runs) lines.1 (inl recorded) flown.stands);
       keyed = both_keyed h f.line f.key old more flown.keyed (none_more h (next_line h first old) more f.line f.key lines.1 recorded);
       recorded = subst (λ (n : ℕ). f.line < n) (sym (next_more h first old more)) (omega arith);
     }
