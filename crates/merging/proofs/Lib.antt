@@ -7,3 +7,4 @@ pub mod SayLemmas
 pub mod JoinLemmas
 pub mod SmallLemmas
 pub mod MergeLemmas
+pub mod HonestLemmas

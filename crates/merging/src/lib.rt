@@ -21,4 +21,4 @@ mod order;
 mod telling;
 
 pub use joining::{MergeFault, Recorded, merge_recordings};
-pub use laws::what_is_told_explains;
+pub use laws::{books_have_no_stranger, core_worlds_are_explained, what_is_told_explains};

@@ -1,0 +1,5 @@
+use Rattle.merging.proofs.HonestLemmas.{books_merge}
+use Rattle.merging.proofs.laws.books_have_no_stranger.Goals as goal
+
+pub returns : goal.returns
+returns c = books_merge
