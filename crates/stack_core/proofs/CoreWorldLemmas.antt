@@ -1,5 +1,5 @@
 -- What two cores recorded of each other: each is a run, and what was brought flew from the other.
-use Rattle.core.specs.declared.alloc.AllocError.{AllocError}
+use Rattle.std.specs.declared.alloc.AllocError.{AllocError}
 use Rattle.std.proofs.Common.{◌≡◌, ℕ, true, false, List, [], ◌∷◌, ◌++◌, All, Contains, Option, None, Some, Result, Ok, Err, inl, inr, refl, ap, sym, ◌∙◌, subst}
 use Rattle.std.proofs.lemmas.List.{append-nil, append_assoc}
 use Rattle.std.proofs.lemmas.List.Elements.{All-append, All-cons, All-contains, All-map, All-nil}
@@ -17,7 +17,7 @@ use Rattle.stack_core.specs.declared.tick.Tick.{Tick}
 use Rattle.stack_core.specs.ArrivalEvents.{IsArrived, IsArrivedShort, IsRecovered, IsSettled, brought, came, ports_of}
 use Rattle.stack_core.specs.ArrivalEvents.IsSettled.{Taken, Reset, Dropped}
 use Rattle.stack_core.specs.ArrivalEvents.IsArrivedShort.{Ticked, Brought, Came, Took}
-use Rattle.stack_core.specs.CoreWorlds.{CoreCall, Event, IsCalled, IsCoreWorld, Lead, Leaves, MayCall, Talker, entries_of, flown_in, new_talker}
+use Rattle.stack_core.specs.CoreWorlds.{CoreCall, Event, IsCalled, IsCoreWorld, Lead, Leaves, MayCall, Side, entries_of, flown_in, new_side}
 use Rattle.stack_core.specs.CoreWorlds.CoreCall.{Begin, Attempt, Arrive, Pump, Timers}
 use Rattle.stack_core.specs.Cores.{Core, IsRecorded, line_to_come, opened, with_item, with_step, world}
 use Rattle.stack_core.specs.Entries.{entry_at}
@@ -158,14 +158,14 @@ names_stay h theirs more stay (x ∷ xs) p = (go x.item p.0, names_stay h theirs
 -- 3. core worlds
 
 -- a core of this host recorded a run; what flew from it has flown, and what was brought to it flew from there
-record IsHonest (h : Header) (me : Host) (t : Talker) (theirs : Recorded) : Type 0 where
+record IsHonest (h : Header) (me : Host) (t : Side) (theirs : Recorded) : Type 0 where
   recorded : t.core.recorded ≡ record { header = h; me = me; entries = t.core.recorded.entries }
   kept : IsRecorded t.core
   flown : All (HasFlown t.core.recorded) t.flown
   names : AllName h theirs t.core.recorded.entries
 
 -- an event of one leaves both so
-called_honest : (h : Header) (me you : Host) (old new them : Talker) (tick : Tick) (call : CoreCall) → IsHonest h me old them.core.recorded → IsHonest h you them old.core.recorded → IsCalled old them.flown tick call new
+called_honest : (h : Header) (me you : Host) (old new them : Side) (tick : Tick) (call : CoreCall) → IsHonest h me old them.core.recorded → IsHonest h you them old.core.recorded → IsCalled old them.flown tick call new
     → IsHonest h me new them.core.recorded × IsHonest h you them new.core.recorded
 called_honest h me you old new them tick call own far called =
     let theirs = them.core.recorded in
@@ -187,28 +187,28 @@ called_honest h me you old new them tick call own far called =
       },
     )
 
-abbrev AreHonest : Header → Both Talker → Type 0
+abbrev AreHonest : Header → Both Side → Type 0
 AreHonest h cores = IsHonest h Zero cores.zero cores.one.core.recorded × IsHonest h One cores.one cores.zero.core.recorded
 
-event_honest : (h : Header) (host : Host) (old : Both Talker) (new : Talker) (tick : Tick) (call : CoreCall) → AreHonest h old → IsCalled (pick old host) (pick old (other host)).flown tick call new → AreHonest h (with_host old host new)
+event_honest : (h : Header) (host : Host) (old : Both Side) (new : Side) (tick : Tick) (call : CoreCall) → AreHonest h old → IsCalled (pick old host) (pick old (other host)).flown tick call new → AreHonest h (with_host old host new)
 event_honest h Zero old new tick call both called = called_honest h Zero One old.zero new old.one tick call both.0 both.1 called
 event_honest h One old new tick call both called =
     let after = called_honest h One Zero old.one new old.zero tick call both.1 both.0 called in
     (after.1, after.0)
 
-lead_honest : (h : Header) (events : List Event) (old new : Both Talker) → AreHonest h old → Lead events old new → AreHonest h new
-lead_honest h [] old new both is = subst (λ (cores : Both Talker). AreHonest h cores) (sym is) both
+lead_honest : (h : Header) (events : List Event) (old new : Both Side) → AreHonest h old → Lead events old new → AreHonest h new
+lead_honest h [] old new both is = subst (λ (cores : Both Side). AreHonest h cores) (sym is) both
 lead_honest h (e ∷ es) old new both lead = lead_honest h es (with_host old e.host lead.0) new (event_honest h e.host old lead.0 e.tick e.call both lead.1) lead.2
 
-new_honest : (h : Header) (me : Host) (ring : ℕ) (theirs : Recorded) → IsHonest h me (new_talker h me ring) theirs
+new_honest : (h : Header) (me : Host) (ring : ℕ) (theirs : Recorded) → IsHonest h me (new_side h me ring) theirs
 new_honest h me ring theirs = record { recorded = refl; kept = record { runs = tt; numbered = tt; keys = tt }; flown = All-nil _; names = tt }
 
-honest : (h : Header) (events : List Event) (cores : Both Talker) → IsCoreWorld h events cores → AreHonest h cores
-honest h events cores w = lead_honest h events (record { zero = new_talker h Zero w.zero_ring; one = new_talker h One w.one_ring }) cores (new_honest h Zero w.zero_ring _, new_honest h One w.one_ring _) w.lead
+honest : (h : Header) (events : List Event) (cores : Both Side) → IsCoreWorld h events cores → AreHonest h cores
+honest h events cores w = lead_honest h events (record { zero = new_side h Zero w.zero_ring; one = new_side h One w.one_ring }) cores (new_honest h Zero w.zero_ring _, new_honest h One w.one_ring _) w.lead
 
 -- 4. their books
 
-kept_of : (h : Header) (me : Host) (t : Talker) (theirs : Recorded) → IsHonest h me t theirs → IsKept h me (first_event_line h) t.core.recorded.entries
+kept_of : (h : Header) (me : Host) (t : Side) (theirs : Recorded) → IsHonest h me t theirs → IsKept h me (first_event_line h) t.core.recorded.entries
 kept_of h me t theirs p = subst (λ (r : Recorded). IsKept r.header r.me (first_event_line r.header) r.entries) p.recorded p.kept
 
 sent_of : (h : Header) (you : Host) (theirs : List TcpEntry) (xs : List TcpEntry) → AllName h (record { header = h; me = you; entries = theirs }) xs → NamesSent h you xs theirs
@@ -222,7 +222,7 @@ sent_of h you theirs (x ∷ xs) p = (go x.item p.0, sent_of h you theirs xs p.1)
     go (Do step) name = tt
     go (Bring f) name = (name.0, name.1.stands, name.1.keyed)
 
-pub world_books : (h : Header) (events : List Event) (cores : Both Talker) → IsCoreWorld h events cores → Books (tcp h) (first_event_line h) (entries_of Zero cores) (entries_of One cores)
+pub world_books : (h : Header) (events : List Event) (cores : Both Side) → IsCoreWorld h events cores → Books (tcp h) (first_event_line h) (entries_of Zero cores) (entries_of One cores)
 world_books h events cores w =
     let both = honest h events cores w in
     let zero = kept_of h Zero cores.zero cores.one.core.recorded both.0 in
@@ -233,6 +233,6 @@ world_books h events cores w =
       record { runs = one.runs; numbered = one.numbered; keys = one.keys; arrivals = sent_of h Zero (entries_of Zero cores) (entries_of One cores) sent_one },
     )
 
-pub world_hosts : (h : Header) (events : List Event) (cores : Both Talker) → IsCoreWorld h events cores
+pub world_hosts : (h : Header) (events : List Event) (cores : Both Side) → IsCoreWorld h events cores
     → (cores.zero.core.recorded ≡ record { header = h; me = Zero; entries = entries_of Zero cores }) × (cores.one.core.recorded ≡ record { header = h; me = One; entries = entries_of One cores })
 world_hosts h events cores w = let both = honest h events cores w in (both.0.recorded, both.1.recorded)

@@ -17,3 +17,4 @@ pub mod AgendaLemmas
 pub mod TouchLemmas
 pub mod TendedLemmas
 pub mod CoreWorldLemmas
+pub mod LeavesLemmas

@@ -1,6 +1,7 @@
--- Two cores with one header, and what events may make of them.
-use Rattle.core.specs.declared.alloc.AllocError.{AllocError}
-use Rattle.std.specs.Prelude.{◌≡◌, ◌<◌, ℕ, Bool, List, [], ◌∷◌, ◌++◌, Contains, Option, None, Some, Result, Ok, Err}
+-- Two cores with one header, and what events make of them.
+use Rattle.std.specs.declared.alloc.AllocError.{AllocError}
+use Rattle.std.specs.Prelude.{◌≡◌, ◌<◌, ℕ, Bool, List, [], ◌∷◌, ◌++◌, Contains}
+use Rattle.std.specs.Prelude.{Option, None, Some, Result, Ok, Err}
 use Rattle.case_forms.specs.declared.calls.Call.{Call}
 use Rattle.case_forms.specs.declared.calls.Host.{Host}
 use Rattle.case_forms.specs.declared.calls.Host.TheVariants.{Zero, One}
@@ -27,10 +28,15 @@ pub data CoreCall : Type 0 where
   Pump : (answer : Result (Option (Flying tcp_shape)) AllocError) → CoreCall
   Timers : (answer : Result Bool AllocError) → CoreCall
 
--- when a core may be called so, where these segments flew from the other core
+-- a thread of this host, which is in no call, may begin this one
+abbrev pub MayBegin : Core → ℕ → Call → Type 0
+MayBegin c thread call =
+    (turn_of thread (world c).threads ≡ Idle) × (lane thread ≡ c.recorded.me) ×
+    Aims c.recorded.me (aim call) × IsCallWithin call
+
+-- a core may be called so at this tick; what arrives flew from the other core, in an event below this one
 abbrev pub MayCall : Core → List (Flying tcp_shape) → Tick → CoreCall → Type 0
-MayCall c theirs tick (Begin thread call answer) =
-    (turn_of thread (world c).threads ≡ Idle) × (lane thread ≡ c.recorded.me) × Aims c.recorded.me (aim call) × IsCallWithin call
+MayCall c theirs tick (Begin thread call answer) = MayBegin c thread call
 MayCall c theirs tick (Attempt thread answer) = lane thread ≡ c.recorded.me
 MayCall c theirs tick (Arrive f answer) = Contains theirs f × IsAbove f tick
 MayCall c theirs tick (Pump answer) = Unit {0}
@@ -56,17 +62,19 @@ abbrev pub flown_in : CoreCall → List (Flying tcp_shape)
 flown_in (Pump (Ok (Some f))) = f ∷ []
 flown_in call = []
 
--- a core, and the segments that flew from it
-pub record Talker : Type 0 where
+-- one side: a core, and the segments that flew from it
+pub record Side : Type 0 where
   pub core : Core
   pub flown : List (Flying tcp_shape)
 
--- one that did nothing yet
-abbrev pub new_talker : Header → Host → ℕ → Talker
-new_talker h me ring = record { core = new_core h me ring; flown = [] }
+-- a core that did nothing yet
+abbrev pub new_side : Header → Host → ℕ → Side
+new_side h me ring = record { core = new_core h me ring; flown = [] }
 
--- the core is called at this tick, as it may be, and is then this one, with a run of its host recorded
-pub record IsCalled (old : Talker) (theirs : List (Flying tcp_shape)) (tick : Tick) (call : CoreCall) (new : Talker) : Type 0 where
+-- the core was called at this tick, as it may be, where these segments flew from the other; it is then this one, with a
+-- run of its host recorded
+pub record IsCalled (old : Side) (theirs : List (Flying tcp_shape)) (tick : Tick) (call : CoreCall)
+    (new : Side) : Type 0 where
   pub after : IsAfter old.core.last tick
   pub few : old.core.events < 10000000
   pub may : MayCall old.core theirs tick call
@@ -80,19 +88,20 @@ pub record Event : Type 0 where
   pub tick : Tick
   pub call : CoreCall
 
--- these events lead from two cores to these. So what flew from one comes to the other whenever it is handed to an `Arrive` there: never,
--- or often, in any order
-abbrev pub Lead : List Event → Both Talker → Both Talker → Type 0
+-- these events lead from two sides to these. What flew from one comes to the other where an `Arrive` there has it: any
+-- number of times, in any order, or never
+abbrev pub Lead : List Event → Both Side → Both Side → Type 0
 Lead [] old new = new ≡ old
 Lead (e ∷ es) old new =
-    (talker : Talker) × IsCalled (pick old e.host) (pick old (other e.host)).flown e.tick e.call talker × Lead es (with_host old e.host talker) new
+    (side : Side) × IsCalled (pick old e.host) (pick old (other e.host)).flown e.tick e.call side ×
+    Lead es (with_host old e.host side) new
 
 -- a core world: the cores of host 0 and of host 1, with one header, after these events
-pub record IsCoreWorld (h : Header) (events : List Event) (cores : Both Talker) : Type 0 where
+pub record IsCoreWorld (h : Header) (events : List Event) (cores : Both Side) : Type 0 where
   pub zero_ring : ℕ
   pub one_ring : ℕ
-  pub lead : Lead events (record { zero = new_talker h Zero zero_ring; one = new_talker h One one_ring }) cores
+  pub lead : Lead events (record { zero = new_side h Zero zero_ring; one = new_side h One one_ring }) cores
 
 -- what a host's core recorded
-abbrev pub entries_of : Host → Both Talker → List TcpEntry
+abbrev pub entries_of : Host → Both Side → List TcpEntry
 entries_of host cores = (pick cores host).core.recorded.entries

@@ -9,6 +9,8 @@ ghost use Rattle.machine.specs.Steps.{step_of};
 ghost use Rattle.recordings.specs.Books.{Bring};
 ghost use Rattle.stack_core.specs.ArrivalEvents.{IsArrival, IsArrivedShort, IsCameIn, IsChoice, IsHeld, IsRecovered, IsRecoveryAt};
 ghost use Rattle.stack_core.specs.ArrivalEvents.{IsRefusedRecovery, IsSettled, IsSettledShort, IsYoung, MayDrop, MayRecover, MayTake, ports_of};
+ghost use Rattle.stack_core.specs.CoreWorlds.{Leaves};
+ghost use Rattle.stack_core.specs.CoreWorlds.CoreCall.{Arrive};
 ghost use Rattle.stack_core.specs.Cores.{IsAfter, IsRecorded, MayDo, line_to_come, with_item};
 ghost use Rattle.stack_core.specs.Entries.{steps_in};
 
@@ -33,6 +35,7 @@ impl HostCore {
         ensures ok { IfOk result (λ let_in. IsArrival self.old tick flying let_in self.new) }
         ensures young { IfOk result (λ let_in. let_in ≡ true → IsYoung self.old tick flying) }
         ensures err { OnErr result (IsArrivedShort self.old tick flying self.new) }
+        ensures leaves { Leaves self.old tick (Arrive flying result) self.new }
         ensures kept { IsRecorded self.new }
     {
         let arrived = self.record_arrival(flying, tick);

@@ -7,6 +7,8 @@ ghost use Rattle.hosts.specs.Hosts.{turn_of};
 ghost use Rattle.stack_core.specs.Cores.{GivesNext, IsAfter, IsRecorded, next_socket, own_body, world};
 ghost use Rattle.stack_core.specs.Entries.{steps_in};
 ghost use Rattle.stack_core.specs.Answers.{is_again};
+ghost use Rattle.stack_core.specs.CoreWorlds.{Leaves};
+ghost use Rattle.stack_core.specs.CoreWorlds.CoreCall.{Attempt};
 ghost use Rattle.stack_core.specs.CallEvents.{IsAttempted, IsAttemptShort, KeptNoAnswer, MayAnswer, NoAnswer};
 
 use crate::agenda::Touch;
@@ -45,6 +47,7 @@ impl HostCore {
         ensures gives { IfOk result (λ o. IfSome o (λ a. GivesNext self.old.recorded.me (own_body self.old) (turn_of thread (world self.old).threads) a.answer)) }
         ensures none { IfOk result (λ o. IfNone o ((self.new ≡ self.old) × NoAnswer self.old thread)) }
         ensures err { OnErr result (IsAttemptShort self.old tick thread self.new) }
+        ensures leaves { Leaves self.old tick (Attempt thread result) self.new }
         ensures kept { IsRecorded self.new }
     {
         let attempted = self.record_attempt(thread, tick);

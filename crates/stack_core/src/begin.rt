@@ -7,6 +7,8 @@ ghost use Rattle.machine.specs.Machine.{aim};
 ghost use Rattle.recordings.specs.Books.{Aims};
 ghost use Rattle.stack_core.specs.Cores.{IsAfter, IsCallWithin, IsRecorded, opened, world};
 ghost use Rattle.stack_core.specs.CallEvents.{begun};
+ghost use Rattle.stack_core.specs.CoreWorlds.{Leaves};
+ghost use Rattle.stack_core.specs.CoreWorlds.CoreCall.{Begin};
 
 use crate::agenda::Touch;
 use crate::host_core::HostCore;
@@ -26,6 +28,7 @@ impl HostCore {
         requires within { IsCallWithin call.now }
         ensures ok { OnOk result (self.new ≡ begun self.old tick thread call.now) }
         ensures err { OnErr result (self.new ≡ opened self.old tick) }
+        ensures leaves { Leaves self.old tick (Begin thread call.now result) self.new }
         ensures kept { IsRecorded self.new }
     {
         let begun = self.record_begin(thread, call, tick);

@@ -11,14 +11,13 @@ ghost use Rattle.recordings.specs.Books.{Bring, Flying};
 ghost use Rattle.recordings.specs.Keys.{Books, NamesOne};
 ghost use Rattle.recordings.specs.Recordings.{IsKept, TcpEntry};
 ghost use Rattle.stack_core.specs.declared.tick.Tick.{Tick};
-ghost use Rattle.stack_core.specs.CoreWorlds.{Event, IsCoreWorld, Talker, entries_of};
+ghost use Rattle.stack_core.specs.CoreWorlds.{Event, IsCoreWorld, Side, entries_of};
 ghost use Rattle.stack_core.specs.Flown.{HasFlown, IsAbove};
 ghost use Rattle.stack_core.specs.Keys.{key_of};
 ghost use Rattle.stack_core.specs.Recordings.{Recorded, world_left};
 
-/// A segment that flew from a host stands on its wire from then on, however the host's recording grows. Where it is brought at a
-/// tick above the event in which it flew, what is brought names it. So the recordings of two hosts, each of which was brought
-/// segments that flew from the other, are two books beside each other (`recordings::books_grow`), and merged they are a run.
+/// A segment that flew from a host stands on its wire from then on, however the host's recording grows. Where it is
+/// brought at a tick above the event in which it flew, what is brought names it.
 pub fn what_flew_is_named()
     ensures stays { (h : Header) (me : Host) (old more : List TcpEntry) (f : Flying tcp_shape)
         → HasFlown (record { header = h; me = me; entries = old }) f → IsKept h me (first_event_line h) (old ++ more)
@@ -27,12 +26,12 @@ pub fn what_flew_is_named()
         → NamesOne (tcp r.header) r.me (world_left r) r.entries (key_of me tick) (Bring f) }
 {}
 
-/// Two cores with one header, after any list of events, some of which memory stopped, where what flew from one arrives at the other
-/// any number of times, in any order, or never: what they recorded are two books beside each other.
+/// Two cores with one header, after any events of both, some of which memory stopped, where what flew from one arrives
+/// at the other any number of times, in any order, or never: what they recorded are two books beside each other.
 pub fn core_worlds_are_books()
-    ensures books { (h : Header) (events : List Event) (cores : Both Talker) → IsCoreWorld h events cores
+    ensures books { (h : Header) (events : List Event) (cores : Both Side) → IsCoreWorld h events cores
         → Books (tcp h) (first_event_line h) (entries_of Zero cores) (entries_of One cores) }
-    ensures hosts { (h : Header) (events : List Event) (cores : Both Talker) → IsCoreWorld h events cores
+    ensures hosts { (h : Header) (events : List Event) (cores : Both Side) → IsCoreWorld h events cores
         → (cores.zero.core.recorded ≡ record { header = h; me = Zero; entries = entries_of Zero cores })
         × (cores.one.core.recorded ≡ record { header = h; me = One; entries = entries_of One cores }) }
 {}

@@ -1,11 +1,12 @@
 //! What one host records of its own TCP: a core that chooses among the steps that the machine permits, and writes each down.
 //!
-//! A core has a world of its host alone, which it changes by steps and by segments of the other host that are brought. Contracts
-//! see its entries, its ring, its last tick and the count of its events: the world is the one to which the entries lead. Each
-//! event says exactly what it adds (`specs/*Events`), and what it leaves where memory ran out. Whatever is added may join what is
-//! there, so the entries are a run of the host after every event (`IsRecorded`); what two cores recorded of each other, merged,
-//! is a run of both and a placement of its lines (crate `recordings`). What a core chooses among the permitted steps is no
-//! contract's matter, but for what `docs/STACK.md` says of it.
+//! A core has a world of its host alone, which it changes by steps and by segments of the other host that are brought.
+//! Contracts see its entries, its ring, its last tick and the count of its events: the world is the one to which the
+//! entries lead. Each event says exactly what it adds (`specs/*Events`), and what it leaves where memory ran out.
+//! Whatever is added may join what is there, so the entries are a run of the host after every event (`IsRecorded`).
+//! What two cores recorded of each other, after any events (`specs/CoreWorlds`), are two books beside each other;
+//! merged they are a run of both and a placement of its lines (crate `recordings`). What a core chooses among the
+//! permitted steps is no contract's matter, but for what `docs/STACK.md` says of it.
 //!
 //! - `tick`, `flying`, `item`, `entry`: when events are, segments on their way, and what a recording has
 //! - `recording`: the entries of one host, with the world that they leave
@@ -16,7 +17,7 @@
 //! - `duties`, `plans`, `greatest`: what a core remembers of its endpoints, what it would make at one, and its choice of windows
 //! - `arrive`: a segment comes in, and is taken, answered or dropped
 //! - `timers`: a timer expires
-//! - `laws`: what flew from a host stays on its wire, and what is brought names it
+//! - `laws`: what flew from a host stays on its wire, and what is brought names it; two cores record two books
 #![tactic(auto)]
 
 mod agenda;

@@ -6,6 +6,8 @@ ghost use Rattle.hosts.specs.Hosts.{At, Makes};
 ghost use Rattle.hosts.specs.HostRules.{Permitted};
 ghost use Rattle.machine.specs.Bounds.{greatest_position, most_steps};
 ghost use Rattle.machine.specs.Machine.{tcp};
+ghost use Rattle.stack_core.specs.CoreWorlds.{Leaves};
+ghost use Rattle.stack_core.specs.CoreWorlds.CoreCall.{Pump};
 ghost use Rattle.stack_core.specs.Cores.{IsAfter, IsRecorded, with_step, world};
 ghost use Rattle.stack_core.specs.Entries.{steps_in};
 ghost use Rattle.stack_core.specs.Makings.{IsMakeable, NothingToMake};
@@ -40,6 +42,7 @@ impl HostCore {
         ensures none { IfOk result (λ o. IfNone o ((self.new ≡ self.old) × NothingToPump self.old)) }
         ensures err { OnErr result (IsPumpedShort self.old tick self.new) }
         ensures flown { IfOk result (λ o. IfSome o (λ f. HasFlown self.new.recorded f)) }
+        ensures leaves { Leaves self.old tick (Pump result) self.new }
         ensures kept { IsRecorded self.new }
     {
         let pumped = self.record_pump(tick);

@@ -5,6 +5,8 @@ ghost use Rattle.case_forms.specs.declared.timer.Timer.TheVariants.{Msl2, Persis
 ghost use Rattle.std.specs.Option.{IfSome};
 ghost use Rattle.machine.specs.Bounds.{most_steps};
 ghost use Rattle.machine.specs.declared.endpoint.Endpoint.{Endpoint};
+ghost use Rattle.stack_core.specs.CoreWorlds.{Leaves};
+ghost use Rattle.stack_core.specs.CoreWorlds.CoreCall.{Timers};
 ghost use Rattle.stack_core.specs.Cores.{IsAfter, IsRecorded, opened};
 ghost use Rattle.stack_core.specs.Entries.{steps_in};
 ghost use Rattle.stack_core.specs.TimerEvents.{HasTried, IfGivesUp, IsDueAt, IsNotDueAt, IsRefused, IsTimed, NoneDue, NoneDueAt};
@@ -38,6 +40,7 @@ impl HostCore {
         requires events { self.old.events < 10000000 }
         ensures ok { IfOk result (λ found. IsTimed self.old tick found self.new) }
         ensures err { OnErr result (self.new ≡ opened self.old tick) }
+        ensures leaves { Leaves self.old tick (Timers result) self.new }
         ensures kept { IsRecorded self.new }
     {
         let timed = self.record_expiry(tick);
