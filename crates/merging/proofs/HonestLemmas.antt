@@ -16,9 +16,10 @@ use Rattle.machine.specs.Machine.{tcp, tcp_shape}
 use Rattle.recordings.specs.Books.{Item, Do, Bring, Key, item_line}
 use Rattle.recordings.specs.Keys.{Book, Books, EachEntry, NamesOne, Numbered}
 use Rattle.recordings.specs.Recordings.{IsKept, NamesSent, TcpEntry, merged, next_line, world_of}
-use Rattle.stack_core.specs.CoreWorlds.{Event, IsCoreWorld, Talker, entries_of}
+use Rattle.stack_core.specs.CoreWorlds.{Event, IsCoreWorld, Side, entries_of}
 use Rattle.stack_core.specs.Recordings.{Recorded}
 use Rattle.stack_core.proofs.FlightLemmas.{wire_recorded}
+use Rattle.merging.specs.declared.joining.MergeFault.TheVariants.{Stranger, OutOfMemory}
 use Rattle.merging.specs.Faults.{HasStranger, IsFirstStranger, NamesAll}
 use Rattle.merging.specs.Naming.{AllNamed, IsStranger, NamedItem, line_keys}
 use Rattle.merging.specs.Told.{Tells}
@@ -93,3 +94,10 @@ no_stranger mine others n all s = s.unnamed (item_at _ _ _ mine.entries s.place 
 pub books_merge : (a b : Recorded) → (a.me ≡ Zero) × (b.me ≡ One) → a.header ≡ b.header → Books (tcp a.header) (first_event_line a.header) a.entries b.entries → (n : ℕ) → IsFirstStranger a b n → ⊥
 books_merge a b hosts headers books n (inl s) = no_stranger a b n (books_name a b hosts headers books).0 s
 books_merge a b hosts headers books n (inr s) = no_stranger b a n (books_name a b hosts headers books).1 s.1
+
+-- so what is told of a stranger is told of no two books
+pub zero_is_named : (a b : Recorded) (n : ℕ) → (a.me ≡ Zero) × (b.me ≡ One) → a.header ≡ b.header → HasStranger a b n → Books (tcp a.header) (first_event_line a.header) a.entries b.entries → Stranger n ≡ OutOfMemory
+zero_is_named a b n hosts headers s books = absurd (books_merge a b hosts headers books n (inl s))
+
+pub one_is_named : (a b : Recorded) (n : ℕ) → (a.me ≡ Zero) × (b.me ≡ One) → a.header ≡ b.header → HasStranger b a n → Books (tcp a.header) (first_event_line a.header) a.entries b.entries → Stranger n ≡ OutOfMemory
+one_is_named a b n hosts headers s books = absurd (no_stranger b a n (books_name a b hosts headers books).1 s)

@@ -4,9 +4,12 @@ ghost use Rattle.std.specs.Prelude.{◌≡◌, ◌≤◌, ◌+◌, false, IfOk, 
 ghost use Rattle.case_forms.specs.declared.calls.Host.TheVariants.{Zero, One};
 ghost use Rattle.case_forms.specs.Traces.{first_event_line};
 ghost use Rattle.case_forms.specs.Versions.{is_half};
+ghost use Rattle.machine.specs.Machine.{tcp};
+ghost use Rattle.recordings.specs.Keys.{Books};
 ghost use Rattle.recordings.specs.Recordings.{merged};
 ghost use Rattle.stack_core.specs.Entries.{steps_in};
 ghost use Rattle.checker.specs.Explains.{Explains};
+ghost use Rattle.merging.specs.declared.joining.MergeFault.TheVariants.{OutOfMemory};
 ghost use Rattle.merging.specs.Faults.{IfStranger, IsFirstStranger};
 ghost use Rattle.merging.specs.Naming.{AllAbove};
 ghost use Rattle.merging.specs.Numbers.{AllSmall};
@@ -80,7 +83,7 @@ fn tell(alloc: Global, zero: &Recording, one: &Recording) -> Result<Recorded, Ou
 }
 
 /// The recordings of host 0 and of host 1 in a whole case, merged in the order of their keys, with lines and made segments
-/// counted anew.
+/// counted anew. Two books beside each other are merged, or memory runs out.
 pub fn merge_recordings(
     alloc: Global,
     zero: &Recording,
@@ -97,6 +100,8 @@ pub fn merge_recordings(
     ensures threads { IfOk result (λ r. AllOwnThreads r.trace.lines) }
     ensures explains { IfOk result (λ r. Explains r.trace r.witness) }
     ensures stranger { IfErr result (λ f. IfStranger f (IsFirstStranger zero.now one.now)) }
+    ensures beside { Books (tcp zero.now.header) (first_event_line zero.now.header) zero.now.entries one.now.entries →
+        IfErr result (λ f. f ≡ OutOfMemory) }
 {
     zero.is_recording();
     one.is_recording();

@@ -14,7 +14,7 @@ ghost use Rattle.recordings.specs.Recordings.{TcpEntry, merged};
 ghost use Rattle.machine.specs.Machine.{tcp, tcp_shape};
 ghost use Rattle.checker.specs.Explains.{Explains, IsYes};
 ghost use Rattle.checker.specs.Verdicts.{verdict};
-ghost use Rattle.stack_core.specs.CoreWorlds.{Event, IsCoreWorld, Talker, entries_of};
+ghost use Rattle.stack_core.specs.CoreWorlds.{Event, IsCoreWorld, Side, entries_of};
 ghost use Rattle.stack_core.specs.Recordings.{Recorded};
 ghost use Rattle.merging.specs.Faults.{IsFirstStranger};
 ghost use Rattle.merging.specs.Told.{Tells};
@@ -39,26 +39,27 @@ pub fn what_is_told_explains()
     explained_is_yes();
 }
 
-/// Where two recordings are two books beside each other, each segment that came to one is one that the other let out: no line is that of a
-/// stranger.
+/// Of two recordings that are two books beside each other, each segment that came to one is one that the other let out:
+/// there is no stranger.
 pub fn books_have_no_stranger()
     ensures { (zero one : Recorded) → (zero.me ≡ Zero) × (one.me ≡ One) → zero.header ≡ one.header
         → Books (tcp zero.header) (first_event_line zero.header) zero.entries one.entries
         → (n : ℕ) → IsFirstStranger zero one n → ⊥ }
 {}
 
-/// Two cores with one header, after any list of events, some of which memory stopped, where what flew from one arrives at the other
-/// any number of times, in any order, or never: what they recorded are two books beside each other, so they are merged; no segment of
-/// theirs is a stranger; and a trace and a witness that say the merged steps explain each other, so the verdict is yes.
+/// Two cores with one header, after any events of both, some of which memory stopped, where what flew from one arrives
+/// at the other any number of times, in any order, or never: what they recorded are two books beside each other, and no
+/// segment in them is a stranger, so they are merged; and a trace and a witness that say the merged steps explain each
+/// other, so the verdict is yes.
 pub fn core_worlds_are_explained()
-    ensures books { (h : Header) (events : List Event) (cores : Both Talker) → IsCoreWorld h events cores
+    ensures books { (h : Header) (events : List Event) (cores : Both Side) → IsCoreWorld h events cores
         → Books (tcp h) (first_event_line h) (entries_of Zero cores) (entries_of One cores) }
-    ensures named { (h : Header) (events : List Event) (cores : Both Talker) → IsCoreWorld h events cores
+    ensures named { (h : Header) (events : List Event) (cores : Both Side) → IsCoreWorld h events cores
         → (n : ℕ) → IsFirstStranger cores.zero.core.recorded cores.one.core.recorded n → ⊥ }
-    ensures explained { (h : Header) (events : List Event) (cores : Both Talker) → IsCoreWorld h events cores
+    ensures explained { (h : Header) (events : List Event) (cores : Both Side) → IsCoreWorld h events cores
         → (t : Trace) (w : Witness) → t.header ≡ h
         → Tells t w (merged h (first_event_line h) (entries_of Zero cores) (entries_of One cores)) → Explains t w }
-    ensures yes { (h : Header) (events : List Event) (cores : Both Talker) → IsCoreWorld h events cores
+    ensures yes { (h : Header) (events : List Event) (cores : Both Side) → IsCoreWorld h events cores
         → (t : Trace) (w : Witness) → t.header ≡ h
         → Tells t w (merged h (first_event_line h) (entries_of Zero cores) (entries_of One cores)) → IsYes (verdict t w) }
 {

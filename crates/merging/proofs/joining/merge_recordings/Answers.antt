@@ -7,11 +7,18 @@ use Rattle.recordings.specs.Keys.{Books}
 use Rattle.recordings.specs.Recordings.{merged}
 use Rattle.merging.specs.Saying.{both_renumbered}
 use Rattle.merging.specs.Told.{AllOwnThreads, Tells}
+use Rattle.merging.proofs.HonestLemmas.{one_is_named, zero_is_named}
 use Rattle.merging.proofs.MergeLemmas.{beside, beside_books, beside_small, own_threads, told_as}
 use Rattle.merging.proofs.joining.merge_recordings.Goals as goal
 
 pub tell-requires-clause-small : goal.tell-requires-clause-small
 tell-requires-clause-small c = beside_small c.args.zero.now c.args.one.now (beside c.args.zero.now c.args.one.now c.requires.hosts c.requires.headers c.is_recording.ensures c.is_recording-2.ensures c.requires.few c.requires.above (rw c.in_default.is at c.in_ok-arrival_line.ensures.none) (rw c.in_default-2.is at c.in_ok-arrival_line-2.ensures.none))
+
+pub returns-in-Some-clause-beside : goal.returns-in-Some-clause-beside
+returns-in-Some-clause-beside c = zero_is_named c.args.zero.now c.args.one.now c.in-Some.arrival_line c.requires.hosts c.requires.headers (rw c.in-Some.is at c.in_ok-arrival_line.ensures.some)
+
+pub returns-in-Some-2-clause-beside : goal.returns-in-Some-2-clause-beside
+returns-in-Some-2-clause-beside c = one_is_named c.args.zero.now c.args.one.now c.in-Some-2.arrival_line c.requires.hosts c.requires.headers (rw c.in-Some-2.is at c.in_ok-arrival_line-2.ensures.some)
 
 pub returns-clause-told : goal.returns-clause-told
 returns-clause-told c =
