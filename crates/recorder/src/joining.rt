@@ -4,9 +4,12 @@ ghost use Rattle.std.specs.Prelude.{◌≡◌, false, IfOk, IfErr};
 ghost use Rattle.case_forms.specs.declared.calls.Host.TheVariants.{Zero, One};
 ghost use Rattle.case_forms.specs.Traces.{first_event_line};
 ghost use Rattle.case_forms.specs.Versions.{is_half};
+ghost use Rattle.machine.specs.Machine.{tcp};
+ghost use Rattle.recordings.specs.Keys.{Books};
 ghost use Rattle.recordings.specs.Recordings.{merged};
 ghost use Rattle.checker.specs.Explains.{Explains, IsYes};
 ghost use Rattle.checker.specs.Verdicts.{verdict};
+ghost use Rattle.merging.specs.declared.joining.MergeFault.TheVariants.{OutOfMemory};
 ghost use Rattle.merging.specs.Faults.{IfStranger, IsFirstStranger};
 ghost use Rattle.merging.specs.Told.{AllOwnThreads, Tells};
 
@@ -15,9 +18,9 @@ use checker::explained_is_yes;
 use merging::{MergeFault, Recorded, merge_recordings};
 use std::alloc::Global;
 
-/// The finished books of host 0 and of host 1 in a whole case, merged in the order of their keys: a trace and a witness that
-/// explains it, so `check` answers yes. The error is that of the first segment which came to a host and is none that the other let
-/// out, or that memory ran out.
+/// The finished books of host 0 and of host 1 in a whole case, merged in the order of their keys: a trace and a witness
+/// that explains it, so `check` answers yes. The error is that of the first segment which came to a host and is none
+/// that the other let out, or that memory ran out. Two books beside each other are merged, or memory runs out.
 pub fn merge(alloc: Global, zero: HostBook, one: HostBook) -> Result<Recorded, MergeFault>
     requires hosts { (zero.core.recorded.me ≡ Zero) × (one.core.recorded.me ≡ One) }
     requires headers { zero.core.recorded.header ≡ one.core.recorded.header }
@@ -30,6 +33,8 @@ pub fn merge(alloc: Global, zero: HostBook, one: HostBook) -> Result<Recorded, M
     ensures explains { IfOk result (λ r. Explains r.trace r.witness) }
     ensures yes { IfOk result (λ r. IsYes (verdict r.trace r.witness)) }
     ensures stranger { IfErr result (λ f. IfStranger f (IsFirstStranger zero.core.recorded one.core.recorded)) }
+    ensures beside { Books (tcp zero.core.recorded.header) (first_event_line zero.core.recorded.header)
+        zero.core.recorded.entries one.core.recorded.entries → IfErr result (λ f. f ≡ OutOfMemory) }
 {
     explained_is_yes();
     zero.few_steps();
