@@ -1,17 +1,20 @@
 //! A recorder: a host's book under a lock, beside the ledger of what its seats were answered.
 
 ghost use Rattle.std.specs.Prelude.{◌≡◌, ◌+◌, ◌<◌, IfOk, IfErr, OnOk, OnErr, sum_by, length};
+ghost use Rattle.std.specs.Fn.{FnOnceReturnsAt};
 ghost use Rattle.hosts.specs.Tables.{lane};
 ghost use Rattle.machine.specs.Machine.{aim};
 ghost use Rattle.recordings.specs.Books.{Aims};
 ghost use Rattle.stack_core.specs.Cores.{IsCallWithin};
 ghost use Rattle.recorder.specs.declared.recorder.Cause.TheVariants.{SeatMissing};
 ghost use Rattle.recorder.specs.Seats.{IsReserved};
+ghost use Rattle.recorder.specs.Views.{BookView};
 
 use crate::desk::Desk;
 use crate::host_book::HostBook;
 use crate::receipt::Receipt;
 use crate::seat::Seat;
+use crate::seats::Seats;
 use crate::site::Site;
 use case_forms::{Call, Header, Host, OutOfMemory};
 use stack_core::CoreConfig;
@@ -56,7 +59,7 @@ pub enum Cause {
 #[derive(Drop)]
 pub struct Unfinished<L: Site> {
     pub recorder: Recorder<L>,
-    pub seats: Vec<Seat<L>>,
+    pub seats: Seats<L>,
     pub cause: Cause,
 }
 
@@ -121,9 +124,10 @@ impl<L: Site> Recorder<L> {
         unreachable!()
     }
 
-    /// Lends the book for reading, under the lock.
+    /// Lends the book for reading, under the lock: a book of this recorder's host, under its header.
     pub fn look<R: Wait, T, F: FnOnce(&HostBook) -> T>(&self, rt: &R, f: F) -> T
         requires { F.IsAlwaysCallable f }
+        ensures { (b : BookView) × ((b.core.recorded.me ≡ L.host) × (b.core.recorded.header ≡ L.header) × FnOnceReturnsAt F.FnOnce f b result) }
     {
         let desk = self.desk.lock(rt);
         f(desk.book())
@@ -142,7 +146,7 @@ impl<L: Site> Recorder<L> {
         ensures host { IfOk result (λ b. b.core.recorded.me ≡ L.host) }
         ensures header { IfOk result (λ b. b.core.recorded.header ≡ L.header) }
         ensures total { IfOk result (λ b. b.total ≡ sum_by (λ s. s.count) seats.items) }
-        ensures back { IfErr result (λ u. u.seats.items ≡ seats.items) }
+        ensures back { IfErr result (λ u. u.seats ≡ seats.items) }
         ensures cause { IfErr result (λ u. u.cause ≡ SeatMissing) }
         ensures missing { OnErr result (length seats.items < 65535) }
     {
@@ -156,7 +160,7 @@ impl<L: Site> Recorder<L> {
                     moved,
                     alloc,
                 },
-                seats,
+                seats: Seats::new(seats),
                 cause: Cause::SeatMissing,
             });
         }

@@ -21,7 +21,8 @@ impl Model for ByteQueue {
 
     ghost view = { λ q. drop q.gone q.bytes.items };
 
-    ghost invariant = { λ q. q.gone ≤ length q.bytes.items };
+    // No more bytes that left are kept than bytes that are there.
+    ghost invariant = { λ q. q.gone ≤ length (drop q.gone q.bytes.items) };
 }
 
 impl ByteQueue {

@@ -6,12 +6,13 @@ use Rattle.case_forms.specs.declared.trace.Event.{Event}
 use Rattle.case_forms.specs.declared.trace.Event.TheVariants as events
 use Rattle.case_forms.specs.declared.trace.Line.{Line}
 use Rattle.two_hosts.specs.declared.ends.Measure.{Measure}
-use Rattle.two_hosts.specs.declared.ends.Measure.TheVariants.{Bytes, Dones}
+use Rattle.two_hosts.specs.declared.ends.Measure.TheVariants.{Bytes, Dones, Eofs}
 
--- what an answer adds: the bytes that a read was told, or 1 for `ok`
+-- what an answer adds: the bytes that a read was told, or 1 for `ok`, or 1 for `eof`
 abbrev pub amount : Measure → Answer → ℕ
 amount Bytes (answers.Bytes bytes) = length bytes
 amount Dones answers.Done = 1
+amount Eofs answers.Eof = 1
 amount _ _ = 0
 
 -- what an event adds: only the end of a call does
@@ -28,7 +29,8 @@ abbrev pub told : Measure → ℕ → List Line → ℕ
 told measure thread [] = 0
 told measure thread (line ∷ lines) = line_amount measure thread line + told measure thread lines
 
--- host 1's thread was told the 64 bytes of each round; host 0's thread was answered `ok` three times, as it awaited, ended sending and
--- closed, and host 1's thread once, as it closed
+-- host 1's thread was told the 64 bytes of each round and then the end, and was answered `ok` once, as it closed; host 0's thread was
+-- answered `ok` three times, as it awaited, ended sending and closed (`specs/Rounds` says it of what they were answered)
 abbrev pub has_ended : ℕ → List Line → Bool
-has_ended rounds lines = (told Bytes 3 lines == 64 * rounds) && (told Dones 2 lines == 3) && (told Dones 3 lines == 1)
+has_ended rounds lines =
+    (told Bytes 3 lines == 64 * rounds) && (told Eofs 3 lines == 1) && (told Dones 3 lines == 1) && (told Dones 2 lines == 3)

@@ -13,6 +13,8 @@ enum Measure {
     Bytes,
     // How often `ok` was answered.
     Dones,
+    // How often a read was told the end of the stream.
+    Eofs,
 }
 
 // What an answer adds.
@@ -21,7 +23,7 @@ fn amount(measure: Measure, answer: &Answer) -> u64
 {
     match (measure, answer) {
         (Measure::Bytes, Answer::Bytes(bytes)) => bytes.len() as u64,
-        (Measure::Dones, Answer::Done) => 1,
+        (Measure::Dones, Answer::Done) | (Measure::Eofs, Answer::Eof) => 1,
         _ => 0,
     }
 }
@@ -56,12 +58,13 @@ fn adds_up(measure: Measure, thread: u32, lines: &[Line], total: u64) -> bool
     left == 0
 }
 
-/// Whether the lines tell that host 1 received all bytes of so many rounds, and that both applications came to their end.
+/// Whether the lines tell that host 1 received all bytes of so many rounds and read the end, and that both applications closed.
 pub(crate) fn has_ended(lines: &[Line], rounds: u16) -> bool
     ensures { result ≡ has_ended rounds lines.now }
 {
     let bytes = ROUND_BYTES as u64 * u64::from(rounds);
     adds_up(Measure::Bytes, SERVER_THREAD, lines, bytes)
-        && adds_up(Measure::Dones, CLIENT_THREAD, lines, 3)
+        && adds_up(Measure::Eofs, SERVER_THREAD, lines, 1)
         && adds_up(Measure::Dones, SERVER_THREAD, lines, 1)
+        && adds_up(Measure::Dones, CLIENT_THREAD, lines, 3)
 }

@@ -11,12 +11,14 @@
 //! - `threads`: both applications and the loops of both recorders
 //! - `fault`: why there is no recording
 //! - `ends`: whether a trace tells that all rounds ended
+//! - `laws`: that the end of all rounds is told exactly where all was received and both applications closed
 //! - `recording`: the whole recording
 #![tactic(auto)]
 
 mod caller;
 mod ends;
 mod fault;
+mod laws;
 mod plan;
 mod recording;
 mod talking;
@@ -24,6 +26,7 @@ mod threads;
 mod wire;
 
 pub use fault::RecordFault;
+pub use laws::rounds_have_ended;
 pub use plan::Plan;
 pub use recording::{Books, Recording, record, record_books};
 pub use wire::{Talk, Wire};
