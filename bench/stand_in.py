@@ -13,45 +13,20 @@ import argparse
 import glob
 import os
 import re
-import shutil
 import subprocess
 import sys
 import tempfile
+
+sys.dont_write_bytecode = True
+sys.path.insert(0, os.path.join(os.path.dirname(os.path.dirname(os.path.abspath(__file__))), "tools"))
+
+from unproved import TOP, kit, module_of
 
 FLAGS = """--target=x86_64-unknown-linux-gnu -march=x86-64 -mllvm -no-trap-after-noreturn -ffunction-sections -fdata-sections
  -mllvm -trap-unreachable -mllvm -no-x86-call-frame-opt -mllvm -disable-machine-licm -mllvm -disable-postra-machine-licm
  -mllvm -sink-common-insts=false --no-default-config -no-canonical-prefixes -fintegrated-cc1 -c -x ir -fPIE -O3 -Xclang -fmerge-functions
  -mllvm -mergefunc-use-aliases""".split()
 LIKE_PROVED = '"probe-stack"="inline-asm" "stack-probe-size"="3072" "target-cpu"="x86-64-v2"'
-# Keeps the module of the whole program, and ends the try there.
-KEEPER = """#!/bin/sh
-for word in "$@"; do
-  case "$word" in *.bc) if [ "$(stat -c %s "$word")" -gt 300000 ]; then cp "$word" {kept}; exit 1; fi;; esac
-done
-exec {clang} "$@"
-"""
-
-
-def kit_beside(kit, folder, kept):
-    """A folder like the kit's, whose compiler keeps what it is handed."""
-    for at in glob.glob(f"{kit}/*") + glob.glob(f"{kit}/bin/*") + glob.glob(f"{kit}/toolchain/*"):
-        to = os.path.join(folder, os.path.relpath(at, kit))
-        if to.endswith(("/bin", "/toolchain")):
-            os.makedirs(to, exist_ok=True)
-        elif to.endswith(("/rt", "/rtlib.py")):
-            os.makedirs(os.path.dirname(to), exist_ok=True)
-            shutil.copy(at, to)
-        else:
-            os.makedirs(os.path.dirname(to), exist_ok=True)
-            os.symlink(at, to)
-    for at in glob.glob(f"{kit}/toolchain/bin/*"):
-        to = os.path.join(folder, "toolchain/bin", os.path.basename(at))
-        if not to.endswith("/clang"):
-            os.symlink(at, to)
-    clang = f"{folder}/toolchain/bin/clang"
-    with open(clang, "w") as file:
-        file.write(KEEPER.format(kept=kept, clang=f"{kit}/toolchain/bin/clang"))
-    os.chmod(clang, 0o755)
 
 
 def marked(sources):
@@ -95,22 +70,17 @@ def main():
     words.add_argument("--inline", action="append", type=re.compile, default=[])
     words.add_argument("--apart", action="append", type=re.compile, default=[])
     words = words.parse_args()
-    top = os.path.dirname(os.path.dirname(os.path.abspath(__file__)))
-    kit = os.path.dirname(os.path.realpath(subprocess.check_output(["rt", "doc"], text=True).strip()))
-    clang = f"{kit}/toolchain/bin/clang"
+    whole = kit()
+    clang = f"{whole}/toolchain/bin/clang"
     with tempfile.TemporaryDirectory() as folder:
-        kept = f"{folder}/kept.bc"
-        kit_beside(kit, f"{folder}/kit", kept)
-        subprocess.run([f"{folder}/kit/bin/rt", "try", words.crate], cwd=f"{top}/crates/{words.crate}", stdin=subprocess.DEVNULL, capture_output=True)
-        if not os.path.exists(kept):
-            sys.exit("rt try handed its compiler no module")
+        kept = module_of(words.crate, folder)
         text = f"{folder}/kept.ll"
         subprocess.run([clang, "-x", "ir", kept, "-S", "-emit-llvm", "-Xclang", "-disable-llvm-passes", "-o", text], check=True)
-        inline = words.inline + list(marked(glob.glob(f"{top}/crates/*/src/**/*.rt", recursive=True)))
+        inline = words.inline + list(marked(glob.glob(f"{TOP}/crates/*/src/**/*.rt", recursive=True)))
         with open(text) as lines, open(f"{folder}/plain.ll", "w") as plain:
             plain.writelines(without_tests(lines, inline, words.apart))
         subprocess.run([clang, *FLAGS, f"{folder}/plain.ll", "-o", f"{folder}/plain.o"], check=True)
-        libraries = [f"{kit}/c/libos_c.a", f"{kit}/c/liblibc_c.a", "-lm", "-lpthread", "-ldl"]
+        libraries = [f"{whole}/c/libos_c.a", f"{whole}/c/liblibc_c.a", "-lm", "-lpthread", "-ldl"]
         subprocess.run(["cc", "-pie", "-Wl,--gc-sections", "-o", words.out, f"{folder}/plain.o", *libraries], check=True)
 
 

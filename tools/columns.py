@@ -1,0 +1,79 @@
+#!/usr/bin/env python3
+"""Holds lines to their width: 120 columns in src and specs, 160 in proofs.
+
+    tools/columns.py            says which files have more long lines than `tools/columns.txt` allows, and ends with status 1 if one has
+    tools/columns.py --write    lowers the counts in that file to those of today; none rises
+    tools/columns.py --anew     writes that file anew, as where files were renamed; the sum of all counts may not rise
+
+A column is a character. `tools/columns.txt` has a line for each file with long lines: their count and the file's name.
+"""
+import argparse
+import glob
+import os
+import sys
+
+TOP = os.path.dirname(os.path.dirname(os.path.abspath(__file__)))
+BASELINE = os.path.join(TOP, "tools", "columns.txt")
+# How wide lines may be, by the files in which they stand.
+WIDTHS = (("crates/*/src/**/*.rt", 120), ("crates/*/specs/**/*.antt", 120), ("crates/*/proofs/**/*.antt", 160))
+
+
+def long_lines():
+    """The numbers of the lines that are too wide, for each file that has some."""
+    found = {}
+    for pattern, width in WIDTHS:
+        for path in glob.glob(f"{TOP}/{pattern}", recursive=True):
+            with open(path, encoding="utf-8") as file:
+                numbers = [number for number, line in enumerate(file, 1) if width < len(line.rstrip("\n"))]
+            if numbers:
+                found[os.path.relpath(path, TOP)] = numbers
+    return found
+
+
+def allowed():
+    """How many long lines each file may have."""
+    if not os.path.exists(BASELINE):
+        return {}
+    with open(BASELINE, encoding="utf-8") as file:
+        rows = [line.split(maxsplit=1) for line in file.read().splitlines()]
+    return {path: int(count) for count, path in rows}
+
+
+def write(counts):
+    """Writes how many long lines each file may have."""
+    with open(BASELINE, "w", encoding="utf-8") as file:
+        file.writelines(f"{count} {path}\n" for path, count in sorted(counts.items()) if count)
+
+
+def refused(found, limits):
+    """What is wrong, as texts: a line for each file with more long lines than it may have."""
+    for path, numbers in sorted(found.items()):
+        limit = limits.get(path, 0)
+        if len(numbers) > limit:
+            yield f"{path}: {len(numbers)} long lines, {limit} are allowed: {', '.join(map(str, numbers))}"
+
+
+def main():
+    words = argparse.ArgumentParser(description=__doc__.splitlines()[0])
+    words.add_argument("--write", action="store_true")
+    words.add_argument("--anew", action="store_true")
+    words = words.parse_args()
+    found, limits = long_lines(), allowed()
+    counts = {path: len(numbers) for path, numbers in found.items()}
+    if words.anew and (not limits or sum(counts.values()) <= sum(limits.values())):
+        write(counts)
+        limits = counts
+    elif words.write:
+        limits = {path: min(limit, counts.get(path, 0)) for path, limit in limits.items()}
+        write(limits)
+    wrong = list(refused(found, limits))
+    for text in wrong:
+        print(text)
+    spare = sum(limits.values()) - sum(min(limit, counts.get(path, 0)) for path, limit in limits.items())
+    told = f"{sum(counts.values())} long lines in {len(counts)} files, {len(wrong)} files with more than they may have"
+    print(f"columns: {told}" + (f"; {spare} fewer than allowed (--write lowers that)" if spare else ""))
+    sys.exit(1 if wrong else 0)
+
+
+if __name__ == "__main__":
+    main()

@@ -1,0 +1,144 @@
+#!/usr/bin/env python3
+"""Builds a program of this repository without proving it, and keeps what it built.
+
+    python3 tools/unproved.py NAME OUT [-O1]
+
+NAME is a crate with a `main`, OUT the file of the program. `rt try` makes a module of the whole program, compiles and runs it, and keeps
+nothing. This takes the module that `rt try` hands to its compiler, and compiles and links it with the kit's own tools. The module has a
+test in place of each proof: where one fails the program stops, in place of going on with a wrong value. It leans on how the kit of
+November 2026 lays out its folder.
+"""
+import fcntl
+import glob
+import os
+import shutil
+import subprocess
+import sys
+import tempfile
+
+TOP = os.path.dirname(os.path.dirname(os.path.abspath(__file__)))
+FLAGS = """--target=x86_64-unknown-linux-gnu -march=x86-64 -ffunction-sections -fdata-sections --no-default-config -no-canonical-prefixes
+ -fintegrated-cc1 -c -x ir -fPIE""".split()
+# Keeps the module of the whole program, and ends the try there. The first module that `rt try` compiles is a small one.
+KEEPER = """#!/bin/sh
+for word in "$@"; do
+  case "$word" in *.bc) if [ "$(stat -c %s "$word")" -gt 100000 ]; then cp "$word" {kept}; exit 1; fi;; esac
+done
+exec {clang} "$@"
+"""
+
+
+def kit():
+    """The folder of the kit."""
+    if shutil.which("rt") is None:
+        sys.exit("the command rt of the Rattle kit is not in PATH")
+    return os.path.dirname(os.path.realpath(subprocess.check_output(["rt", "doc"], text=True).strip()))
+
+
+def kit_beside(folder, kept):
+    """A folder like the kit's, whose compiler keeps what it is handed."""
+    whole = kit()
+    for at in glob.glob(f"{whole}/*") + glob.glob(f"{whole}/bin/*") + glob.glob(f"{whole}/toolchain/*"):
+        to = os.path.join(folder, os.path.relpath(at, whole))
+        if to.endswith(("/bin", "/toolchain")):
+            os.makedirs(to, exist_ok=True)
+        elif to.endswith(("/rt", "/rtlib.py")):
+            os.makedirs(os.path.dirname(to), exist_ok=True)
+            shutil.copy(at, to)
+        else:
+            os.makedirs(os.path.dirname(to), exist_ok=True)
+            os.symlink(at, to)
+    for at in glob.glob(f"{whole}/toolchain/bin/*"):
+        to = os.path.join(folder, "toolchain/bin", os.path.basename(at))
+        if not to.endswith("/clang"):
+            os.symlink(at, to)
+    clang = f"{folder}/toolchain/bin/clang"
+    with open(clang, "w") as file:
+        file.write(KEEPER.format(kept=kept, clang=f"{whole}/toolchain/bin/clang"))
+    os.chmod(clang, 0o755)
+
+
+def module_of(name, folder):
+    """The module of a program, a file below the folder."""
+    kept = f"{folder}/kept.bc"
+    kit_beside(f"{folder}/kit", kept)
+    tried = subprocess.run(
+        [f"{folder}/kit/bin/rt", "try", name], cwd=f"{TOP}/crates/{name}", stdin=subprocess.DEVNULL, capture_output=True, text=True
+    )
+    if not os.path.exists(kept):
+        sys.exit(f"{tried.stdout}{tried.stderr}`rt try` made no module of {name}")
+    return kept
+
+
+def linked(objects, out):
+    """Links a program of these objects, with the kit's linker and libraries."""
+    whole = kit()
+    lib = f"{whole}/toolchain/lib"
+    before = [f"{lib}/{name}" for name in ("Scrt1.o", "crti.o", "crtbeginS.o")]
+    libraries = [f"{whole}/c/libos_c.a", f"{whole}/c/liblibc_c.a"]
+    libraries += [f"{lib}/{name}" for name in ("libm.so.6", "libc.so.6", "libc_nonshared.a", "libgcc.a", "libgcc_s.so.1")]
+    after = [f"{lib}/{name}" for name in ("crtendS.o", "crtn.o")]
+    words = ["-pie", "--gc-sections", "-dynamic-linker", "/lib64/ld-linux-x86-64.so.2", "-o", out]
+    subprocess.run([f"{whole}/toolchain/bin/ld.lld", *words, *before, *objects, *libraries, *after], check=True)
+
+
+def build(name, out, level="-O0"):
+    """Builds the program of a crate as the file `out`."""
+    os.makedirs(os.path.dirname(os.path.abspath(out)), exist_ok=True)
+    with tempfile.TemporaryDirectory() as folder:
+        module = module_of(name, folder)
+        subprocess.run([f"{kit()}/toolchain/bin/clang", *FLAGS, level, module, "-o", f"{folder}/program.o"], check=True)
+        linked([f"{folder}/program.o"], f"{folder}/program")
+        beside = f"{out}.{os.getpid()}"
+        shutil.move(f"{folder}/program", beside)
+        os.replace(beside, out)
+
+
+def crates_of(name):
+    """The crate and those of the repository that it stands on."""
+    with open(f"{TOP}/crates.txt", encoding="utf-8") as file:
+        rows = [line.split(":") for line in file if ":" in line and not line.startswith("#")]
+    below = {words.split()[0]: names.split() for words, names in rows}
+    found, left = set(), [name]
+    while left:
+        crate = left.pop()
+        if crate in below and crate not in found:
+            found.add(crate)
+            left += below[crate]
+    return found
+
+
+def newest_source(name):
+    """When a source of the crate, or of one below it, was last written."""
+    sources = [path for crate in crates_of(name) for path in glob.glob(f"{TOP}/crates/{crate}/src/**/*.rt", recursive=True)]
+    return max(os.stat(path).st_mtime for path in sources)
+
+
+def is_current(program, name):
+    """Whether a program is there, and no source of its crate is newer."""
+    return os.path.exists(program) and newest_source(name) < os.stat(program).st_mtime
+
+
+def kept(name):
+    """The program of a crate: the proved one where it stands, else an unproved one, which is built where none is kept."""
+    proved, unproved = f"{TOP}/crates/{name}/out/{name}", f"{TOP}/.built/{name}"
+    for program in (proved, unproved):
+        if is_current(program, name):
+            return program
+    os.makedirs(os.path.dirname(unproved), exist_ok=True)
+    with open(f"{unproved}.lock", "w", encoding="utf-8") as lock:
+        fcntl.flock(lock, fcntl.LOCK_EX)
+        if not is_current(unproved, name):
+            print(f"{name}: building it without proofs, once, as {unproved}; this takes a minute or two", file=sys.stderr, flush=True)
+            build(name, unproved)
+    return unproved
+
+
+def main():
+    if len(sys.argv) not in (3, 4):
+        sys.exit(__doc__)
+    build(*sys.argv[1:])
+
+
+if __name__ == "__main__":
+    main()
