@@ -117,7 +117,24 @@ class HostCalls:
             handler = getattr(self, "on_" + ALIASES.get(event.name, event.name), None)
             if handler:
                 handler(event)
+        for endpoint in self.endpoints:
+            self.order_accepts(endpoint)
         return self.endpoints
+
+    def order_accepts(self, listener):
+        """Lets accepts of several threads at once begin in the order in which their connections were completed: the queue gave
+        them in that order, so none had its effect before an earlier one began."""
+        places = [place for place, action in enumerate(listener.actions)
+                  if action.verb == "accept" and action.answer and action.answer[0] == "ok" and action.answer[1].connection]
+        places.sort(key=lambda place: listener.actions[place].answer[1].connection.completed(self.captures) or 0)
+        begin, order = 0, 0
+        for place in places:
+            action = listener.actions[place]
+            if begin > action.end:
+                return
+            if (action.begin, action.order) < (begin, order):
+                action = listener.actions[place] = action._replace(begin=begin, order=order)
+            begin, order = action.begin, action.order
 
     # Descriptors.
 
@@ -232,6 +249,11 @@ class HostCalls:
         else:
             self.notes.leave_out(f"{event.name} answered by {event.error}", event.place)
         return None
+
+    def on_socketpair(self, event):
+        if event.result == 0:
+            for number in arguments(event.text)[3]:
+                self.put(event, whole_number(number), None)
 
     def on_bind(self, event):
         socket, words = self.socket_of(event)
@@ -546,7 +568,7 @@ class HostCalls:
         for connection in self.connections:
             if "child" in connection.claimed or connection.server[1] != listener.local[1] or (remote and connection.client != remote):
                 continue
-            completed = connection.completed()
+            completed = connection.completed(self.captures)
             if completed is not None and (remote or completed <= end):
                 found.append((connection.begun if remote else completed, id(connection), connection))
         return self.claim(min(found)[2], "child") if found else None

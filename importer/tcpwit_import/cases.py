@@ -27,14 +27,24 @@ class Case:
 
     def __init__(self, name, connections, endpoints):
         self.name, self.connections = name, connections
-        self.ports = {(connection.hosts.get(connection.server), connection.server[1]) for connection in connections}
+        listeners = [endpoint for endpoint in endpoints if endpoint.role == "listener"]
+        self.listening = {(connection.hosts[connection.server], connection.server[1], address) for connection in connections
+                          if (address := listening_address(connection, listeners)) is not None}
         own = {id(connection) for connection in connections}
         self.endpoints = [endpoint for endpoint in endpoints if self._has(endpoint, own)]
 
     def _has(self, endpoint, own):
         if endpoint.role == "listener":
-            return (endpoint.host, endpoint.local[1]) in self.ports
+            return (endpoint.host, endpoint.local[1], endpoint.local[0]) in self.listening
         return endpoint.connection is not None and id(endpoint.connection) in own
+
+
+def listening_address(connection, listeners):
+    """The address of the listener that takes a connection: its own, the wildcard of its family, or another wildcard; None if there is none."""
+    address, port = connection.server
+    found = {endpoint.local[0] for endpoint in listeners if endpoint.host == connection.hosts[connection.server] and endpoint.local[1] == port}
+    wildcards = sorted((each for each in found if not any(each)), key=lambda each: len(each) != len(address))
+    return address if address in found else wildcards[0] if wildcards else None
 
 
 class Writer:

@@ -44,9 +44,10 @@ class Connection:
         sizes = [self.sizes.get(end) or 536 for end in (self.client, self.server)]
         return max(1, min(sizes) - ((segment[12] >> 4) * 4 - 20))
 
-    def completed(self):
-        """The moment of the client's first segment after its SYN as the server's side saw it, or any capture; None if there is none."""
-        moments = [packet.moment for packet in self.packets()
+    def completed(self, captures=()):
+        """The moment of the client's first segment after its SYN, as these captures show it, or all; None if there is none."""
+        own = [packet for name in captures for packet in self.seen.get(name, [])]
+        moments = [packet.moment for packet in own or self.packets()
                    if packet.source == self.client and packet.flags & (SYN | RST | ACK) == ACK]
         return min(moments, default=None)
 

@@ -25,7 +25,7 @@ DESCRIPTION = f"""Records a program's TCP, makes a trace of it, looks for a witn
   tcpwit-record --transfer 20000 --lose 3               a pair with a client and a server of its own
 
 The last three make network namespaces: they need root, or a kernel that lets users make namespaces. Nothing outside of them is changed.
-The last line printed is the verdict of tcpwit check. Captures, logs, trace, case and picture stay in the folder --out."""
+The verdict of tcpwit check is printed; what the programs print goes to standard error. Captures, logs, trace, case and picture stay in the folder --out."""
 
 
 class Chances(NamedTuple):
@@ -156,7 +156,7 @@ class Recording:
             server_words, client_words = pair_words(options)
             server = self.program(server_words, "host1.log", hosts[1], output=sys.stderr)
             server.wait_for_listener(options.wait)
-            client = self.program(client_words, "host0.log", hosts[0])
+            client = self.program(client_words, "host0.log", hosts[0], output=sys.stderr)
             client.wait(options.seconds)
             client.stop(0)
             self.end(options.linger)
@@ -176,7 +176,7 @@ class Recording:
             namespace = Namespace()
         self.capture("lo" if options.namespace else options.interface, "run.pcap", namespace)
         sudoer = os.environ.get("SUDO_USER") if os.geteuid() == 0 and not options.namespace else None
-        program = self.program(options.program, "run.log", namespace, user=sudoer)
+        program = self.program(options.program, "run.log", namespace, user=sudoer, output=sys.stderr)
         if options.serve:
             print("tcpwit-record: recording until interrupted", file=sys.stderr)
         try:
