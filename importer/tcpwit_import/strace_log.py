@@ -79,7 +79,6 @@ def _lines(name, number):
     """The lines with a moment. Without a column of processes the name's end is the process, as strace -ff writes it."""
     end = name.rsplit(".", 1)[-1]
     alone = int(end) if end.isdigit() else -1 - number
-    lines = []
     try:
         with open(name, encoding="utf-8", errors="surrogateescape") as file:
             progress = Progress(name, os.fstat(file.fileno()).st_size)
@@ -92,22 +91,28 @@ def _lines(name, number):
                 if found:
                     process = int(found[1] or found[2] or alone)
                     moment = int(found[3]) * 10**9 + int(found[4].ljust(9, "0")[:9])
-                    lines.append(_Line(process, moment, found[5].rstrip("\n"), f"{name}, line {count}",
-                                       1 if len(found[4]) > 6 else 1000))
+                    yield _Line(process, moment, found[5].rstrip("\n"), f"{name}, line {count}", 1 if len(found[4]) > 6 else 1000)
                 elif NO_UNIX_TIME.match(raw):
                     raise Problem(f"{name}, line {count}: no moment in seconds since 1970", f"record it so: {HOW}")
             progress.done()
     except OSError as error:
         raise Problem(f"{name}: {error.strerror}", "name a log that can be read") from error
-    return lines
+
+
+def _with_next(lines):
+    """Each line with the one after it."""
+    line = next(lines, None)
+    while line:
+        following = next(lines, None)
+        yield line, following
+        line = following
 
 
 def _events(lines):
     """Calls and ends of processes. `open_calls` has what began and did not end yet, `seen` each process's last moment."""
     open_calls, seen, events = {}, {}, []
-    for place, line in enumerate(lines):
-        after = lines[place + 1].latest if place + 1 < len(lines) else line.latest
-        text = line.text
+    for line, following in _with_next(lines):
+        after, text = (following or line).latest, line.text
         if text.startswith("+++ "):
             if not text.startswith("+++ superseded"):
                 events.append(Exit(line.process, seen.get(line.process, line.moment), line.latest, line.place))

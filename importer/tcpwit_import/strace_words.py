@@ -6,7 +6,6 @@ import ast
 import re
 from typing import NamedTuple
 
-STRING = re.compile(r'"((?:[^"\\]|\\.)*)"(\.\.\.)?', re.DOTALL)
 DESCRIPTOR = re.compile(r"(-?\d+|AT_FDCWD)<((?:->|[^<>])*)>(?:\(deleted\))?")
 WORD = re.compile(r"[^,\[\](){}\"=]+")
 KEY = re.compile(r"(\w+)=(?!=)")
@@ -36,7 +35,10 @@ def text_of(body):
             return bytes.fromhex(body.replace("\\x", ""))
         except ValueError:
             pass
-    return ast.literal_eval(f'b"{body}"')
+    try:
+        return ast.literal_eval(f'b"{body}"')
+    except (SyntaxError, ValueError):
+        return body.encode("latin-1", "replace")
 
 
 class _Reader:
@@ -78,9 +80,8 @@ class _Reader:
 
     def plain_value(self):
         letter = self.text[self.at:self.at + 1]
-        if string := STRING.match(self.text, self.at):
-            self.at = string.end()
-            return Text(text_of(string[1]), bool(string[2]))
+        if letter == '"':
+            return self.string()
         if letter and letter in "{[(":
             self.at += 1
             inner = self.items({"{": "}", "[": "]", "(": ")"}[letter])
@@ -96,7 +97,23 @@ class _Reader:
         if self.text[self.at:self.at + 1] == "(":
             self.at += 1
             return Call(word[0].strip(), self.items(")"))
-        return word[0].strip()
+        return word[0].partition("/*")[0].strip()
+
+    def string(self):
+        """A string, to its closing quote: the first with an even count of backslashes before it."""
+        end = self.at
+        while True:
+            end = self.text.find('"', end + 1)
+            if end < 0:
+                end = len(self.text)
+                break
+            before = self.text[self.at + 1:end] if self.text[end - 1] == "\\" else ""
+            if (len(before) - len(before.rstrip("\\"))) % 2 == 0:
+                break
+        body = self.text[self.at + 1:end]
+        cut = self.text.startswith("...", end + 1)
+        self.at = end + 1 + 3 * cut
+        return Text(text_of(body), cut)
 
 
 def whole_number(value):

@@ -2,6 +2,7 @@
 import argparse
 import os
 import shlex
+import signal
 import subprocess
 import sys
 import time
@@ -12,19 +13,19 @@ from .. import header as headers
 from ..problem import Notes, Problem
 from . import judging
 from .carrier import Carrier
-from .namespaces import ADDRESSES, Namespace, become_root_of_a_namespace, joined_pair
+from .namespaces import ADDRESSES, Namespace, joined_pair
 from .running import Capture, Traced
 
 DESCRIPTION = f"""Records a program's TCP, makes a trace of it, looks for a witness, and checks it.
 
-  tcpwit-record -- curl -o page http://example.org/     this host alone: a half case. Capturing needs root.
+  tcpwit-record -- curl -o page http://example.org/     this host alone: a half case
   tcpwit-record --serve -- nginx -g 'daemon off;'       the same of a server, until it is interrupted
   tcpwit-record --namespace -- ./run-my-tests           a network of its own, with a loopback: a whole case of a program that is both hosts
   tcpwit-record --pair 'python3 -m http.server 80' -- curl -o page http://{ADDRESSES[1]}/
                                                         two hosts of its own: a whole case. The server has {ADDRESSES[1]}, the client {ADDRESSES[0]}
   tcpwit-record --transfer 20000 --lose 3               a pair with a client and a server of its own
 
-The last three make network namespaces: they need root, or a kernel that lets users make namespaces. Nothing outside of them is changed.
+Capturing and network namespaces need root; the programs run as the user who called sudo. Nothing outside the namespaces is changed.
 The verdict of tcpwit check is printed; what the programs print goes to standard error. Captures, logs, trace, case and picture stay in the folder --out."""
 
 
@@ -77,6 +78,7 @@ def parser():
     words.add_argument("--kernel", choices=("plain", "shipped"), default=headers.KERNEL,
                        help=f"a pair's kernel settings: without what other RFCs add (plain), or as they are (default: {headers.KERNEL})")
     words.add_argument("--version", type=int, choices=sorted(headers.LINES), help="of the texts (default: 2 for two hosts, 3 for one)")
+    words.add_argument("--as", dest="user", metavar="USER", help="whose the programs are (default: who called sudo)")
     words.add_argument("--wait", type=within(0.1, 600), default=10, metavar="N", help="seconds until the server has to listen")
     words.add_argument("--linger", type=within(0, 600), default=1, metavar="N", help="seconds that a server lasts after the client")
     way = words.add_argument_group("the way between a pair")
@@ -123,9 +125,11 @@ class Recording:
         """Begins a capture."""
         self.captures.append(Capture(interface, self.file(name), namespace))
 
-    def program(self, words, name, namespace=None, **options):
-        """Begins a program."""
-        self.programs.append(Traced(words, self.file(name), namespace, **options))
+    def program(self, words, name, namespace=None):
+        """Begins a program, as the user who called sudo."""
+        user = self.options.user or os.environ.get("SUDO_USER", "root")
+        other = user if os.geteuid() == 0 and user != "root" else None
+        self.programs.append(Traced(words, self.file(name), namespace, other, sys.stderr))
         return self.programs[-1]
 
     def end(self, seconds=0.0):
@@ -147,16 +151,15 @@ class Recording:
     def pair(self):
         """Client and server in two namespaces; the importer's words."""
         options = self.options
-        become_root_of_a_namespace()
         between, hosts = joined_pair(options.kernel, options.version)
         carrier = Carrier(between, Chances(options.delay, options.loss, options.lose, options.double, options.reorder, options.seed))
         try:
             for number, host in enumerate(hosts):
                 self.capture(f"w{number}", f"host{number}.pcap", host)
             server_words, client_words = pair_words(options)
-            server = self.program(server_words, "host1.log", hosts[1], output=sys.stderr)
+            server = self.program(server_words, "host1.log", hosts[1])
             server.wait_for_listener(options.wait)
-            client = self.program(client_words, "host0.log", hosts[0], output=sys.stderr)
+            client = self.program(client_words, "host0.log", hosts[0])
             client.wait(options.seconds)
             client.stop(0)
             self.end(options.linger)
@@ -172,11 +175,9 @@ class Recording:
         options = self.options
         namespace = None
         if options.namespace:
-            become_root_of_a_namespace()
-            namespace = Namespace()
+                namespace = Namespace()
         self.capture("lo" if options.namespace else options.interface, "run.pcap", namespace)
-        sudoer = os.environ.get("SUDO_USER") if os.geteuid() == 0 and not options.namespace else None
-        program = self.program(options.program, "run.log", namespace, user=sudoer, output=sys.stderr)
+        program = self.program(options.program, "run.log", namespace)
         if options.serve:
             print("tcpwit-record: recording until interrupted", file=sys.stderr)
         try:
@@ -199,6 +200,8 @@ def pair_words(options):
 
 def record(options):
     """Records, imports and judges; the exit status."""
+    if os.geteuid() != 0:
+        raise Problem("captures and network namespaces need root", "sudo tcpwit-record ..: the program itself runs as you")
     programs = None if options.no_check else judging.both_programs(options)
     recording = Recording(options)
     try:
@@ -231,6 +234,8 @@ def main(given=None):
     words = parser()
     options = words.parse_args(given)
     check_words(words, options)
+    # Whoever ends this program ends what it started too.
+    signal.signal(signal.SIGTERM, lambda *_: sys.exit(143))
     try:
         return record(options)
     except Problem as problem:

@@ -9,7 +9,7 @@ import subprocess
 
 from ..problem import Problem
 
-NEW_USER, NEW_NETWORK = 0x10000000, 0x40000000
+NEW_NETWORK = 0x40000000
 SIOCETHTOOL = 0x8946
 # Transmit checksums, segmentation in the card, segmentation in the stack, joining of what comes in.
 OFFLOADS = (0x17, 0x1F, 0x24, 0x2C)
@@ -26,18 +26,7 @@ LIBC = ctypes.CDLL(None, use_errno=True)
 def _checked(result, what):
     if result != 0:
         raise Problem(f"{what}: {os.strerror(ctypes.get_errno())}",
-                      "network namespaces need root, or a kernel that lets users make namespaces: sudo tcpwit-record ..")
-
-
-def become_root_of_a_namespace():
-    """Without root: a user namespace, in which this process may make network namespaces."""
-    if os.geteuid() == 0:
-        return
-    user, group = os.geteuid(), os.getegid()
-    _checked(LIBC.unshare(NEW_USER), "no user namespace")
-    for name, text in (("setgroups", "deny"), ("uid_map", f"0 {user} 1"), ("gid_map", f"0 {group} 1")):
-        with open("/proc/self/" + name, "w", encoding="ascii") as file:
-            file.write(text)
+                      "network namespaces need root: sudo tcpwit-record ..")
 
 
 class Namespace:
