@@ -103,7 +103,7 @@ class Captures(unittest.TestCase):
         self.refused(b"", "neither pcap nor pcapng")
         self.refused(b"no capture", "neither pcap nor pcapng")
         self.refused(pcapng([(1, 6)], [(0, 0, ethernet(PACKET))], dropped=106), "lost 106 packets")
-        self.refused(pcapng([(1, 6)], [(0, 0, ethernet(PACKET))])[:-43], "ends within packet 2")
+        self.refused(pcapng([(1, 6)], [(0, 0, ethernet(PACKET))])[:-20], "ends within packet 2")
         self.refused(pcapng([(147, 6)], []), "link type 147")
         pcap(self.name, [(MOMENT, ethernet(PACKET)[:-3])])
         self.refused(None, "22 of its 25 bytes were captured")
