@@ -136,13 +136,14 @@ def chosen_connections(options, notes, connections, endpoints, hosts, names):
         for end, host in connection.hosts.items():
             addresses[host].add(end[0])
     kept = []
+    begun = {frozenset((connection.client, connection.server)) for connection in connections if not connection.whole}
     for connection in connections:
         place = f"{next(connection.packets()).place}: {connection}"
         if not assign_hosts(connection, listening, addresses):
             notes.leave_out("connections that no call of the logs opened or listened for", place)
         elif not wanted(options, connection):
             notes.leave_out("connections of other addresses", place)
-        elif not connection.whole:
+        elif frozenset((connection.client, connection.server)) in begun:
             refuse_begun(options, notes, connection, place)
         elif hosts == 2 and len(names) == 2 and not in_both(connection, names, addresses):
             notes.leave_out("connections with a host that was not recorded", place)

@@ -1,11 +1,16 @@
 """The commands: what they print, and how they fail."""
+import contextlib
+import io
 import os
-import shutil
 import subprocess
 import tempfile
 import unittest
+from unittest import mock
 
-from .wire import ACK, FIN, ONE, PSH, SECOND, SYN, ZERO, Talk, address, ethernet, ip_packet, log, pcap, segment
+from tcpwit_import.cli import main as importing
+from tcpwit_import.recording.cli import main as recording
+
+from .wire import ACK, FIN, ONE, PSH, SECOND, ZERO, Talk, address, ethernet, ip_packet, log, pcap, segment
 
 TOP = os.path.dirname(os.path.dirname(os.path.realpath(__file__)))
 AT = 100 * SECOND
@@ -38,10 +43,15 @@ def talk(**options):
     return found
 
 
-def run(*words, program="tcpwit-import", **options):
-    """Runs a command: status, standard output, standard error."""
-    done = subprocess.run([os.path.join(TOP, program), *words], capture_output=True, text=True, timeout=60, check=False, **options)
-    return done.returncode, done.stdout, done.stderr
+def run(*words, command=importing):
+    """Runs a command in this process: status, standard output, standard error."""
+    out, error = io.StringIO(), io.StringIO()
+    with contextlib.redirect_stdout(out), contextlib.redirect_stderr(error):
+        try:
+            status = command(list(words))
+        except SystemExit as ended:
+            status = ended.code
+    return status, out.getvalue(), error.getvalue()
 
 
 class Command(unittest.TestCase):
@@ -57,8 +67,8 @@ class Command(unittest.TestCase):
         log(f"{self.folder}/s1.log", server)
         return ["--calls", "0", f"{self.folder}/s0.log", "--calls", "1", f"{self.folder}/s1.log"]
 
-    def refused(self, words, cause, program="tcpwit-import"):
-        status, out, error = run(*words, program=program)
+    def refused(self, words, cause, command=importing):
+        status, out, error = run(*words, command=command)
         self.assertEqual((status, out), (1, ""), error)
         self.assertIn(cause, error)
         self.assertNotIn("Traceback", error)
@@ -73,7 +83,7 @@ class Command(unittest.TestCase):
         moments = [int(line.split()[0]) for line in lines[7:]]
         self.assertEqual(moments, sorted(moments))
         self.assertEqual([line.split(" ", 2)[2][:14] for line in lines[7:]][:6],
-                         ["B listen 1 80 ", "E ok 2", "B accept 2", "E ok 3", "B open 0 4000 ", "E ok 1"])
+                         ["B listen 1 80 ", "E ok 2", "B accept 2", "B open 0 4000 ", "E ok 1", "B await 1"])
         self.assertEqual(sum(line.split()[2] in "OI" for line in lines[7:]), 16)
         self.assertIn("header: trace 2", error)
 
@@ -188,14 +198,21 @@ class Command(unittest.TestCase):
     def test_words_of_the_recorder(self):
         for words in ([], ["--transfer", "-5"], ["--transfer", "5", "--lose", "x"], ["--transfer", "5", "--loss", "2"], ["--pair", "", "--", "a"],
                       ["--transfer", "5", "--", "a"], ["--serve", "--namespace", "--", "a"], ["--transfer", "5", "--delay", "nan"]):
-            status, out, error = run(*words, program="tcpwit-record")
+            status, out, error = run(*words, command=recording)
             self.assertEqual((status, out), (2, ""), words)
             self.assertNotIn("Traceback", error)
-        self.assertEqual(run("--help", program="tcpwit-record")[0], 0)
+        self.assertEqual(run("--help", command=recording)[0], 0)
 
-    def test_a_recorder_without_a_checker_says_so(self):
-        if os.geteuid() == 0 and not shutil.which("tcpwit", path="/usr/bin:/bin"):
-            self.refused(["--tcpwit", "/nowhere", "--transfer", "5"], "/nowhere is no program", program="tcpwit-record")
+    def test_a_recorder_without_what_it_needs(self):
+        with mock.patch("os.geteuid", return_value=1000):
+            self.refused(["--transfer", "5"], "need root", recording)
+        with mock.patch("os.geteuid", return_value=0):
+            self.refused(["--tcpwit", "/nowhere", "--transfer", "5"], "/nowhere is no program", recording)
+
+    def test_the_programs_themselves(self):
+        done = subprocess.run([os.path.join(TOP, "tcpwit-import")], capture_output=True, text=True, timeout=100, check=False)
+        self.assertEqual((done.returncode, done.stdout), (1, ""))
+        self.assertIn("no capture is given", done.stderr)
 
 
 if __name__ == "__main__":
