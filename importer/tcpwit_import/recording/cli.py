@@ -193,7 +193,8 @@ def pair_words(options):
     """The words of server and client."""
     if not options.transfer:
         return shlex.split(options.pair), options.program
-    talk = [sys.executable, os.path.join(os.path.dirname(os.path.realpath(__file__)), "talk.py")]
+    # Without the user's modules Python begins faster, and its log is shorter.
+    talk = [sys.executable, "-I", "-S", os.path.join(os.path.dirname(os.path.realpath(__file__)), "talk.py")]
     echo = ["echo"] if options.echo else []
     return talk + ["receive", "80", *echo], talk + ["send", ADDRESSES[1], "80", str(options.transfer), str(options.chunk)]
 

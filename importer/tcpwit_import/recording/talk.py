@@ -1,6 +1,6 @@
 #!/usr/bin/python3
 """A plain client and server for tcpwit-record --transfer: talk.py receive PORT [echo], talk.py send ADDRESS PORT BYTES CHUNK [echo]"""
-import random
+import os
 import socket
 import sys
 
@@ -18,12 +18,11 @@ def receive(port, echo):
 
 def send(address, port, size, chunk):
     """Sends this many bytes, ends sending, and reads until the other end has ended too."""
-    dice = random.Random(1)
     with socket.create_connection((address, port)) as end:
         end.setsockopt(socket.IPPROTO_TCP, socket.TCP_NODELAY, 1)
         while size:
             part = min(size, chunk)
-            end.sendall(dice.randbytes(part))
+            end.sendall(os.urandom(part))
             size -= part
         end.shutdown(socket.SHUT_WR)
         while end.recv(5000):
