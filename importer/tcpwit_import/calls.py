@@ -53,6 +53,7 @@ class Endpoint:
     pending: bool = False
     shut: bool = False
     gone: bool = False
+    shared: int = 0
 
     @property
     def own_end(self):
@@ -278,6 +279,12 @@ class HostCalls:
         if event.result != 0 and event.error != "EADDRINUSE":
             self.notes.leave_out(f"listen answered by {event.error}", event.place)
             return
+        for other in self.endpoints:
+            if other.role == "listener" and other.local == socket.bound and socket.bound[1] and not other.gone and event.result == 0:
+                self.notes.change("listeners that share a port, told as one", event.place)
+                socket.endpoint = other
+                other.shared += 1
+                return
         endpoint = Endpoint("listener", self.host_of("listener"), socket.bound, None, event.place)
         backlog = whole_number(words[1])
         backlog = LONGEST if backlog is None or backlog < 0 else min(backlog, LONGEST)
@@ -536,6 +543,9 @@ class HostCalls:
         """The last descriptor of a socket is closed."""
         endpoint = socket.endpoint
         if endpoint is None or endpoint.gone:
+            return
+        if endpoint.shared:
+            endpoint.shared -= 1
             return
         endpoint.gone = True
         verb = "abort" if socket.aborts and endpoint.role != "listener" else "close"

@@ -151,7 +151,8 @@ class Writer:
 
     def captured(self, host, name):
         """What one capture shows, in its order."""
-        packets = [(packet, connection) for connection in self.case.connections for packet in connection.seen.get(name, [])]
+        packets = [(packet, connection) for connection in self.case.connections
+                   for packet in seen_once(connection.seen.get(name, []), {end for end, owner in connection.hosts.items() if owner == host})]
         packets.sort(key=lambda pair: pair[0].moment)
         latest = 0
         for packet, connection in packets:
@@ -162,6 +163,14 @@ class Writer:
                 yield ("I", 1 - sender, moment), connection, packet
             else:
                 yield ("O" if sender == host else "I", host, moment), connection, packet
+
+
+def seen_once(packets, own):
+    """A capture of all interfaces has a packet at each that it passes. What the host sent counts where it was marked as sent, if
+    anywhere, and what it got where it was not."""
+    marked = {packet.source in own for packet in packets if packet.outgoing == (packet.source in own)}
+    return [packet for packet in packets
+            if packet.outgoing is None or (packet.source in own) not in marked or packet.outgoing == (packet.source in own)]
 
 
 def _interleaved(one, two):

@@ -140,7 +140,8 @@ def chosen_connections(options, notes, connections, endpoints, hosts, names):
     for connection in connections:
         place = f"{next(connection.packets()).place}: {connection}"
         if not assign_hosts(connection, listening, addresses):
-            notes.leave_out("connections that no call of the logs opened or listened for", place)
+            kind = "with both ends in one log, which wants --calls both" if connection.hosts else "that no call of the logs opened or listened for"
+            notes.leave_out(f"connections {kind}", place)
         elif not wanted(options, connection):
             notes.leave_out("connections of other addresses", place)
         elif frozenset((connection.client, connection.server)) in begun:

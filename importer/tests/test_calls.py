@@ -155,6 +155,10 @@ class Calls(unittest.TestCase):
     def test_what_did_not_end_has_no_answer(self):
         self.assertEqual(self.client("read(3,  <unfinished ...>"), ["B recv 1 65535"])
 
+    def test_listeners_that_share_a_port_are_one(self):
+        second = ["socket(AF_INET, SOCK_STREAM, IPPROTO_TCP) = 5", f"bind(5, {address(ONE)}, 16) = 0", "listen(5, 5) = 0"]
+        self.assertEqual(self.server(*second, "close(3) = 0", "close(5) = 0"), ["B close 1", "E ok"])
+
     def test_io_uring_is_an_error(self):
         with self.assertRaisesRegex(Problem, "io_uring"):
             self.client("io_uring_setup(8, {flags=0}) = 5")

@@ -4,7 +4,8 @@ import struct
 import tempfile
 import unittest
 
-from tcpwit_import.captures import read_capture, shown
+from tcpwit_import.captures import Packet, read_capture, shown
+from tcpwit_import.cases import seen_once
 from tcpwit_import.problem import Notes, Problem
 
 from .wire import ACK, ONE, SECOND, ZERO, ethernet, ip_packet, pcap, segment
@@ -85,6 +86,17 @@ class Captures(unittest.TestCase):
         self.assertEqual(len(self.read()), 1)
         self.assertEqual(sum(count for count, _ in self.notes.left_out.values()), 3)
         self.assertTrue(any("packet 3" in line for line in self.notes.lines()))
+
+    def test_a_packet_of_several_interfaces_counts_once(self):
+        own, other = (b"\x0a\x09\0\1", 4000), (b"\x0a\x09\0\2", 80)
+        rows = [Packet(number, source, other if source == own else own, b"", outgoing, "")
+                for number, (source, outgoing) in enumerate([(own, True), (own, False), (other, False), (other, True)])]
+        self.assertEqual([packet.moment for packet in seen_once(rows, {own})], [0, 2])
+        # A loopback marks nothing as sent, and other links say nothing.
+        self.assertEqual(len(seen_once([row for row in rows if not row.outgoing], {own})), 2)
+        for row in rows:
+            row.outgoing = None
+        self.assertEqual(len(seen_once(rows, {own})), 4)
 
     def refused(self, data, words):
         with self.assertRaises(Problem) as caught:

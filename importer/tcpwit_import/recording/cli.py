@@ -161,6 +161,7 @@ class Recording:
             server.wait_for_listener(options.wait)
             client = self.program(client_words, "host0.log", hosts[0])
             client.wait(options.seconds)
+            client.refuse_failed_start()
             client.stop(0)
             self.end(options.linger)
         finally:
@@ -184,6 +185,7 @@ class Recording:
             program.wait(options.seconds)
         except KeyboardInterrupt:
             pass
+        program.refuse_failed_start()
         self.end(0 if options.serve else min(options.linger, 0.1))
         host = "both" if options.namespace else "0"
         return ["--capture", host, self.file("run.pcap"), "--calls", host, self.file("run.log")]

@@ -96,6 +96,11 @@ class Traced:
             return False
         return True
 
+    def refuse_failed_start(self):
+        """A program that strace could not begin left no log."""
+        if not self.logged():
+            raise Problem(f"{self.words[0]} could not be started", "see whether it is installed, and name it as in a shell")
+
     def stop(self, seconds):
         """Ends what still runs: by SIGTERM, and by SIGKILL if that is not enough."""
         for number in (signal.SIGTERM, signal.SIGKILL):
