@@ -4,7 +4,6 @@ from typing import Any, NamedTuple
 
 from .calls import Action, Data, Endpoint
 from .captures import shown
-from .clocks import SAME
 from .large import Flow
 from .problem import Problem
 
@@ -56,7 +55,7 @@ class Writer:
         self.both = len(captures) == 2 or None in captures
 
     def lines(self):
-        """All lines in their order, with numbers and threads."""
+        """All lines in their order, with numbers and threads. A trace may be large: no second copy of it is made."""
         members = {id(endpoint) for endpoint in self.case.endpoints}
         for endpoint in self.case.endpoints:
             self.numbers[id(endpoint)] = len(self.numbers) + 1
@@ -67,11 +66,12 @@ class Writer:
                         and id(action.answer[-1]) not in members):
                     calls += self.call(action)
         calls.sort(key=lambda line: (line.moment, line.order))
-        found = list(heapq.merge(self.segments(), calls, key=lambda line: line.moment))
-        if not found:
-            return []
-        first = found[0].moment - 10**9
-        return [f"{(line.moment - first) // 1000} {self.thread(line.thread)} {line.text}" for line in found]
+        found = heapq.merge(self.segments(), calls, key=lambda line: line.moment)
+        start, texts = None, []
+        for line in found:
+            start = line.moment - 10**9 if start is None else start
+            texts.append(f"{(line.moment - start) // 1000} {self.thread(line.thread)} {line.text}\n")
+        return texts
 
     def thread(self, key):
         """The number of a thread."""
@@ -191,11 +191,3 @@ def _interleaved(one, two):
             sent.add(found[2].segment[:16])
         heads[side] = next(sources[side], None)
         yield found
-
-
-def trace_text(header, lines):
-    """The whole text."""
-    return "\n".join(header + lines) + "\n"
-
-
-__all__ = ["Case", "Writer", "SAME", "trace_text"]

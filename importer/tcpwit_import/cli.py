@@ -6,7 +6,7 @@ import sys
 from . import header as headers
 from .calls import HostCalls
 from .captures import read_capture, shown
-from .cases import Case, Writer, trace_text
+from .cases import Case, Writer
 from .clocks import SAME, bounds_of, clock_of, refuse_distant, said
 from .connections import connections_of, refuse_gaps
 from .problem import Notes, Problem
@@ -78,7 +78,7 @@ def read_captures(files, notes):
 
 
 def run(options, notes):
-    """Reads all files; the traces by name."""
+    """Reads all files; the lines of each trace by its name."""
     captures, logs = files_by_host(options.capture, "--capture"), files_by_host(options.calls, "--calls")
     if not captures:
         raise Problem("no capture is given", "give --capture HOST FILE, of a capture by tcpdump -w")
@@ -106,7 +106,7 @@ def run(options, notes):
 
 
 def make_traces(options, notes, names, connections, endpoints, hosts):
-    """The traces by name."""
+    """The lines of each trace by its name."""
     if not endpoints:
         raise Problem("no TCP call is in the logs", "start strace with the programs, with -f, and trace %network, read, write and close too")
     connections = chosen_connections(options, notes, connections, endpoints, hosts, names)
@@ -121,7 +121,8 @@ def make_traces(options, notes, names, connections, endpoints, hosts):
     chosen = {name: getattr(options, name) for name in (*headers.LIMITS, *headers.WORDS) if getattr(options, name) is not None}
     lines = headers.header(hosts, (clock.skew + 999) // 1000, chosen, options.version)
     notes.say(f"header: {', '.join(lines)} ({'two hosts' if hosts == 2 else 'one host'} recorded)")
-    return {case.name: trace_text(lines, Writer(case, names if hosts == 2 or None in names else {0: names[0]}, clock, notes).lines())
+    head = [line + "\n" for line in lines]
+    return {case.name: head + Writer(case, names if hosts == 2 or None in names else {0: names[0]}, clock, notes).lines()
             for case in cases_of(options, connections, endpoints, hosts)}
 
 
@@ -214,20 +215,25 @@ def cases_of(options, connections, endpoints, hosts):
     return [Case(name, group, endpoints) for name, group in groups.items()]
 
 
+def file_name(name):
+    """A trace's name without letters that file systems refuse."""
+    return name.replace(":", "_").replace("[", "").replace("]", "")
+
+
 def write(options, traces):
     """Prints one trace, or writes all."""
     if options.out and (len(traces) > 1 or os.path.isdir(options.out)):
         os.makedirs(options.out, exist_ok=True)
-        for name, text in traces.items():
-            with open(os.path.join(options.out, name.replace(":", "_").replace("[", "").replace("]", "") + ".trace"), "w", encoding="ascii") as file:
-                file.write(text)
+        for name, lines in traces.items():
+            with open(os.path.join(options.out, file_name(name) + ".trace"), "w", encoding="ascii") as file:
+                file.writelines(lines)
     elif len(traces) > 1:
         raise Problem(f"{len(traces)} traces: {', '.join(traces)}", "write them to a folder by --out, or choose one by --one ADDRESS")
     elif options.out:
         with open(options.out, "w", encoding="ascii") as file:
-            file.writelines(traces.values())
+            file.writelines(*traces.values())
     else:
-        sys.stdout.writelines(traces.values())
+        sys.stdout.writelines(*traces.values())
         sys.stdout.flush()
 
 

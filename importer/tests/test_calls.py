@@ -32,7 +32,7 @@ class Calls(unittest.TestCase):
         for connection in connections:
             connection.hosts = {connection.client: 0, connection.server: 1}
         writer = Writer(Case("run", connections, endpoints), {0: "c0", 1: "c1"}, SAME, self.notes)
-        told = [line.split(" ", 2) for line in writer.lines() if line.split(" ")[2] in "BE"]
+        told = [line.rstrip("\n").split(" ", 2) for line in writer.lines() if line.split(" ")[2] in "BE"]
         self.threads = [thread for _, thread, _ in told]
         return [text for _, _, text in told]
 
@@ -49,7 +49,8 @@ class Calls(unittest.TestCase):
         return found[4:]
 
     def test_sends(self):
-        for call in ('write(3, "\\x61\\x62", 2)', 'sendto(3, "ab", 2, MSG_NOSIGNAL, NULL, 0)', 'writev(3, [{iov_base="a", iov_len=1}, {iov_base="b", iov_len=1}], 2)',
+        for call in ('write(3, "\\x61\\x62", 2)', 'sendto(3, "ab", 2, MSG_NOSIGNAL, NULL, 0)',
+                     'writev(3, [{iov_base="a", iov_len=1}, {iov_base="b", iov_len=1}], 2)',
                      'sendmsg(3, {msg_name=NULL, msg_namelen=0, msg_iov=[{iov_base="ab", iov_len=2}], msg_iovlen=1, msg_controllen=0, msg_flags=0}, 0)',
                      'sendmmsg(3, [{msg_hdr={msg_iov=[{iov_base="ab", iov_len=2}], msg_iovlen=1}, msg_len=2}], 1, 0)'):
             with self.subTest(call=call):
@@ -60,7 +61,8 @@ class Calls(unittest.TestCase):
         self.assertEqual(self.client('write(3, "", 0) = 0'), [])
 
     def test_receives(self):
-        for call in ('read(3, "ab", 9) = 2', 'recvfrom(3, "ab", 9, 0, NULL, NULL) = 2', 'readv(3, [{iov_base="a", iov_len=1}, {iov_base="b", iov_len=8}], 2) = 2',
+        for call in ('read(3, "ab", 9) = 2', 'recvfrom(3, "ab", 9, 0, NULL, NULL) = 2',
+                     'readv(3, [{iov_base="a", iov_len=1}, {iov_base="b", iov_len=8}], 2) = 2',
                      'recvmsg(3, {msg_name=NULL, msg_namelen=0, msg_iov=[{iov_base="ab", iov_len=9}], msg_iovlen=1, msg_flags=0}, 0) = 2',
                      'recvmmsg(3, [{msg_hdr={msg_iov=[{iov_base="ab", iov_len=9}], msg_iovlen=1}, msg_len=2}], 1, 0, NULL) = 1'):
             with self.subTest(call=call):
@@ -73,8 +75,8 @@ class Calls(unittest.TestCase):
         talk = Talk(at=AT + 2 * 10**7)
         talk.send(0, payload=b"hello")
         talk.send(1, payload=b"world!")
-        self.assertEqual(self.client("sendfile(3, 5, [0] => [2], 2) = 2", "splice(6, NULL, 3, NULL, 3, 0) = 3", "splice(3, NULL, 6, NULL, 6, 0) = 4",
-                                     'read(3, "!!"..., 9) = 2', talk=talk)[:8],
+        self.assertEqual(self.client("sendfile(3, 5, [0] => [2], 2) = 2", "splice(6, NULL, 3, NULL, 3, 0) = 3",
+                                     "splice(3, NULL, 6, NULL, 6, 0) = 4", 'read(3, "!!"..., 9) = 2', talk=talk)[:8],
                          ["B send 1 6865", "E ok 2", "B send 1 6c6c6f", "E ok 3", "B recv 1 6", "E data 776f726c", "B recv 1 9", "E data 2121"])
         self.assertTrue(any("taken from the capture" in line for line in self.notes.lines()))
         with self.assertRaises(Problem):
@@ -88,10 +90,12 @@ class Calls(unittest.TestCase):
                           ("B recv 1", 14), ("E data 6", 7 + 131070), ("B recv 1", 14), ("E data 6", 7 + 68930)])
 
     def test_opening(self):
-        self.assertEqual(self.told([SOCKET, f"connect(3, {address(ONE)}, 16) = -1 EINPROGRESS (x)", "getsockopt(3, SOL_SOCKET, SO_ERROR, [0], [4]) = 0"]),
+        self.assertEqual(self.told([SOCKET, f"connect(3, {address(ONE)}, 16) = -1 EINPROGRESS (x)",
+                                    "getsockopt(3, SOL_SOCKET, SO_ERROR, [0], [4]) = 0"]),
                          ["B open 0 4000 80", "E ok 1", "B await 1", "E ok"])
         again = f"connect(3, {address(ONE)}, 16) = "
-        self.assertEqual(self.told([SOCKET, again + "-1 EINPROGRESS (x)", again + "-1 EALREADY (x)", again + "0"])[2:], ["B await 1", "E again", "B await 1", "E ok"])
+        self.assertEqual(self.told([SOCKET, again + "-1 EINPROGRESS (x)", again + "-1 EALREADY (x)", again + "0"])[2:],
+                         ["B await 1", "E again", "B await 1", "E ok"])
         self.assertEqual(self.told([SOCKET, again + "-1 ECONNREFUSED (x)", "close(3) = 0"])[2:], ["B await 1", "E refused", "B close 1", "E ok"])
         self.assertEqual(self.told([SOCKET, again + "-1 EINTR (x)"]), ["B open 0 4000 80", "E ok 1"])
         self.assertEqual(self.told([SOCKET, again + "-1 EADDRNOTAVAIL (x)"]), [])
@@ -101,7 +105,8 @@ class Calls(unittest.TestCase):
     def test_listening(self):
         self.assertEqual(self.server("listen(3, 9) = 0", "accept4(3, 0x7f, [16], SOCK_NONBLOCK) = -1 EAGAIN (x)", "shutdown(4, SHUT_WR) = 0"),
                          ["B accept 1", "E again", "B shut 2", "E ok"])
-        self.assertEqual(self.told([SOCKET, f"bind(3, {address(ONE)}, 16) = 0", "listen(3, 5) = 0", "accept(3, NULL, NULL) = 4", 'read(4, "a", 1) = 1'], host=1)[2:],
+        self.assertEqual(self.told([SOCKET, f"bind(3, {address(ONE)}, 16) = 0", "listen(3, 5) = 0", "accept(3, NULL, NULL) = 4",
+                                    'read(4, "a", 1) = 1'], host=1)[2:],
                          ["B accept 1", "E ok 2", "B recv 2 1", "E data 61"])
         self.assertEqual(self.server("shutdown(3, SHUT_RDWR) = 0", "close(3) = 0"), ["B close 1", "E ok"])
         self.assertEqual(self.server("shutdown(3, SHUT_WR) = 0", "close(3) = 0"), ["B close 1", "E ok"])
@@ -148,9 +153,11 @@ class Calls(unittest.TestCase):
         self.assertEqual(self.client(clone, (8, "+++ exited with 0 +++"), "+++ exited with 0 +++"), ["B close 1", "E ok"])
 
     def test_a_descriptor_that_is_passed_on(self):
-        passed = "sendmsg(6, {msg_iov=[{iov_base=\"x\", iov_len=1}], msg_iovlen=1, msg_control=[{cmsg_len=20, cmsg_level=SOL_SOCKET, cmsg_type=SCM_RIGHTS, cmsg_data=[3]}], msg_controllen=24, msg_flags=0}, 0) = 1"
+        passed = "sendmsg(6, {msg_iov=[{iov_base=\"x\", iov_len=1}], msg_iovlen=1, " \
+            "msg_control=[{cmsg_len=20, cmsg_level=SOL_SOCKET, cmsg_type=SCM_RIGHTS, cmsg_data=[3]}], msg_controllen=24, msg_flags=0}, 0) = 1"
         came = (8, passed.replace("sendmsg(6", "recvmsg(6").replace("[3]", "[9]"))
-        self.assertEqual(self.client(passed, "close(3) = 0", came, (8, 'write(9, "a", 1) = 1'), (8, "close(9) = 0")), ["B send 1 61", "E ok 1", "B close 1", "E ok"])
+        self.assertEqual(self.client(passed, "close(3) = 0", came, (8, 'write(9, "a", 1) = 1'), (8, "close(9) = 0")),
+                         ["B send 1 61", "E ok 1", "B close 1", "E ok"])
 
     def test_what_did_not_end_has_no_answer(self):
         self.assertEqual(self.client("read(3,  <unfinished ...>"), ["B recv 1 65535"])
@@ -168,7 +175,8 @@ class Calls(unittest.TestCase):
         whole = talks[0]
         for host in (0, 1):
             whole.frames[host] = sorted(whole.frames[host] + talks[1].frames[host], key=lambda frame: frame[0])
-        lines = [SOCKET, f"bind(3, {address(ONE)}, 16) = 0", "listen(3, 5) = 0", "fork() = 8", "accept(3,  <unfinished ...>", (8, f"accept(3, {address(ZERO)}, [16]) = 4"),
+        lines = [SOCKET, f"bind(3, {address(ONE)}, 16) = 0", "listen(3, 5) = 0", "fork() = 8", "accept(3,  <unfinished ...>",
+                 (8, f"accept(3, {address(ZERO)}, [16]) = 4"),
                  f"<... accept resumed>{address(('10.9.0.1', 4001))}, [16]) = 5"]
         self.assertEqual(self.told(lines, host=1, talk=whole)[2:], ["B accept 1", "B accept 1", "E ok 2", "E ok 3"])
         self.assertEqual(self.threads[2:4], ["12", "11"])

@@ -218,12 +218,12 @@ def record(options):
     for line in notes.lines():
         print(f"tcpwit-record: {line}", file=sys.stderr)
     worst = 0
-    for name, text in traces.items():
-        folder = recording.folder if len(traces) == 1 else recording.file(name)
+    for name, lines in traces.items():
+        folder = recording.folder if len(traces) == 1 else recording.file(importing.file_name(name))
         os.makedirs(folder, exist_ok=True)
         trace = os.path.join(folder, "run.trace")
         with open(trace, "w", encoding="ascii") as file:
-            file.write(text)
+            file.writelines(lines)
         if programs:
             verdict, status = judging.judge(*programs, trace, folder)
             print(verdict if len(traces) == 1 else f"{name}: {verdict}")
