@@ -30,7 +30,7 @@ def parser():
     words.add_argument("--each", choices=("pair", "connection"), default="pair",
                        help="a trace for each pair of hosts, or for each connection (default: pair)")
     words.add_argument("--out", metavar="PATH", help="the file of the trace, or a folder for several")
-    words.add_argument("--keep-gaps", action="store_true", help="take captures that lost packets")
+    words.add_argument("--keep-gaps", action="store_true", help="take captures that lost packets, and logs that lack sends")
     words.add_argument("--skip-begun", action="store_true", help="leave out connections whose beginning a capture lacks")
     words.add_argument("--quiet", action="store_true", help="say errors alone")
     group = words.add_argument_group("the header, if not as found")
@@ -112,6 +112,7 @@ def make_traces(options, notes, names, connections, endpoints, hosts):
     connections = chosen_connections(options, notes, connections, endpoints, hosts, names)
     if not options.keep_gaps:
         refuse_gaps(connections)
+        refuse_missing_sends(connections, endpoints)
     clock = SAME
     if len(names) == 2:
         clock = clock_of(*bounds_of(connections, names))
@@ -124,6 +125,17 @@ def make_traces(options, notes, names, connections, endpoints, hosts):
     head = [line + "\n" for line in lines]
     return {case.name: head + Writer(case, names if hosts == 2 or None in names else {0: names[0]}, clock, notes).lines()
             for case in cases_of(options, connections, endpoints, hosts)}
+
+
+def refuse_missing_sends(connections, endpoints):
+    """A log that lacks calls is an error: what they sent looks as if the stack made it up."""
+    for endpoint in endpoints:
+        if endpoint.connection not in connections or any(action.verb == "send" and not action.answer for action in endpoint.actions):
+            continue
+        found = endpoint.connection.bytes_of(endpoint.own_end, endpoint.sent, 1 << 40)
+        if found:
+            raise Problem(f"{endpoint.place}: {len(found)} bytes that {shown(endpoint.own_end)} sent stand in no call of the log",
+                          "trace all calls, with strace -f and no -e, from the program's start (io_uring can't be traced); or go on with --keep-gaps")
 
 
 def chosen_connections(options, notes, connections, endpoints, hosts, names):

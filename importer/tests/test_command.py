@@ -176,6 +176,14 @@ class Command(unittest.TestCase):
         lost.frames[0] = lost.frames[0][:4]
         self.assertEqual(run(*lost.write(self.folder), *self.logs)[0], 0)
 
+    def test_calls_that_the_log_lacks(self):
+        words = [*self.captures, *self.write_logs([line for line in CLIENT if "write" not in line[2]], SERVER)]
+        self.refused(words, "5 bytes that 10.9.0.1:4000 sent stand in no call")
+        self.assertEqual(run(*words, "--keep-gaps")[0], 0)
+        # A call that did not end may have sent anything.
+        begun = [(7, AT + 6 * 10**6, 'write(3, "hello", 5 <unfinished ...>') if "write" in line[2] else line for line in CLIENT if "close" not in line[2]]
+        self.assertEqual(run(*self.captures, *self.write_logs(begun, SERVER))[0], 0)
+
     def test_a_connection_that_began_before_the_capture(self):
         late = talk()
         late.frames[0] = late.frames[0][3:]
