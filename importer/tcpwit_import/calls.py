@@ -103,7 +103,12 @@ class HostCalls:
     """Reads the events of one host's logs. `host` is 0, 1, or None if the log has the calls of both hosts."""
 
     def __init__(self, host, connections, captures, notes, tells_notconn=False):
-        self.host, self.connections, self.captures, self.notes = host, connections, captures, notes
+        self.host, self.captures, self.notes = host, captures, notes
+        # Connections that no call has claimed yet, by the server's port.
+        self.unopened, self.unaccepted, self.completions = {}, {}, {}
+        for connection in connections:
+            self.unopened.setdefault(connection.server[1], []).append(connection)
+            self.unaccepted.setdefault(connection.server[1], []).append(connection)
         self.tells_notconn = tells_notconn
         self.processes, self.passed, self.endpoints, self.free_at = Processes(), [], [], {}
         self.orders = count()
@@ -127,7 +132,7 @@ class HostCalls:
         them in that order, so none had its effect before an earlier one began."""
         places = [place for place, action in enumerate(listener.actions)
                   if action.verb == "accept" and action.answer and action.answer[0] == "ok" and action.answer[1].connection]
-        places.sort(key=lambda place: listener.actions[place].answer[1].connection.completed(self.captures) or 0)
+        places.sort(key=lambda place: self.completed(listener.actions[place].answer[1].connection) or 0)
         begin, order = 0, 0
         for place in places:
             action = listener.actions[place]
@@ -561,27 +566,37 @@ class HostCalls:
 
     def claim_open(self, local, remote, begin):
         """The first connection to this address that begins after the call, and that no other call opened."""
-        for connection in self.connections:
-            if ("open" in connection.claimed or connection.server[1] != remote[1]
-                    or not (is_any(remote[0]) or connection.server[0] == remote[0])
+        for connection in self.unopened.get(remote[1], []):
+            if ("open" in connection.claimed or not (is_any(remote[0]) or connection.server[0] == remote[0])
                     or (local[1] and connection.client[1] != local[1])
                     or max(packets[-1].moment for packets in self.moments(connection)) < begin):
                 continue
             starts = [packets[0].moment for packets in self.moments(connection)]
             if min(starts) >= begin - 1000:
+                self.unopened[remote[1]].remove(connection)
                 return self.claim(connection, "open")
         return None
 
     def claim_child(self, listener, remote, end):
         """The connection that an accept gave: that of the address it tells, or the first that was completed."""
-        found = []
-        for connection in self.connections:
-            if "child" in connection.claimed or connection.server[1] != listener.local[1] or (remote and connection.client != remote):
+        found = None
+        for connection in self.unaccepted.get(listener.local[1], []):
+            if "child" in connection.claimed or (remote and connection.client != remote) or self.completed(connection) is None:
                 continue
-            completed = connection.completed(self.captures)
-            if completed is not None and (remote or completed <= end):
-                found.append((connection.begun if remote else completed, id(connection), connection))
-        return self.claim(min(found)[2], "child") if found else None
+            if remote:
+                found = connection
+                break
+            if self.completed(connection) <= end and (found is None or self.completed(connection) < self.completed(found)):
+                found = connection
+        if found:
+            self.unaccepted[listener.local[1]].remove(found)
+        return self.claim(found, "child") if found else None
+
+    def completed(self, connection):
+        """When the handshake was completed, as this host's captures show it."""
+        if connection not in self.completions:
+            self.completions[connection] = connection.completed(self.captures)
+        return self.completions[connection]
 
     def claim(self, connection, role):
         """Notes that a call of this host gave an end of a connection."""

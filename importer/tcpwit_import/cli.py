@@ -129,8 +129,9 @@ def make_traces(options, notes, names, connections, endpoints, hosts):
 
 def refuse_missing_sends(connections, endpoints):
     """A log that lacks calls is an error: what they sent looks as if the stack made it up."""
+    kept = set(connections)
     for endpoint in endpoints:
-        if endpoint.connection not in connections or any(action.verb == "send" and not action.answer for action in endpoint.actions):
+        if endpoint.connection not in kept or any(action.verb == "send" and not action.answer for action in endpoint.actions):
             continue
         found = endpoint.connection.bytes_of(endpoint.own_end, endpoint.sent, 1 << 40)
         if found:
