@@ -1,0 +1,1 @@
+"""From captures and logs of system calls to traces for tcpwit."""

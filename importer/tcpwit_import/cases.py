@@ -1,0 +1,193 @@
+"""Which connections make one trace, and the lines of that trace."""
+import heapq
+from typing import Any, NamedTuple
+
+from .calls import Action, Data, Endpoint
+from .captures import shown
+from .large import Flow
+from .problem import Problem
+
+# Lines of segments have these threads, those of calls the ones from FIRST_THREAD on.
+THREADS = {("O", 0): 1, ("I", 0): 2, ("O", 1): 3, ("I", 1): 4}
+FIRST_THREAD = 11
+LONGEST_SEGMENT = 65515
+
+
+class Line(NamedTuple):
+    """A line of a trace: its moment in nanoseconds, its order among the calls of that moment, its thread and text."""
+    moment: int
+    order: tuple
+    thread: Any
+    text: str
+
+
+class Case:
+    """One trace: connections between two hosts, and the endpoints of the calls that belong to them."""
+
+    def __init__(self, name, connections, endpoints):
+        self.name, self.connections = name, connections
+        listeners = [endpoint for endpoint in endpoints if endpoint.role == "listener"]
+        self.listening = {(connection.hosts[connection.server], connection.server[1], address) for connection in connections
+                          if (address := listening_address(connection, listeners)) is not None}
+        own = {id(connection) for connection in connections}
+        self.endpoints = [endpoint for endpoint in endpoints if self._has(endpoint, own)]
+
+    def _has(self, endpoint, own):
+        if endpoint.role == "listener":
+            return (endpoint.host, endpoint.local[1], endpoint.local[0]) in self.listening
+        return endpoint.connection is not None and id(endpoint.connection) in own
+
+
+def listening_address(connection, listeners):
+    """The address of the listener that takes a connection: its own, the wildcard of its family, or another wildcard; None if there is none."""
+    address, port = connection.server
+    found = {endpoint.local[0] for endpoint in listeners if endpoint.host == connection.hosts[connection.server] and endpoint.local[1] == port}
+    wildcards = sorted((each for each in found if not any(each)), key=lambda each: len(each) != len(address))
+    return address if address in found else wildcards[0] if wildcards else None
+
+
+class Writer:
+    """Makes the lines of a case."""
+
+    def __init__(self, case, captures, clock, notes):
+        self.case, self.captures, self.clock, self.notes = case, captures, clock, notes
+        self.numbers, self.threads = {}, {}
+        self.both = len(captures) == 2 or None in captures
+
+    def lines(self):
+        """All lines in their order, with numbers and threads. A trace may be large: no second copy of it is made."""
+        members = {id(endpoint) for endpoint in self.case.endpoints}
+        for endpoint in self.case.endpoints:
+            self.numbers[id(endpoint)] = len(self.numbers) + 1
+        calls = []
+        for endpoint in self.case.endpoints:
+            for action in endpoint.actions:
+                if not (action.verb == "accept" and action.answer and isinstance(action.answer[-1], Endpoint)
+                        and id(action.answer[-1]) not in members):
+                    calls += self.call(action)
+        calls.sort(key=lambda line: (line.moment, line.order))
+        found = heapq.merge(self.segments(), calls, key=lambda line: line.moment)
+        start, texts = None, []
+        for line in found:
+            start = line.moment - 10**9 if start is None else start
+            texts.append(f"{(line.moment - start) // 1000} {self.thread(line.thread)} {line.text}\n")
+        return texts
+
+    def thread(self, key):
+        """The number of a thread."""
+        return key if isinstance(key, int) else self.threads.setdefault(key, len(self.threads) + FIRST_THREAD)
+
+    def moment(self, host, moment):
+        """A moment by host 0's clock."""
+        return self.clock.at(moment) if host == 1 else moment
+
+    # Calls.
+
+    def call(self, action: Action):
+        """The two lines of a call, or its beginning alone. At one moment calls stand in their order."""
+        host = action.endpoint.host
+        yield Line(self.moment(host, action.begin), (action.order, 0), action.thread, "B " + self.begin_text(action))
+        if action.answer:
+            yield Line(self.moment(host, action.end), (action.order, 1), action.thread, "E " + " ".join(map(self.word, action.answer)))
+
+    def begin_text(self, action):
+        """A call's words."""
+        endpoint = action.endpoint
+        if action.verb == "listen":
+            return f"listen {endpoint.host} {endpoint.local[1]} {action.words[0]}"
+        if action.verb == "open":
+            connection = endpoint.connection
+            return f"open {endpoint.host} {connection.client[1]} {connection.server[1]}"
+        return " ".join([action.verb, str(self.numbers[id(endpoint)]), *map(self.word, action.words)])
+
+    def word(self, word):
+        """A word of a call or an answer."""
+        if isinstance(word, Endpoint):
+            return str(self.numbers[id(word)])
+        return self.bytes_of(word).hex() if isinstance(word, Data) else str(word)
+
+    def bytes_of(self, data):
+        """The bytes of a call: from the log, and what it lacks from the captures."""
+        if len(data.known) >= data.length:
+            return data.known[:data.length]
+        at = data.offset + len(data.known)
+        # A call that is refused names bytes that no capture has.
+        found = self.stream(data.end, at, data.length - len(data.known))
+        self.notes.change("calls whose bytes the log lacks, taken from the capture", f"byte {at + 1} of {shown(data.end)}")
+        if len(data.known) + len(found) < data.length:
+            raise Problem(f"byte {at + len(found) + 1} that {shown(data.end)} sent stands neither in the log nor in the capture",
+                          "record the calls with strace -s 1048576 -xx, and the whole connection")
+        return data.known + found
+
+    def stream(self, end, offset, length):
+        """Bytes that an end sent."""
+        for connection in self.case.connections:
+            if end in (connection.client, connection.server):
+                found = connection.bytes_of(end, offset, length)
+                if found:
+                    return found
+        return b""
+
+    # Segments.
+
+    def segments(self):
+        """The lines of all captured segments, those of one capture in its order."""
+        flows = {id(connection): Flow(connection, self.notes, self.both) for connection in self.case.connections}
+        for line, connection, packet in self.ordered():
+            letter, host, moment = line
+            flow = flows[id(connection)]
+            pieces = flow.went_out(packet) if letter == "O" else flow.came_in(packet)
+            for piece in pieces:
+                if len(piece) > LONGEST_SEGMENT:
+                    raise Problem(f"{packet.place}: a segment of {len(piece)} bytes", "switch the offloads off: ethtool -K IF tso off gso off gro off")
+                yield Line(moment, (), THREADS[letter, host], f"{letter} {host} {piece.hex()}")
+
+    def ordered(self):
+        """Segments with letter, host and moment. What went out stands before what came in of the other host at that moment."""
+        streams = [self.captured(host, name) for host, name in self.captures.items()]
+        if len(streams) == 1:
+            return streams[0]
+        return _interleaved(*streams)
+
+    def captured(self, host, name):
+        """What one capture shows, in its order."""
+        packets = [(packet, connection) for connection in self.case.connections
+                   for packet in seen_once(connection.seen.get(name, []), {end for end, owner in connection.hosts.items() if owner == host})]
+        packets.sort(key=lambda pair: pair[0].moment)
+        latest = 0
+        for packet, connection in packets:
+            sender = connection.hosts.get(packet.source)
+            moment = latest = max(latest, self.moment(host, packet.moment))
+            if host is None:
+                yield ("O", sender, moment), connection, packet
+                yield ("I", 1 - sender, moment), connection, packet
+            else:
+                yield ("O" if sender == host else "I", host, moment), connection, packet
+
+
+def seen_once(packets, own):
+    """A capture of all interfaces has a packet at each that it passes. What the host sent counts where it was marked as sent, if
+    anywhere, and what it got where it was not."""
+    marked = {packet.source in own for packet in packets if packet.outgoing == (packet.source in own)}
+    return [packet for packet in packets
+            if packet.outgoing is None or (packet.source in own) not in marked or packet.outgoing == (packet.source in own)]
+
+
+def _interleaved(one, two):
+    """Two captures in the order of moments. Of equal moments a segment that comes in waits until the other capture shows it as sent."""
+    sent = set()
+    heads = [next(one, None), next(two, None)]
+    sources = (one, two)
+    while heads[0] or heads[1]:
+        if heads[0] and heads[1]:
+            moments = [head[0][2] for head in heads]
+            side = 0 if moments[0] < moments[1] else 1
+            if moments[0] == moments[1]:
+                side = next((side for side in (0, 1) if heads[side][0][0] == "O" or heads[side][2].segment[:16] in sent), 0)
+        else:
+            side = 0 if heads[0] else 1
+        found = heads[side]
+        if found[0][0] == "O":
+            sent.add(found[2].segment[:16])
+        heads[side] = next(sources[side], None)
+        yield found

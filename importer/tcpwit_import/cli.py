@@ -1,0 +1,274 @@
+"""The command tcpwit-import."""
+import argparse
+import os
+import sys
+
+from . import header as headers
+from .calls import HostCalls
+from .captures import read_capture, shown
+from .cases import Case, Writer
+from .clocks import SAME, bounds_of, clock_of, refuse_distant, said
+from .connections import connections_of, refuse_gaps
+from .problem import Notes, Problem
+from .strace_log import read_log
+
+DESCRIPTION = """Makes traces for tcpwit of programs that nobody changed, from captures and logs of their system calls.
+
+A capture is what tcpdump -w or Wireshark wrote at a host's interface. A log is what strace wrote:
+  strace -f --absolute-timestamps=format:unix,precision:ns -xx -s 1048576 -o FILE PROGRAM ..
+HOST is 0, 1, or both (a capture of the loopback, or the log of a program that is both hosts). With the files of host 0 alone the
+trace is a half case. The trace is printed, or written to --out, and what was left out and chosen is said on standard error."""
+
+
+def parser():
+    """The command's words."""
+    words = argparse.ArgumentParser(prog="tcpwit-import", description=DESCRIPTION, formatter_class=argparse.RawDescriptionHelpFormatter)
+    words.add_argument("--capture", nargs=2, action="append", metavar=("HOST", "FILE"), default=[], help="a capture of a host")
+    words.add_argument("--calls", nargs=2, action="append", metavar=("HOST", "FILE"), default=[], help="a log of a host's calls")
+    words.add_argument("--zero", action="append", metavar="ADDRESS", default=[], help="only connections of this address of host 0")
+    words.add_argument("--one", action="append", metavar="ADDRESS", default=[], help="only connections of this address of host 1")
+    words.add_argument("--each", choices=("pair", "connection"), default="pair",
+                       help="a trace for each pair of hosts, or for each connection (default: pair)")
+    words.add_argument("--out", metavar="PATH", help="the file of the trace, or a folder for several")
+    words.add_argument("--keep-gaps", action="store_true", help="take captures that lost packets, and logs that lack sends")
+    words.add_argument("--skip-begun", action="store_true", help="leave out connections whose beginning a capture lacks")
+    words.add_argument("--quiet", action="store_true", help="say errors alone")
+    group = words.add_argument_group("the header, if not as found")
+    group.add_argument("--version", type=int, choices=sorted(headers.LINES), help="of the texts (2 for two hosts, 3 for one)")
+    for name in headers.LIMITS:
+        group.add_argument("--" + name, type=number_within(*headers.LIMITS[name]), metavar="N")
+    for name, values in headers.WORDS.items():
+        group.add_argument("--" + name, choices=values)
+    return words
+
+
+def number_within(least, greatest):
+    """A type of argparse: whole numbers within limits."""
+    def whole(text):
+        if not (text.isascii() and text.isdigit()) or not least <= int(text) <= greatest:
+            raise argparse.ArgumentTypeError(f"{text!r} is no whole number from {least} to {greatest}")
+        return int(text)
+    return whole
+
+
+HOSTS = {"0": 0, "1": 1, "both": None}
+
+
+def files_by_host(pairs, option):
+    """The files of each host."""
+    found = {}
+    for host, name in pairs:
+        if host not in HOSTS:
+            raise Problem(f"{option} {host}: no such host", "give 0, 1 or both before the file")
+        found.setdefault(HOSTS[host], []).append(name)
+    if None in found and len(found) > 1:
+        raise Problem(f"{option} both stands beside files of one host", "give both, or 0 and 1")
+    return found
+
+
+def read_captures(files, notes):
+    """The packets by host: several captures of a host are taken together."""
+    found = {}
+    for host, names in files.items():
+        packets = [packet for name in names for packet in read_capture(name, notes)]
+        if len(names) > 1:
+            packets.sort(key=lambda packet: packet.moment)
+        found[host] = packets
+    return found
+
+
+def run(options, notes):
+    """Reads all files; the lines of each trace by its name."""
+    captures, logs = files_by_host(options.capture, "--capture"), files_by_host(options.calls, "--calls")
+    if not captures:
+        raise Problem("no capture is given", "give --capture HOST FILE, of a capture by tcpdump -w")
+    if not logs:
+        raise Problem("no log of calls is given", "give --calls HOST FILE, of a log by strace")
+    if 1 in logs and 0 not in logs:
+        raise Problem("the calls of host 1 are given, and those of host 0 are not", "name the host that was recorded 0")
+    if 0 in logs and 1 not in logs:
+        captures.pop(1, None)
+    if None not in captures and set(captures) != set(logs):
+        raise Problem("a host has a log and no capture", "give --capture and --calls of the same hosts, or --capture both")
+    packets = read_captures(captures, notes)
+    names = {host: ", ".join(files) for host, files in captures.items()}
+    connections = connections_of({names[host]: of_host for host, of_host in packets.items()})
+    if not connections:
+        raise Problem(f"{', '.join(names.values())}: no TCP segment", "capture at the interface that the programs use, with the filter tcp or none")
+    version = options.version or (headers.WHOLE if len(logs) == 2 or None in logs else headers.HALF)
+    endpoints = []
+    for host in sorted(logs, key=str):
+        own = [names[None if None in names else host]] if None in names or host in names else []
+        reader = HostCalls(host, connections, own, notes, tells_notconn=version >= 4)
+        endpoints += reader.run(read_log(logs[host]))
+    hosts = 2 if len(logs) == 2 or None in logs else 1
+    return make_traces(options, notes, names, connections, endpoints, hosts)
+
+
+def make_traces(options, notes, names, connections, endpoints, hosts):
+    """The lines of each trace by its name."""
+    if not endpoints:
+        raise Problem("no TCP call is in the logs", "start strace with the programs, with -f, and trace %network, read, write and close too")
+    connections = chosen_connections(options, notes, connections, endpoints, hosts, names)
+    if not options.keep_gaps:
+        refuse_gaps(connections)
+        refuse_missing_sends(connections, endpoints)
+    clock = SAME
+    if len(names) == 2:
+        clock = clock_of(*bounds_of(connections, names))
+        refuse_distant(clock)
+        if clock != SAME:
+            notes.say(said(clock))
+    chosen = {name: getattr(options, name) for name in (*headers.LIMITS, *headers.WORDS) if getattr(options, name) is not None}
+    lines = headers.header(hosts, (clock.skew + 999) // 1000, chosen, options.version)
+    notes.say(f"header: {', '.join(lines)} ({'two hosts' if hosts == 2 else 'one host'} recorded)")
+    head = [line + "\n" for line in lines]
+    return {case.name: head + Writer(case, names if hosts == 2 or None in names else {0: names[0]}, clock, notes).lines()
+            for case in cases_of(options, connections, endpoints, hosts)}
+
+
+def refuse_missing_sends(connections, endpoints):
+    """A log that lacks calls is an error: what they sent looks as if the stack made it up."""
+    kept = set(connections)
+    for endpoint in endpoints:
+        if endpoint.connection not in kept or any(action.verb == "send" and not action.answer for action in endpoint.actions):
+            continue
+        found = endpoint.connection.bytes_of(endpoint.own_end, endpoint.sent, 1 << 40)
+        if found:
+            raise Problem(f"{endpoint.place}: {len(found)} bytes that {shown(endpoint.own_end)} sent stand in no call of the log",
+                          "trace all calls, with strace -f and no -e, from the program's start (io_uring can't be traced); or go on with --keep-gaps")
+
+
+def chosen_connections(options, notes, connections, endpoints, hosts, names):
+    """The connections that belong to the recorded programs, with both hosts of each known."""
+    listening = {}
+    for endpoint in endpoints:
+        if endpoint.role == "listener":
+            listening.setdefault(endpoint.host, set()).add(endpoint.local[1])
+    addresses = {0: set(), 1: set()}
+    for connection in connections:
+        for end, host in connection.hosts.items():
+            addresses[host].add(end[0])
+    kept = []
+    begun = {frozenset((connection.client, connection.server)) for connection in connections if not connection.whole}
+    for connection in connections:
+        place = f"{next(connection.packets()).place}: {connection}"
+        if not assign_hosts(connection, listening, addresses):
+            kind = "with both ends in one log, which wants --calls both" if connection.hosts else "that no call of the logs opened or listened for"
+            notes.leave_out(f"connections {kind}", place)
+        elif not wanted(options, connection):
+            notes.leave_out("connections of other addresses", place)
+        elif frozenset((connection.client, connection.server)) in begun:
+            refuse_begun(options, notes, connection, place)
+        elif hosts == 2 and len(names) == 2 and not in_both(connection, names, addresses):
+            notes.leave_out("connections with a host that was not recorded", place)
+        else:
+            kept.append(connection)
+    for endpoint in endpoints:
+        if endpoint.role != "listener" and endpoint.connection is None:
+            notes.leave_out("connections of the logs that no capture shows", endpoint.place)
+    if not kept:
+        raise Problem("no connection is in both the captures and the logs",
+                      "record both at the same time and host; addresses must not be translated (NAT) between the captures")
+    return kept
+
+
+def assign_hosts(connection, listening, addresses):
+    """Decides which end is which host's; false if no call has to do with the connection."""
+    for host in (0, 1):
+        # An end whose port listens is that host's, unless its address is known to be the other's.
+        server = connection.server
+        if (server not in connection.hosts and server[1] in listening.get(host, ())
+                and (server[0] in addresses[host] or server[0] not in addresses[1 - host])):
+            connection.hosts[server] = host
+    if not connection.hosts:
+        return False
+    for end in (connection.client, connection.server):
+        other = connection.other(end)
+        if end not in connection.hosts and other in connection.hosts:
+            connection.hosts[end] = 1 - connection.hosts[other]
+    return len(set(connection.hosts.values())) == 2
+
+
+def wanted(options, connection):
+    """Whether --zero and --one permit the connection."""
+    for end, host in connection.hosts.items():
+        named = options.zero if host == 0 else options.one
+        if named and shown(end).rsplit(":", 1)[0].strip("[]") not in named:
+            return False
+    return True
+
+
+def refuse_begun(options, notes, connection, place):
+    """A connection without its beginning can't be judged."""
+    if not options.skip_begun:
+        raise Problem(f"{place}: the connection begins before the capture",
+                      "start the capture before the programs, or leave such connections out with --skip-begun")
+    notes.leave_out("connections that begin before the capture", place)
+
+
+def in_both(connection, names, addresses):
+    """Whether both captures may show the connection: each does, or the address of the other end is known to be that host's."""
+    return all(name in connection.seen or any(end[0] in addresses[host] for end, owner in connection.hosts.items() if owner == host)
+               for host, name in names.items())
+
+
+def cases_of(options, connections, endpoints, hosts):
+    """A case for each pair of hosts, or for each connection."""
+    groups = {}
+    for number, connection in enumerate(connections, 1):
+        ends = {host: end for end, host in connection.hosts.items()}
+        if options.each == "connection":
+            name = f"{number}-" + "-".join(shown(ends[host]) for host in (0, 1))
+        elif hosts == 2:
+            name = "run"
+        else:
+            name = shown(ends[1]).rsplit(":", 1)[0].strip("[]")
+        groups.setdefault(name, []).append(connection)
+    return [Case(name, group, endpoints) for name, group in groups.items()]
+
+
+def file_name(name):
+    """A trace's name without letters that file systems refuse."""
+    return name.replace(":", "_").replace("[", "").replace("]", "")
+
+
+def write(options, traces):
+    """Prints one trace, or writes all."""
+    if options.out and (len(traces) > 1 or os.path.isdir(options.out)):
+        os.makedirs(options.out, exist_ok=True)
+        for name, lines in traces.items():
+            with open(os.path.join(options.out, file_name(name) + ".trace"), "w", encoding="ascii") as file:
+                file.writelines(lines)
+    elif len(traces) > 1:
+        raise Problem(f"{len(traces)} traces: {', '.join(traces)}", "write them to a folder by --out, or choose one by --one ADDRESS")
+    elif options.out:
+        with open(options.out, "w", encoding="ascii") as file:
+            file.writelines(*traces.values())
+    else:
+        sys.stdout.writelines(*traces.values())
+        sys.stdout.flush()
+
+
+def main(words=None):
+    """Runs the command; its exit status."""
+    options = parser().parse_args(words)
+    notes = Notes()
+    try:
+        traces = run(options, notes)
+        write(options, traces)
+    except Problem as problem:
+        print(f"tcpwit-import: {problem}", file=sys.stderr)
+        return 1
+    except BrokenPipeError:
+        os.dup2(os.open(os.devnull, os.O_WRONLY), 1)
+        return 1
+    except OSError as error:
+        print(f"tcpwit-import: {error.filename or 'standard output'}: {error.strerror}\n  choose a place that can be written", file=sys.stderr)
+        return 1
+    except KeyboardInterrupt:
+        return 130
+    if not options.quiet:
+        for line in notes.lines():
+            print(f"tcpwit-import: {line}", file=sys.stderr)
+    return 0

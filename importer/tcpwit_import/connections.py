@@ -1,0 +1,167 @@
+"""Connections of captures: which segments belong together, and which bytes each end sent."""
+from .captures import BUFFER, shown
+from .problem import Problem
+
+WRAP = 1 << 32
+FIN, SYN, RST, ACK = 1, 2, 4, 16
+
+
+class Connection:
+    """Both ways of one pair of addresses and ports, from a SYN on. An end is an address and a port.
+
+    `seen` has the packets of each capture. `initial` has each end's initial sequence number once a SYN of it was seen.
+    """
+
+    def __init__(self, client, server, begun):
+        self.client, self.server, self.begun = client, server, begun
+        self.seen, self.initial, self.sizes = {}, {}, {}
+        self.whole = True
+        self.claimed = set()
+        self.hosts = {}
+        self._streams = {}
+
+    def __str__(self):
+        return f"{shown(self.client)} -> {shown(self.server)}"
+
+    def other(self, end):
+        """The end that is not this one."""
+        return self.server if end == self.client else self.client
+
+    def add(self, capture, packet):
+        """Takes the next packet of a capture."""
+        self.seen.setdefault(capture, []).append(packet)
+        if packet.flags & SYN:
+            self.initial.setdefault(packet.source, packet.number)
+            self.sizes.setdefault(packet.source, _size_option(packet.segment))
+
+    def packets(self):
+        """All packets of all captures."""
+        for packets in self.seen.values():
+            yield from packets
+
+    def piece_size(self, segment):
+        """How many bytes a segment with these options holds on the wire: the lesser size option, less its own options."""
+        sizes = [self.sizes.get(end) or 536 for end in (self.client, self.server)]
+        return max(1, min(sizes) - ((segment[12] >> 4) * 4 - 20))
+
+    def completed(self, captures=()):
+        """The moment of the client's first segment after its SYN, as these captures show it, or all; None if there is none."""
+        own = [packet for name in captures for packet in self.seen.get(name, [])]
+        moments = [packet.moment for packet in own or self.packets()
+                   if packet.source == self.client and packet.flags & (SYN | RST | ACK) == ACK]
+        return min(moments, default=None)
+
+    def answered(self):
+        """The moment at which the server's SYN was first seen; None if there is none."""
+        moments = [packet.moment for packet in self.packets() if packet.source == self.server and packet.flags & SYN]
+        return min(moments, default=None)
+
+    def bytes_of(self, end, offset, length):
+        """What this end sent from an offset of its stream on, as far as a capture has it."""
+        if end not in self._streams:
+            self._streams[end] = self._stream(end)
+        return bytes(self._streams[end][offset:offset + length])
+
+    def _stream(self, end):
+        """All bytes from the first on that an end sent, up to the first gap."""
+        first = self.initial.get(end)
+        if first is None:
+            return b""
+        pieces = {}
+        for packet in self.packets():
+            if packet.source == end and packet.payload:
+                offset = (packet.number + bool(packet.flags & SYN) - first - 1) % WRAP
+                pieces[offset] = max(pieces.get(offset, b""), packet.payload, key=len)
+        stream = bytearray()
+        for offset in sorted(pieces):
+            if offset > len(stream):
+                break
+            stream += pieces[offset][len(stream) - offset:]
+        return stream
+
+    def gap(self, capture):
+        """Which acknowledged bytes a capture doesn't have: the end that sent them, and the first of them; None if it has all."""
+        for end in (self.client, self.server):
+            first = self.initial.get(end)
+            if first is None:
+                continue
+            reached = self._reached(capture, end, first)
+            acknowledged = max(((packet.acknowledgment - first - 1) % WRAP for packet in self.seen[capture]
+                                if packet.source == self.other(end) and packet.flags & (ACK | RST) == ACK), default=0)
+            if reached < acknowledged < WRAP // 2:
+                return end, reached
+        return None
+
+    def _reached(self, capture, end, first):
+        """Up to where a capture has the bytes, and the FIN, of an end without a gap."""
+        spans = []
+        for packet in self.seen[capture]:
+            if packet.source == end and not packet.flags & RST:
+                offset = (packet.number + bool(packet.flags & SYN) - first - 1) % WRAP
+                length = len(packet.payload) + (packet.flags & FIN)
+                if length and offset < WRAP // 2:
+                    spans.append((offset, offset + length))
+        reached = 0
+        for start, stop in sorted(spans):
+            if start > reached:
+                break
+            reached = max(reached, stop)
+        return reached
+
+
+def _size_option(segment):
+    """The maximum segment size that a SYN names; None if it names none."""
+    options, at = segment[20:(segment[12] >> 4) * 4], 0
+    while at < len(options) and options[at] != 0:
+        if options[at] == 1:
+            at += 1
+            continue
+        length = options[at + 1] if at + 1 < len(options) else 0
+        if options[at] == 2 and length == 4:
+            return int.from_bytes(options[at + 2:at + 4], "big")
+        if length < 2:
+            return None
+        at += length
+    return None
+
+
+def connections_of(captures):
+    """The connections of all captures, in the order in which they begin. `captures` has lists of packets by name."""
+    found = {}
+    for name, packets in captures.items():
+        current = {}
+        for packet in packets:
+            pair = frozenset((packet.source, packet.target))
+            connection = current.get(pair)
+            if packet.is_syn and (connection is None or not connection.whole or _is_new(connection, packet)):
+                key = (packet.source, packet.target, packet.number)
+                connection = found.setdefault(key, Connection(packet.source, packet.target, packet.moment))
+                current[pair] = connection
+            elif connection is None:
+                key = (pair, name)
+                connection = found.setdefault(key, Connection(*_ends(packet), packet.moment))
+                connection.whole = False
+                current[pair] = connection
+            connection.add(name, packet)
+    return sorted(found.values(), key=lambda connection: connection.begun)
+
+
+def _ends(packet):
+    """Client and server of a connection whose SYN is missing: the server has the lesser port."""
+    return (packet.source, packet.target) if packet.source[1] > packet.target[1] else (packet.target, packet.source)
+
+
+def _is_new(connection, packet):
+    """Whether a SYN begins another connection of the same ports; the one of a simultaneous open doesn't."""
+    known = connection.initial.get(packet.source)
+    return known != packet.number and not (known is None and packet.source == connection.server and len(connection.initial) == 1)
+
+
+def refuse_gaps(connections):
+    """A capture that lost packets is an error: what it lacks looks as if the stack broke a rule."""
+    for connection in connections:
+        for name in connection.seen:
+            if connection.whole and (gap := connection.gap(name)):
+                end, offset = gap
+                raise Problem(f"{name}: the capture lost packets of {connection}: byte {offset + 1} that {shown(end)} sent was "
+                              "acknowledged and is not in the capture", f"{BUFFER}; or take it as it is with --keep-gaps")

@@ -1,0 +1,141 @@
+"""Large segments: what offloads joined is cut as the wire had it.
+
+With segmentation offload a capture shows segments of up to 64 kB where the wire has several, and receive offload joins what came
+in. A segment that went out is cut into pieces of the size that both hosts agreed on. A segment that came in is one that went out, or
+the join of several consecutive pieces. Checksums become 0, since offloads leave them unfinished.
+"""
+from typing import Any, NamedTuple
+
+WRAP = 1 << 32
+FIN, PSH, CWR = 1, 8, 128
+MOVED = FIN | PSH | CWR
+
+
+class Sent(NamedTuple):
+    """A segment, or a piece of one, that went out."""
+    moment: int
+    segment: bytes
+    arrived: list
+
+
+def without_checksum(segment):
+    """The same segment with the checksum 0."""
+    return segment[:16] + b"\0\0" + segment[18:]
+
+
+def cut(segment, size):
+    """The pieces of at most `size` bytes: FIN and PSH on the last alone, CWR on the first."""
+    head = (segment[12] >> 4) * 4
+    payload = segment[head:]
+    if len(payload) <= size:
+        return [segment]
+    number, flags, pieces = int.from_bytes(segment[4:8], "big"), segment[13], []
+    for start in range(0, len(payload), size):
+        kept = flags & ~MOVED & 0xFF
+        kept |= flags & CWR if start == 0 else 0
+        kept |= flags & (FIN | PSH) if start + size >= len(payload) else 0
+        moved = ((number + start) % WRAP).to_bytes(4, "big")
+        pieces.append(segment[:4] + moved + segment[8:13] + bytes([kept]) + segment[14:head] + payload[start:start + size])
+    return pieces
+
+
+class Outgoing:
+    """What one end of a connection sent, to find what a segment that came in at the other is made of."""
+
+    def __init__(self):
+        self.equal, self.at = {}, {}
+
+    def add(self, moment, segment):
+        """Takes a segment or a piece, in the order in which they went out."""
+        sent = Sent(moment, segment, [])
+        self.equal.setdefault(segment, []).append(sent)
+        self.at.setdefault(_number(segment), []).append(sent)
+
+    def parts(self, segment):
+        """The segments that went out of which this one consists; none if there are none."""
+        found = self.equal.get(segment)
+        if found:
+            best = _best(found)
+            best.arrived.append(True)
+            return [segment]
+        chain = self._chain(segment, _number(segment), _payload(segment), True)
+        for sent in chain or []:
+            sent.arrived.append(True)
+        return [sent.segment for sent in chain or []]
+
+    def _chain(self, whole, number, payload, first):
+        """Consecutive pieces whose payloads make up the payload. It is looked for without recursion: a join has many pieces."""
+        stack = [(number, 0, None)]
+        while stack:
+            number, done, chain = stack.pop()
+            if done == len(payload) and chain:
+                if bool(chain[1].segment[13] & FIN) == bool(whole[13] & FIN):
+                    return _listed(chain)
+                continue
+            for sent in reversed(_preferred(self.at.get(number, []))):
+                part = _payload(sent.segment)
+                if part and _alike(sent.segment, whole, chain is None and first) and payload.startswith(part, done):
+                    stack.append(((number + len(part)) % WRAP, done + len(part), (chain, sent)))
+        return None
+
+
+def _listed(chain):
+    found = []
+    while chain:
+        chain, sent = chain
+        found.append(sent)
+    return found[::-1]
+
+
+def _preferred(candidates):
+    """Candidates in the order of preference: the oldest that has not arrived first, else the newest."""
+    return sorted(candidates, key=lambda sent: (bool(sent.arrived), sent.moment if not sent.arrived else -sent.moment))
+
+
+def _best(candidates):
+    return _preferred(candidates)[0]
+
+
+def _number(segment):
+    return int.from_bytes(segment[4:8], "big")
+
+
+def _payload(segment):
+    return segment[(segment[12] >> 4) * 4:]
+
+
+def _alike(piece, whole, first):
+    """Whether a piece may belong to a join: acknowledgment, options and flags but FIN, PSH, CWR; of the first the window too."""
+    head = (piece[12] >> 4) * 4
+    return (piece[8:13] == whole[8:13] and (piece[13] ^ whole[13]) & ~MOVED & 0xFF == 0
+            and piece[20:head] == whole[20:head] and (not first or piece[14:16] == whole[14:16]))
+
+
+class Flow:
+    """The segments of one connection as lines of a trace: cut where they went out, cut alike where they came in."""
+
+    def __init__(self, connection, notes, both):
+        self.connection, self.notes, self.both = connection, notes, both
+        self.sent: dict[Any, Outgoing] = {connection.client: Outgoing(), connection.server: Outgoing()}
+
+    def went_out(self, packet):
+        """The segments of an outgoing packet."""
+        segment = without_checksum(packet.segment)
+        pieces = cut(segment, self.connection.piece_size(segment))
+        if len(pieces) > 1:
+            self.notes.change("segments that an offload enlarged, cut into those of the wire", packet.place)
+        for piece in pieces:
+            self.sent[packet.source].add(packet.moment, piece)
+        return pieces
+
+    def came_in(self, packet):
+        """The segments of an incoming packet. What matches nothing stays as it is."""
+        segment = without_checksum(packet.segment)
+        if not self.both:
+            return [segment]
+        parts = self.sent[packet.source].parts(segment)
+        if len(parts) > 1:
+            self.notes.change("segments that an offload joined, cut into those that were sent", packet.place)
+        elif not parts:
+            self.notes.change("segments that came in and that the other host's capture doesn't show as sent", packet.place)
+        return parts or [segment]

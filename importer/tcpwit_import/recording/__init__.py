@@ -1,0 +1,1 @@
+"""Recording programs: network namespaces, a carrier between them, captures, and the programs under strace."""

@@ -1,0 +1,251 @@
+"""The command tcpwit-record."""
+import argparse
+import os
+import shlex
+import signal
+import subprocess
+import sys
+import time
+from typing import NamedTuple
+
+from .. import cli as importing
+from .. import header as headers
+from ..problem import Notes, Problem
+from . import judging
+from .carrier import Carrier
+from .namespaces import ADDRESSES, Namespace, joined_pair
+from .running import Capture, Traced
+
+DESCRIPTION = f"""Records a program's TCP, makes a trace of it, looks for a witness, and checks it.
+
+  tcpwit-record -- curl -o page http://example.org/     this host alone: a half case
+  tcpwit-record --serve -- nginx -g 'daemon off;'       the same of a server, until it is interrupted
+  tcpwit-record --namespace -- ./run-my-tests           a network of its own, with a loopback: a whole case of a program that is both hosts
+  tcpwit-record --pair 'python3 -m http.server 80' -- curl -o page http://{ADDRESSES[1]}/
+                                                        two hosts of its own: a whole case. The server has {ADDRESSES[1]}, the client {ADDRESSES[0]}
+  tcpwit-record --transfer 20000 --lose 3               a pair with a client and a server of its own
+
+Capturing and network namespaces need root; the programs run as the user who called sudo. Nothing outside the namespaces is changed.
+The verdict of tcpwit check is printed; what the programs print goes to standard error. Captures, logs, trace, case and picture stay in the folder --out."""
+
+
+class Chances(NamedTuple):
+    """What goes wrong on the way."""
+    delay: float
+    loss: float
+    lose: frozenset
+    double: float
+    reorder: float
+    seed: int
+
+
+def within(least, greatest):
+    """A type of argparse: a number within limits."""
+    def number(text):
+        try:
+            value = float(text)
+        except ValueError:
+            value = None
+        if value is None or not least <= value <= greatest:
+            raise argparse.ArgumentTypeError(f"{text!r} is no number from {least} to {greatest}")
+        return value
+    return number
+
+
+def numbers(text):
+    """A type of argparse: numbers from 1 on, with commas between them."""
+    parts = text.split(",")
+    if not all(part.isascii() and part.isdigit() and int(part) > 0 for part in parts):
+        raise argparse.ArgumentTypeError(f"{text!r} is no list such as 3,7")
+    return frozenset(map(int, parts))
+
+
+def parser():
+    """The command's words."""
+    words = argparse.ArgumentParser(prog="tcpwit-record", description=DESCRIPTION, formatter_class=argparse.RawDescriptionHelpFormatter,
+                                    usage="tcpwit-record [options] -- PROGRAM WORDS ..")
+    form = words.add_mutually_exclusive_group()
+    form.add_argument("--pair", metavar="SERVER", help="a server, with its words, in one argument; PROGRAM is the client")
+    form.add_argument("--transfer", type=importing.number_within(1, 10**8), metavar="BYTES", help="a client that sends this many bytes, and a server")
+    form.add_argument("--namespace", action="store_true", help="PROGRAM is both hosts, on a loopback of its own")
+    words.add_argument("--serve", action="store_true", help="PROGRAM is a server: it runs until it is interrupted, or for --seconds")
+    words.add_argument("--seconds", type=within(0.1, 86400), metavar="N", help="end the program after this time")
+    words.add_argument("--interface", default="any", metavar="IF", help="where a half case is captured (default: any)")
+    words.add_argument("--out", metavar="DIR", help="the folder of all files (default: a new one, tcpwit-TIME)")
+    words.add_argument("--no-check", action="store_true", help="record and import only")
+    words.add_argument("--tcpwit", metavar="PATH", help="the program tcpwit")
+    words.add_argument("--lab", metavar="PATH", help="the program tcpwit_lab")
+    words.add_argument("--kernel", choices=("plain", "shipped"), default=headers.KERNEL,
+                       help=f"a pair's kernel settings: without what other RFCs add (plain), or as they are (default: {headers.KERNEL})")
+    words.add_argument("--version", type=int, choices=sorted(headers.LINES), help="of the texts (default: 2 for two hosts, 3 for one)")
+    words.add_argument("--as", dest="user", metavar="USER", help="whose the programs are (default: who called sudo)")
+    words.add_argument("--wait", type=within(0.1, 600), default=10, metavar="N", help="seconds until the server has to listen")
+    words.add_argument("--linger", type=within(0, 600), default=1, metavar="N", help="seconds that a server lasts after the client")
+    way = words.add_argument_group("the way between a pair")
+    way.add_argument("--delay", type=within(0, 10000), default=2, metavar="MS", help="of each frame (default: 2)")
+    way.add_argument("--loss", type=within(0, 1), default=0, metavar="SHARE", help="of segments that are lost, by chance")
+    way.add_argument("--lose", type=numbers, default=frozenset(), metavar="LIST", help="the client's segments with data that are lost, from 1, as 3,7")
+    way.add_argument("--double", type=within(0, 1), default=0, metavar="SHARE", help="of segments that come twice")
+    way.add_argument("--reorder", type=within(0, 1), default=0, metavar="SHARE", help="of segments that take twice the time")
+    way.add_argument("--seed", type=importing.number_within(0, 2**63), default=1, metavar="N", help="of the chances")
+    own = words.add_argument_group("--transfer")
+    own.add_argument("--chunk", type=importing.number_within(1, 10**8), default=60000, metavar="N", help="how many bytes are sent at once")
+    own.add_argument("--echo", action="store_true", help="the server sends back what it gets")
+    words.add_argument("program", nargs="*", help=argparse.SUPPRESS)
+    return words
+
+
+def check_words(words, options):
+    """What argparse can't say of the words."""
+    if bool(options.program) == bool(options.transfer):
+        words.error("give --transfer, or a program after --")
+    if options.serve and (options.pair or options.transfer or options.namespace):
+        words.error("--serve is for a program whose peer is elsewhere")
+    if options.pair is not None and not shlex.split(options.pair):
+        words.error("--pair names no server")
+
+
+class Recording:
+    """A folder with the files of a recording, and what still runs."""
+
+    def __init__(self, options):
+        self.options = options
+        self.folder = options.out or time.strftime("tcpwit-%Y%m%d-%H%M%S")
+        try:
+            os.makedirs(self.folder, exist_ok=True)
+        except OSError as error:
+            raise Problem(f"{self.folder}: {error.strerror}", "name another folder by --out") from error
+        self.captures, self.programs = [], []
+
+    def file(self, name):
+        """The path of a file of the recording."""
+        return os.path.join(self.folder, name)
+
+    def capture(self, interface, name, namespace=None):
+        """Begins a capture."""
+        self.captures.append(Capture(interface, self.file(name), namespace))
+
+    def program(self, words, name, namespace=None):
+        """Begins a program, as the user who called sudo."""
+        user = self.options.user or os.environ.get("SUDO_USER", "root")
+        other = user if os.geteuid() == 0 and user != "root" else None
+        self.programs.append(Traced(words, self.file(name), namespace, other, sys.stderr))
+        return self.programs[-1]
+
+    def end(self, seconds=0.0):
+        """Ends the programs, then the captures."""
+        for program in self.programs:
+            program.stop(seconds)
+        captures, self.captures = self.captures, []
+        for capture in captures:
+            capture.stop()
+
+    def abandon(self):
+        """Ends what still runs, after an error."""
+        for program in self.programs:
+            program.stop(0)
+        for capture in self.captures:
+            capture.process.kill()
+            capture.process.wait()
+
+    def pair(self):
+        """Client and server in two namespaces; the importer's words."""
+        options = self.options
+        between, hosts = joined_pair(options.kernel, options.version)
+        carrier = Carrier(between, Chances(options.delay, options.loss, options.lose, options.double, options.reorder, options.seed))
+        try:
+            for number, host in enumerate(hosts):
+                self.capture(f"w{number}", f"host{number}.pcap", host)
+            server_words, client_words = pair_words(options)
+            server = self.program(server_words, "host1.log", hosts[1])
+            server.wait_for_listener(options.wait)
+            client = self.program(client_words, "host0.log", hosts[0])
+            client.wait(options.seconds)
+            client.refuse_failed_start()
+            client.stop(0)
+            self.end(options.linger)
+        finally:
+            carrier.stop()
+        if carrier.fault:
+            raise Problem(carrier.fault, "use --kernel plain")
+        return [word for number in (0, 1) for word in ("--capture", str(number), self.file(f"host{number}.pcap"),
+                                                       "--calls", str(number), self.file(f"host{number}.log"))]
+
+    def alone(self):
+        """One program, with both hosts in a namespace, or its peer elsewhere; the importer's words."""
+        options = self.options
+        namespace = None
+        if options.namespace:
+                namespace = Namespace()
+        self.capture("lo" if options.namespace else options.interface, "run.pcap", namespace)
+        program = self.program(options.program, "run.log", namespace)
+        if options.serve:
+            print("tcpwit-record: recording until interrupted", file=sys.stderr)
+        try:
+            program.wait(options.seconds)
+        except KeyboardInterrupt:
+            pass
+        program.refuse_failed_start()
+        self.end(0 if options.serve else min(options.linger, 0.1))
+        host = "both" if options.namespace else "0"
+        return ["--capture", host, self.file("run.pcap"), "--calls", host, self.file("run.log")]
+
+
+def pair_words(options):
+    """The words of server and client."""
+    if not options.transfer:
+        return shlex.split(options.pair), options.program
+    # Without the user's modules Python begins faster, and its log is shorter.
+    talk = [sys.executable, "-I", "-S", os.path.join(os.path.dirname(os.path.realpath(__file__)), "talk.py")]
+    echo = ["echo"] if options.echo else []
+    return talk + ["receive", "80", *echo], talk + ["send", ADDRESSES[1], "80", str(options.transfer), str(options.chunk)]
+
+
+def record(options):
+    """Records, imports and judges; the exit status."""
+    if os.geteuid() != 0:
+        raise Problem("captures and network namespaces need root", "sudo tcpwit-record ..: the program itself runs as you")
+    programs = None if options.no_check else judging.both_programs(options)
+    recording = Recording(options)
+    try:
+        files = recording.pair() if options.pair or options.transfer else recording.alone()
+    except BaseException:
+        recording.abandon()
+        raise
+    chosen = importing.parser().parse_args(files + (["--version", str(options.version)] if options.version else []))
+    notes = Notes()
+    traces = importing.run(chosen, notes)
+    for line in notes.lines():
+        print(f"tcpwit-record: {line}", file=sys.stderr)
+    worst = 0
+    for name, lines in traces.items():
+        folder = recording.folder if len(traces) == 1 else recording.file(importing.file_name(name))
+        os.makedirs(folder, exist_ok=True)
+        trace = os.path.join(folder, "run.trace")
+        with open(trace, "w", encoding="ascii") as file:
+            file.writelines(lines)
+        if programs:
+            verdict, status = judging.judge(*programs, trace, folder)
+            print(verdict if len(traces) == 1 else f"{name}: {verdict}")
+            worst = max(worst, status)
+    print(f"tcpwit-record: all files are in {recording.folder}", file=sys.stderr)
+    return worst
+
+
+def main(given=None):
+    """Runs the command; its exit status."""
+    words = parser()
+    options = words.parse_args(given)
+    check_words(words, options)
+    # Whoever ends this program ends what it started too.
+    signal.signal(signal.SIGTERM, lambda *_: sys.exit(143))
+    try:
+        return record(options)
+    except Problem as problem:
+        print(f"tcpwit-record: {problem}", file=sys.stderr)
+        return 1
+    except (OSError, subprocess.SubprocessError) as error:
+        print(f"tcpwit-record: {error}\n  see whether the folder can be written and the programs can be run", file=sys.stderr)
+        return 1
+    except KeyboardInterrupt:
+        return 130

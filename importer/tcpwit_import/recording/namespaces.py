@@ -1,0 +1,121 @@
+"""Network namespaces, joined by a pair of interfaces each, and the settings of the kernel in them."""
+import contextlib
+import ctypes
+import fcntl
+import os
+import socket
+import struct
+import subprocess
+
+from ..problem import Problem
+
+NEW_NETWORK = 0x40000000
+SIOCETHTOOL = 0x8946
+# Transmit checksums, segmentation in the card, segmentation in the stack, joining of what comes in.
+OFFLOADS = (0x17, 0x1F, 0x24, 0x2C)
+ADDRESSES = ("10.9.0.1", "10.9.0.2")
+ADDRESSES_6 = ("fd09::1", "fd09::2")
+# What RFC 9293, 6298 and 5681 alone describe: no recovery by SACK or RACK, no probes, no undo, acknowledgments at once.
+PLAIN = {
+    "tcp_sack": 0, "tcp_timestamps": 0, "tcp_ecn": 0, "tcp_congestion_control": "reno", "tcp_early_retrans": 0, "tcp_recovery": 0,
+    "tcp_frto": 0, "tcp_no_metrics_save": 1, "tcp_slow_start_after_idle": 0, "tcp_window_scaling": 1,
+}
+LIBC = ctypes.CDLL(None, use_errno=True)
+
+
+def _checked(result, what):
+    if result != 0:
+        raise Problem(f"{what}: {os.strerror(ctypes.get_errno())}",
+                      "network namespaces need root: sudo tcpwit-record ..")
+
+
+class Namespace:
+    """A network namespace, which lives as long as this object or a process in it."""
+
+    def __init__(self):
+        before = os.open("/proc/self/ns/net", os.O_RDONLY)
+        try:
+            _checked(LIBC.unshare(NEW_NETWORK), "no network namespace")
+            self.file = os.open("/proc/self/ns/net", os.O_RDONLY)
+        finally:
+            LIBC.setns(before, NEW_NETWORK)
+            os.close(before)
+        with self.inside():
+            run("ip", "link", "set", "lo", "up")
+            setting("ip_unprivileged_port_start", 0)
+
+    def enter(self):
+        """Moves this thread into the namespace."""
+        _checked(LIBC.setns(self.file, NEW_NETWORK), "no entry into a network namespace")
+
+    @contextlib.contextmanager
+    def inside(self):
+        """Does something in the namespace, and comes back."""
+        before = os.open("/proc/self/ns/net", os.O_RDONLY)
+        self.enter()
+        try:
+            yield
+        finally:
+            LIBC.setns(before, NEW_NETWORK)
+            os.close(before)
+
+
+def run(*words, files=()):
+    """Runs a command of the system; what it says is the cause if it fails."""
+    try:
+        done = subprocess.run(words, capture_output=True, text=True, check=False, pass_fds=files)
+    except FileNotFoundError as error:
+        raise Problem(f"{words[0]} is not installed", "install it: apt-get install iproute2") from error
+    if done.returncode:
+        raise Problem(f"{' '.join(words)}: {done.stderr.strip() or done.returncode}", "see whether this kernel has veth interfaces (modprobe veth)")
+
+
+def setting(name, value):
+    """Sets /proc/sys/net/ipv4/NAME in the namespace of this thread. An older kernel may lack it."""
+    try:
+        with open("/proc/sys/net/ipv4/" + name, "w", encoding="ascii") as file:
+            file.write(str(value))
+    except OSError:
+        pass
+
+
+def offloads_off(name):
+    """Switches off what enlarges segments or leaves checksums unfinished."""
+    with socket.socket(socket.AF_INET, socket.SOCK_DGRAM) as probe:
+        for command in OFFLOADS:
+            value = (ctypes.c_uint32 * 2)(command, 0)
+            request = struct.pack("16sP", name.encode(), ctypes.addressof(value))
+            with contextlib.suppress(OSError):
+                fcntl.ioctl(probe, SIOCETHTOOL, request)
+
+
+def joined_pair(kernel, version):
+    """Two hosts and the namespace between them, with interfaces w0 and w1 at the hosts, c0 and c1 between them."""
+    between, hosts = Namespace(), (Namespace(), Namespace())
+    for number, host in enumerate(hosts):
+        with between.inside():
+            run("ip", "link", "add", f"w{number}", "type", "veth", "peer", "name", f"c{number}")
+            run("ip", "link", "set", f"w{number}", "netns", f"/proc/self/fd/{host.file}", files=(host.file,))
+            run("ip", "link", "set", f"c{number}", "up")
+            if kernel == "plain":
+                offloads_off(f"c{number}")
+        with host.inside():
+            interface(number, kernel, version)
+    return between, hosts
+
+
+def interface(number, kernel, version):
+    """Sets up the interface of a host, in its namespace."""
+    name = f"w{number}"
+    run("ip", "address", "add", ADDRESSES[number] + "/24", "dev", name)
+    run("ip", "-6", "address", "add", ADDRESSES_6[number] + "/64", "dev", name, "nodad")
+    run("ip", "link", "set", name, "up")
+    if kernel != "plain":
+        return
+    for key, value in (PLAIN | ({"tcp_window_scaling": 0} if version == 1 else {})).items():
+        setting(key, value)
+    offloads_off(name)
+    # Each segment is acknowledged at once: a delayed acknowledgment covers several, and the kernel's window then grows by several.
+    words = ["quickack", "1"] + (["initcwnd", "3"] if version == 1 else [])
+    run("ip", "route", "change", "10.9.0.0/24", "dev", name, "src", ADDRESSES[number], *words)
+    run("ip", "-6", "route", "replace", "fd09::/64", "dev", name, "proto", "kernel", "metric", "256", *words)

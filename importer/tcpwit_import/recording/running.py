@@ -1,0 +1,127 @@
+"""Runs programs under strace and tcpdump, and ends both in the right order: the programs, then the captures."""
+import os
+import re
+import signal
+import subprocess
+import tempfile
+import time
+
+from ..captures import BUFFER
+from ..problem import Problem
+
+CALLS = ("%network,read,write,readv,writev,?preadv2,?pwritev2,close,?close_range,dup,?dup2,dup3,fcntl,sendfile,splice,"
+         "clone,?clone3,?fork,?vfork,execve,?execveat,exit,exit_group,?io_uring_setup")
+STRACE = ["strace", "-f", "--seccomp-bpf", "--absolute-timestamps=format:unix,precision:ns", "-xx", "-s", "1048576", "-e", "trace=" + CALLS]
+# All three flags of the buffer together: with fewer packets are lost, or are still in a buffer at the end.
+TCPDUMP = ["tcpdump", "-n", "-s", "0", "-B", "65536", "--immediate-mode", "-U", "--time-stamp-precision=nano"]
+LISTENS = re.compile(rb" listen\([^\n]*\) += 0|<\.\.\. listen resumed>[^\n]*\) += 0")
+
+
+def started(words, install, **options):
+    """A process in a session of its own, so that signals reach it and its children alone."""
+    try:
+        return subprocess.Popen(words, start_new_session=True, **options)
+    except FileNotFoundError as error:
+        raise Problem(f"{words[0]} is not installed", f"install it: apt-get install {install}") from error
+
+
+class Capture:
+    """tcpdump at an interface."""
+
+    def __init__(self, interface, file, namespace=None):
+        self.errors = tempfile.TemporaryFile()
+        self.file = file
+        # tcpdump would become another user, who may not write the file.
+        own = ["-Z", "root"] if os.geteuid() == 0 else []
+        words = [*TCPDUMP, *own, "-i", interface, "-w", file, "tcp"]
+        self.process = started(words, "tcpdump", stdin=subprocess.DEVNULL, stdout=subprocess.DEVNULL, stderr=self.errors,
+                               preexec_fn=namespace.enter if namespace else None)
+        until = time.monotonic() + 10
+        while b"listening on" not in self.said():
+            if self.process.poll() is not None or time.monotonic() > until:
+                self.process.kill()
+                cause = self.said().decode(errors="replace").strip().splitlines() or ["nothing"]
+                raise Problem(f"tcpdump says: {cause[-1]}", "capturing needs root: sudo tcpwit-record ..; or record a pair (--pair), which makes its own hosts")
+            time.sleep(0.01)
+
+    def said(self):
+        """What tcpdump has printed."""
+        self.errors.seek(0)
+        return self.errors.read()
+
+    def stop(self):
+        """Waits until nothing more comes, ends tcpdump, and refuses what it lost."""
+        size = -1
+        while size != (size := os.path.getsize(self.file)):
+            time.sleep(0.2)
+        self.process.send_signal(signal.SIGINT)
+        self.process.wait()
+        lost = re.search(rb"(\d+) packets? dropped by (?:kernel|interface)", self.said())
+        if lost and int(lost[1]):
+            raise Problem(f"{self.file}: the capture lost {int(lost[1])} packets", BUFFER.replace("record again", "record less at once, or"))
+
+
+class Traced:
+    """A program under strace."""
+
+    def __init__(self, words, log, namespace=None, user=None, output=None):
+        self.words, self.log = words, log
+        as_user = ["-u", user] if user else []
+        self.process = started([*STRACE, *as_user, "-o", log, "--", *words], "strace", stdout=output,
+                               stdin=subprocess.DEVNULL if namespace else None, preexec_fn=namespace.enter if namespace else None)
+
+    def wait_for_listener(self, seconds):
+        """Waits until the program listens."""
+        until = time.monotonic() + seconds
+        while not LISTENS.search(self.logged()):
+            if self.process.poll() is not None:
+                raise Problem(f"{self.words[0]} ended with status {self.process.returncode} before it listened", f"see {self.log}, and try the program alone")
+            if time.monotonic() > until:
+                raise Problem(f"{self.words[0]} did not listen within {seconds:g} seconds", f"see {self.log}; --wait gives it more time")
+            time.sleep(0.02)
+
+    def logged(self):
+        """The log so far."""
+        try:
+            with open(self.log, "rb") as file:
+                return file.read()
+        except FileNotFoundError:
+            return b""
+
+    def wait(self, seconds=None):
+        """Waits until the program and its children have ended; whether they have."""
+        try:
+            self.process.wait(seconds)
+        except subprocess.TimeoutExpired:
+            return False
+        return True
+
+    def refuse_failed_start(self):
+        """A program that strace could not begin left no log."""
+        if not self.logged():
+            raise Problem(f"{self.words[0]} could not be started", "see whether it is installed, and name it as in a shell")
+
+    def stop(self, seconds):
+        """Ends what still runs: by SIGTERM, and by SIGKILL if that is not enough."""
+        for number in (signal.SIGTERM, signal.SIGKILL):
+            if self.wait(seconds if number == signal.SIGTERM else 0):
+                return
+            for process in descendants(self.process.pid):
+                try:
+                    os.kill(process, number)
+                except ProcessLookupError:
+                    pass
+            if self.wait(2):
+                return
+        self.process.kill()
+        self.process.wait()
+
+
+def descendants(process):
+    """All children of a process, and theirs."""
+    try:
+        with open(f"/proc/{process}/task/{process}/children", encoding="ascii") as file:
+            children = [int(child) for child in file.read().split()]
+    except OSError:
+        return []
+    return children + [each for child in children for each in descendants(child)]

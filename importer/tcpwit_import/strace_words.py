@@ -1,0 +1,122 @@
+"""The arguments of a system call as strace prints them.
+
+Strings become `Text`, structures dicts, arrays lists, `name(..)` a `Call`, all else the text itself.
+"""
+import ast
+import re
+from typing import NamedTuple
+
+DESCRIPTOR = re.compile(r"(-?\d+|AT_FDCWD)<((?:->|[^<>])*)>(?:\(deleted\))?")
+WORD = re.compile(r"[^,\[\](){}\"=]+")
+KEY = re.compile(r"(\w+)=(?!=)")
+
+
+class Text(NamedTuple):
+    """The bytes of a string, and whether strace cut it."""
+    data: bytes
+    cut: bool
+
+
+class Call(NamedTuple):
+    """A word with arguments, such as htons(80)."""
+    name: str
+    words: list
+
+
+def arguments(text):
+    """The arguments of a call, without the parentheses around them."""
+    return _Reader(text).items("")
+
+
+def text_of(body):
+    """The bytes of a string's body: hex digits alone, or the escapes of C."""
+    if body.startswith("\\x") and len(body) % 4 == 0:
+        try:
+            return bytes.fromhex(body.replace("\\x", ""))
+        except ValueError:
+            pass
+    try:
+        return ast.literal_eval(f'b"{body}"')
+    except (SyntaxError, ValueError):
+        return body.encode("latin-1", "replace")
+
+
+class _Reader:
+    def __init__(self, text):
+        self.text, self.at = text, 0
+
+    def items(self, close):
+        """Items up to the closing bracket, which is passed, or to the end."""
+        found = []
+        while self.at < len(self.text):
+            letter = self.text[self.at]
+            if letter in " ,":
+                self.at += 1
+            elif letter in ")]}":
+                self.at += 1
+                if letter == close:
+                    break
+            else:
+                found.append(self.item())
+        return found
+
+    def item(self):
+        """One item, perhaps with a name before it; what follows up to the next comma is skipped."""
+        key = KEY.match(self.text, self.at)
+        if key:
+            self.at = key.end()
+            return key[1], self.value()
+        return self.value()
+
+    def value(self):
+        """One value."""
+        found = self.plain_value()
+        while self.at < len(self.text) and self.text[self.at] not in ",)]}":
+            # What strace adds to a value, as in [16 => 28] or NULL /* .. */.
+            before = self.at
+            self.plain_value()
+            self.at += self.at == before
+        return found
+
+    def plain_value(self):
+        letter = self.text[self.at:self.at + 1]
+        if letter == '"':
+            return self.string()
+        if letter and letter in "{[(":
+            self.at += 1
+            inner = self.items({"{": "}", "[": "]", "(": ")"}[letter])
+            return dict(item for item in inner if isinstance(item, tuple) and len(item) == 2 and isinstance(item[0], str)) \
+                if letter == "{" else inner
+        if descriptor := DESCRIPTOR.match(self.text, self.at):
+            self.at = descriptor.end()
+            return descriptor[1]
+        word = WORD.match(self.text, self.at)
+        if not word:
+            return ""
+        self.at = word.end()
+        if self.text[self.at:self.at + 1] == "(":
+            self.at += 1
+            return Call(word[0].strip(), self.items(")"))
+        return word[0].partition("/*")[0].strip()
+
+    def string(self):
+        """A string, to its closing quote: the first with an even count of backslashes before it."""
+        end = self.at
+        while True:
+            end = self.text.find('"', end + 1)
+            if end < 0:
+                end = len(self.text)
+                break
+            before = self.text[self.at + 1:end] if self.text[end - 1] == "\\" else ""
+            if (len(before) - len(before.rstrip("\\"))) % 2 == 0:
+                break
+        body = self.text[self.at + 1:end]
+        cut = self.text.startswith("...", end + 1)
+        self.at = end + 1 + 3 * cut
+        return Text(text_of(body), cut)
+
+
+def whole_number(value):
+    """The number that a word begins with; None if it has none."""
+    found = re.match(r"-?(0x[0-9a-f]+|\d+)", value) if isinstance(value, str) else None
+    return int(found[0], 0) if found else None

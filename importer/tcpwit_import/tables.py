@@ -1,0 +1,94 @@
+"""Processes and their tables of descriptors: what refers to a socket, and when the last reference goes."""
+
+
+class Description:
+    """An open socket, to which descriptors of several processes may refer."""
+
+    def __init__(self, socket):
+        self.socket, self.references = socket, 0
+
+
+class Table:
+    """Descriptors of one process, or of several threads that share them."""
+
+    def __init__(self):
+        self.entries, self.close_on_exec, self.users = {}, set(), 1
+
+
+class Processes:
+    """All tables of a host. What is dropped for the last time is returned, so that it can be closed in the trace."""
+
+    def __init__(self):
+        self.tables = {}
+
+    def table(self, process):
+        """The table of a process; a process that no call began starts with an empty one."""
+        if process not in self.tables:
+            self.tables[process] = Table()
+        return self.tables[process]
+
+    def get(self, process, descriptor):
+        """What a descriptor refers to; None if it is no socket that was seen."""
+        return self.table(process).entries.get(descriptor)
+
+    def knows(self, process, descriptor):
+        """Whether some call opened the descriptor."""
+        return descriptor in self.table(process).entries
+
+    def put(self, process, descriptor, description, close_on_exec):
+        """Lets a descriptor refer to a socket; what it referred to before is dropped."""
+        dropped = self.drop(process, descriptor)
+        table = self.table(process)
+        table.entries[descriptor] = description
+        if description:
+            description.references += 1
+        self.mark(process, descriptor, close_on_exec)
+        return dropped
+
+    def mark(self, process, descriptor, close_on_exec):
+        """Sets or clears the mark by which exec closes a descriptor."""
+        table = self.table(process)
+        (table.close_on_exec.add if close_on_exec else table.close_on_exec.discard)(descriptor)
+
+    def drop(self, process, descriptor):
+        """Closes a descriptor: the socket if this was its last one, else None."""
+        return self._release(self.table(process).entries.pop(descriptor, None))
+
+    @staticmethod
+    def _release(description):
+        if description is None:
+            return None
+        description.references -= 1
+        return description.socket if description.references == 0 else None
+
+    def begin(self, parent, child, shares):
+        """A process or thread begins with its parent's table, or a copy of it."""
+        before = self.table(parent)
+        if shares:
+            before.users += 1
+            self.tables[child] = before
+            return
+        copy = self.tables[child] = Table()
+        copy.entries, copy.close_on_exec = dict(before.entries), set(before.close_on_exec)
+        for description in copy.entries.values():
+            if description:
+                description.references += 1
+
+    def execute(self, process):
+        """A process becomes another program: its table is its own, and marked descriptors close."""
+        if self.table(process).users > 1:
+            shared = self.table(process)
+            shared.users -= 1
+            self.begin(process, process, False)
+        table = self.table(process)
+        return [socket for descriptor in sorted(table.close_on_exec) if (socket := self.drop(process, descriptor))]
+
+    def end(self, process):
+        """A process ends: what it alone referred to."""
+        table = self.tables.pop(process, None)
+        if table is None:
+            return []
+        table.users -= 1
+        if table.users:
+            return []
+        return [socket for description in table.entries.values() if (socket := self._release(description))]

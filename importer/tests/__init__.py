@@ -1,0 +1,1 @@
+"""Tests of the importer. They need no root and no network."""

@@ -1,0 +1,186 @@
+"""System calls become the calls of a trace."""
+import tempfile
+import unittest
+
+from tcpwit_import.calls import HostCalls
+from tcpwit_import.cases import Case, Writer
+from tcpwit_import.clocks import SAME
+from tcpwit_import.connections import connections_of
+from tcpwit_import.problem import Notes, Problem
+
+from .wire import ONE, SECOND, ZERO, Talk, address, events, packets
+
+AT = 100 * SECOND
+SOCKET = "socket(AF_INET, SOCK_STREAM, IPPROTO_TCP) = 3"
+CONNECT = f"connect(3, {address(ONE)}, 16) = 0"
+
+
+class Calls(unittest.TestCase):
+    def told(self, lines, host=0, talk=None, step=2 * 10**7, **options):
+        """The texts of the calls that a log's lines make: the connection's SYN comes at the moment AT."""
+        talk = talk or Talk(at=AT + step)
+        rows = []
+        for number, line in enumerate(lines):
+            process, text = line if isinstance(line, tuple) else (7, line)
+            rows.append((process, AT + number * step if number else AT - 10**9, text))
+        rows.append((99, AT + len(lines) * step, "close(99) = -1 EBADF (Bad file descriptor)"))
+        connections = connections_of({"c0": packets(talk, 0), "c1": packets(talk, 1)})
+        self.notes = Notes()
+        with tempfile.TemporaryDirectory() as folder:
+            found = events(folder, rows)
+        endpoints = HostCalls(host, connections, [f"c{host}"], self.notes, **options).run(found)
+        for connection in connections:
+            connection.hosts = {connection.client: 0, connection.server: 1}
+        writer = Writer(Case("run", connections, endpoints), {0: "c0", 1: "c1"}, SAME, self.notes)
+        told = [line.rstrip("\n").split(" ", 2) for line in writer.lines() if line.split(" ")[2] in "BE"]
+        self.threads = [thread for _, thread, _ in told]
+        return [text for _, _, text in told]
+
+    def client(self, *lines, talk=None, **options):
+        """The calls after those that open a connection as number 1."""
+        found = self.told([SOCKET, CONNECT, *lines], talk=talk, **options)
+        self.assertEqual(found[:4], ["B open 0 4000 80", "E ok 1", "B await 1", "E ok"])
+        return found[4:]
+
+    def server(self, *lines, **options):
+        """The calls after those that accept number 2 as descriptor 4."""
+        found = self.told([SOCKET, f"bind(3, {address(ONE)}, 16) = 0", "listen(3, 5) = 0", f"accept(3, {address(ZERO)}, [16]) = 4", *lines], host=1, **options)
+        self.assertEqual(found[:4], ["B listen 1 80 5", "E ok 1", "B accept 1", "E ok 2"])
+        return found[4:]
+
+    def test_sends(self):
+        for call in ('write(3, "\\x61\\x62", 2)', 'sendto(3, "ab", 2, MSG_NOSIGNAL, NULL, 0)',
+                     'writev(3, [{iov_base="a", iov_len=1}, {iov_base="b", iov_len=1}], 2)',
+                     'sendmsg(3, {msg_name=NULL, msg_namelen=0, msg_iov=[{iov_base="ab", iov_len=2}], msg_iovlen=1, msg_controllen=0, msg_flags=0}, 0)',
+                     'sendmmsg(3, [{msg_hdr={msg_iov=[{iov_base="ab", iov_len=2}], msg_iovlen=1}, msg_len=2}], 1, 0)'):
+            with self.subTest(call=call):
+                result = 1 if call.startswith("sendmmsg") else 2
+                self.assertEqual(self.client(f"{call} = {result}"), ["B send 1 6162", "E ok 2"])
+        self.assertEqual(self.client('write(3, "abc", 3) = 2'), ["B send 1 616263", "E ok 2"])
+        self.assertEqual(self.client('write(3, "abc", 3) = -1 EAGAIN (Resource temporarily unavailable)'), ["B send 1 616263", "E again"])
+        self.assertEqual(self.client('write(3, "", 0) = 0'), [])
+
+    def test_receives(self):
+        for call in ('read(3, "ab", 9) = 2', 'recvfrom(3, "ab", 9, 0, NULL, NULL) = 2',
+                     'readv(3, [{iov_base="a", iov_len=1}, {iov_base="b", iov_len=8}], 2) = 2',
+                     'recvmsg(3, {msg_name=NULL, msg_namelen=0, msg_iov=[{iov_base="ab", iov_len=9}], msg_iovlen=1, msg_flags=0}, 0) = 2',
+                     'recvmmsg(3, [{msg_hdr={msg_iov=[{iov_base="ab", iov_len=9}], msg_iovlen=1}, msg_len=2}], 1, 0, NULL) = 1'):
+            with self.subTest(call=call):
+                self.assertEqual(self.client(call), ["B recv 1 9", "E data 6162"])
+        self.assertEqual(self.client('read(3, "", 9) = 0'), ["B recv 1 9", "E eof"])
+        self.assertEqual(self.client("read(3, 0x7f, 9) = -1 EAGAIN (x)"), ["B recv 1 9", "E again"])
+        self.assertEqual(self.client('recvfrom(3, "a", 9, MSG_PEEK, NULL, NULL) = 1'), [])
+
+    def test_bytes_that_the_log_lacks_come_from_the_capture(self):
+        talk = Talk(at=AT + 2 * 10**7)
+        talk.send(0, payload=b"hello")
+        talk.send(1, payload=b"world!")
+        self.assertEqual(self.client("sendfile(3, 5, [0] => [2], 2) = 2", "splice(6, NULL, 3, NULL, 3, 0) = 3",
+                                     "splice(3, NULL, 6, NULL, 6, 0) = 4", 'read(3, "!!"..., 9) = 2', talk=talk)[:8],
+                         ["B send 1 6865", "E ok 2", "B send 1 6c6c6f", "E ok 3", "B recv 1 6", "E data 776f726c", "B recv 1 9", "E data 2121"])
+        self.assertTrue(any("taken from the capture" in line for line in self.notes.lines()))
+        with self.assertRaises(Problem):
+            self.client("sendfile(3, 5, NULL, 9) = 9", talk=talk)
+
+    def test_large_calls_are_told_in_parts(self):
+        text = "\\x61" * 100000
+        found = self.client(f'write(3, "{text}", 100000) = 100000', f'read(3, "{text}", 100000) = 100000')
+        self.assertEqual([(line[:8], len(line)) for line in found],
+                         [("B send 1", 9 + 131070), ("E ok 655", 10), ("B send 1", 9 + 68930), ("E ok 344", 10),
+                          ("B recv 1", 14), ("E data 6", 7 + 131070), ("B recv 1", 14), ("E data 6", 7 + 68930)])
+
+    def test_opening(self):
+        self.assertEqual(self.told([SOCKET, f"connect(3, {address(ONE)}, 16) = -1 EINPROGRESS (x)",
+                                    "getsockopt(3, SOL_SOCKET, SO_ERROR, [0], [4]) = 0"]),
+                         ["B open 0 4000 80", "E ok 1", "B await 1", "E ok"])
+        again = f"connect(3, {address(ONE)}, 16) = "
+        self.assertEqual(self.told([SOCKET, again + "-1 EINPROGRESS (x)", again + "-1 EALREADY (x)", again + "0"])[2:],
+                         ["B await 1", "E again", "B await 1", "E ok"])
+        self.assertEqual(self.told([SOCKET, again + "-1 ECONNREFUSED (x)", "close(3) = 0"])[2:], ["B await 1", "E refused", "B close 1", "E ok"])
+        self.assertEqual(self.told([SOCKET, again + "-1 EINTR (x)"]), ["B open 0 4000 80", "E ok 1"])
+        self.assertEqual(self.told([SOCKET, again + "-1 EADDRNOTAVAIL (x)"]), [])
+        mapped = f'connect(3, {address(("::ffff:10.9.0.2", 80), "AF_INET6")}, 28) = 0'
+        self.assertEqual(self.told(["socket(AF_INET6, SOCK_STREAM, IPPROTO_IP) = 3", mapped])[0], "B open 0 4000 80")
+
+    def test_listening(self):
+        self.assertEqual(self.server("listen(3, 9) = 0", "accept4(3, 0x7f, [16], SOCK_NONBLOCK) = -1 EAGAIN (x)", "shutdown(4, SHUT_WR) = 0"),
+                         ["B accept 1", "E again", "B shut 2", "E ok"])
+        self.assertEqual(self.told([SOCKET, f"bind(3, {address(ONE)}, 16) = 0", "listen(3, 5) = 0", "accept(3, NULL, NULL) = 4",
+                                    'read(4, "a", 1) = 1'], host=1)[2:],
+                         ["B accept 1", "E ok 2", "B recv 2 1", "E data 61"])
+        self.assertEqual(self.server("shutdown(3, SHUT_RDWR) = 0", "close(3) = 0"), ["B close 1", "E ok"])
+        self.assertEqual(self.server("shutdown(3, SHUT_WR) = 0", "close(3) = 0"), ["B close 1", "E ok"])
+
+    def test_shutdowns(self):
+        self.assertEqual(self.client("shutdown(3, SHUT_RD) = 0", 'read(3, "", 9) = 0'), [])
+        self.assertEqual(self.client("shutdown(3, SHUT_RDWR) = 0"), ["B shut 1", "E ok"])
+        self.assertEqual(self.client("shutdown(3, SHUT_WR) = -1 ENOTCONN (x)"), [])
+        self.assertEqual(self.client("shutdown(3, SHUT_WR) = -1 ENOTCONN (x)", tells_notconn=True), ["B shut 1", "E notconn"])
+
+    def test_a_fault_is_told_again(self):
+        reset = "read(3, 0x7f, 9) = -1 ECONNRESET (x)"
+        self.assertEqual(self.client(reset, 'read(3, "", 9) = 0', 'write(3, "a", 1) = -1 EPIPE (x)'),
+                         ["B recv 1 9", "E reset", "B recv 1 9", "E reset", "B send 1 61", "E reset"])
+        self.assertEqual(self.client("shutdown(3, SHUT_WR) = 0", 'write(3, "a", 1) = -1 EPIPE (x)'), ["B shut 1", "E ok", "B send 1 61", "E closed"])
+
+    def test_interrupted_calls_are_left_out(self):
+        self.assertEqual(self.client("read(3, 0x7f, 9) = ? ERESTARTSYS (x)", 'write(3, "a", 1) = -1 EINTR (x)'), [])
+        self.assertEqual(self.notes.left_out["interrupted calls"][0], 2)
+
+    def test_closing(self):
+        self.assertEqual(self.client("close(3) = 0", "close(3) = -1 EBADF (x)"), ["B close 1", "E ok"])
+        self.assertEqual(self.client("setsockopt(3, SOL_SOCKET, SO_LINGER, {l_onoff=1, l_linger=0}, 8) = 0", "close(3) = 0"), ["B abort 1", "E ok"])
+        self.assertEqual(self.client("setsockopt(3, SOL_SOCKET, SO_LINGER, {l_onoff=1, l_linger=5}, 8) = 0", "close(3) = 0"), ["B close 1", "E ok"])
+        self.assertEqual(self.client("exit_group(0) = ?", "+++ exited with 0 +++"), ["B close 1", "E ok"])
+        self.assertEqual(self.client("--- SIGTERM {si_signo=SIGTERM} ---", "+++ killed by SIGTERM +++"), ["B close 1", "E ok"])
+        self.assertEqual(self.client("close_range(3, 4294967295, 0) = 0"), ["B close 1", "E ok"])
+
+    def test_descriptors_count(self):
+        last = "close(3) = 0"
+        for before, after in (("dup(3) = 5", "close(5) = 0"), ("dup2(3, 5) = 5", "close(5) = 0"), ("dup3(3, 5, O_CLOEXEC) = 5", "close(5) = 0"),
+                              ("fcntl(3, F_DUPFD_CLOEXEC, 5) = 5", 'execve("a", ["a"], 0x7f) = 0'), ("fork() = 8", (8, "+++ exited with 0 +++")),
+                              ("clone(child_stack=NULL, flags=SIGCHLD) = 8", (8, "close(3) = 0")),
+                              ("clone3({flags=CLONE_VFORK|CLONE_VM, stack=0x7f}, 88) = 8", (8, "+++ exited with 0 +++"))):
+            with self.subTest(before=before):
+                self.assertEqual(self.client(before, last), [])
+                self.assertEqual(self.client(before, last, after), ["B close 1", "E ok"])
+                self.assertEqual(self.client(before, after), [])
+
+    def test_threads_share_descriptors(self):
+        clone = "clone3({flags=CLONE_VM|CLONE_FILES|CLONE_THREAD, stack=0x7f}, 88) = 8"
+        self.assertEqual(self.client(clone, (8, "close(3) = 0")), ["B close 1", "E ok"])
+        self.assertEqual(self.client(clone, (8, "+++ exited with 0 +++")), [])
+        self.assertEqual(self.client(clone, (8, "+++ exited with 0 +++"), "+++ exited with 0 +++"), ["B close 1", "E ok"])
+
+    def test_a_descriptor_that_is_passed_on(self):
+        passed = "sendmsg(6, {msg_iov=[{iov_base=\"x\", iov_len=1}], msg_iovlen=1, " \
+            "msg_control=[{cmsg_len=20, cmsg_level=SOL_SOCKET, cmsg_type=SCM_RIGHTS, cmsg_data=[3]}], msg_controllen=24, msg_flags=0}, 0) = 1"
+        came = (8, passed.replace("sendmsg(6", "recvmsg(6").replace("[3]", "[9]"))
+        self.assertEqual(self.client(passed, "close(3) = 0", came, (8, 'write(9, "a", 1) = 1'), (8, "close(9) = 0")),
+                         ["B send 1 61", "E ok 1", "B close 1", "E ok"])
+
+    def test_what_did_not_end_has_no_answer(self):
+        self.assertEqual(self.client("read(3,  <unfinished ...>"), ["B recv 1 65535"])
+
+    def test_listeners_that_share_a_port_are_one(self):
+        second = ["socket(AF_INET, SOCK_STREAM, IPPROTO_TCP) = 5", f"bind(5, {address(ONE)}, 16) = 0", "listen(5, 5) = 0"]
+        self.assertEqual(self.server(*second, "close(3) = 0", "close(5) = 0"), ["B close 1", "E ok"])
+
+    def test_io_uring_is_an_error(self):
+        with self.assertRaisesRegex(Problem, "io_uring"):
+            self.client("io_uring_setup(8, {flags=0}) = 5")
+
+    def test_accepts_of_two_threads_begin_in_the_order_of_the_queue(self):
+        talks = [Talk(zero=("10.9.0.1", port), at=AT + number * 10**6) for number, port in enumerate((4000, 4001))]
+        whole = talks[0]
+        for host in (0, 1):
+            whole.frames[host] = sorted(whole.frames[host] + talks[1].frames[host], key=lambda frame: frame[0])
+        lines = [SOCKET, f"bind(3, {address(ONE)}, 16) = 0", "listen(3, 5) = 0", "fork() = 8", "accept(3,  <unfinished ...>",
+                 (8, f"accept(3, {address(ZERO)}, [16]) = 4"),
+                 f"<... accept resumed>{address(('10.9.0.1', 4001))}, [16]) = 5"]
+        self.assertEqual(self.told(lines, host=1, talk=whole)[2:], ["B accept 1", "B accept 1", "E ok 2", "E ok 3"])
+        self.assertEqual(self.threads[2:4], ["12", "11"])
+
+
+if __name__ == "__main__":
+    unittest.main()

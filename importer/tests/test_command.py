@@ -1,0 +1,227 @@
+"""The commands: what they print, and how they fail."""
+import contextlib
+import io
+import os
+import subprocess
+import tempfile
+import unittest
+from unittest import mock
+
+from tcpwit_import.cli import main as importing
+from tcpwit_import.recording.cli import main as recording
+
+from .wire import ACK, FIN, ONE, PSH, SECOND, ZERO, Talk, address, ethernet, ip_packet, log, pcap, segment
+
+TOP = os.path.dirname(os.path.dirname(os.path.realpath(__file__)))
+AT = 100 * SECOND
+CLIENT = [(7, AT - 3 * 10**6, "socket(AF_INET, SOCK_STREAM, IPPROTO_TCP) = 3"),
+          (7, AT - 10**6, f"connect(3, {address(ONE)}, 16) = 0"),
+          (7, AT + 6 * 10**6, 'write(3, "hello", 5) = 5'),
+          (7, AT + 8 * 10**6, "close(3) = 0"),
+          (7, AT + 9 * 10**6, "exit_group(0) = ?"),
+          (7, AT + 9 * 10**6, "+++ exited with 0 +++")]
+SERVER = [(8, AT - SECOND, "socket(AF_INET, SOCK_STREAM, IPPROTO_TCP) = 3"),
+          (8, AT - SECOND + 1000, f"bind(3, {address(ONE)}, 16) = 0"),
+          (8, AT - SECOND + 2000, "listen(3, 5) = 0"),
+          (8, AT - SECOND + 3000, f"accept(3, {address(ZERO)}, [16]) = 4"),
+          (8, AT + 11 * 10**6, 'read(4, "hello", 99) = 5'),
+          (8, AT + 13 * 10**6, 'read(4, "", 99) = 0'),
+          (8, AT + 14 * 10**6, "exit_group(0) = ?"),
+          (8, AT + 14 * 10**6, "+++ exited with 0 +++")]
+
+
+def talk(**options):
+    """A connection on which five bytes go, and both ends close."""
+    found = Talk(at=AT, **options)
+    found.at = AT + 7 * 10**6
+    found.send(0, ACK | PSH, b"hello")
+    found.send(1)
+    found.send(0, ACK | FIN)
+    found.at = AT + 15 * 10**6
+    found.send(1, ACK | FIN)
+    found.send(0)
+    return found
+
+
+def run(*words, command=importing):
+    """Runs a command in this process: status, standard output, standard error."""
+    out, error = io.StringIO(), io.StringIO()
+    with contextlib.redirect_stdout(out), contextlib.redirect_stderr(error):
+        try:
+            status = command(list(words))
+        except SystemExit as ended:
+            status = ended.code
+    return status, out.getvalue(), error.getvalue()
+
+
+class Command(unittest.TestCase):
+    def setUp(self):
+        folder = tempfile.TemporaryDirectory()
+        self.addCleanup(folder.cleanup)
+        self.folder = folder.name
+        self.captures = talk().write(self.folder)
+        self.logs = self.write_logs(CLIENT, SERVER)
+
+    def write_logs(self, client, server):
+        log(f"{self.folder}/s0.log", client)
+        log(f"{self.folder}/s1.log", server)
+        return ["--calls", "0", f"{self.folder}/s0.log", "--calls", "1", f"{self.folder}/s1.log"]
+
+    def refused(self, words, cause, command=importing):
+        status, out, error = run(*words, command=command)
+        self.assertEqual((status, out), (1, ""), error)
+        self.assertIn(cause, error)
+        self.assertNotIn("Traceback", error)
+        # A cause, and a line with the remedy.
+        self.assertRegex(error, r"^tcpwit-\w+: .+\n  .+\n$")
+
+    def test_a_whole_trace(self):
+        status, out, error = run(*self.captures, *self.logs)
+        self.assertEqual(status, 0, error)
+        lines = out.splitlines()
+        self.assertEqual(lines[:7], ["trace 2", "skew 0", "msl 60000000", "grain 4000", "minrto 200000", "extra 1", "initial 6928"])
+        moments = [int(line.split()[0]) for line in lines[7:]]
+        self.assertEqual(moments, sorted(moments))
+        self.assertEqual([line.split(" ", 2)[2][:14] for line in lines[7:]][:6],
+                         ["B listen 1 80 ", "E ok 2", "B accept 2", "B open 0 4000 ", "E ok 1", "B await 1"])
+        self.assertEqual(sum(line.split()[2] in "OI" for line in lines[7:]), 16)
+        self.assertIn("header: trace 2", error)
+
+    def test_header_lines_are_chosen(self):
+        _, out, _ = run(*self.captures, *self.logs, "--version", "1", "--msl", "5", "--skew", "7")
+        self.assertEqual(out.splitlines()[:3], ["trace 1", "skew 7", "msl 5"])
+
+    def test_a_half_trace(self):
+        status, out, _ = run(*self.captures[:3], *self.logs[:3])
+        self.assertEqual((status, out.splitlines()[0], out.splitlines()[7]), (0, "trace 3", "half 0"))
+        self.assertTrue(all(line.split()[3] != "1" for line in out.splitlines()[8:] if line.split()[2] in "OI"))
+
+    def test_one_capture_of_both_hosts(self):
+        status, out, error = run("--capture", "both", f"{self.folder}/c1.pcap", *self.logs)
+        self.assertEqual(status, 0, error)
+        letters = [line.split()[2] for line in out.splitlines()[7:] if line.split()[2] in "OI"]
+        self.assertEqual(letters, ["O", "I"] * 8)
+
+    def test_clocks_that_differ(self):
+        late = talk()
+        late.frames[1] = [(moment + 5 * SECOND, frame) for moment, frame in late.frames[1]]
+        logs = self.write_logs(CLIENT, [(process, moment + 5 * SECOND, text) for process, moment, text in SERVER])
+        status, out, error = run(*late.write(self.folder), *logs)
+        self.assertEqual(status, 0)
+        self.assertIn("host 1 is 5000000.000 us ahead", error)
+        self.assertEqual(out, run(*talk().write(self.folder), *self.write_logs(CLIENT, SERVER))[1])
+
+    def test_several_connections(self):
+        two = [talk(zero=("10.9.0.1", port)) for port in (4000, 4001)]
+        for host in (0, 1):
+            two[0].frames[host] += two[1].frames[host]
+        client = CLIENT[:4] + [(9, moment, text) for _, moment, text in CLIENT[:4]]
+        server = SERVER[:4] + [(8, AT - SECOND + 4000, f"accept(3, {address(('10.9.0.1', 4001))}, [16]) = 5")]
+        words = [*two[0].write(self.folder), *self.write_logs(sorted(client, key=lambda line: line[1]), server)]
+        status, out, _ = run(*words)
+        self.assertEqual((status, out.count(" B open "), out.count(" B listen ")), (0, 2, 1))
+        self.refused([*words, "--each", "connection"], "2 traces")
+        status, out, _ = run(*words, "--each", "connection", "--out", f"{self.folder}/out")
+        self.assertEqual((status, out, len(os.listdir(f"{self.folder}/out"))), (0, "", 2))
+        for name in os.listdir(f"{self.folder}/out"):
+            with open(f"{self.folder}/out/{name}", encoding="ascii") as file:
+                text = file.read()
+            self.assertEqual((text.count(" B open "), text.count(" B accept ")), (1, 1))
+
+    def test_other_connections_are_left_out(self):
+        other = Talk(zero=("10.9.0.1", 5000), one=("10.9.0.9", 22), at=AT)
+        whole = talk()
+        for host in (0, 1):
+            whole.frames[host] += other.frames[host]
+        status, _, error = run(*whole.write(self.folder), *self.logs)
+        self.assertEqual(status, 0)
+        self.assertRegex(error, r"left out: 1 connections that no call .*first: .*packet \d+: 10.9.0.1:5000 -> 10.9.0.9:22")
+
+    def test_errors_of_files(self):
+        empty = f"{self.folder}/empty"
+        with open(empty, "wb"):
+            pass
+        self.refused([], "no capture is given")
+        self.refused(self.captures, "no log of calls is given")
+        self.refused([*self.captures, "--calls", "0", empty], "no system call")
+        self.refused(["--capture", "0", empty, *self.logs[:3]], "neither pcap nor pcapng")
+        self.refused(["--capture", "2", empty, *self.logs], "no such host")
+        self.refused(["--capture", "0", self.folder, *self.logs[:3]], "Is a directory")
+        self.refused([*self.captures, "--calls", "0", self.captures[2]], "no system call")
+        self.refused([*self.captures, *self.logs, "--out", "/nowhere/at/all"], "No such file")
+        self.refused([*self.captures[:3], *self.logs], "a host has a log and no capture")
+        self.refused([*self.captures, *self.logs[3:]], "name the host that was recorded 0")
+        with open(self.captures[2], "rb") as file:
+            whole = file.read()
+        for size in (20, 30, 60, len(whole) - 1):
+            with open(f"{self.folder}/short.pcap", "wb") as file:
+                file.write(whole[:size])
+            self.refused(["--capture", "0", f"{self.folder}/short.pcap", *self.logs[:3]], "ends within packet")
+
+    def test_a_capture_without_segments(self):
+        udp = bytearray(ip_packet(ZERO, ONE, segment(ZERO, ONE, 1, 2, ACK)))
+        udp[9] = 17
+        pcap(f"{self.folder}/udp.pcap", [(AT, ethernet(bytes(udp)))])
+        self.refused(["--capture", "0", f"{self.folder}/udp.pcap", *self.logs[:3]], "no TCP segment")
+
+    def test_packets_that_the_capture_lost(self):
+        gap = talk()
+        del gap.frames[1][3]
+        words = [*gap.write(self.folder), *self.logs]
+        self.refused(words, "byte 1 that 10.9.0.1:4000 sent was acknowledged and is not in the capture")
+        self.assertEqual(run(*words, "--keep-gaps")[0], 0)
+        # A segment that was lost on the way is no gap.
+        lost = talk()
+        lost.frames[1] = lost.frames[1][:3]
+        lost.frames[0] = lost.frames[0][:4]
+        self.assertEqual(run(*lost.write(self.folder), *self.logs)[0], 0)
+
+    def test_calls_that_the_log_lacks(self):
+        words = [*self.captures, *self.write_logs([line for line in CLIENT if "write" not in line[2]], SERVER)]
+        self.refused(words, "5 bytes that 10.9.0.1:4000 sent stand in no call")
+        self.assertEqual(run(*words, "--keep-gaps")[0], 0)
+        # A call that did not end may have sent anything.
+        begun = [(7, AT + 6 * 10**6, 'write(3, "hello", 5 <unfinished ...>') if "write" in line[2] else line for line in CLIENT if "close" not in line[2]]
+        self.assertEqual(run(*self.captures, *self.write_logs(begun, SERVER))[0], 0)
+
+    def test_a_connection_that_began_before_the_capture(self):
+        late = talk()
+        late.frames[0] = late.frames[0][3:]
+        words = [*late.write(self.folder), *self.logs]
+        self.refused(words, "begins before the capture")
+        self.refused([*words, "--skip-begun"], "no connection is in both")
+
+    def test_nothing_in_common(self):
+        self.refused([*Talk(zero=("10.9.0.7", 1), one=("10.9.0.8", 2)).write(self.folder), *self.logs], "no connection is in both")
+        logs = self.write_logs([(7, AT, "socket(AF_UNIX, SOCK_STREAM, 0) = 3")], SERVER[:1])
+        self.refused([*talk().write(self.folder), *logs], "no TCP call")
+
+    def test_words(self):
+        for words in (["--skew", "-1"], ["--skew", "x"], ["--version", "9"], ["--msl", "0"], ["--initial", "1"], ["--nothing"], ["--capture", "0"]):
+            status, out, error = run(*words)
+            self.assertEqual((status, out), (2, ""))
+            self.assertNotIn("Traceback", error)
+        self.assertEqual(run("--help")[0], 0)
+
+    def test_words_of_the_recorder(self):
+        for words in ([], ["--transfer", "-5"], ["--transfer", "5", "--lose", "x"], ["--transfer", "5", "--loss", "2"], ["--pair", "", "--", "a"],
+                      ["--transfer", "5", "--", "a"], ["--serve", "--namespace", "--", "a"], ["--transfer", "5", "--delay", "nan"]):
+            status, out, error = run(*words, command=recording)
+            self.assertEqual((status, out), (2, ""), words)
+            self.assertNotIn("Traceback", error)
+        self.assertEqual(run("--help", command=recording)[0], 0)
+
+    def test_a_recorder_without_what_it_needs(self):
+        with mock.patch("os.geteuid", return_value=1000):
+            self.refused(["--transfer", "5"], "need root", recording)
+        with mock.patch("os.geteuid", return_value=0):
+            self.refused(["--tcpwit", "/nowhere", "--transfer", "5"], "/nowhere is no program", recording)
+
+    def test_the_programs_themselves(self):
+        done = subprocess.run([os.path.join(TOP, "tcpwit-import")], capture_output=True, text=True, timeout=100, check=False)
+        self.assertEqual((done.returncode, done.stdout), (1, ""))
+        self.assertIn("no capture is given", done.stderr)
+
+
+if __name__ == "__main__":
+    unittest.main()

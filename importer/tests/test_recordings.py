@@ -1,0 +1,88 @@
+"""Recordings of programs that nobody changed: data/recordings.tar.xz has captures and logs, expected.txt what becomes of them.
+
+A line of expected.txt has the name, the number of lines of the trace, and the verdict that tcpwit check gave with the witness that
+tcpwit_lab found. The verdict is compared if both programs are named by TCPWIT and TCPWIT_LAB.
+"""
+import os
+import re
+import subprocess
+import tarfile
+import tempfile
+import unittest
+
+from .test_command import run
+
+DATA = os.path.join(os.path.dirname(os.path.realpath(__file__)), "data")
+
+
+def files_of(folder):
+    """The importer's words for a recording."""
+    names = set(os.listdir(folder))
+    if "host0.pcap" in names:
+        return [word for host in "01" for word in ("--capture", host, f"{folder}/host{host}.pcap", "--calls", host, f"{folder}/host{host}.log")]
+    host = "0" if os.path.basename(folder).startswith("half") else "both"
+    return ["--capture", host, f"{folder}/run.pcap", "--calls", host, f"{folder}/run.log"]
+
+
+class Recordings(unittest.TestCase):
+    @classmethod
+    def setUpClass(cls):
+        cls.folder = tempfile.TemporaryDirectory()
+        cls.addClassCleanup(cls.folder.cleanup)
+        with tarfile.open(os.path.join(DATA, "recordings.tar.xz")) as archive:
+            archive.extractall(cls.folder.name)
+        with open(os.path.join(DATA, "expected.txt"), encoding="ascii") as file:
+            cls.expected = [line.rstrip("\n").split(" ", 2) for line in file]
+
+    def test_all_are_expected(self):
+        self.assertEqual(sorted(os.listdir(self.folder.name)), sorted(name for name, _, _ in self.expected))
+
+    def test_traces(self):
+        for name, lines, verdict in self.expected:
+            with self.subTest(name):
+                status, out, error = run(*files_of(os.path.join(self.folder.name, name)))
+                self.assertEqual(status, 0, error)
+                self.assertEqual(out.count("\n"), int(lines))
+                self.assertNotIn("doesn't show as sent", error)
+                self.is_sound(out)
+                self.judged(out, verdict)
+
+    def is_sound(self, text):
+        """Moments don't fall, calls of a thread stand in turn, numbers are given once, and what comes in went out before."""
+        half = "half 0" in text
+        moment, open_calls, given, out = 0, set(), set(), {"0": set(), "1": set()}
+        for line in text.splitlines()[8 if half else 7:]:
+            found = re.match(r"(\d+) (\d+) ([BEOI]) (.*)", line)
+            self.assertGreaterEqual(int(found[1]), moment)
+            moment = int(found[1])
+            if found[3] in "BE":
+                self.assertEqual(found[2] in open_calls, found[3] == "E")
+                (open_calls.add if found[3] == "B" else open_calls.remove)(found[2])
+                began = began_with if found[3] == "E" and (began_with := self.calls.get(found[2])) else None
+                self.calls[found[2]] = found[4].split()[0]
+                if began in ("listen", "open", "accept") and (number := re.match(r"ok (\d+)", found[4])):
+                    self.assertNotIn(number[1], given)
+                    given.add(number[1])
+            else:
+                host, segment = found[4].split()
+                if found[3] == "O":
+                    out[host].add(segment)
+                elif not half:
+                    self.assertIn(segment, out["1" if host == "0" else "0"])
+
+    def setUp(self):
+        self.calls = {}
+
+    def judged(self, trace, verdict):
+        """The verdict, if the programs are there."""
+        tcpwit, lab = os.environ.get("TCPWIT"), os.environ.get("TCPWIT_LAB")
+        if tcpwit and lab:
+            found = subprocess.run([lab, "find"], input=trace.encode(), capture_output=True, check=True)
+            checked = subprocess.run([tcpwit, "check"], input=found.stdout, capture_output=True, check=False)
+            # Another witness may turn a no into a yes.
+            if verdict.startswith("yes"):
+                self.assertTrue(checked.stdout.startswith(b"yes"), checked.stdout)
+
+
+if __name__ == "__main__":
+    unittest.main()
