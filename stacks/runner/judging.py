@@ -1,0 +1,80 @@
+"""From a run to a verdict: the header of the trace, a witness by `tcpwit_lab find`, the answer of `tcpwit check`."""
+import subprocess
+from dataclasses import dataclass, field
+
+# The versions of the texts: the one place where they are chosen.
+BOTH_HOSTS, ONE_HOST = 2, 3
+HEADER = ("msl", "grain", "minrto", "extra", "initial")
+# What a stack is taken for where its profile says nothing.
+USUAL = {"name": "a stack", "msl": "120000000", "grain": "1000", "minrto": "0", "extra": "65535", "initial": "5681"}
+LIMIT = 120
+
+
+@dataclass
+class Outcome:
+    """What is said of one scenario."""
+    scenario: object
+    verdict: str = ""           # yes .., no .., bad .., skipped, or broken
+    why: str = ""               # behind a no: what the rule compares, and what usually causes it
+    remarks: list = field(default_factory=list)
+    unexpected: list = field(default_factory=list)
+    missing: int = 0            # bytes that were accepted and never read
+    waiting: list = field(default_factory=list)
+    lines: int = 0
+
+    def is_good(self):
+        lost = self.missing and self.scenario.keeps
+        return self.verdict.startswith("yes") and not (self.unexpected or self.waiting or lost)
+
+    def word(self):
+        """One word for tables: what is wrong first."""
+        first = self.verdict.split()[0] if self.verdict else "broken"
+        return first if first != "yes" or self.is_good() else "yes, but"
+
+
+def profile(text):
+    """The header's values and the name, by lines of a word and a value."""
+    values = dict(USUAL)
+    for line in text.split("\n"):
+        word, _, value = line.split("#")[0].strip().partition(" ")
+        if word:
+            if word not in values:
+                raise ValueError(f"{word} is no word of a profile")
+            values[word] = value.strip()
+    return values
+
+
+def trace_of(run, values):
+    """The trace as text."""
+    version = ONE_HOST if run.peer else BOTH_HOSTS
+    head = [f"trace {version}", "skew 0", *(f"{word} {values[word]}" for word in HEADER)]
+    if run.peer:
+        head.append("half 0")
+    return "\n".join(head + run.lines) + "\n"
+
+
+def call(program, word, text):
+    """A program's output and status."""
+    done = subprocess.run([*program, word], input=text, capture_output=True, text=True, timeout=LIMIT)
+    return done.stdout, done.returncode
+
+
+class Judge:
+    def __init__(self, check, lab):
+        self.check, self.lab = check, lab
+        self.remarks = True
+
+    def judge(self, outcome, trace):
+        """Finds a witness and fills in the outcome. The case."""
+        case, _ = call(self.lab, "find", trace)
+        answer, _ = call(self.check, "check", case)
+        outcome.verdict = answer.strip()
+        if not outcome.verdict.startswith("yes"):
+            told, _ = call(self.lab, "explain", case)
+            kept = [line for line in told.split("\n")[1:] if line.strip()]
+            outcome.why = "\n".join(kept)
+        if self.remarks:
+            told, status = call(self.lab, "remark", case)
+            self.remarks = status != 3
+            outcome.remarks = [line for line in told.split("\n") if line.strip()] if self.remarks else []
+        return case
