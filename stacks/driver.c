@@ -8,13 +8,17 @@
  * is answered by `out HEX` and `expired LOCAL REMOTE TIMER` as they happen, then `= NEXT ANSWER`: the next moment at which a tick is
  * wanted, or `-`, and the answer in the words of a trace.
  */
+#define _POSIX_C_SOURCE 200809L
 #include "tcpwit_stack.h"
 #include <stdio.h>
 #include <stdlib.h>
 #include <string.h>
+#include <unistd.h>
 
 enum { LONGEST = 70000 };
 
+/* The runner's end. What the stack prints goes to standard error. */
+static FILE *runner;
 static uint64_t moment;
 static char line[2 * LONGEST + 200];
 static unsigned char bytes[LONGEST];
@@ -24,21 +28,21 @@ uint64_t stack_now(void) { return moment; }
 static void print_hex(const unsigned char *from, size_t count)
 {
     for (size_t i = 0; i < count; i++) {
-        putchar("0123456789abcdef"[from[i] >> 4]);
-        putchar("0123456789abcdef"[from[i] & 15]);
+        putc("0123456789abcdef"[from[i] >> 4], runner);
+        putc("0123456789abcdef"[from[i] & 15], runner);
     }
 }
 
 void stack_out(const void *segment, size_t count)
 {
-    fputs("out ", stdout);
+    fputs("out ", runner);
     print_hex(segment, count);
-    putchar('\n');
+    putc('\n', runner);
 }
 
 void stack_expired(unsigned local, unsigned remote, const char *timer)
 {
-    printf("expired %u %u %s\n", local, remote, timer);
+    fprintf(runner, "expired %u %u %s\n", local, remote, timer);
 }
 
 static int digit(char c)
@@ -67,11 +71,11 @@ static const char *word_of(long answer)
 static void finish(const char *answer, long given)
 {
     uint64_t next = stack_next();
-    if (next == UINT64_MAX) printf("= - %s", answer);
-    else printf("= %llu %s", (unsigned long long)next, answer);
-    if (given >= 0) printf(" %ld", given);
-    putchar('\n');
-    fflush(stdout);
+    if (next == UINT64_MAX) fprintf(runner, "= - %s", answer);
+    else fprintf(runner, "= %llu %s", (unsigned long long)next, answer);
+    if (given >= 0) fprintf(runner, " %ld", given);
+    putc('\n', runner);
+    fflush(runner);
 }
 
 /* The answer of a call that gives a number. */
@@ -88,11 +92,11 @@ static void finish_recv(long answer)
         return;
     }
     uint64_t next = stack_next();
-    if (next == UINT64_MAX) fputs("= - data ", stdout);
-    else printf("= %llu data ", (unsigned long long)next);
+    if (next == UINT64_MAX) fputs("= - data ", runner);
+    else fprintf(runner, "= %llu data ", (unsigned long long)next);
     print_hex(bytes, (size_t)answer);
-    putchar('\n');
-    fflush(stdout);
+    putc('\n', runner);
+    fflush(runner);
 }
 
 static void finish_state(long socket)
@@ -125,6 +129,8 @@ static void do_command(const char *word, const char *rest)
 int main(void)
 {
     struct stack_config config = { 0 };
+    runner = fdopen(dup(1), "w");
+    if (!runner || dup2(2, 1) < 0) return 1;
     while (fgets(line, sizeof line, stdin)) {
         line[strcspn(line, "\n")] = 0;
         if (sscanf(line, "start %d %u %u %u", &config.host, &config.seed, &config.mss, &config.window) == 4) {

@@ -102,15 +102,20 @@ static void tell_the_rest(void)
 
 /* ---- The wire ---- */
 
-/* lwIP's receive window is fixed when it is compiled. A scenario's smaller one is set where the SYN goes out, and in the SYN. */
+/* lwIP's receive window is fixed when it is compiled. A scenario's smaller one is written into the SYN that goes out, and set in
+ * the connection once lwIP has read the peer's SYN. */
+static void limit(struct tcp_pcb *pcb)
+{
+    if (config.window && pcb && pcb->rcv_wnd > config.window) pcb->rcv_wnd = pcb->rcv_ann_wnd = (tcpwnd_size_t)config.window;
+}
+
 static void narrow(unsigned char *segment)
 {
     u16_t local = (u16_t)(segment[0] << 8 | segment[1]), remote = (u16_t)(segment[2] << 8 | segment[3]);
-    struct tcp_pcb *pcb = active_at(local, remote);
     if (!config.window || !(segment[13] & TCP_SYN)) return;
     segment[14] = (unsigned char)(config.window >> 8);
     segment[15] = (unsigned char)config.window;
-    if (pcb && pcb->rcv_wnd > config.window) pcb->rcv_wnd = pcb->rcv_ann_wnd = (tcpwnd_size_t)config.window;
+    if (segment[13] & TCP_ACK) limit(active_at(local, remote));
 }
 
 static err_t leave(struct netif *netif, struct pbuf *packet, const ip4_addr_t *to)
@@ -197,8 +202,8 @@ static err_t came(void *at, struct tcp_pcb *pcb, struct pbuf *packet, err_t caus
 
 static err_t connected(void *at, struct tcp_pcb *pcb, err_t cause)
 {
-    (void)pcb;
     (void)cause;
+    limit(pcb);
     ((struct socket *)at)->connected = 1;
     return ERR_OK;
 }

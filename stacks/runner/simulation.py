@@ -232,7 +232,6 @@ class Run:
             return f"open {thread.host} {args[0]} {args[1]}", thread.host, f"open {args[0]} {args[1]}"
         number = self.names.get(args[0])
         if number is None:
-            self.blame(thread, step, f"{args[0]} names nothing")
             return None
         host, handle = self.handles[number]
         more = ""
