@@ -1,6 +1,6 @@
 /* Reads the runner's commands from standard input and calls the stack. One line in, some lines out, the last one beginning with '='.
  *
- *     start HOST SEED MSS WINDOW       MOMENT in HEX          MOMENT tick
+ *     start HOST SEED MSS WINDOW OPTIONS      MOMENT in HEX      MOMENT tick
  *     MOMENT listen PORT BACKLOG       MOMENT open LOCAL REMOTE
  *     MOMENT await|accept|shut|close|abort|status SOCKET
  *     MOMENT send SOCKET HEX           MOMENT recv SOCKET MOST
@@ -22,6 +22,7 @@ static FILE *runner;
 static uint64_t moment;
 static char line[2 * LONGEST + 200];
 static unsigned char bytes[LONGEST];
+static char options[200];
 
 uint64_t stack_now(void) { return moment; }
 
@@ -133,7 +134,10 @@ int main(void)
     if (!runner || dup2(2, 1) < 0) return 1;
     while (fgets(line, sizeof line, stdin)) {
         line[strcspn(line, "\n")] = 0;
-        if (sscanf(line, "start %d %u %u %u", &config.host, &config.seed, &config.mss, &config.window) == 4) {
+        int used = 0;
+        if (sscanf(line, "start %d %u %u %u %n", &config.host, &config.seed, &config.mss, &config.window, &used) == 4) {
+            strncpy(options, line + used, sizeof options - 1);
+            config.options = options;
             finish(word_of(stack_start(&config)), -1);
             continue;
         }

@@ -30,6 +30,7 @@ struct stack_config {
     uint32_t seed;       /* for everything that is drawn, so that runs are the same */
     unsigned mss;        /* the MSS to tell; 536 where a scenario says nothing */
     unsigned window;     /* the greatest receive window to offer; 0: the stack's own */
+    const char *options; /* the line `options` of the profile: the adapter's own words */
 };
 
 /* ---- Offered by driver.c ---- */

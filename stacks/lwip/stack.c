@@ -37,7 +37,7 @@ static struct socket sockets[SOCKETS];
 static int given;
 static struct netif wire;
 static struct tracked seen[TRACKED];
-static int seen_count, ticking;
+static int seen_count, ticking, prompt, plain_resets;
 static uint64_t next_tick;
 static struct stack_config config;
 
@@ -118,6 +118,16 @@ static void narrow(unsigned char *segment)
     if (segment[13] & TCP_ACK) limit(active_at(local, remote));
 }
 
+/* A reset that answers an acknowledgment acknowledges nothing in RFC 9293, 3.10.7.1; lwIP's does. So that more of a run can be
+ * judged it is made as the RFC has it. */
+static void make_plain(unsigned char *segment)
+{
+    static const unsigned char none[4];
+    if (!(segment[13] & TCP_RST) || !memcmp(segment + 4, none, sizeof none)) return;
+    segment[13] &= (unsigned char)~TCP_ACK;
+    memset(segment + 8, 0, 4);
+}
+
 static err_t leave(struct netif *netif, struct pbuf *packet, const ip4_addr_t *to)
 {
     static unsigned char bytes[LONGEST];
@@ -127,6 +137,7 @@ static err_t leave(struct netif *netif, struct pbuf *packet, const ip4_addr_t *t
     if (count < 2 * HEADER) return ERR_OK;
     tell_expiry((u16_t)(bytes[HEADER] << 8 | bytes[HEADER + 1]), (u16_t)(bytes[HEADER + 2] << 8 | bytes[HEADER + 3]));
     narrow(bytes + HEADER);
+    if (plain_resets) make_plain(bytes + HEADER);
     stack_out(bytes + HEADER, count - HEADER);
     return ERR_OK;
 }
@@ -235,6 +246,10 @@ long stack_start(const struct stack_config *wanted)
 {
     ip4_addr_t own, mask, none;
     config = *wanted;
+    /* An update of the window goes out for this much; a smaller window would never be updated. */
+    if (config.window && config.window < TCP_WND_UPDATE_THRESHOLD) return STACK_CANNOT;
+    prompt = strstr(config.options, "prompt") != NULL;
+    plain_resets = strstr(config.options, "plain-resets") != NULL;
     own = address(config.host);
     IP4_ADDR(&mask, 255, 255, 255, 0);
     IP4_ADDR(&none, 0, 0, 0, 0);
@@ -247,10 +262,22 @@ long stack_start(const struct stack_config *wanted)
     return STACK_OK;
 }
 
+/* What waits to be acknowledged is acknowledged now. lwIP grows its window by two segments for an acknowledgment of two
+ * (RFC 3465), which versions 1 to 3 of the texts don't permit; of one segment it grows by one. */
+static void acknowledge(void)
+{
+    for (struct tcp_pcb *pcb = tcp_active_pcbs; pcb; pcb = pcb->next)
+        if (pcb->flags & TF_ACK_DELAY) {
+            tcp_set_flags(pcb, TF_ACK_NOW);
+            tcp_output(pcb);
+        }
+}
+
 void stack_input(const void *segment, size_t count)
 {
     struct pbuf *packet = packet_of(segment, count);
     if (packet && wire.input(packet, &wire) != ERR_OK) pbuf_free(packet);
+    if (prompt) acknowledge();
 }
 
 void stack_tick(void)

@@ -2,11 +2,13 @@
 import subprocess
 from dataclasses import dataclass, field
 
+import dropping
+
 # The versions of the texts: the one place where they are chosen.
 BOTH_HOSTS, ONE_HOST = 2, 3
 HEADER = ("msl", "grain", "minrto", "extra", "initial")
 # What a stack is taken for where its profile says nothing.
-USUAL = {"name": "a stack", "msl": "120000000", "grain": "1000", "minrto": "0", "extra": "65535", "initial": "5681"}
+USUAL = {"name": "a stack", "msl": "120000000", "grain": "1000", "minrto": "0", "extra": "65535", "initial": "5681", "options": ""}
 LIMIT = 120
 
 
@@ -44,13 +46,15 @@ def profile(text):
     return values
 
 
-def trace_of(run, values):
+def header_of(values, half):
+    """The lines of a trace's header; `half`: host 0 alone is recorded."""
+    head = [f"trace {ONE_HOST if half else BOTH_HOSTS}", "skew 0", *(f"{word} {values[word]}" for word in HEADER)]
+    return head + ["half 0"] if half else head
+
+
+def trace_of(values, half, lines):
     """The trace as text."""
-    version = ONE_HOST if run.peer else BOTH_HOSTS
-    head = [f"trace {version}", "skew 0", *(f"{word} {values[word]}" for word in HEADER)]
-    if run.peer:
-        head.append("half 0")
-    return "\n".join(head + run.lines) + "\n"
+    return "\n".join(header_of(values, half) + lines) + "\n"
 
 
 def call(program, word, text):
@@ -64,11 +68,29 @@ class Judge:
         self.check, self.lab = check, lab
         self.remarks = True
 
-    def judge(self, outcome, trace):
+    def answer(self, case):
+        return call(self.check, "check", case)[0].strip()
+
+    def found(self, run, values):
+        """A case and its verdict: the first that is a yes, or that of the whole trace."""
+        first, _ = call(self.lab, "find", trace_of(values, run.peer, run.lines))
+        verdict = self.answer(first)
+        if not verdict.startswith("no"):
+            return first, verdict
+        header = len(header_of(values, run.peer))
+        for left in dropping.choices(run.lines, run.odd):
+            rest = [line for at, line in enumerate(run.lines) if at not in left]
+            case, _ = call(self.lab, "find", trace_of(values, run.peer, rest))
+            if not self.answer(case).startswith("yes"):
+                continue
+            case = dropping.put_in_again(case, header, run.lines, left)
+            if self.answer(case).startswith("yes"):
+                return case, self.answer(case)
+        return first, verdict
+
+    def judge(self, outcome, run, values):
         """Finds a witness and fills in the outcome. The case."""
-        case, _ = call(self.lab, "find", trace)
-        answer, _ = call(self.check, "check", case)
-        outcome.verdict = answer.strip()
+        case, outcome.verdict = self.found(run, values)
         if not outcome.verdict.startswith("yes"):
             told, _ = call(self.lab, "explain", case)
             kept = [line for line in told.split("\n")[1:] if line.strip()]

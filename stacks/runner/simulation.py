@@ -28,12 +28,12 @@ class Cannot(Exception):
 class Host:
     """A stack in a process of its own."""
 
-    def __init__(self, number, command, seed, settings):
+    def __init__(self, number, command, seed, settings, options):
         self.number = number
         self.process = subprocess.Popen(command, stdin=subprocess.PIPE, stdout=subprocess.PIPE, text=True, bufsize=1 << 16)
         self.next = None
         mss, window = settings.get((number, "mss"), 536), settings.get((number, "window"), 0)
-        answer, _ = self.ask(f"start {number} {seed} {mss} {window}")
+        answer, _ = self.ask(f"start {number} {seed} {mss} {window} {options}")
         if answer != "ok":
             raise Cannot(f"start with mss {mss} and window {window}")
 
@@ -133,10 +133,12 @@ class Runner:
 class Run:
     """The run as a whole."""
 
-    def __init__(self, scenario, command):
+    def __init__(self, scenario, command, options=""):
+        self.options = options
         self.scenario = scenario
         self.wire = Wire(scenario)
         self.lines = []
+        self.odd = set()         # places in `lines` of arrivals that a script made odd
         self.now = 0
         self.events = []
         self.order = 0
@@ -185,10 +187,12 @@ class Run:
         for delay in self.wire.delays(host, segment, self.now):
             self.at(self.now + delay, "come", 1 - host, text)
 
-    def come(self, host, text):
+    def come(self, host, text, is_odd=False):
         if self.peer and host == 1:
             self.peer.take(read(bytes.fromhex(text)))
             return
+        if is_odd:
+            self.odd.add(len(self.lines))
         self.say(IN_THREAD + host, f"I {host} {text}")
         self.ask(host, f"in {text}")
 
@@ -364,7 +368,7 @@ class Run:
 
     def start(self):
         for number in (0,) if self.peer else (0, 1):
-            self.hosts.append(Host(number, self.command, self.scenario.seed, self.scenario.settings))
+            self.hosts.append(Host(number, self.command, self.scenario.seed, self.scenario.settings, self.options))
         for at, thread in enumerate(self.threads):
             thread.ready = 1000 * (at + 1)
             self.at(thread.ready, "wake")
