@@ -1,7 +1,7 @@
 // gVisor's netstack behind the runner: the commands of driver.c, answered in Go.
 //
 // The stack's goroutines run on one processor, and each command lets them all run until none is left, so a run is the same each time. The clock
-// is the runner's. Which timer expired isn't told: the stack's timers have no names.
+// is the runner's.
 package main
 
 import (
@@ -72,6 +72,8 @@ type clock struct {
 	now   int64
 	order int64
 	due   timers
+	// around runs what is due, and sees what became of it.
+	around func(call func())
 }
 
 func (c *clock) Now() time.Time {
@@ -133,8 +135,7 @@ func (c *clock) pass(moment int64) {
 			c.now = t.at
 		}
 		c.mu.Unlock()
-		t.call()
-		settle()
+		c.around(t.call)
 	}
 }
 
@@ -161,6 +162,8 @@ type socket struct {
 	ep        tcpip.Endpoint
 	listens   bool
 	connected bool
+	timeouts  uint64 // how often its retransmission timer expired
+	waits     bool   // it is in TIME-WAIT
 }
 
 type host struct {
@@ -171,6 +174,40 @@ type host struct {
 	own     tcpip.Address
 	other   tcpip.Address
 	sockets []*socket
+	closed  map[uint32]bool // local and remote port: the peer's last window was 0
+}
+
+// around runs what is due, and says which timers expired. The stack counts timeouts and calls a probe of a window of 0 one too; of a SYN it
+// counts none, nor of connections that were not accepted.
+func (h *host) around(call func()) {
+	h.tell()
+	for _, s := range h.sockets {
+		s.waits = s.state() == "TIME-WAIT"
+	}
+	call()
+	settle()
+	for _, s := range h.sockets {
+		id := s.ep.Info().(*stack.TransportEndpointInfo).ID
+		if s.waits && s.state() == "CLOSED" {
+			fmt.Fprintf(h.out, "expired %d %d 2msl\n", id.LocalPort, id.RemotePort)
+		}
+		if timeouts := s.ep.Stats().(*tcp.Stats).SendErrors.Timeouts.Value(); timeouts > s.timeouts {
+			s.timeouts = timeouts
+			fmt.Fprintf(h.out, "expired %d %d %s\n", id.LocalPort, id.RemotePort, h.timer(s, id.LocalPort, id.RemotePort))
+		}
+	}
+	h.tell()
+}
+
+// timer is which timer a timeout was of.
+func (h *host) timer(s *socket, local, remote uint16) string {
+	if s.state() == "CLOSED" {
+		return "giveup"
+	}
+	if h.closed[uint32(local)<<16|uint32(remote)] {
+		return "persist"
+	}
+	return "rto"
 }
 
 func check(err tcpip.Error) {
@@ -183,7 +220,8 @@ func check(err tcpip.Error) {
 func address(number int) tcpip.Address { return tcpip.Address([]byte{10, 0, 0, byte(1 + number)}) }
 
 func start(number int, seed int64, mss, window int, options string) *host {
-	h := &host{clock: &clock{}, own: address(number), other: address(1 - number)}
+	h := &host{clock: &clock{}, own: address(number), other: address(1 - number), closed: map[uint32]bool{}}
+	h.clock.around = h.around
 	h.wire = channel.New(4096, uint32(mss+2*ipHeader), "")
 	source := rand.New(rand.NewSource(2*seed + int64(number)))
 	h.stack = stack.New(stack.Options{
@@ -234,6 +272,7 @@ func (h *host) input(segment []byte) {
 		return
 	}
 	t.SetChecksum(^checksum.Checksum(segment[offset:], checksum.Checksum(t[:offset], sum)))
+	h.closed[uint32(t.DestinationPort())<<16|uint32(t.SourcePort())] = t.WindowSize() == 0
 	buffer := stack.NewPacketBuffer(stack.PacketBufferOptions{Payload: bufferv2.MakeWithData(packet)})
 	h.wire.InjectInbound(ipv4.ProtocolNumber, buffer)
 	buffer.DecRef()
@@ -369,6 +408,11 @@ func (s *socket) send(b []byte) string {
 	var from bytes.Reader
 	from.Reset(b)
 	count, err := s.ep.Write(&from, tcpip.WriteOptions{})
+	if tcp.EndpointState(s.ep.State()) == tcp.StateError {
+		if cause := s.ep.LastError(); cause != nil {
+			return word(cause)
+		}
+	}
 	if err != nil {
 		return word(err)
 	}

@@ -4,7 +4,31 @@
 So where its witness is refused, some arrivals are left out of the trace, a witness for the rest is sought, and they are put in
 again, each with its step K. The case is one of the whole trace, and `tcpwit check` judges it as any other.
 """
+import re
+
 MOST_TRIES = 12
+
+
+def not_acknowledged(verdict, told, case, lines):
+    """Arrivals that the stack can't have kept: a line shows an acknowledgment of less than they carry. Their places in `lines`."""
+    found = re.search(r"acknowledgment number: made (\d+), the line shows (\d+)", told)
+    if not verdict.endswith("bytes-differ") or not found:
+        return set()
+    shown = case.split("\n")[int(verdict.split()[2]) - 1]
+    if shown not in lines:
+        return set()
+    at, made, ack = lines.index(shown), int(found[1]), int(found[2])
+    _, _, _, host, text = shown.split(" ")
+    ports = text[4:8] + text[0:4]
+    left = set()
+    for place, line in enumerate(lines[:at]):
+        words = line.split(" ")
+        if words[2] == "I" and words[3] == host and words[4].startswith(ports):
+            ahead = (int(words[4][8:16], 16) - ack) % 2**32
+            size = len(words[4]) // 2 - int(words[4][24], 16) * 4 + (int(words[4][26:28], 16) & 1)
+            if size and ahead < (made - ack) % 2**32:
+                left.add(place)
+    return left
 
 
 def choices(lines, odd):

@@ -77,16 +77,34 @@ class Judge:
         verdict = self.answer(first)
         if not verdict.startswith("no"):
             return first, verdict
-        header = len(header_of(values, run.peer))
         for left in dropping.choices(run.lines, run.odd):
-            rest = [line for at, line in enumerate(run.lines) if at not in left]
-            case, _ = call(self.lab, "find", trace_of(values, run.peer, rest))
-            if not self.answer(case).startswith("yes"):
-                continue
-            case = dropping.put_in_again(case, header, run.lines, left)
-            if self.answer(case).startswith("yes"):
-                return case, self.answer(case)
-        return first, verdict
+            case, answer = self.without(run, values, left)
+            if answer.startswith("yes"):
+                return case, answer
+        case, answer = self.without_unkept(run, values, first, verdict)
+        return (case, answer) if answer.startswith("yes") else (first, verdict)
+
+    def without(self, run, values, left):
+        """A case in which the arrivals in these places are dropped, and its verdict; the witness is of the rest alone where that is no yes."""
+        rest = [line for at, line in enumerate(run.lines) if at not in left]
+        case, _ = call(self.lab, "find", trace_of(values, run.peer, rest))
+        answer = self.answer(case)
+        if not answer.startswith("yes"):
+            return case, answer
+        case = dropping.put_in_again(case, len(header_of(values, run.peer)), run.lines, left)
+        return case, self.answer(case)
+
+    def without_unkept(self, run, values, case, verdict):
+        """Drops, again and again, what acknowledgments show that the stack didn't keep."""
+        left = set()
+        for _ in range(dropping.MOST_TRIES):
+            told, _ = call(self.lab, "explain", case)
+            more = dropping.not_acknowledged(verdict, told, case, run.lines) - left
+            if not more:
+                break
+            left |= more
+            case, verdict = self.without(run, values, left)
+        return case, verdict
 
     def judge(self, outcome, run, values):
         """Finds a witness and fills in the outcome. The case."""

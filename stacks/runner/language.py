@@ -133,13 +133,14 @@ def call(line, words):
         need, rest = args[:1], args[1:]
     if word == "open":
         need, rest = args[:2], args[2:]
-    made = Do(line, word, need, options(rest, ("as", "backlog", "by", "each")), expected)
+    made = Do(line, word, need, options(rest, ("as", "backlog", "by", "each", "lasted")), expected)
     if word in ("listen", "open", "accept") and "as" not in made.options:
         raise ValueError("a name is missing: as NAME")
     if "by" in made.options:
         made.options["by"] = number(made.options["by"])
-    if "each" in made.options:
-        made.options["each"] = seconds(made.options["each"])
+    for name in ("each", "lasted"):
+        if name in made.options:
+            made.options[name] = seconds(made.options[name])
     if len(need) < {"listen": 1, "open": 2}.get(word, count):
         raise ValueError("a word is missing")
     return made

@@ -128,6 +128,7 @@ class Runner:
         self.told = 0          # bytes that this step sent or received so far
         self.ready = 0         # it waits until this moment
         self.ended = False
+        self.began = 0         # when its last call began
 
 
 class Run:
@@ -224,6 +225,7 @@ class Run:
         text, host, command = asked
         self.say(thread.number, f"B {text}")
         thread.open = (step, host, command)
+        thread.began = self.now
         return self.attempt(thread)
 
     def asked(self, thread, step):
@@ -316,6 +318,9 @@ class Run:
         found = answer.split()[1] if word == "state" and step.expected else word
         if "any" not in expected and found not in expected:
             self.blame(thread, step, f"{step.word} is answered {found}, not {' or '.join(expected)}")
+
+        elif self.now - thread.began < step.options.get("lasted", 0):
+            self.blame(thread, step, f"{step.word} is answered {found} too early")
 
     def blame(self, thread, step, text):
         where = "peer" if thread is None else f"thread {thread.number}"
