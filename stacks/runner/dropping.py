@@ -33,7 +33,7 @@ def not_acknowledged(verdict, told, case, lines):
 
 def choices(lines, odd):
     """Sets of lines to leave out, each by their places: all that are odd, then single ones."""
-    fins = [at for at, line in enumerate(lines) if is_arrival(line) and flags_of(line) & 5]
+    fins = [at for at, line in enumerate(lines) if is_arrival(line) and flags_of(line) & 7]
     singles = sorted(odd) + [at for at in fins if at not in odd]
     found = [set(odd)] if len(odd) > 1 else []
     return (found + [{at} for at in singles])[:MOST_TRIES]
