@@ -4,8 +4,11 @@ Time is simulated: an event is taken, the stack of its host does what it does at
 run depends on the scenario, its seed and the stack alone.
 """
 import heapq
+import os
 import random
+import signal
 import subprocess
+import threading
 
 from segments import read, stream
 from peer import Peer
@@ -14,7 +17,9 @@ FAULTS = ("refused", "reset", "timeout")
 # Threads of the lines that no call writes, for host 0 and host 1.
 OUT_THREAD, IN_THREAD, TIMER_THREAD = 90, 92, 94
 LONGEST_CALL = 60000
-MOST_EVENTS = 400_000
+MOST_EVENTS = 200_000
+# Seconds of the machine's clock after which a stack that doesn't answer is ended.
+LONGEST_RUN = 60
 
 
 class Broken(Exception):
@@ -28,10 +33,16 @@ class Cannot(Exception):
 class Host:
     """A stack in a process of its own."""
 
-    def __init__(self, number, command, seed, settings, options):
+    def __init__(self, number, command, settings):
         self.number = number
-        self.process = subprocess.Popen(command, stdin=subprocess.PIPE, stdout=subprocess.PIPE, text=True, bufsize=1 << 16)
+        self.process = subprocess.Popen(command, stdin=subprocess.PIPE, stdout=subprocess.PIPE, text=True, bufsize=1 << 16,
+                                        start_new_session=True)
         self.next = None
+        self.settings = settings
+
+    def hello(self, seed, options):
+        """Sets the stack up."""
+        number, settings = self.number, self.settings
         mss, window = settings.get((number, "mss"), 536), settings.get((number, "window"), 0)
         answer, _ = self.ask(f"start {number} {seed} {mss} {window} {options}")
         if answer != "ok":
@@ -56,12 +67,22 @@ class Host:
                 raise Broken(f"host {self.number} answered {line.strip()[:60]!r} to: {command[:60]}")
             happened.append((word, rest))
 
+    def kill(self):
+        """Ends the process and those that it started."""
+        try:
+            os.killpg(self.process.pid, signal.SIGKILL)
+        except ProcessLookupError:
+            pass
+
     def end(self):
-        self.process.stdin.close()
+        try:
+            self.process.stdin.close()
+        except BrokenPipeError:
+            pass
         try:
             self.process.wait(5)
         except subprocess.TimeoutExpired:
-            self.process.kill()
+            self.kill()
             self.process.wait()
         self.process.stdout.close()
 
@@ -369,11 +390,15 @@ class Run:
                 self.come(*what)
         self.serve()
         self.count += 1
+        if self.count == MOST_EVENTS:
+            self.unexpected.append(f"run: ended after {MOST_EVENTS} events")
         return self.count < MOST_EVENTS
 
     def start(self):
         for number in (0,) if self.peer else (0, 1):
-            self.hosts.append(Host(number, self.command, self.scenario.seed, self.scenario.settings, self.options))
+            host = Host(number, self.command, self.scenario.settings)
+            self.hosts.append(host)
+            host.hello(self.scenario.seed, self.options)
         for at, thread in enumerate(self.threads):
             thread.ready = 1000 * (at + 1)
             self.at(thread.ready, "wake")
@@ -382,6 +407,9 @@ class Run:
 
     def run(self):
         """Runs to the end. The event lines are in `lines` then."""
+        watch = threading.Timer(LONGEST_RUN, lambda: [host.kill() for host in self.hosts])
+        watch.daemon = True
+        watch.start()
         try:
             self.start()
             over = None
@@ -389,6 +417,7 @@ class Run:
                 if self.is_over() and over is None:
                     over = min(self.now + self.scenario.linger, self.scenario.until)
         finally:
+            watch.cancel()
             for host in self.hosts:
                 host.end()
         if self.peer:
