@@ -1,0 +1,162 @@
+"""A scripted peer: host 1 of a half case. It sends what a script says, and sees what host 0 sends."""
+import re
+
+import segments
+from segments import ACK, FIN, RST, SYN, Segment, stream
+
+WAIT = 5_000_000
+
+
+class Peer:
+    def __init__(self, run):
+        self.run = run
+        self.port, self.other = run.scenario.peer
+        self.script = run.scenario.script
+        self.at = 0
+        self.iss = 4_000_000_000
+        self.nxt = self.iss
+        self.irs = self.rcv = None
+        self.una = None            # the greatest acknowledgment that came
+        self.edge = None           # the end of the window that the stack offers
+        self.shift = 0
+        self.window = 65535
+        self.acks = False
+        self.arrived = []          # what no `expect` has looked at
+        self.ready = 0
+        self.deadline = None
+        self.times = 0
+
+    def start(self):
+        self.ready = 500
+        self.run.at(self.ready, "wake")
+
+    def is_over(self):
+        return self.at == len(self.script)
+
+    # ---- what comes ----
+
+    def take(self, segment):
+        if segment.dst != self.port:
+            return
+        self.arrived.append(segment)
+        if segment.has(SYN) and not segment.has(RST):
+            self.irs = segment.seq
+            self.rcv = (segment.seq + 1) % 2**32
+        elif self.rcv is not None and segment.seq == self.rcv:
+            self.rcv = (self.rcv + segment.length()) % 2**32
+        if segment.has(ACK) and not segment.has(RST):
+            self.una = segment.ack
+            self.edge = (segment.ack + segment.window) % 2**32
+        if self.acks and segment.length() and not segment.has(RST):
+            self.send("A", {})
+
+    # ---- what goes ----
+
+    def number(self, text, default):
+        """nxt, iss, una, rcv, irs, edge or a number, and perhaps + N or - N."""
+        if text is None:
+            return default
+        base, sign, more = re.fullmatch(r"([a-z]+|\d+)(?:([+-])(\d+))?", text).groups()
+        value = int(base) if base.isdigit() else getattr(self, base)
+        more = int(more or 0) * (-1 if sign == "-" else 1)
+        return ((value or 0) + more) % 2**32
+
+    def send(self, letters, options):
+        flags = sum(segments.LETTERS[letter] for letter in letters if letter != "-")
+        count = int(options.get("len", 0))
+        own = "seq" not in options
+        seq = self.number(options.get("seq"), self.nxt)
+        ack = self.number(options.get("ack"), self.rcv or 0) if flags & ACK or "ack" in options else 0
+        first = (seq + bool(flags & SYN) - self.iss - 1) % 2**32
+        payload = stream(first, count, 1)
+        if "fill" in options:
+            payload = bytes([int(options["fill"])]) * count
+        extra = b""
+        if "raw" in options:
+            extra = bytes.fromhex(options["raw"])
+        elif flags & SYN:
+            extra = bytes([2, 4]) + int(options.get("mss", 536)).to_bytes(2, "big")
+        window = int(options.get("win", self.window))
+        segment = Segment(self.port, self.other, seq, ack, flags, window, extra, payload)
+        if own and not flags & RST:
+            self.nxt = (self.nxt + segment.length()) % 2**32
+        self.run.at(self.run.now + self.run.scenario.delay, "come", 0, segments.write(segment).hex(),
+                    "seq" in options or "ack" in options)
+
+    # ---- the script ----
+
+    def go_on(self):
+        """Does steps of the script that can be done now. Whether any was."""
+        moved = False
+        while self.at < len(self.script) and self.ready <= self.run.now:
+            step = self.script[self.at]
+            if not getattr(self, f"do_{step.word}")(step):
+                break
+            self.at += 1
+            self.deadline = None
+            moved = True
+        return moved
+
+    def pause(self, time):
+        self.ready = self.run.now + time
+        self.run.at(self.ready, "wake")
+
+    def do_wait(self, step):
+        self.pause(step.args[0])
+        return True
+
+    def do_window(self, step):
+        self.window = step.args[0]
+        return True
+
+    def do_acks(self, step):
+        self.acks = step.args[0] == "on"
+        return True
+
+    def do_put(self, step):
+        from language import seconds
+        self.times += 1
+        self.send(step.args[0], step.options)
+        if self.times < int(step.options.get("times", 1)):
+            self.pause(seconds(step.options.get("each", "0.001")))
+            return False
+        self.times = 0
+        return True
+
+    def fits(self, step, segment):
+        kind, options = step.args[0], step.options
+        return (kind in ("any", segment.kind())
+                and ("seq" not in options or segment.seq == self.number(options["seq"], 0))
+                and ("ack" not in options or segment.ack == self.number(options["ack"], 0))
+                and ("len" not in options or len(segment.payload) == int(options["len"])))
+
+    def found(self, step):
+        while self.arrived:
+            if self.fits(step, self.arrived.pop(0)):
+                return True
+        return False
+
+    def is_late(self, step):
+        from language import seconds
+        if self.deadline is None:
+            self.deadline = self.run.now + (seconds(step.options["within"]) if "within" in step.options else WAIT)
+            self.run.at(self.deadline, "wake")
+        return self.run.now >= self.deadline
+
+    def do_expect(self, step):
+        if self.found(step):
+            return True
+        if self.is_late(step):
+            self.run.blame(None, step, f"no {step.args[0]} came")
+            return True
+        return False
+
+    def do_never(self, step):
+        if self.found(step):
+            self.run.blame(None, step, f"a segment of kind {step.args[0]} came")
+            return True
+        return self.is_late(step)
+
+    def finish(self):
+        if self.at < len(self.script):
+            self.run.blame(None, self.script[self.at], "the script was not finished")

@@ -1,0 +1,435 @@
+"""A run of one scenario: a clock, a wire, threads of calls, and the lines of the trace.
+
+Time is simulated: an event is taken, the stack of its host does what it does at once, and the clock goes on to the next event. So a
+run depends on the scenario, its seed and the stack alone.
+"""
+import heapq
+import os
+import random
+import signal
+import subprocess
+import threading
+
+from segments import read, stream
+from peer import Peer
+
+FAULTS = ("refused", "reset", "timeout")
+# Threads of the lines that no call writes, for host 0 and host 1.
+OUT_THREAD, IN_THREAD, TIMER_THREAD = 90, 92, 94
+LONGEST_CALL = 60000
+MOST_EVENTS = 200_000
+# Seconds of the machine's clock after which a stack that doesn't answer is ended.
+LONGEST_RUN = 60
+
+
+class Broken(Exception):
+    """The stack's process ended, or said what nobody understands."""
+
+
+class Cannot(Exception):
+    """The adapter can't do what the scenario wants."""
+
+
+class Host:
+    """A stack in a process of its own."""
+
+    def __init__(self, number, command, settings):
+        self.number = number
+        self.process = subprocess.Popen(command, stdin=subprocess.PIPE, stdout=subprocess.PIPE, text=True, bufsize=1 << 16,
+                                        start_new_session=True)
+        self.next = None
+        self.settings = settings
+
+    def hello(self, seed, options):
+        """Sets the stack up."""
+        number, settings = self.number, self.settings
+        mss, window = settings.get((number, "mss"), 536), settings.get((number, "window"), 0)
+        answer, _ = self.ask(f"start {number} {seed} {mss} {window} {options}")
+        if answer != "ok":
+            raise Cannot(f"start with mss {mss} and window {window}")
+
+    def ask(self, command):
+        """Sends a command; the answer, and what happened: ('out', hex) and ('expired', ports and timer)."""
+        try:
+            self.process.stdin.write(command + "\n")
+            self.process.stdin.flush()
+        except BrokenPipeError as fault:
+            raise Broken(f"the stack of host {self.number} ended before: {command[:60]}") from fault
+        happened = []
+        while True:
+            line = self.process.stdout.readline()
+            word, _, rest = line.rstrip("\n").partition(" ")
+            if word == "=":
+                wanted, _, answer = rest.partition(" ")
+                self.next = None if wanted == "-" else int(wanted)
+                return answer, happened
+            if word not in ("out", "expired"):
+                raise Broken(f"host {self.number} answered {line.strip()[:60]!r} to: {command[:60]}")
+            happened.append((word, rest))
+
+    def kill(self):
+        """Ends the process and those that it started."""
+        try:
+            os.killpg(self.process.pid, signal.SIGKILL)
+        except ProcessLookupError:
+            pass
+
+    def end(self):
+        try:
+            self.process.stdin.close()
+        except BrokenPipeError:
+            pass
+        try:
+            self.process.wait(5)
+        except subprocess.TimeoutExpired:
+            self.kill()
+            self.process.wait()
+        self.process.stdout.close()
+
+
+class Wire:
+    """Which copies of a segment come, and when."""
+
+    def __init__(self, scenario):
+        self.scenario = scenario
+        self.random = random.Random(scenario.seed)
+        self.counts = [0] * len(scenario.rules)
+        self.bases = {}
+        self.waits = {}
+
+    def carries(self, host, segment, byte):
+        """Whether a segment has this byte of its host's stream, from 1."""
+        base = self.bases.get((host, segment.src, segment.dst))
+        if base is None or not segment.payload:
+            return False
+        first = (segment.seq - base) % 2**32
+        return first <= byte < first + len(segment.payload)
+
+    def meant(self, at, rule, host, segment):
+        if rule.host != host:
+            return False
+        if rule.kind == "byte":
+            if not self.carries(host, segment, rule.byte):
+                return False
+        elif rule.kind not in ("any", segment.kind()):
+            return False
+        self.counts[at] += 1
+        if rule.share:
+            return self.random.random() < rule.share
+        return self.counts[at] in rule.picks or bool(rule.first) and self.counts[at] >= rule.first
+
+    def delays(self, host, segment, moment):
+        """How much later each copy of a segment comes."""
+        kind = segment.kind()
+        if kind in ("syn", "syn-ack"):
+            self.bases[host, segment.src, segment.dst] = segment.seq
+        self.waits[host, kind] = self.waits.get((host, kind), 0) + 1
+        delay, copies, lost = self.scenario.delay, [], False
+        for at, rule in enumerate(self.scenario.rules):
+            if not self.meant(at, rule, host, segment):
+                continue
+            if rule.deed == "lose":
+                lost = True
+            elif rule.deed == "hold":
+                delay += rule.time
+            else:
+                copies.append(self.scenario.delay + rule.time)
+        if any(first <= moment < last for first, last in self.scenario.cuts):
+            return []
+        return copies if lost else [delay, *copies]
+
+
+class Runner:
+    """A thread of the scenario, and where it stands."""
+
+    def __init__(self, thread):
+        self.number, self.host, self.steps = thread.number, thread.host, thread.steps
+        self.at = 0
+        self.open = None       # the call that waits for its answer
+        self.told = 0          # bytes that this step sent or received so far
+        self.ready = 0         # it waits until this moment
+        self.ended = False
+        self.began = 0         # when its last call began
+
+
+class Run:
+    """The run as a whole."""
+
+    def __init__(self, scenario, command, options=""):
+        self.options = options
+        self.scenario = scenario
+        self.wire = Wire(scenario)
+        self.lines = []
+        self.odd = set()         # places in `lines` of arrivals that a script made odd
+        self.now = 0
+        self.events = []
+        self.order = 0
+        self.hosts = []
+        self.command = command
+        self.threads = [Runner(thread) for thread in scenario.threads]
+        self.names = {}          # (thread's host or None, name): socket number
+        self.handles = {}        # socket number: (host, the stack's number)
+        self.given = {}          # (host, the stack's number): socket number
+        self.last_number = 1
+        self.ports = {}          # socket number: (local, remote)
+        self.faults = {}
+        self.dead = set()
+        self.sent = {}           # socket number: bytes accepted
+        self.received = {}
+        self.unexpected = []
+        self.peer = Peer(self) if scenario.peer else None
+        self.count = 0
+
+    # ---- the trace ----
+
+    def say(self, thread, text):
+        self.lines.append(f"{self.now} {thread} {text}")
+
+    def at(self, moment, deed, *what):
+        self.order += 1
+        heapq.heappush(self.events, (moment, self.order, deed, what))
+
+    # ---- the stacks ----
+
+    def ask(self, host, command):
+        """Has a stack do something, and sees to what came of it."""
+        answer, happened = self.hosts[host].ask(f"{self.now} {command}")
+        for word, rest in happened:
+            if word == "expired":
+                local, remote, timer = rest.split()
+                self.say(TIMER_THREAD + host, f"T {host} {local} {remote} {timer}")
+            else:
+                self.leave(host, rest)
+        return answer
+
+    def leave(self, host, text):
+        """A segment went out at a host."""
+        self.say(OUT_THREAD + host, f"O {host} {text}")
+        segment = read(bytes.fromhex(text))
+        for delay in self.wire.delays(host, segment, self.now):
+            self.at(self.now + delay, "come", 1 - host, text)
+
+    def come(self, host, text, is_odd=False):
+        if self.peer and host == 1:
+            self.peer.take(read(bytes.fromhex(text)))
+            return
+        if is_odd:
+            self.odd.add(len(self.lines))
+        self.say(IN_THREAD + host, f"I {host} {text}")
+        self.ask(host, f"in {text}")
+
+    # ---- threads ----
+
+    def begin(self, thread):
+        """Goes on with a thread's steps until one of them waits."""
+        while not thread.ended and not thread.open and thread.ready <= self.now:
+            if thread.at == len(thread.steps):
+                thread.ended = True
+                return
+            step = thread.steps[thread.at]
+            if step.word == "wait":
+                thread.at += 1
+                thread.ready = self.now + step.args[0]
+                self.at(thread.ready, "wake")
+            elif step.word == "after":
+                if self.wire.waits.get((step.args[0], step.args[1]), 0) < step.args[2]:
+                    return
+                thread.at += 1
+            elif not self.call(thread, step):
+                return
+
+    def call(self, thread, step):
+        """Begins the call of a step. Whether it was answered."""
+        asked = self.asked(thread, step)
+        if asked is None:
+            return False
+        text, host, command = asked
+        self.say(thread.number, f"B {text}")
+        thread.open = (step, host, command)
+        thread.began = self.now
+        return self.attempt(thread)
+
+    def asked(self, thread, step):
+        """A call as the trace has it, its host, and as the driver has it."""
+        word, args = step.word, step.args
+        if word == "listen":
+            backlog = step.options.get("backlog", "8")
+            return f"listen {thread.host} {args[0]} {backlog}", thread.host, f"listen {args[0]} {backlog}"
+        if word == "open":
+            return f"open {thread.host} {args[0]} {args[1]}", thread.host, f"open {args[0]} {args[1]}"
+        number = self.names.get(args[0])
+        if number is None:
+            return None
+        host, handle = self.handles[number]
+        more = ""
+        if word == "send":
+            count = min(int(args[1]) - thread.told, step.options.get("by", LONGEST_CALL))
+            more = " " + stream(self.sent.get(number, 0), count, host).hex()
+        elif word == "recv":
+            most = step.options.get("by", LONGEST_CALL)
+            most = most if args[1] == "eof" else min(int(args[1]) - thread.told, most)
+            more = f" {most}"
+        if number in self.dead:
+            return f"{word} {number}{more}", host, None
+        return f"{word} {number}{more}", host, f"{word} {handle}{more}"
+
+    def attempt(self, thread):
+        """Tries an open call. Whether it was answered."""
+        step, host, command = thread.open
+        answer = self.ask(host, command) if command else "badsocket"
+        if answer == "cannot":
+            raise Cannot(f"{step.word} at host {host}")
+        number = self.names.get(step.args[0]) if step.word not in ("listen", "open") else None
+        answer = self.told_again(number, step.word, answer)
+        waits = answer == "again" and step.word in ("await", "accept", "send", "recv") and "again" not in step.expected
+        if waits:
+            return False
+        thread.open = None
+        answer = self.count_and_name(thread, step, number, answer)
+        self.say(thread.number, f"E {answer}")
+        self.go_on(thread, step, answer)
+        return True
+
+    def told_again(self, number, word, answer):
+        """A fault that a stack tells once is told again."""
+        if answer in FAULTS:
+            self.faults.setdefault(number, answer)
+        elif number in self.faults and word in ("await", "send", "recv", "shut") and not answer.startswith(("data", "eof")):
+            return self.faults[number]
+        return answer
+
+    def count_and_name(self, thread, step, number, answer):
+        """The answer with the trace's socket numbers; bytes are counted, names given."""
+        word = step.word
+        if word in ("listen", "open", "accept") and answer.startswith("ok "):
+            host = thread.host if word != "accept" else self.handles[number][0]
+            self.last_number += 1
+            fresh, handle = self.last_number, int(answer.split()[1])
+            self.handles[fresh] = (host, handle)
+            self.names[step.options["as"]] = fresh
+            return f"ok {fresh}"
+        if word == "send" and answer.startswith("ok "):
+            self.sent[number] = self.sent.get(number, 0) + int(answer.split()[1])
+            thread.told += int(answer.split()[1])
+        elif word == "recv" and answer.startswith("data "):
+            count = len(answer) // 2 - 2
+            self.received[number] = self.received.get(number, 0) + count
+            thread.told += count
+        elif word in ("close", "abort") and answer == "ok":
+            self.dead.add(number)
+        return answer
+
+    def go_on(self, thread, step, answer):
+        """Where a thread stands after an answer."""
+        done = True
+        word = answer.split()[0]
+        if step.word == "send" and word == "ok":
+            done = thread.told >= int(step.args[1])
+        elif step.word == "recv" and word == "data":
+            done = step.args[1] != "eof" and thread.told >= int(step.args[1])
+        if "each" in step.options and word in ("ok", "data"):
+            thread.ready = self.now + step.options["each"]
+            self.at(thread.ready, "wake")
+        if not done:
+            return
+        thread.at += 1
+        thread.told = 0
+        usual = {"recv": "eof" if step.args[-1] == "eof" else "data", "status": "state"}.get(step.word, "ok")
+        expected = step.expected or (usual,)
+        found = answer.split()[1] if word == "state" and step.expected else word
+        if "any" not in expected and found not in expected:
+            self.blame(thread, step, f"{step.word} is answered {found}, not {' or '.join(expected)}")
+
+        elif self.now - thread.began < step.options.get("lasted", 0):
+            self.blame(thread, step, f"{step.word} is answered {found} too early")
+
+    def blame(self, thread, step, text):
+        where = "peer" if thread is None else f"thread {thread.number}"
+        self.unexpected.append(f"{where}, line {step.line}: {text}")
+        if thread is not None:
+            thread.ended = True
+
+    def serve(self):
+        """Tries open calls and goes on with threads, until nothing moves."""
+        moved = True
+        while moved:
+            moved = False
+            for thread in self.threads:
+                before = (thread.at, thread.told, thread.ended, thread.open is None)
+                if thread.open and not thread.ended:
+                    self.attempt(thread)
+                self.begin(thread)
+                moved |= before != (thread.at, thread.told, thread.ended, thread.open is None)
+            if self.peer:
+                moved |= self.peer.go_on()
+
+    # ---- time ----
+
+    def is_over(self):
+        threads = all(thread.ended or thread.at == len(thread.steps) for thread in self.threads)
+        return threads and (not self.peer or self.peer.is_over())
+
+    def next_event(self):
+        """The moment of what comes next, and the host whose tick it is, or None."""
+        found = (self.events[0][0], None) if self.events else (None, None)
+        for host in self.hosts:
+            if host.next is not None and (found[0] is None or host.next < found[0]):
+                found = (max(host.next, self.now), host.number)
+        return found
+
+    def step(self, limit):
+        moment, ticks = self.next_event()
+        if moment is None or moment > limit:
+            return False
+        self.now = max(self.now, moment)
+        if ticks is not None:
+            self.ask(ticks, "tick")
+        else:
+            _, _, deed, what = heapq.heappop(self.events)
+            if deed == "come":
+                self.come(*what)
+        self.serve()
+        self.count += 1
+        if self.count == MOST_EVENTS:
+            self.unexpected.append(f"run: ended after {MOST_EVENTS} events")
+        return self.count < MOST_EVENTS
+
+    def start(self):
+        for number in (0,) if self.peer else (0, 1):
+            host = Host(number, self.command, self.scenario.settings)
+            self.hosts.append(host)
+            host.hello(self.scenario.seed, self.options)
+        for at, thread in enumerate(self.threads):
+            thread.ready = 1000 * (at + 1)
+            self.at(thread.ready, "wake")
+        if self.peer:
+            self.peer.start()
+
+    def run(self):
+        """Runs to the end. The event lines are in `lines` then."""
+        watch = threading.Timer(LONGEST_RUN, lambda: [host.kill() for host in self.hosts])
+        watch.daemon = True
+        watch.start()
+        try:
+            self.start()
+            over = None
+            while self.step(self.scenario.until if over is None else over):
+                if self.is_over() and over is None:
+                    over = min(self.now + self.scenario.linger, self.scenario.until)
+        finally:
+            watch.cancel()
+            for host in self.hosts:
+                host.end()
+        if self.peer:
+            self.peer.finish()
+
+    # ---- what the trace alone doesn't say ----
+
+    def waiting(self):
+        """Calls that never ended."""
+        return [f"thread {thread.number}: {thread.open[0].word} {' '.join(thread.open[0].args)}" for thread in self.threads if thread.open]
+
+    def stuck(self):
+        """Threads that wait for what never came."""
+        return [f"thread {thread.number} waits, line {thread.steps[thread.at].line}" for thread in self.threads
+                if not thread.open and not thread.ended and thread.at < len(thread.steps)]

@@ -1,0 +1,273 @@
+// Package tcpwit writes the lines of a trace, and of a witness, from the hooks of a stack (docs/FORMATS.md, docs/RECORDING.md).
+//
+//	trace := tcpwit.New(file, 2)
+//	trace.Header(0, 60000000, 1000, 200000, 0, 5681)
+//	trace.BeginSend(now, thread, socket, bytes)   // before the call does anything
+//	trace.EndNumber(now, thread, taken)           // behind it: so many bytes were accepted
+//	trace.Out(now, 90+host, host, header, payload)
+//
+// What to hand in, everywhere:
+//
+//   - moment: microseconds of one clock for both hosts, since any beginning. One that falls is written as the one before it.
+//   - thread: a number for each thread that calls, and others for what comes in, what goes out and the timers, for each host: lines of one
+//     thread are taken in their order, and a thread has at most one open call. A goroutine has no number: count them yourself.
+//   - host: 0 or 1. Where host 0 alone is recorded (version 3) always 0.
+//   - socket: counted by you: each number is given once in a trace, to a listener, to what is opened, to what is accepted.
+//   - a segment: from the first byte of the TCP header to the last of the payload, without IP, in any number of parts.
+//
+// Each method that writes a line of a trace returns its number, which a witness names. One lock makes a line whole where goroutines share
+// a trace. The first error of the writer is kept in Err, and nothing is written behind it.
+package tcpwit
+
+import (
+	"encoding/hex"
+	"fmt"
+	"io"
+	"strings"
+	"sync"
+)
+
+// Trace writes lines. A witness is written by another one.
+type Trace struct {
+	Err     error
+	mu      sync.Mutex
+	to      io.Writer
+	version int
+	line    uint32
+	moment  uint64
+}
+
+// New makes a writer of texts of version 1, 2 or 3.
+func New(to io.Writer, version int) *Trace { return &Trace{to: to, version: version} }
+
+// Answers without a number or bytes.
+const (
+	OK        = "ok"
+	Again     = "again"     // not yet
+	EOF       = "eof"       // all bytes up to the peer's FIN were given
+	Closed    = "closed"    // the sending was ended, or there is no connection any more: EPIPE
+	NotConn   = "notconn"   // ENOTCONN
+	Refused   = "refused"   // ECONNREFUSED
+	Reset     = "reset"     // ECONNRESET
+	Timeout   = "timeout"   // ETIMEDOUT
+	InUse     = "inuse"     // EADDRINUSE
+	BadSocket = "badsocket" // EBADF
+)
+
+// Timers.
+const (
+	RTO     = "rto"
+	Persist = "persist"
+	TwoMSL  = "2msl"
+	GiveUp  = "giveup"
+)
+
+func (t *Trace) write(format string, what ...any) uint32 {
+	if t.Err == nil {
+		_, t.Err = fmt.Fprintf(t.to, format+"\n", what...)
+	}
+	t.line++
+	return t.line
+}
+
+func (t *Trace) event(moment uint64, thread uint32, format string, what ...any) uint32 {
+	t.mu.Lock()
+	defer t.mu.Unlock()
+	if moment > t.moment {
+		t.moment = moment
+	}
+	return t.write("%d %d "+format, append([]any{t.moment, thread}, what...)...)
+}
+
+// Header writes the header, before all else. skew: 0 where one clock stamps all. msl: the longest time a segment travels, and half of what TIME-WAIT
+// lasts. grain: the tick of the timers' clock. minrto: the least retransmission timeout; all in microseconds. extra: how many children a queue holds
+// above its backlog. initial: 5681 or 6928, the RFC of the first window; not written in version 1. Where in doubt: a smaller minrto, a larger
+// grain and extra ask for less.
+func (t *Trace) Header(skew, msl, grain, minrto uint64, extra uint32, initial int) {
+	t.mu.Lock()
+	defer t.mu.Unlock()
+	t.write("trace %d", t.version)
+	t.write("skew %d", skew)
+	t.write("msl %d", msl)
+	t.write("grain %d", grain)
+	t.write("minrto %d", minrto)
+	t.write("extra %d", extra)
+	if t.version > 1 {
+		t.write("initial %d", initial)
+	}
+	if t.version > 2 {
+		t.write("half 0")
+	}
+}
+
+// BeginListen and the other Begins: a call begins, before the stack does anything for it.
+func (t *Trace) BeginListen(moment uint64, thread uint32, host int, port, backlog uint16) uint32 {
+	return t.event(moment, thread, "B listen %d %d %d", host, port, backlog)
+}
+
+// BeginOpen is a connect, also where it doesn't wait. It ends at once with a number; whether it came to stand is asked by BeginAwait.
+func (t *Trace) BeginOpen(moment uint64, thread uint32, host int, local, remote uint16) uint32 {
+	return t.event(moment, thread, "B open %d %d %d", host, local, remote)
+}
+
+// BeginAwait asks whether a connection stands.
+func (t *Trace) BeginAwait(moment uint64, thread, socket uint32) uint32 {
+	return t.event(moment, thread, "B await %d", socket)
+}
+
+// BeginAccept asks for the front child of a listener.
+func (t *Trace) BeginAccept(moment uint64, thread, listener uint32) uint32 {
+	return t.event(moment, thread, "B accept %d", listener)
+}
+
+// BeginSend has 1 to 65,535 bytes that are to be sent.
+func (t *Trace) BeginSend(moment uint64, thread, socket uint32, bytes []byte) uint32 {
+	return t.event(moment, thread, "B send %d %x", socket, bytes)
+}
+
+// BeginRecv asks for at most so many bytes, 1 to 65,535.
+func (t *Trace) BeginRecv(moment uint64, thread, socket, most uint32) uint32 {
+	return t.event(moment, thread, "B recv %d %d", socket, most)
+}
+
+// BeginShut ends the sending: CloseWrite.
+func (t *Trace) BeginShut(moment uint64, thread, socket uint32) uint32 {
+	return t.event(moment, thread, "B shut %d", socket)
+}
+
+// BeginClose closes.
+func (t *Trace) BeginClose(moment uint64, thread, socket uint32) uint32 {
+	return t.event(moment, thread, "B close %d", socket)
+}
+
+// BeginAbort ends by a reset: a linger of 0 and Close.
+func (t *Trace) BeginAbort(moment uint64, thread, socket uint32) uint32 {
+	return t.event(moment, thread, "B abort %d", socket)
+}
+
+// BeginStatus asks for the state.
+func (t *Trace) BeginStatus(moment uint64, thread, socket uint32) uint32 {
+	return t.event(moment, thread, "B status %d", socket)
+}
+
+// End and the other Ends: a call ends, once the answer is known. A call that still waits has no such line. End has an answer without more:
+// await, shut, close, abort, and every failure. A fault that the system tells once is told again by you.
+func (t *Trace) End(moment uint64, thread uint32, answer string) uint32 {
+	return t.event(moment, thread, "E %s", answer)
+}
+
+// EndNumber is `ok` with the socket of listen, open and accept, or with how many bytes a send accepted, 1 at least.
+func (t *Trace) EndNumber(moment uint64, thread, number uint32) uint32 {
+	return t.event(moment, thread, "E ok %d", number)
+}
+
+// EndData is a recv that gave bytes, 1 at least. Where it gave none because the peer ended: End with EOF.
+func (t *Trace) EndData(moment uint64, thread uint32, bytes []byte) uint32 {
+	return t.event(moment, thread, "E data %x", bytes)
+}
+
+// EndState is the state, by its name in RFC 9293, 3.3.2: "SYN-SENT".
+func (t *Trace) EndState(moment uint64, thread uint32, state string) uint32 {
+	return t.event(moment, thread, "E state %s", state)
+}
+
+func joined(parts [][]byte) string {
+	var text strings.Builder
+	for _, part := range parts {
+		text.WriteString(hex.EncodeToString(part))
+	}
+	return text.String()
+}
+
+// Out is a segment that leaves the host: where the stack hands it to IP, its bytes being those that the peer will see.
+func (t *Trace) Out(moment uint64, thread uint32, host int, parts ...[]byte) uint32 {
+	return t.event(moment, thread, "O %d %s", host, joined(parts))
+}
+
+// In is a segment that came to the host: before the stack looks at it, also where it will be dropped.
+func (t *Trace) In(moment uint64, thread uint32, host int, parts ...[]byte) uint32 {
+	return t.event(moment, thread, "I %d %s", host, joined(parts))
+}
+
+// Expired is a timer that expired, before what is done for it: RTO, Persist, TwoMSL or GiveUp.
+func (t *Trace) Expired(moment uint64, thread uint32, host int, local, remote uint16, timer string) uint32 {
+	return t.event(moment, thread, "T %d %d %d %s", host, local, remote, timer)
+}
+
+// ---- A witness, for who knows more than a trace tells. It goes to a place of its own, and behind the trace at last ----
+
+func (t *Trace) step(moment uint64, format string, what ...any) {
+	t.mu.Lock()
+	defer t.mu.Unlock()
+	if moment > t.moment {
+		t.moment = moment
+	}
+	t.write("%d "+format, append([]any{t.moment}, what...)...)
+}
+
+// Witness writes the first line.
+func (t *Trace) Witness() {
+	t.mu.Lock()
+	defer t.mu.Unlock()
+	t.write("witness %d", t.version)
+}
+
+// StepLine takes a line of the trace, with its numbers: none for B, E and timers but rto; for an O line the number of the made segment, counted from
+// 1 over both hosts; for an I line the O line that it copies, none in version 3; for rto cwnd and ssthresh after it.
+func (t *Trace) StepLine(moment uint64, line uint32, numbers ...uint32) {
+	text := ""
+	for _, number := range numbers {
+		text += fmt.Sprintf(" %d", number)
+	}
+	t.step(moment, "L %d%s", line, text)
+}
+
+// StepEffect is the effect of a thread's open call, with its answer in the words of a trace: "ok 5", "data 6869", "state LISTEN".
+func (t *Trace) StepEffect(moment uint64, thread uint32, answer string) {
+	t.step(moment, "D %d %s", thread, answer)
+}
+
+// Made is a segment as a witness has it.
+type Made struct {
+	Host          int
+	Local, Remote uint16
+	Position      uint64 // of its first number: 0 for the SYN, 1 for the first byte
+	Length        int
+	Flags         string   // letters of ARSF, or "-"
+	Window        uint16   // as the field has it
+	First         []uint32 // with the first SYN of an endpoint: its number, and from version 2 on perhaps its shift
+}
+
+// StepMake makes a segment.
+func (t *Trace) StepMake(moment uint64, m Made) {
+	text := ""
+	for _, number := range m.First {
+		text += fmt.Sprintf(" %d", number)
+	}
+	t.step(moment, "M %d %d %d %d %d %s %d%s", m.Host, m.Local, m.Remote, m.Position, m.Length, m.Flags, m.Window, text)
+}
+
+func bit(b bool) int {
+	if b {
+		return 1
+	}
+	return 0
+}
+
+// StepTake takes what came by an I line: the congestion window afterwards, whether its bytes were kept, whether the round trip was measured.
+func (t *Trace) StepTake(moment uint64, host int, line, cwnd uint32, kept, measured bool) {
+	t.step(moment, "T %d %d %d %d %d", host, line, cwnd, bit(kept), bit(measured))
+}
+
+// StepDrop drops what came by an I line.
+func (t *Trace) StepDrop(moment uint64, host int, line uint32) { t.step(moment, "K %d %d", host, line) }
+
+// StepReset answers what came by an I line by a reset, which is a made segment.
+func (t *Trace) StepReset(moment uint64, host int, line uint32) {
+	t.step(moment, "R %d %d", host, line)
+}
+
+// StepRecovery begins fast recovery, with this congestion window and threshold.
+func (t *Trace) StepRecovery(moment uint64, host int, local, remote uint16, cwnd, ssthresh uint32) {
+	t.step(moment, "F %d %d %d %d %d", host, local, remote, cwnd, ssthresh)
+}

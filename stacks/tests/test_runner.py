@@ -1,0 +1,154 @@
+"""The language of scenarios, the wire, the scripted peer, and arrivals that are dropped."""
+import os
+import sys
+import unittest
+from types import SimpleNamespace
+
+TOP = os.path.dirname(os.path.dirname(os.path.abspath(__file__)))
+sys.path.insert(0, os.path.join(TOP, "runner"))
+sys.dont_write_bytecode = True
+
+import dropping  # noqa: E402
+import judging  # noqa: E402
+import language  # noqa: E402
+import segments  # noqa: E402
+import simulation  # noqa: E402
+
+HEAD = "show  a\nby    b\n"
+
+
+def wire(text):
+    return simulation.Wire(language.read("x", HEAD + text))
+
+
+def segment(flags, seq=100, payload=b""):
+    return segments.Segment(4000, 80, seq, 0, flags, 1000, b"", payload)
+
+
+class Language(unittest.TestCase):
+    def fault(self, text, told):
+        with self.assertRaises(language.Fault) as caught:
+            language.read("x", HEAD + text)
+        self.assertIn(told, str(caught.exception))
+
+    def test_a_scenario(self):
+        read = language.read("x", HEAD + "seed 7\ndelay 0.5\nlose 0 byte 9000 1 2   # twice\ncut 1 2.5\nwindow 1 3000\n"
+                             "thread 2 host 0\n  open 4000 80 as c\n  send c 10 by 5 each 0.1\n  await c lasted 180 is timeout refused\n")
+        self.assertEqual((read.seed, read.delay, read.cuts, read.settings), (7, 500000, [(1000000, 2500000)], {(1, "window"): 3000}))
+        self.assertEqual((read.rules[0].kind, read.rules[0].byte, read.rules[0].picks), ("byte", 9000, (1, 2)))
+        steps = read.threads[0].steps
+        self.assertEqual((steps[0].word, steps[0].args, steps[0].options), ("open", ["4000", "80"], {"as": "c"}))
+        self.assertEqual(steps[1].options, {"by": 5, "each": 100000})
+        self.assertEqual((steps[2].options, steps[2].expected), ({"lasted": 180000000}, ("timeout", "refused")))
+
+    def test_faults_name_the_line(self):
+        self.fault("lose 2 syn 1\n", "x, line 3: 2 is no host")
+        self.fault("lose 0 sin 1\n", "sin is no kind")
+        self.fault("lose 0 syn\n", "which of them is missing")
+        self.fault("double 0 syn 1\n", "the time is missing")
+        self.fault("delay fast\n", "fast is no time")
+        self.fault("thread 1 host 0\n  halt c\n", "line 4: halt is no call")
+        self.fault("thread 1 host 0\n  open 1 2\n", "a name is missing")
+        self.fault("thread 1 host 0\n  send c\n", "a word is missing")
+        self.fault("  send c 5\n", "a step stands outside")
+        self.fault("peer 80 to 4000\n  put XY\n", "XY are no flags")
+        self.fault("peer 80 to 4000\n  expect pong\n", "pong is no kind")
+        self.fault("whatever\n", "whatever is not understood")
+
+    def test_show_and_by_are_wanted(self):
+        with self.assertRaises(language.Fault):
+            language.read("x", "show a\n")
+
+    def test_every_scenario_can_be_read(self):
+        folder = os.path.join(TOP, "scenarios")
+        names = [name for name in os.listdir(folder) if name.endswith(".scenario")]
+        self.assertGreaterEqual(len(names), 60)
+        for name in names:
+            with open(os.path.join(folder, name)) as file:
+                read = language.read(name, file.read())
+            self.assertTrue(read.show.endswith("."), name)
+            self.assertRegex(read.by, r"^RFC \d+, ", name)
+            self.assertTrue(read.threads or read.script, name)
+            self.assertEqual(bool(read.peer), any(not t.host for t in read.threads) and all(t.host == 0 for t in read.threads)
+                             and bool(read.script), name)
+
+
+class TheWire(unittest.TestCase):
+    def test_by_kind_and_count(self):
+        w = wire("lose 0 fin 2\n")
+        fin = segment(segments.FIN | segments.ACK)
+        self.assertEqual([w.delays(0, fin, 0) for _ in range(3)], [[20000], [], [20000]])
+        self.assertEqual(w.delays(1, fin, 0), [20000])
+
+    def test_by_byte(self):
+        w = wire("lose 0 byte 6 1\n")
+        w.delays(0, segment(segments.SYN, 0xffffffff), 0)
+        self.assertEqual(w.delays(0, segment(segments.ACK, 0, b"abcde"), 0), [20000])
+        self.assertEqual(w.delays(0, segment(segments.ACK, 5, b"f"), 0), [])
+        self.assertEqual(w.delays(0, segment(segments.ACK, 5, b"f"), 0), [20000])
+
+    def test_doubling_holding_and_cuts(self):
+        w = wire("double 0 data all after 0.01\nhold 0 ack 1 for 0.5\ncut 5 6\n")
+        self.assertEqual(w.delays(0, segment(segments.ACK, 1, b"x"), 0), [20000, 30000])
+        self.assertEqual(w.delays(0, segment(segments.ACK), 0), [520000])
+        self.assertEqual(w.delays(0, segment(segments.ACK), 5500000), [])
+
+    def test_chance_goes_by_the_seed(self):
+        def lost(seed):
+            w = wire(f"seed {seed}\nlose 0 any 30%\n")
+            return [not w.delays(0, segment(segments.ACK), 0) for _ in range(50)]
+        self.assertEqual(lost(1), lost(1))
+        self.assertNotEqual(lost(1), lost(2))
+
+
+class Segments(unittest.TestCase):
+    def test_there_and_back(self):
+        made = segments.Segment(80, 4000, 2**32 - 1, 5, segments.SYN | segments.ACK, 300, bytes([2, 4, 2, 24, 1, 3, 3, 7]), b"")
+        read = segments.read(segments.write(made))
+        self.assertEqual(read, made)
+        self.assertEqual((read.kind(), read.length(), read.shift()), ("syn-ack", 1, 7))
+
+    def test_neighbors_in_a_stream_differ(self):
+        text = segments.stream(0, 3000, 0)
+        self.assertEqual(text[500:700], segments.stream(500, 200, 0))
+        self.assertNotEqual(text[:100], segments.stream(0, 100, 1))
+
+
+class Dropping(unittest.TestCase):
+    HEADER = judging.header_of(judging.USUAL, False)
+    LINES = ["10 90 O 0 aa", "20 93 I 1 aa", "30 90 O 0 bb", "40 93 I 1 bb", "50 91 O 1 cc"]
+
+    def test_a_line_is_put_in_again(self):
+        rest = [self.LINES[0], self.LINES[2], self.LINES[3], self.LINES[4]]
+        steps = ["witness 2", "10 L 8 1", "30 L 9 2", "40 L 10 9", "40 T 1 10 0 1 0", "50 L 11 3"]
+        case = dropping.put_in_again("\n".join(self.HEADER + rest + steps) + "\n", 7, self.LINES, {1})
+        self.assertEqual(case.split("\n")[7:], self.LINES + ["witness 2", "10 L 8 1", "20 L 9 8", "20 K 1 9", "30 L 10 2", "40 L 11 10",
+                                                            "40 T 1 11 0 1 0", "50 L 12 3", ""])
+
+    def test_lines_that_were_added_move_it(self):
+        rest = [self.LINES[0], "15 94 T 0 1 2 rto", self.LINES[2], self.LINES[3], self.LINES[4]]
+        steps = ["witness 2", "10 L 8 1", "15 L 9 5 6", "30 L 10 2", "40 L 11 10", "50 L 12 3"]
+        case = dropping.put_in_again("\n".join(self.HEADER + rest + steps) + "\n", 7, self.LINES, {1})
+        self.assertIn("20 L 9 8\n20 K 1 9", case.replace("20 L 10 8\n20 K 1 10", "20 L 9 8\n20 K 1 9"))
+        self.assertIn("40 L 12 11", case)
+
+
+class Profiles(unittest.TestCase):
+    def test_a_profile(self):
+        values = judging.profile("# x\nname  A stack\nmsl 30000000 # half\n")
+        self.assertEqual((values["name"], values["msl"], values["grain"]), ("A stack", "30000000", "1000"))
+        self.assertRaises(ValueError, judging.profile, "mls 5")
+
+    def test_the_version_goes_by_the_hosts(self):
+        self.assertEqual(judging.trace_of(judging.USUAL, False, ["1 1 B status 5"]).split("\n")[0], "trace 2")
+        self.assertEqual(judging.trace_of(judging.USUAL, True, []).split("\n")[-2], "half 0")
+
+    def test_missing_bytes_are_no_good(self):
+        outcome = judging.Outcome(SimpleNamespace(keeps=True), "yes 1 1", missing=3)
+        self.assertEqual((outcome.is_good(), outcome.word()), (False, "yes, but"))
+        outcome.scenario.keeps = False
+        self.assertEqual((outcome.is_good(), outcome.word()), (True, "yes"))
+
+
+if __name__ == "__main__":
+    unittest.main()
