@@ -1,9 +1,11 @@
-//! Recorders: application threads call, segments go and come, timers expire, and each host's book is kept under one lock.
+//! Recorders: application threads call, segments go and come, timers expire, and each host's book is kept under one
+//! lock.
 //!
-//! A `Recorder` is that of one host. Its threads have seats, and call; three loops let segments out, let them in, and let timers
-//! expire. Each takes the lock for one event at a time. Whenever the lock is free the book's steps are a run of its host, and its
-//! total is the sum of the counts of all seats: the type under the lock says so (`specs/Books`). `finish` takes the seats back and
-//! gives the book; `merge` makes of two books a trace and a witness that explain each other.
+//! A `Recorder` is that of one host. Its threads have seats, and call; three loops let segments out, let them in, and
+//! let timers expire. Each takes the lock for one event at a time. Whenever the lock is free the book's steps are a run
+//! of its host, and its total is the sum of the counts of all seats: the type under the lock says so (`specs/Books`).
+//! `finish` takes the seats back and gives the book; `merge` makes of two books a trace and a witness that explain each
+//! other.
 //!
 //! A program with one thread of its own at each host, over two recorders and two channels of `crossbeam_channel`:
 //!
@@ -29,8 +31,17 @@
 //! let Recorded { trace, witness } = merge(alloc, zero, one)?;
 //! ```
 //!
-//! Host and header of a recorder stand in its type (`Site`): the function that has both recorders is generic over two of them, and who
-//! calls it picks them by `Brand`.
+//! Host and header of a recorder stand in its type (`Site`): the function that has both recorders is generic over two
+//! of them, and who calls it picks them by `Brand`.
+//!
+//! - `Recorder`: the recorder of a host; `Site`: its host and header; `RecFault`, `Unfinished`, `Cause`: why a call or
+//!   the end is refused
+//! - `Seat`: a thread's place; `Receipt`, `receipt_stands`: what a call returned, and that its line stands in what was
+//!   merged
+//! - `HostBook`: what one host recorded; `merge`, `Recorded`, `MergeFault`: two books as a trace and its witness
+//! - `LoopEnd`: why a loop ended; `Fate`, `WireFate`, `LoseEach`: what becomes of segments on their way
+//!
+//! Private modules:
 //!
 //! - `site`: the host and the header of a recorder, known by a type
 //! - `host_book`: what one host recorded, with the count of its answers

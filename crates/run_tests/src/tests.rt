@@ -1,5 +1,6 @@
 //! - `buffers`, `line_order`: what must not take long, however much waits
 //! - `segments`: what is written of segments, which the program only reads
+//! - `first_pages`: the calls that the first pages of the libraries show
 //! - `ends`: the reader and the writer that fail
 //! - `counted_calls`: each call of a `Counted` makes one call of its end, and fails where that fails
 //! - `texts`: traces and witnesses that are read in pieces, and up to the call that fails
@@ -10,6 +11,7 @@
 mod buffers;
 mod counted_calls;
 mod ends;
+mod first_pages;
 mod line_order;
 mod runs;
 mod segments;

@@ -1,17 +1,26 @@
 //! TCP segments, as bytes and as fields (RFC 9293, 3.1 and 3.2).
 //!
-//! - `fields`: a segment, field by field
-//! - `flag`: the flags, by name
-//! - `bytes`: bytes that a value holds
-//! - `fault`: why bytes are no segment, and why a segment has no bytes
-//! - `options`: the items of a list of options, and the MSS and the shift that they tell
-//! - `reading`: the segment that bytes stand for
-//! - `writing`: the bytes of a segment
+//! ```text
+//! let segment = decode(alloc, bytes)?;
+//! assert!(rt; segment.src == 80 && segment.has(Flag::Syn) && segment.mss == Some(1000));
+//! let written = encode(alloc, &segment)?;
+//! ```
+//!
+//! - `Segment`: a segment, field by field; `Flag`: its flags, by name; `Bytes`: bytes that a value holds
+//! - `decode`: the segment that bytes stand for; `SegFault`: why they are none
+//! - `encode`: the bytes of a segment; `EncFault`: why it has none
+//! - `OutOfMemory`: memory ran out
 //!
 //! Which bytes stand for which segment, and which fault comes first where there is none, stands in `specs/Layout`,
 //! which is the file to read first; how options are cut into items, in `specs/Options`; what is written, in
 //! `specs/Encoding`. `specs/Reading` finds the segment or the fault from left to right, which `reading_law` proves the
-//! same. Checksums and urgent pointers are read by nobody: they are passed over here, and written as 0.
+//! same. Checksums and urgent pointers are ignored: they are passed over here, and written as 0.
+//!
+//! Private modules:
+//!
+//! - `fields`, `flag`, `bytes`, `fault`: the types above
+//! - `options`: the items of a list of options, and the MSS and the shift that they tell
+//! - `reading`: `decode`; `writing`: `encode`
 #![tactic(auto)]
 
 mod bytes;

@@ -1,16 +1,29 @@
 //! The text of a trace: what stands in it is read, with the first fault and its place, and printed again.
 //!
-//! A text is six lines of a header, seven in version 2 and eight in version 3, and behind them event lines. specs/TraceText.antt
-//! says which text stands for which trace, and is the file to read first; the forms of the lines stand in specs/Headers.antt,
-//! specs/EventLines.antt, specs/Events.antt and specs/Calls.antt.
-//! Whether the trace can be explained is `checker`'s; here a line is only what it says.
+//! ```text
+//! let trace = read_trace(alloc, text)?;
+//! assert!(rt; trace.lines.as_slice().len() == 4);
+//! let printed = print_trace(alloc, &trace)?;
+//! ```
 //!
+//! - `Trace`, `Header`, `Line`, `Event`, `Call`, `Answer`, `Wire`: what a trace says
+//! - `read_trace`: a whole text; `TextFault`, `FaultKind`, `Span`: the first fault, and where it stands
+//! - `TraceReader`: a text whose lines are read as they are asked for; `ReadFault`: a fault, or a read that failed
+//! - `print_trace`: the text of a trace
+//!
+//! A text is six lines of a header, seven in version 2 and eight in version 3, and after them event lines.
+//! specs/TraceText.antt says which text stands for which trace, and is the file to read first; the forms of the lines
+//! stand in specs/Headers.antt, specs/EventLines.antt, specs/Events.antt and specs/Calls.antt. Whether the trace can be
+//! explained is `checker`'s; here a line is only what it says.
+//!
+//! Private modules:
+//!
+//! - `reading`: the reader of a whole text, by the reader of `stream`
+//! - `stream`: the reader of a text whose lines are read as they are asked for
 //! - `header`: the header's lines
+//! - `events`: events, and event lines, each read alone
 //! - `calls`: the calls that a thread may begin
 //! - `wires`: segments in hex
-//! - `events`: events, and event lines, each read alone
-//! - `stream`: the reader of a text whose lines are read as they are asked for
-//! - `reading`: the reader of a whole text, by the same reader
 //! - `printing`: the printer of a trace
 //! - `laws`: the fault that is answered is the first one, by tables of what each field has to be (`specs/HeaderForms`,
 //!   `specs/EventForms`)
