@@ -15,3 +15,4 @@ pub mod ArrivalEvents
 pub mod Agendas
 pub mod Touches
 pub mod Tended
+pub mod Told
