@@ -23,6 +23,7 @@ use Rattle.stack_core.specs.Keys.{key_of}
 use Rattle.stack_core.specs.Entries.{entry_at, steps_in}
 use Rattle.stack_core.specs.Recordings.{Joins, Recorded, with_entry, world_left}
 use Rattle.stack_core.specs.Cores.{Core, IsAfter, IsBelow, IsCore, IsOrderly, IsOwn, lines_taken, with_step, world}
+use Rattle.stack_core.specs.Told.{AllTold, IsToldItem, IsToldStep}
 use Rattle.stack_core.proofs.Growing.{steps_more}
 use Rattle.stack_core.proofs.Owned.{own_brought, own_step}
 
@@ -117,7 +118,12 @@ core_starts h me r line last is first = subst (λ (n : ℕ). IsCore r n last 0) 
   few_sockets = few_none h me;
   keys = tt;
   own = nothing_own h me;
+  told = tt;
 }))
+
+told_more : (v : Version) (es : List TcpEntry) (x : TcpEntry) → AllTold v es → IsToldItem v x.item → AllTold v (es ++ x ∷ [])
+told_more v [] x all one = (one, tt)
+told_more v (e ∷ es) x all one = (all.0, told_more v es x all.1 one)
 
 -- 4. a step joins
 
@@ -131,8 +137,9 @@ module _ (r : Recorded) (line : ℕ) (last : Tick) (events : ℕ) (is : IsCore r
     above = above_all r.header r.me last (Do step) r.entries is.keys;
   }
 
-  pub core_grows : (s : Recorded) (takes : ℕ) → s ≡ with_entry r (entry_at r.me last (Do step)) → steps_in r.entries < 4 * events → takes ≡ lines_taken step → IsCore s (line + takes) last events
-  core_grows s takes same room count =
+  pub core_grows : (s : Recorded) (takes : ℕ) → s ≡ with_entry r (entry_at r.me last (Do step)) → steps_in r.entries < 4 * events → takes ≡ lines_taken step → IsToldStep r.header.version step
+      → IsCore s (line + takes) last events
+  core_grows s takes same room count can =
       let x : TcpEntry = entry_at r.me last (Do step) in
       let steps : steps_in (r.entries ++ x ∷ []) ≡ suc (steps_in r.entries) = steps_more r.entries x in
       let stepped = own_step r.header r.me last.moment (world_left r) is.own step fits orderly in
@@ -150,6 +157,7 @@ module _ (r : Recorded) (line : ℕ) (last : Tick) (events : ℕ) (is : IsCore r
         few_sockets = omega arith;
         keys = below_more r.header r.me last r.entries (Do step) is.keys;
         own = subst (λ (w : World tcp_shape). IsOwn r.me w) (sym left) stepped.own;
+        told = told_more r.header.version r.entries x is.told can;
       })
 
 -- 5. a segment is brought
@@ -179,6 +187,7 @@ module _ (r : Recorded) (line : ℕ) (last : Tick) (events : ℕ) (is : IsCore r
         few_sockets = omega arith;
         keys = below_more r.header r.me last r.entries (Bring f) is.keys;
         own = subst (λ (w : World tcp_shape). IsOwn r.me w) (sym left) (own_brought r.header r.me f (world_left r) is.own);
+        told = told_more r.header.version r.entries x is.told tt;
       })
     where
       brought_sockets : (me : Host) (w : World tcp_shape) → length (pick (bring (tcp r.header) (other me) f w).hosts me).body.sockets ≡ length (pick w.hosts me).body.sockets

@@ -5,6 +5,9 @@ use Rattle.std.proofs.lemmas.Option.{none-some, same_Some}
 use Rattle.std.specs.Option.{option_map_or}
 use Rattle.case_forms.specs.declared.calls.Host.{Host}
 use Rattle.case_forms.specs.declared.trace.Header.{Header}
+use Rattle.case_forms.specs.declared.version.Version.{Version}
+use Rattle.case_forms.specs.Versions.{scales}
+use Rattle.case_forms.specs.Witnesses.{IsShift}
 use Rattle.verdict.specs.declared.rule.Rule.TheVariants as rules
 use Rattle.hosts.specs.Tables.{pick}
 use Rattle.hosts.specs.Hosts.{World, At, Makes}
@@ -28,6 +31,7 @@ use Rattle.machine.specs.Makes.Payload.{making_length, is_bad_empty_place, old_e
 use Rattle.machine.specs.Makes.Kind.{may_not_send, may_carry, may_finish}
 use Rattle.stack_core.specs.declared.plans.Opening.{Opening}
 use Rattle.stack_core.specs.Makings.{syn_of, bytes_of, fin_of, IsMakeable, IsTried, NothingToMake, Refuses}
+use Rattle.stack_core.specs.Told.{MayOpen, TellsWell}
 use Rattle.std.specs.List.{All}
 use Rattle.std.specs.Prelude.{IfNone}
 use Rattle.std.specs.Option.{IfSome}
@@ -481,10 +485,11 @@ plan_whole free p r me header left is None f = tt
 plan_whole free p r me header left is (Some m) f = (
   f.0,
   f.1,
+  subst (λ (h : Header). TellsWell h.version m) header f.2,
   subst (λ (rs : List (Rule × Bool)). first_broken rs ≡ None) (free.rules r.header 0 (world_left r) (At r.me (Makes m)))
       (subst (λ (h : Header). Permitted (tcp h) 0 (forget (world_left r)) (At r.me (Makes m))) header
       (subst (λ (w : World tcp_shape). Permitted (tcp p.header) 0 w (At r.me (Makes m))) left
-      (subst (λ (x : Host). Permitted (tcp p.header) 0 p.world (At x (Makes m))) is f.2))),
+      (subst (λ (x : Host). Permitted (tcp p.header) 0 p.world (At x (Makes m))) is f.3))),
 )
 
 -- the same is refused where nothing was forgotten
@@ -505,3 +510,13 @@ pub all_tried : (h : Header) (me : Host) (w : World tcp_shape) (opening : Openin
     → fin ≡ fin_of e window → IfNone o (Refuses h me w fin) → IfNone o (IsTried h me w e)
 all_tried h me w opening at_syn window e byte fin (Some m) syn byte_is no_byte fin_is no_fin = tt
 all_tried h me w opening at_syn window e byte fin None syn byte_is no_byte fin_is no_fin = record { opening = opening; at_syn = at_syn; window = window; syn = syn; byte = subst (λ (m : SegmentPlan). Refuses h me w m) byte_is no_byte; fin = subst (λ (m : SegmentPlan). Refuses h me w m) fin_is no_fin }
+
+-- a SYN tells the shift that its endpoint is given with its initial number
+pub syn_tells : (v : Version) (e : Endpoint) (opening : Opening) (window : ℕ) (plan : SegmentPlan) → MayOpen v opening → plan ≡ syn_of e opening window → TellsWell v plan
+syn_tells v e opening window plan may is = subst (λ (m : SegmentPlan). TellsWell v m) (sym is) (by (is_some e.iss) opening.shift may)
+  where
+    by : (known : Bool) (shift : Option ℕ) → IfSome shift (λ n. (scales v ≡ true) × (n ≤ 14))
+        → IfSome (if known then None else shift) (IsShift v (if known then None else Some opening.iss))
+    by true shift may = tt
+    by false None may = tt
+    by false (Some n) may = (may.0, refl, may.1)

@@ -19,6 +19,7 @@ use Rattle.machine.specs.Machine.{aim, gives, tcp, tcp_shape}
 use Rattle.stack_core.specs.declared.tick.Tick.{Tick}
 use Rattle.stack_core.specs.Entries.{entry_at, steps_in}
 use Rattle.stack_core.specs.Recordings.{Recorded, with_entry, world_left}
+use Rattle.stack_core.specs.Told.{AllTold}
 
 pub record Core : Type 0 where
   pub recorded : Recorded
@@ -150,3 +151,4 @@ pub record IsCore (r : Recorded) (line : ℕ) (last : Tick) (events : ℕ) : Typ
   pub few_sockets : length (pick (world_left r).hosts r.me).body.sockets ≤ steps_in r.entries
   pub keys : EachEntry (tcp r.header) (λ x. IsBelow r.me last x.key) r.entries
   pub own : IsOwn r.me (world_left r)
+  pub told : AllTold r.header.version r.entries

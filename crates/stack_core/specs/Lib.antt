@@ -16,3 +16,4 @@ pub mod Agendas
 pub mod Touches
 pub mod Tended
 pub mod CoreWorlds
+pub mod Told

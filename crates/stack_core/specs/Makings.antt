@@ -14,6 +14,7 @@ use Rattle.machine.specs.Machine.{tcp, tcp_shape}
 use Rattle.machine.specs.Makes.Payload.{making_length}
 use Rattle.stack_core.specs.declared.plans.Opening.{Opening}
 use Rattle.stack_core.specs.Outgoing.{greatest_payload}
+use Rattle.stack_core.specs.Told.{TellsWell}
 
 -- the SYN, with an acknowledgment once the peer's SYN is taken
 abbrev pub syn_of : Endpoint → Opening → ℕ → SegmentPlan
@@ -58,9 +59,9 @@ fin_of e window =
       shift = None;
     }
 
--- it may be made, at a position that a step may name, with a payload that may go out
+-- it may be made, at a position that a step may name, with a payload that may go out, and a shift that may be told
 abbrev pub IsMakeable : Header → Host → World tcp_shape → SegmentPlan → Type 0
-IsMakeable h me w m = (m.pos ≤ greatest_position) × (m.len ≤ greatest_payload) × Permitted (tcp h) 0 w (At me (Makes m))
+IsMakeable h me w m = (m.pos ≤ greatest_position) × (m.len ≤ greatest_payload) × TellsWell h.version m × Permitted (tcp h) 0 w (At me (Makes m))
 
 abbrev pub Refuses : Header → Host → World tcp_shape → SegmentPlan → Type 0
 Refuses h me w plan = Permitted (tcp h) 0 w (At me (Makes plan)) → ⊥

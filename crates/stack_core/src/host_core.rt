@@ -6,9 +6,11 @@ ghost use Rattle.hosts.specs.HostSteps.{after};
 ghost use Rattle.machine.specs.Machine.{tcp};
 ghost use Rattle.machine.specs.Steps.{step_of};
 ghost use Rattle.recordings.specs.Books.{Bring};
-ghost use Rattle.stack_core.specs.Cores.{Fits, IsAfter, IsNextLine, IsOrderly, IsOwn, IsRecorded, line_to_come, lines_taken};
+ghost use Rattle.recordings.specs.Keys.{EachEntry};
+ghost use Rattle.stack_core.specs.Cores.{Fits, IsAfter, IsBelow, IsNextLine, IsOrderly, IsOwn, IsRecorded, line_to_come, lines_taken};
 ghost use Rattle.stack_core.specs.Cores.{new_core, opened, with_item, with_step, world};
 ghost use Rattle.stack_core.specs.Entries.{steps_in};
+ghost use Rattle.stack_core.specs.Told.{AllTold, IsToldStep};
 ghost use Rattle.stack_core.specs.Touches.{touched};
 
 use crate::agenda::{Agenda, Touch};
@@ -108,6 +110,16 @@ impl HostCore {
         self.recording.is_recording();
     }
 
+    /// A text can tell what it recorded: each segment is made at a position that a text names, with a payload that fits into one,
+    /// and with a shift only beside an initial number, where the version scales windows; and nothing stands behind the last tick.
+    /// A call that does nothing, whose contract says it.
+    pub fn can_be_told(&self)
+        ensures told { AllTold self.now.recorded.header.version self.now.recorded.entries }
+        ensures below { EachEntry (tcp self.now.recorded.header) (λ x. IsBelow self.now.recorded.me self.now.last x.key) self.now.recorded.entries }
+    {
+        let _ = &self.line;
+    }
+
     /// Each event has four steps at most: a call that does nothing, whose contract says it.
     pub fn few_steps(&self)
         ensures { steps_in self.now.recorded.entries ≤ 4 * self.now.events }
@@ -193,6 +205,7 @@ impl HostCore {
         requires fits { Fits self.old (step_of label) }
         requires line { IsNextLine self.old (step_of label) }
         requires orderly { IsOrderly self.old.recorded.me (world self.old) (step_of label) }
+        requires told { IsToldStep self.old.recorded.header.version (step_of label) }
         requires touch { touch ≡ touched self.old.recorded.me (world self.old) (step_of label) }
         ensures ok { OnOk result (self.new ≡ with_step self.old (step_of label)) }
         ensures count { OnOk result (steps_in self.new.recorded.entries ≡ suc (steps_in self.old.recorded.entries)) }

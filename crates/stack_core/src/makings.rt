@@ -14,13 +14,15 @@ ghost use Rattle.machine.specs.Makes.{making_rules};
 ghost use Rattle.endpoint_state.specs.Kept.{AreReadable};
 ghost use Rattle.stack_core.specs.Makings.{IsMakeable, IsSynRefused, IsTried, NothingToMake, Refuses, fin_of, syn_of};
 ghost use Rattle.stack_core.specs.Tended.{AreQuiet, IsQuiet};
+ghost use Rattle.stack_core.specs.Told.{MayOpen, TellsWell};
 
 use crate::agenda::Agenda;
 use crate::duties::Duties;
 use crate::plans::{
-    GREATEST_PAYLOAD, GREATEST_POSITION, Offer, Opening, byte_of, fin_of, offer_of, syn_of, wishes,
+    GREATEST_PAYLOAD, GREATEST_POSITION, GREATEST_SHIFT, Offer, Opening, byte_of, fin_of, offer_of,
+    syn_of, wishes,
 };
-use case_forms::{Host, SegmentPlan};
+use case_forms::{Host, SegmentPlan, Version};
 use endpoint::admits_making;
 use endpoint_state::{Body, Endpoint, World};
 
@@ -117,7 +119,13 @@ fn make_at(
     }
     world.is_kept();
     if let Some(endpoint) = world.body(me).endpoint_at(place) {
-        let offer = offer_of(endpoint, duties.of(place), opening, ring);
+        let offer = offer_of(
+            world.header().version,
+            endpoint,
+            duties.of(place),
+            opening,
+            ring,
+        );
         if let Some(plan) = try_endpoint(world, me, endpoint, offer) {
             return Some(plan);
         }
@@ -215,8 +223,21 @@ fn wish_at(
         return None;
     }
     let duty = duties.of(place);
-    let offer = offer_of(endpoint, duty, opening, ring);
+    let offer = offer_of(world.header().version, endpoint, duty, opening, ring);
     try_wishes(world, me, &wishes(endpoint, duty, offer))
+}
+
+// Whether a text can tell that this is made: its position, its payload, and its shift.
+fn can_be_told(version: Version, plan: &SegmentPlan) -> bool
+    ensures small { result ≡ true → plan.now.pos ≤ greatest_position }
+    ensures short { result ≡ true → plan.now.len ≤ greatest_payload }
+    ensures told { result ≡ true → TellsWell version plan.now }
+{
+    let tells = match plan.shift {
+        Some(shift) => version.scales() && plan.iss.is_some() && shift <= GREATEST_SHIFT,
+        None => true,
+    };
+    tells && plan.pos <= GREATEST_POSITION && plan.len <= GREATEST_PAYLOAD
 }
 
 // The first of these that may be made.
@@ -226,7 +247,7 @@ fn try_wishes(world: &World, me: Host, wishes: &[Option<SegmentPlan>]) -> Option
 {
     for wish in wishes {
         if let Some(plan) = wish {
-            if plan.pos <= GREATEST_POSITION && plan.len <= GREATEST_PAYLOAD {
+            if can_be_told(world.header().version, plan) {
                 if let Some(plan) = ask(world, me, *plan) {
                     return Some(plan);
                 }
@@ -257,7 +278,13 @@ fn find_making(
         if let Some(plan) = wish_at(world, me, duties, place, opening, ring) {
             return Some(plan);
         }
-        let offer = offer_of(endpoint, duties.of(place), opening, ring);
+        let offer = offer_of(
+            world.header().version,
+            endpoint,
+            duties.of(place),
+            opening,
+            ring,
+        );
         if let Some(plan) = try_endpoint(world, me, endpoint, offer) {
             return Some(plan);
         }
@@ -271,6 +298,7 @@ fn find_making(
 fn try_endpoint(world: &World, me: Host, endpoint: &Endpoint, offer: Offer) -> Option<SegmentPlan>
     requires steps { world.now.steps < most_steps }
     requires short { All (λ e. end_of e.stream.accepted ≤ greatest_position) (pick world.now.world.hosts me).body.endpoints }
+    requires opening { MayOpen world.now.header.version offer.opening }
     ensures some { IfSome result (λ m. IsMakeable world.now.header me world.now.world m) }
     ensures none { IfNone result (IsTried world.now.header me world.now.world endpoint.now) }
 {
@@ -288,8 +316,10 @@ fn try_endpoint(world: &World, me: Host, endpoint: &Endpoint, offer: Offer) -> O
 }
 
 // The SYN, if nothing was made before and it may be made.
+#[tactic(auto, using(crate::proofs::MakingLemmas::syn_tells))]
 fn try_syn(world: &World, me: Host, endpoint: &Endpoint, offer: Offer) -> Option<SegmentPlan>
     requires steps { world.now.steps < most_steps }
+    requires opening { MayOpen world.now.header.version offer.opening }
     ensures some { IfSome result (λ m. IsMakeable world.now.header me world.now.world m) }
     ensures none { IfNone result (IsSynRefused world.now.header me world.now.world endpoint.now offer.opening offer.at_syn) }
 {
@@ -304,6 +334,7 @@ fn ask(world: &World, me: Host, plan: SegmentPlan) -> Option<SegmentPlan>
     requires steps { world.now.steps < most_steps }
     requires small { plan.pos ≤ greatest_position }
     requires short { plan.len ≤ greatest_payload }
+    requires told { TellsWell world.now.header.version plan }
     ensures some { IfSome result (λ m. IsMakeable world.now.header me world.now.world m) }
     ensures none { IfNone result (Refuses world.now.header me world.now.world plan) }
 {

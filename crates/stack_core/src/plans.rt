@@ -2,9 +2,10 @@
 
 ghost use Rattle.std.specs.Prelude.{◌≡◌};
 ghost use Rattle.stack_core.specs.Makings.{bytes_of, fin_of, syn_of};
+ghost use Rattle.stack_core.specs.Told.{MayOpen};
 
 use crate::duties::{Again, Duty};
-use case_forms::{Flags, SegmentPlan};
+use case_forms::{Flags, SegmentPlan, Version};
 use endpoint_state::Endpoint;
 use seqno::Word;
 use window_rules::{congestion_edge, offered_edge};
@@ -14,6 +15,9 @@ pub(crate) const GREATEST_PAYLOAD: u16 = 65_487;
 
 // The greatest position that a step names.
 pub(crate) const GREATEST_POSITION: u64 = 1_000_000_000_000_000_000;
+
+// The greatest shift of a window (RFC 7323, 2.3).
+pub(crate) const GREATEST_SHIFT: u8 = 14;
 
 /// What an endpoint is given with its first SYN.
 #[derive(Clone, Copy, Debug, PartialEq, Eq)]
@@ -32,9 +36,17 @@ pub(crate) struct Offer {
     pub(crate) window: u16,
 }
 
-/// What an endpoint offers, where its host has a ring of so many bytes for what it takes. Once the peer's SYN told no shift,
-/// none is told (RFC 7323, 2.2).
-pub(crate) fn offer_of(endpoint: &Endpoint, duty: Duty, opening: Opening, ring: u16) -> Offer {
+/// What an endpoint offers, where its host has a ring of so many bytes for what it takes. No shift is told where this version
+/// scales no windows, nor once the peer's SYN told none (RFC 7323, 2.2); above 14 it is 14 (RFC 7323, 2.3).
+pub(crate) fn offer_of(
+    version: Version,
+    endpoint: &Endpoint,
+    duty: Duty,
+    opening: Opening,
+    ring: u16,
+) -> Offer
+    ensures { MayOpen version result.opening }
+{
     let room = duty.room(endpoint, ring);
     let shift = match endpoint.shift {
         Some(shift) if endpoint.is_scaling() => u64::from(shift.min(14)),
@@ -44,7 +56,10 @@ pub(crate) fn offer_of(endpoint: &Endpoint, duty: Duty, opening: Opening, ring: 
     Offer {
         opening: Opening {
             iss: opening.iss,
-            shift: if tells { opening.shift } else { None },
+            shift: match opening.shift {
+                Some(told) if tells && version.scales() => Some(told.min(GREATEST_SHIFT)),
+                _ => None,
+            },
         },
         at_syn: room.min(65_535) as u16,
         window: (room >> shift).min(65_535) as u16,

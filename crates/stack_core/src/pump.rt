@@ -13,6 +13,7 @@ ghost use Rattle.stack_core.specs.Entries.{steps_in};
 ghost use Rattle.stack_core.specs.Makings.{IsMakeable, NothingToMake};
 ghost use Rattle.stack_core.specs.PumpEvents.{IsPumped, IsPumpedShort, NothingToPump};
 ghost use Rattle.stack_core.specs.Resets.{IsResetToGo, NoResetWaits};
+ghost use Rattle.stack_core.specs.Told.{TellsWell};
 ghost use Rattle.stack_core.specs.Flown.{HasFlown};
 ghost use Rattle.stack_core.specs.Outgoing.{GoesOut, MayGo, WaitsToGo, greatest_payload};
 
@@ -104,16 +105,11 @@ impl HostCore {
         )
     }
 
-    // What the next endpoint is given with its first SYN.
+    // What the next endpoint is given with its first SYN, where its version tells a shift.
     fn opening(&self) -> Opening {
-        let shift = if self.recording.header().version.scales() {
-            self.config.shift.map(|shift| shift.min(14))
-        } else {
-            None
-        };
         Opening {
             iss: Word(self.iss),
-            shift,
+            shift: self.config.shift,
         }
     }
 
@@ -123,6 +119,7 @@ impl HostCore {
         requires events { self.old.events ≤ 10000000 }
         requires limits { plan.pos ≤ greatest_position }
         requires short { plan.len ≤ greatest_payload }
+        requires told { TellsWell self.old.recorded.header.version plan }
         requires permitted { Permitted (tcp self.old.recorded.header) 0 (world self.old) (At self.old.recorded.me (Makes plan)) }
         ensures ok { OnOk result (self.new ≡ with_step self.old (At self.old.recorded.me (Makes plan))) }
         ensures count { OnOk result (steps_in self.new.recorded.entries ≡ suc (steps_in self.old.recorded.entries)) }

@@ -6,6 +6,7 @@ use Rattle.stack_core.specs.Recordings.{Recorded}
 use Rattle.stack_core.specs.Resets.{AreAwaited, made_of}
 use Rattle.stack_core.proofs.Cores.{add_ok, core_grows, counts, leads, may_join}
 use Rattle.stack_core.proofs.ResetLemmas.{core_awaits, core_tried}
+use Rattle.stack_core.specs.Told.{IsToldStep}
 use Rattle.stack_core.specs.Touches.{touched}
 use Rattle.stack_core.proofs.TendedLemmas.{tended_steps, tended_tried}
 use Rattle.stack_core.proofs.host_core.HostCore.add.Goals as goal
@@ -35,7 +36,8 @@ invariant_of-self-2 c = (
       (subst (λ (k : Core). IsOrderly k.recorded.me (world k) (step_of c.args.label)) (sym c.self.view_is) c.requires.orderly)
       c.step.new.self c.lines_taken-lines.result c.in_ok-step.ensures.ok
       (subst (λ (k : Core). steps_in k.recorded.entries < 4 * k.events) (sym c.self.view_is) c.requires.room)
-      c.lines_taken-lines.ensures,
+      c.lines_taken-lines.ensures
+      (subst (λ (k : Core). IsToldStep k.recorded.header.version (step_of c.args.label)) (sym c.self.view_is) c.requires.told),
   core_awaits c.self.inside.recording c.step.new.self c.self.inside.last (step_of c.args.label) c.self.inside.resets.items c.await_reset.new.resets.items c.count.result
       (subst (λ (k : Core). Fits k (step_of c.args.label)) (sym c.self.view_is) c.requires.fits)
       c.in_ok-step.ensures.ok c.count.ensures.count c.in_ok-await_reset.ensures.ok c.self.invariant.1,

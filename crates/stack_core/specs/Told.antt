@@ -1,0 +1,48 @@
+-- What a text can tell of a step that a core does, and no type says.
+use Rattle.std.specs.Prelude.{◌≡◌, ◌≤◌, List, [], ◌∷◌, true, IfSome}
+use Rattle.case_forms.specs.Versions.{scales}
+use Rattle.case_forms.specs.Witnesses.{IsShift}
+use Rattle.case_forms.specs.declared.steps.SegmentPlan.{SegmentPlan}
+use Rattle.case_forms.specs.declared.version.Version.{Version}
+use Rattle.hosts.specs.Hosts.{Answers, At, Begin, Deed, Does, Drops, Effect, Expires, Finish, Gets, Hears, Makes, Sends, Step, Takes}
+use Rattle.machine.specs.Bounds.{greatest_position}
+use Rattle.machine.specs.Machine.{tcp_shape}
+use Rattle.recordings.specs.Books.{Bring, Do, Item}
+use Rattle.recordings.specs.Recordings.{TcpEntry}
+use Rattle.stack_core.specs.declared.plans.Opening.{Opening}
+
+-- the shift that an endpoint is given with its first SYN is one that may be told
+abbrev pub MayOpen : Version → Opening → Type 0
+MayOpen v opening = IfSome opening.shift (λ n. (scales v ≡ true) × (n ≤ 14))
+
+-- a plan's shift is one that may be told
+abbrev pub TellsWell : Version → SegmentPlan → Type 0
+TellsWell v m = IfSome m.shift (IsShift v m.iss)
+
+-- a segment is made at a position that a text may name, with a payload that fits into a segment beside its options, and with a shift
+-- that may be told
+abbrev pub IsToldDeed : Version → Deed tcp_shape → Type 0
+IsToldDeed v (Does x) = Unit {0}
+IsToldDeed v (Expires line x) = Unit {0}
+IsToldDeed v (Makes m) = (m.pos ≤ greatest_position) × (m.len ≤ 65487) × TellsWell v m
+IsToldDeed v (Sends line number wire) = Unit {0}
+IsToldDeed v (Gets line copied wire) = Unit {0}
+IsToldDeed v (Hears line wire) = Unit {0}
+IsToldDeed v (Takes line choice) = Unit {0}
+IsToldDeed v (Drops line) = Unit {0}
+IsToldDeed v (Answers line) = Unit {0}
+
+abbrev pub IsToldStep : Version → Step tcp_shape → Type 0
+IsToldStep v (Begin line t call) = Unit {0}
+IsToldStep v (Finish line t answer) = Unit {0}
+IsToldStep v (Effect t answer) = Unit {0}
+IsToldStep v (At host deed) = IsToldDeed v deed
+
+abbrev pub IsToldItem : Version → Item tcp_shape → Type 0
+IsToldItem v (Do step) = IsToldStep v step
+IsToldItem v (Bring f) = Unit {0}
+
+-- each of these entries can be told
+abbrev pub AllTold : Version → List TcpEntry → Type 0
+AllTold v [] = Unit {0}
+AllTold v (x ∷ xs) = IsToldItem v x.item × AllTold v xs
