@@ -1,7 +1,7 @@
 #!/usr/bin/env python3
 """Writes each half of the whole cases of a folder as a case of version 3.
 
-    python3 tools/half_cases.py crates/case_files/data FOLDER
+    python3 tools/half_cases.py crates/test_cases/data FOLDER
 
 Each case of the first folder that its expected.txt says yes of is a recording of both hosts. Its half of a host has that
 host's lines alone, as if the other one had not been recorded, and the steps of the witness that are this host's. Moments

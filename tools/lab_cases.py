@@ -3,7 +3,7 @@
 
     lab_cases.py TCPWIT TCPWIT_LAB CASES
 
-CASES is crates/case_files/data. Looks whether each picture is XML, lies within its frame and has one red mark exactly where the
+CASES is crates/test_cases/data. Looks whether each picture is XML, lies within its frame and has one red mark exactly where the
 verdict is no; whether bad words are answered by `bad usage`; and looks for a witness of the trace of each case that is
 answered yes. Ends with status 1 where a picture or an answer is wrong; a witness that is not found is only counted.
 """

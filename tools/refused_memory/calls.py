@@ -31,7 +31,7 @@ sys.path[:0] = [HERE, os.path.dirname(HERE)]
 from sweep import built_library
 from unproved import kept
 
-DATA = os.path.join(TOP, "crates", "case_files", "data")
+DATA = os.path.join(TOP, "crates", "test_cases", "data")
 HANDSHAKE = "examples/handshake_and_five_bytes"
 QUEUE = "queue-full-backlog-1-extra-0-child-2"
 CASES = (HANDSHAKE, QUEUE)

@@ -3,7 +3,7 @@
 
     copies.py TESTS [--most N] [--jobs N]
 
-TESTS is the program of the tests of `record_tests`, which `rt test` in that crate leaves in `out/`. A segment that is sent twice is
+TESTS is the program of the tests of `test_recording`, which `rt test` in that crate leaves in `out/`. A segment that is sent twice is
 copied, and where memory is refused for the copy the segment goes once: so the test passes all the same. Where another request is
 refused there is no recording, or memory runs out, and the test says so. Anything else (a case that is not answered yes, another signal than
 that of a test that fails, a run of more than 60 seconds) is wrong and is printed. The last line has the counts; the exit status is 1 where a run was wrong, or where

@@ -3,7 +3,7 @@
 
     talks.py [--first SEED] [--count N]
 
-Copies the repository's last commit into a folder of its own, adds the program below as a crate beside the talks of `record_tests`, and
+Copies the repository's last commit into a folder of its own, adds the program below as a crate beside the talks of `test_recording`, and
 runs it by `rt try`, which proves nothing. Each seed draws what becomes of the segments of one talk. Where `check` does not say yes of a
 recording, or a host is told other bytes than it should be, the seed is printed, and the exit status is 1.
 """
@@ -57,12 +57,12 @@ def prepare(folder):
     subprocess.run(["tar", "x", "-C", folder], input=commit, check=True)
     lines = pathlib.Path(folder, "crates.txt")
     before = lines.read_text()
-    after = before.replace("record_tests tests_may=Threads+Wait:", "talks:")
+    after = before.replace("test_recording tests_may=Threads+Wait:", "talks:")
     if after == before:
-        sys.exit("crates.txt has no such line of record_tests")
+        sys.exit("crates.txt has no such line of test_recording")
     lines.write_text(after)
     crates = pathlib.Path(folder, "crates")
-    (crates / "record_tests").rename(crates / "talks")
+    (crates / "test_recording").rename(crates / "talks")
     (crates / "talks" / "src" / "lib.rt").unlink()
     tests = crates / "talks" / "src" / "tests.rt"
     tests.write_text(tests.read_text().replace("\nmod ", "\npub mod "))

@@ -22,11 +22,9 @@ mod version;
 
 pub use calls::{Answer, Call, Host, Ports, State};
 pub use named_line::{Extras, NamedLine};
+pub use segment::OutOfMemory;
 pub use steps::{Flags, Label, SegmentPlan, Step, Steps, TakeChoice, Takes, Witness};
 pub use taken_line::{Expired, TakenLine};
-pub use timer::{Expiry, Growth, Recovery, Timer};
+pub use timer::{Expiry, Recovery, RtoChoice, Timer};
 pub use trace::{Event, Header, Line, Lines, Span, Trace, Wire};
 pub use version::{Initial, Version};
-
-/// Memory ran out. Nothing was changed.
-pub type OutOfMemory = std::alloc::AllocError;

@@ -30,7 +30,8 @@ impl Extras {
     }
 }
 
-/// `n [x [y]]`: the line that a step takes, by its number. Any line may be named with none, one or two numbers more; which of
+/// `n [x [y]]`: the line that a step takes, by its number. Any line may be named with none, one or two numbers more;
+/// which of
 /// them a line of its kind has is told by `TakenLine`.
 #[derive(Clone, Copy, Debug, PartialEq, Eq)]
 pub struct NamedLine {

@@ -37,7 +37,8 @@ pub struct SegmentPlan {
     pub window: u16,
     /// The initial send sequence number, with the first SYN of the endpoint alone (RFC 9293, 3.4.1).
     pub iss: Option<Word>,
-    /// By how many bits the endpoint shifts the windows that it offers, 0 to 14, with the `iss` alone (RFC 7323, 2.2 and 2.3).
+    /// By how many bits the endpoint shifts the windows that it offers, 0 to 14, with the `iss` alone (RFC 7323, 2.2
+    /// and 2.3).
     pub shift: Option<u8>,
 }
 
@@ -52,7 +53,8 @@ pub struct TakeChoice {
     pub sample: bool,
 }
 
-/// What a step does. `Taken` says how a step names the line that it takes: by its number in a witness (`NamedLine`), and by
+/// What a step does. `Taken` says how a step names the line that it takes: by its number in a witness (`NamedLine`),
+/// and by
 /// what the line tells for the machine (`TakenLine`).
 #[derive(Debug, PartialEq, Eq, Drop)]
 pub enum Label<Taken> {

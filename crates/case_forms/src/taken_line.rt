@@ -7,14 +7,14 @@ use crate::OutOfMemory;
 use crate::calls::{Answer, Call, Host, Ports};
 use crate::named_line::Extras;
 use crate::steps::Takes;
-use crate::timer::{Growth, Timer};
+use crate::timer::{RtoChoice, Timer};
 use crate::trace::{Event, Line, Wire};
 
 /// A timer that expired, with what is chosen there.
 #[derive(Clone, Copy, Debug, PartialEq, Eq)]
 pub enum Expired {
     /// The congestion window and the slow start threshold are chosen (RFC 5681, 3.1).
-    Rto(Growth),
+    Rto(RtoChoice),
     Persist,
     Msl2,
     Giveup,
@@ -34,7 +34,8 @@ impl Expired {
     }
 }
 
-/// What a line tells that a step takes, with what the step adds to a line of its kind. `line` is its number among all lines
+/// What a line tells that a step takes, with what the step adds to a line of its kind. `line` is its number among all
+/// lines
 /// of the trace, the header's too.
 #[derive(Debug, PartialEq, Eq, Drop)]
 pub enum TakenLine {
@@ -143,7 +144,10 @@ fn expired_by(timer: Timer, extras: Extras) -> Option<Expired>
     ensures { result ≡ expired_by timer extras }
 {
     match (timer, extras) {
-        (Timer::Rto, Extras::Two(cwnd, ssthresh)) => Some(Expired::Rto(Growth { cwnd, ssthresh })),
+        (Timer::Rto, Extras::Two(cwnd, ssthresh)) => Some(Expired::Rto(RtoChoice {
+            cwnd,
+            ssthresh,
+        })),
         (Timer::Persist, Extras::Bare) => Some(Expired::Persist),
         (Timer::Msl2, Extras::Bare) => Some(Expired::Msl2),
         (Timer::Giveup, Extras::Bare) => Some(Expired::Giveup),
@@ -152,7 +156,8 @@ fn expired_by(timer: Timer, extras: Extras) -> Option<Expired>
 }
 
 impl Line {
-    /// The line as the machine takes it, where a step adds these numbers; None where a line of its kind has another count of
+    /// The line as the machine takes it, where a step adds these numbers; None where a line of its kind has another
+    /// count of
     /// them.
     pub fn taken(self, extras: Extras) -> Option<TakenLine>
         ensures { result ≡ taken_of extras self }

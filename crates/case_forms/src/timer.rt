@@ -23,12 +23,13 @@ pub struct Expiry {
 
 /// What is chosen where a retransmission timer expires, both in bytes (RFC 5681, 3.1).
 #[derive(Clone, Copy, Debug, PartialEq, Eq)]
-pub struct Growth {
+pub struct RtoChoice {
     pub cwnd: u32,
     pub ssthresh: u32,
 }
 
-/// Fast recovery of the endpoint of these ports, with the congestion window and the slow start threshold that are chosen, both
+/// Fast recovery of the endpoint of these ports, with the congestion window and the slow start threshold that are
+/// chosen, both
 /// in bytes (RFC 5681, 3.2).
 #[derive(Clone, Copy, Debug, PartialEq, Eq)]
 pub struct Recovery {

@@ -4,10 +4,10 @@ use Rattle.std.specs.Prelude.{slice_get, IfOk, ◌↔◌}
 use Rattle.case_forms.specs.declared.trace.Trace.{Trace}
 use Rattle.case_forms.specs.declared.steps.Witness.{Witness}
 use Rattle.verdict.specs.declared.report.Verdict.{Verdict}
-use Rattle.hosts.specs.Hosts.{World, Stamped}
-use Rattle.hosts.specs.HostRules.{Permitted}
-use Rattle.hosts.specs.HostSteps.{after, after_all, Lawful}
-use Rattle.machine.specs.Machine.{tcp, tcp_shape}
+use Rattle.spec_network.specs.Hosts.{World, Stamped}
+use Rattle.spec_network.specs.HostRules.{Permitted}
+use Rattle.spec_network.specs.HostSteps.{after, after_all, Lawful}
+use Rattle.spec_tcp.specs.Machine.{tcp, tcp_shape}
 use Rattle.case_forms.specs.declared.trace.Header.{Header}
 use Rattle.checker.specs.Explains.{Explains, IsYes}
 

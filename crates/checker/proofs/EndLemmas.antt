@@ -17,7 +17,7 @@ use Rattle.interval_order.specs.Orders.{Order}
 use Rattle.endpoint_state.specs.Worlds.{Progress, start}
 use Rattle.checker.specs.declared.case.CaseFault.{CaseFault}
 use Rattle.checker.specs.declared.case.CaseFault.TheVariants as faults
-use Rattle.checker.specs.declared.turns.Tally.{Tally}
+use Rattle.checker.specs.declared.turns.StepCounts.{StepCounts}
 use Rattle.checker.specs.Verdicts.{takes_line, verdict_left}
 use Rattle.checker.specs.Ahead.{left_with, IsInStep, IsAll, TraceFails, WitnessFails}
 use Rattle.checker.specs.Streaming.{SoFar, Tallied, Ends, CaseFails, verdict_on, first_of_both}
@@ -41,7 +41,7 @@ starts header lines steps o p offered is = record {
 
 -- ---- one step more is counted
 
-pub tally_more : (earlier : List Step) (s : Step) (t : Tally) → Tallied earlier t.lines t.hidden
+pub tally_more : (earlier : List Step) (s : Step) (t : StepCounts) → Tallied earlier t.lines t.hidden
     → Tallied (earlier ++ s ∷ []) (counted_with t (takes_line s.label)).lines (counted_with t (takes_line s.label)).hidden
 tally_more earlier s t h = by_test (takes_line s.label) refl
   where
@@ -64,12 +64,12 @@ tally_more earlier s t h = by_test (takes_line s.label) refl
       hidden_are = ap (λ (n : ℕ). n + 1) h.hidden_are ∙ sym (more (λ s. not (takes_line s.label)) (ap not is));
     }
 
-tally_sum : (t : Tally) (b : Bool) → (counted_with t b).lines + (counted_with t b).hidden ≡ t.lines + t.hidden + 1
+tally_sum : (t : StepCounts) (b : Bool) → (counted_with t b).lines + (counted_with t b).hidden ≡ t.lines + t.hidden + 1
 tally_sum t true = omega arith
 tally_sum t false = omega arith
 
-pub tally_is : (t : Tally) (b : Bool) (r : Tally) → r ≡ counted_with t b → r.lines + r.hidden ≡ t.lines + t.hidden + 1
-tally_is t b r is = ap (λ (x : Tally). x.lines + x.hidden) is ∙ tally_sum t b
+pub tally_is : (t : StepCounts) (b : Bool) (r : StepCounts) → r ≡ counted_with t b → r.lines + r.hidden ≡ t.lines + t.hidden + 1
+tally_is t b r is = ap (λ (x : StepCounts). x.lines + x.hidden) is ∙ tally_sum t b
 
 -- ---- the end of the witness
 

@@ -27,13 +27,13 @@ use Rattle.case_forms.specs.declared.steps.Label.TheVariants as labels
 use Rattle.case_forms.specs.declared.steps.Step.{Step as WitnessStep}
 use Rattle.case_forms.specs.Traces.{line_at}
 use Rattle.verdict.specs.Rules.{first_broken}
-use Rattle.hosts.specs.Hosts.{Turn, Idle, Called, Answered, World, Step, Begin, Finish, Effect, At, Stamped, turn_of}
-use Rattle.hosts.specs.HostRules.{effect_rules}
-use Rattle.hosts.specs.HostSteps.{after, effect_after, start, Lawful}
-use Rattle.hosts.proofs.Entries.{turn_insert}
-use Rattle.machine.specs.Machine.{tcp, tcp_shape}
-use Rattle.machine.specs.Steps.{step_of, label_step}
-use Rattle.machine_laws.specs.Runs.{of_turn, of_effect, call_told, call_told_end, told_from, told_end_from, told_to, was_told_end}
+use Rattle.spec_network.specs.Hosts.{Turn, Idle, Called, Answered, World, Step, Begin, Finish, Effect, At, Stamped, turn_of}
+use Rattle.spec_network.specs.HostRules.{effect_rules}
+use Rattle.spec_network.specs.HostSteps.{after, effect_after, start, Lawful}
+use Rattle.spec_network.proofs.Entries.{turn_insert}
+use Rattle.spec_tcp.specs.Machine.{tcp, tcp_shape}
+use Rattle.spec_tcp.specs.Steps.{step_of, label_step}
+use Rattle.spec_tcp_laws.specs.Runs.{of_turn, of_effect, call_told, call_told_end, told_from, told_end_from, told_to, was_told_end}
 use Rattle.checker.specs.Seen.{stamped}
 use Rattle.checker.specs.Headline.{CallDone, begun, begins, last_begun, does, done_from, bytes_told, told, is_told_end, told_end}
 

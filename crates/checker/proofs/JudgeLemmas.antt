@@ -14,12 +14,12 @@ use Rattle.verdict.specs.declared.report.Verdict.{Verdict}
 use Rattle.verdict.specs.declared.report.Verdict.TheVariants.{Yes, No}
 use Rattle.interval_order.specs.Orders.{unplaced, order_of}
 use Rattle.interval_order.specs.OrderRules.{order_rules}
-use Rattle.hosts.specs.Hosts.{World, Stamped}
-use Rattle.hosts.specs.HostSteps.{start, after_all}
-use Rattle.machine.specs.Machine.{tcp, tcp_shape}
-use Rattle.machine_laws.specs.Runs.{world_at_end}
-use Rattle.machine_laws.specs.Ascending.{ascend, IsLeastBroken}
-use Rattle.machine_laws.proofs.Ascending.{first_is_least, rules_ascend}
+use Rattle.spec_network.specs.Hosts.{World, Stamped}
+use Rattle.spec_network.specs.HostSteps.{start, after_all}
+use Rattle.spec_tcp.specs.Machine.{tcp, tcp_shape}
+use Rattle.spec_tcp_laws.specs.Runs.{world_at_end}
+use Rattle.spec_tcp_laws.specs.Ascending.{ascend, IsLeastBroken}
+use Rattle.spec_tcp_laws.proofs.Ascending.{first_is_least, rules_ascend}
 use Rattle.checker.specs.Seen.{move_of, moves, act_of, stamped}
 use Rattle.checker.specs.Verdicts.{act_after, act_rules, all_rules, broken, next_world, takes_line, line_named, verdict, verdict_from, verdict_left, refused_or}
 use Rattle.checker.specs.Explains.{Explains, IsYes}

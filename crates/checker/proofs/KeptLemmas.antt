@@ -17,11 +17,11 @@ use Rattle.verdict.proofs.RuleLemmas.{first_broken-append_some}
 use Rattle.interval_order.specs.Orders.{Order, taking, is_placed, order_of, held_line, is_offered}
 use Rattle.interval_order.specs.OrderRules.{order_rules}
 use Rattle.interval_order.proofs.OrderLemmas.{held_is}
-use Rattle.hosts.specs.Hosts.{World, Stamped}
-use Rattle.machine.specs.Machine.{tcp_shape}
-use Rattle.machine.specs.Steps.{label_step}
-use Rattle.machine.specs.Forgetting.{forget}
-use Rattle.machine_laws.proofs.ForgetWorlds.{step_rules-forget, after-forgets, makes_permitted}
+use Rattle.spec_network.specs.Hosts.{World, Stamped}
+use Rattle.spec_tcp.specs.Machine.{tcp_shape}
+use Rattle.spec_tcp.specs.Steps.{label_step}
+use Rattle.spec_tcp.specs.Forgetting.{forget}
+use Rattle.spec_tcp_laws.proofs.ForgetWorlds.{step_rules-forget, after-forgets, makes_permitted}
 use Rattle.endpoint_state.specs.Worlds.{Progress, after}
 use Rattle.checker.specs.Seen.{moves, move_of, act_of}
 use Rattle.checker.specs.Verdicts.{act_rules, act_after, broken}

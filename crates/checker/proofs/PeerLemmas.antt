@@ -20,52 +20,52 @@ use Rattle.verdict.specs.Rules.{first_broken}
 use Rattle.verdict.proofs.RuleLemmas.{none_all}
 use Rattle.streams.specs.Lists.{modify}
 use Rattle.streams.proofs.Places.{get_append, all_push, all_modify}
-use Rattle.hosts.specs.Tables.{pick, other, with_host, waiting}
-use Rattle.hosts.specs.Hosts.{HostState, Turn, Idle, Called, Answered, World, Deed, Does, Expires, Makes, Sends, Gets, Hears, Takes, Drops, Answers, Step, Begin, Finish, Effect, At, Stamped, turn_of}
-use Rattle.hosts.specs.HostRules.{aim_of, Permitted}
-use Rattle.hosts.specs.HostSteps.{deed_after, call_after, effect_after, after, after_all, start, Lawful}
-use Rattle.machine.specs.declared.endpoint.Name.{Name}
-use Rattle.machine.specs.declared.endpoint.Stream.{Stream}
-use Rattle.machine.specs.declared.endpoint.Endpoint.{Endpoint}
-use Rattle.machine.specs.declared.endpoint.Emission.{Emission}
-use Rattle.machine.specs.declared.endpoint.Thing.{Thing}
-use Rattle.machine.specs.declared.endpoint.Thing.TheVariants.{Listens, Ends}
-use Rattle.machine.specs.Endpoints.{new_endpoint}
-use Rattle.machine.specs.Bodies.{Body, place_of, at_ports, with_endpoint, thing_of, queue_of, dead}
+use Rattle.spec_network.specs.Tables.{pick, other, with_host, waiting}
+use Rattle.spec_network.specs.Hosts.{HostState, Turn, Idle, Called, Answered, World, Deed, Does, Expires, Makes, Sends, Gets, Hears, Takes, Drops, Answers, Step, Begin, Finish, Effect, At, Stamped, turn_of}
+use Rattle.spec_network.specs.HostRules.{aim_of, Permitted}
+use Rattle.spec_network.specs.HostSteps.{deed_after, call_after, effect_after, after, after_all, start, Lawful}
+use Rattle.spec_tcp.specs.declared.endpoint.EndpointId.{EndpointId}
+use Rattle.spec_tcp.specs.declared.endpoint.Stream.{Stream}
+use Rattle.spec_tcp.specs.declared.endpoint.Endpoint.{Endpoint}
+use Rattle.spec_tcp.specs.declared.endpoint.Emission.{Emission}
+use Rattle.spec_tcp.specs.declared.endpoint.SocketTarget.{SocketTarget}
+use Rattle.spec_tcp.specs.declared.endpoint.SocketTarget.TheVariants.{ListenerAt, EndpointAt}
+use Rattle.spec_tcp.specs.Endpoints.{new_endpoint}
+use Rattle.spec_tcp.specs.Bodies.{Body, place_of, at_ports, with_endpoint, thing_of, queue_of, dead}
 use Rattle.case_forms.specs.States.{is_syn_sent}
-use Rattle.machine.specs.Calls.Send.{after_send}
-use Rattle.machine.specs.Calls.Receive.{after_recv}
-use Rattle.machine.specs.Calls.Close.{shut_down, after_shut, after_close, after_abort, orphaned, thing_gone}
-use Rattle.machine.specs.Calls.Accept.{accepted_from, after_accept}
-use Rattle.machine.specs.Calls.{change_thing, after_call}
-use Rattle.machine.specs.Makes.{endpoint_made, after_making}
+use Rattle.spec_tcp.specs.Calls.Send.{after_send}
+use Rattle.spec_tcp.specs.Calls.Receive.{after_recv}
+use Rattle.spec_tcp.specs.Calls.Close.{shut_down, after_shut, after_close, after_abort, orphaned, thing_gone}
+use Rattle.spec_tcp.specs.Calls.Accept.{accepted_from, after_accept}
+use Rattle.spec_tcp.specs.Calls.{change_thing, after_call}
+use Rattle.spec_tcp.specs.Makes.{endpoint_made, after_making}
 use Rattle.case_forms.specs.declared.steps.TakeChoice.{TakeChoice}
-use Rattle.machine.specs.Heard.{as_read, read_at}
-use Rattle.machine.specs.Arrives.Otherwise.{connected_rules, taken as segment_taken}
-use Rattle.machine.specs.Arrives.SynSent.{syn_sent_rules, met_peer}
-use Rattle.machine.specs.Arrives.Listen.{listener_rules, child}
-use Rattle.machine.specs.Arrives.Otherwise.Reset.{was_reset}
-use Rattle.machine.specs.Arrives.{Taker, Nobody, AtListener, AtEndpoint, taker, taker_rules, endpoint_rules, endpoint_taken, after_taking}
-use Rattle.machine.specs.Timeouts.{after_expiry}
-use Rattle.machine.specs.Recovery.{after_recovery}
-use Rattle.machine.specs.Machine.{Calls, tcp, tcp_shape, aim}
-use Rattle.machine_laws.specs.Runs.{world_at_end}
-use Rattle.machine_laws.specs.Consequences.{find}
-use Rattle.machine_laws.proofs.Rules.{on_passes, on_cases, map_or_cases, not_false, both_true}
-use Rattle.machine_laws.proofs.Later.{Hosts, name, Waits}
-use Rattle.machine_laws.proofs.Moves.{with_cases, modify_each, map_onward, map_back}
-use Rattle.machine_laws.proofs.Makes.{either_stream}
-use Rattle.machine_laws.proofs.Takes.{taker_there}
-use Rattle.machine_laws.proofs.Runs.{Steady, steady_start, steady_run, steady_step}
+use Rattle.spec_tcp.specs.Heard.{as_read, read_at}
+use Rattle.spec_tcp.specs.Arrives.OtherStates.{connected_rules, taken as segment_taken}
+use Rattle.spec_tcp.specs.Arrives.SynSent.{syn_sent_rules, on_syn}
+use Rattle.spec_tcp.specs.Arrives.Listen.{listener_rules, child}
+use Rattle.spec_tcp.specs.Arrives.OtherStates.Reset.{was_reset}
+use Rattle.spec_tcp.specs.Arrives.{Taker, Nobody, AtListener, AtEndpoint, taker, taker_rules, endpoint_rules, endpoint_taken, after_taking}
+use Rattle.spec_tcp.specs.Timeouts.{after_expiry}
+use Rattle.spec_tcp.specs.Recovery.{after_recovery}
+use Rattle.spec_tcp.specs.Machine.{Calls, tcp, tcp_shape, aim}
+use Rattle.spec_tcp_laws.specs.Runs.{world_at_end}
+use Rattle.spec_tcp_laws.specs.Consequences.{find}
+use Rattle.spec_tcp_laws.proofs.Rules.{on_passes, on_cases, map_or_cases, not_false, both_true}
+use Rattle.spec_tcp_laws.proofs.Later.{Hosts, name, Waits}
+use Rattle.spec_tcp_laws.proofs.Moves.{with_cases, modify_each, map_onward, map_back}
+use Rattle.spec_tcp_laws.proofs.Makes.{either_stream}
+use Rattle.spec_tcp_laws.proofs.Takes.{taker_there}
+use Rattle.spec_tcp_laws.proofs.Runs.{Steady, steady_start, steady_run, steady_step}
 use Rattle.checker.specs.Peers.{peer_of, TakesSynOf, PeersAreMet, PeersWereMet}
 
 -- an endpoint's peer stays, or it is met
-abbrev pub Meets : World tcp_shape → Step tcp_shape → Name → Option Name → Option Name → Type 0
-Meets w step me before now = (now ≡ before) ⊎ ((before ≡ None) × (q : Name) × (now ≡ Some q) × TakesSynOf w step me q)
+abbrev pub Meets : World tcp_shape → Step tcp_shape → EndpointId → Option EndpointId → Option EndpointId → Type 0
+Meets w step me before now = (now ≡ before) ⊎ ((before ≡ None) × (q : EndpointId) × (now ≡ Some q) × TakesSynOf w step me q)
 
 -- an endpoint begins without a peer, or by a SYN
-abbrev pub Begins : World tcp_shape → Step tcp_shape → Name → Endpoint → Type 0
-Begins w step me f = (f.stream.peer ≡ None) ⊎ ((q : Name) × (f.stream.peer ≡ Some q) × (find w.hosts me ≡ None → TakesSynOf w step me q))
+abbrev pub Begins : World tcp_shape → Step tcp_shape → EndpointId → Endpoint → Type 0
+Begins w step me f = (f.stream.peer ≡ None) ⊎ ((q : EndpointId) × (f.stream.peer ≡ Some q) × (find w.hosts me ≡ None → TakesSynOf w step me q))
 
 -- the endpoints of a host after a step
 pub record Moves (w : World tcp_shape) (step : Step tcp_shape) (host : Host) (es fs : List Endpoint) : Type 0 where
@@ -111,11 +111,11 @@ syn_or_reset true rst either not_reset = refl
 syn_or_reset false true either not_reset = absurd cc
 syn_or_reset false false either not_reset = absurd cc
 
--- an endpoint reads its maker and its flags as they are
-read_maker : (v : Version) (e : Endpoint) (m : Emission) → m.maker ≡ (as_read v e m).maker
+-- an endpoint reads its sender and its flags as they are
+read_maker : (v : Version) (e : Endpoint) (m : Emission) → m.sender ≡ (as_read v e m).sender
 read_maker v e m = by (is_half v)
   where
-    by : (half : Bool) → m.maker ≡ (if half then read_at e m else m).maker
+    by : (half : Bool) → m.sender ≡ (if half then read_at e m else m).sender
     by true = refl
     by false = refl
 
@@ -128,16 +128,16 @@ read_syn v e m = by (is_half v)
 
 -- a segment that comes in (`m`), as the endpoint reads it (`r`)
 meets_taking : (h : Header) (s : ℕ) (w : World tcp_shape) (host : Host) (line : ℕ) (how : TakeChoice) (m r : Emission) (i : ℕ) (e : Endpoint) → waiting line (pick w.hosts host).inbox ≡ Some m
-    → slice_get (pick w.hosts host).body.endpoints i ≡ Some e → taker (pick w.hosts host).body m ≡ AtEndpoint i e → Waits e → m.maker ≡ r.maker → m.flags.syn ≡ r.flags.syn → first_broken (endpoint_rules h host (pick w.hosts host).body how r i e) ≡ None
+    → slice_get (pick w.hosts host).body.endpoints i ≡ Some e → taker (pick w.hosts host).body m ≡ AtEndpoint i e → Waits e → m.sender ≡ r.sender → m.flags.syn ≡ r.flags.syn → first_broken (endpoint_rules h host (pick w.hosts host).body how r i e) ≡ None
     → Meets w (At host (Takes line how)) (name host i) e.stream.peer (endpoint_taken h e how r s).stream.peer
-meets_taking h s w host line how m r i e waits there is calm maker syn may = go r.flags.rst (is_syn_sent e.state) refl refl may
+meets_taking h s w host line how m r i e waits there is calm sender syn may = go r.flags.rst (is_syn_sent e.state) refl refl may
   where
     go : (b t : Bool) → r.flags.rst ≡ b → is_syn_sent e.state ≡ t → first_broken (if t then syn_sent_rules h.initial e how r else connected_rules h (pick w.hosts host).body (name host i) e how r) ≡ None
-        → Meets w (At host (Takes line how)) (name host i) e.stream.peer (if b then was_reset e how else if t then met_peer h e how r s else segment_taken h e how r s).stream.peer
+        → Meets w (At host (Takes line how)) (name host i) e.stream.peer (if b then was_reset e how else if t then on_syn h e how r s else segment_taken h e how r s).stream.peer
     go true t reset sent may = inl refl
     go false true reset sent may = inr (
       (calm sent).0,
-      r.maker,
+      r.sender,
       refl,
       record {
         line = line;
@@ -146,7 +146,7 @@ meets_taking h s w host line how m r i e waits there is calm maker syn may = go 
         takes = refl;
         waits = waits;
         syn = syn ∙ syn_or_reset r.flags.syn r.flags.rst (not_false (r.flags.syn || r.flags.rst) (none_all (syn_sent_rules h.initial e how r) may).0) reset;
-        made = maker;
+        made = sender;
         goes = inl (e, there, is);
       },
     )
@@ -166,7 +166,7 @@ moves_taking h s w host line how m steady waits may = go (taker (pick w.hosts ho
         let first = not_false (m.flags.syn && not m.flags.ack && not m.flags.rst) (none_all (listener_rules how m) may).0 in
         let syn = (both_true m.flags.syn (not m.flags.ack) (both_true (m.flags.syn && not m.flags.ack) (not m.flags.rst) first).0).0 in
         moves_push w (At host (Takes line how)) host b.endpoints (child l how m s)
-        (λ j. inr (m.maker, refl, λ none. record { line = line; how = how; segment = m; takes = refl; waits = waits; syn = syn; made = refl; goes = inr (l, none, is) }))
+        (λ j. inr (m.sender, refl, λ none. record { line = line; how = how; segment = m; takes = refl; waits = waits; syn = syn; made = refl; goes = inr (l, none, is) }))
     go (AtEndpoint i e) is may = let r = as_read h.version e m in
         moves_one w (At host (Takes line how)) host b.endpoints i (λ x. endpoint_taken h x how r s)
         (λ x there.
@@ -201,21 +201,21 @@ moves_same w step host b i f same = moves_one w step host b.endpoints i f (λ e 
 moves_change : (w : World tcp_shape) (step : Step tcp_shape) (host : Host) (b : Body) (n : ℕ) (f : Endpoint → Endpoint) → ((e : Endpoint) → (f e).stream.peer ≡ e.stream.peer) → Moves w step host b.endpoints (option_map_or (change_thing b f) (thing_of b n) b).endpoints
 moves_change w step host b n f same = map_or_cases (λ (x : Body). Moves w step host b.endpoints x.endpoints) (thing_of b n) b (change_thing b f) (λ e. moves_not w step host b.endpoints) (λ thing e. go thing)
   where
-    go : (thing : Thing) → Moves w step host b.endpoints (change_thing b f thing).endpoints
-    go (Listens l) = moves_not w step host b.endpoints
-    go (Ends i) = moves_same w step host b i f same
+    go : (thing : SocketTarget) → Moves w step host b.endpoints (change_thing b f thing).endpoints
+    go (ListenerAt l) = moves_not w step host b.endpoints
+    go (EndpointAt i) = moves_same w step host b i f same
 
 moves_gone : (w : World tcp_shape) (step : Step tcp_shape) (host : Host) (b : Body) (n : ℕ) (f : Endpoint → Endpoint) → ((e : Endpoint) → (f e).stream.peer ≡ e.stream.peer)
     → Moves w step host b.endpoints (option_map_or (λ thing. record (thing_gone b thing f) { sockets = dead b.sockets n }) (thing_of b n) b).endpoints
 moves_gone w step host b n f same = map_or_cases (λ (x : Body). Moves w step host b.endpoints x.endpoints) (thing_of b n) b (λ thing. record (thing_gone b thing f) { sockets = dead b.sockets n }) (λ e. moves_not w step host b.endpoints) (λ thing e. go thing)
   where
-    go : (thing : Thing) → Moves w step host b.endpoints (thing_gone b thing f).endpoints
-    go (Listens l) = moves_map w step host b.endpoints (orphaned l) (λ e. either_stream (option_map_or (λ holder. holder == l) e.listener false) (after_abort e) e e.stream refl refl)
-    go (Ends i) = moves_same w step host b i f same
+    go : (thing : SocketTarget) → Moves w step host b.endpoints (thing_gone b thing f).endpoints
+    go (ListenerAt l) = moves_map w step host b.endpoints (orphaned l) (λ e. either_stream (option_map_or (λ holder. holder == l) e.listener false) (after_abort e) e e.stream refl refl)
+    go (EndpointAt i) = moves_same w step host b i f same
 
-moves_accept : (w : World tcp_shape) (step : Step tcp_shape) (host : Host) (b : Body) (n : ℕ) (thing : Thing) → Moves w step host b.endpoints (after_accept b n thing).endpoints
-moves_accept w step host b n (Ends i) = moves_not w step host b.endpoints
-moves_accept w step host b n (Listens l) = go (queue_of b l)
+moves_accept : (w : World tcp_shape) (step : Step tcp_shape) (host : Host) (b : Body) (n : ℕ) (thing : SocketTarget) → Moves w step host b.endpoints (after_accept b n thing).endpoints
+moves_accept w step host b n (EndpointAt i) = moves_not w step host b.endpoints
+moves_accept w step host b n (ListenerAt l) = go (queue_of b l)
   where
     go : (queue : List ℕ) → Moves w step host b.endpoints (accepted_from b l n queue).endpoints
     go [] = moves_not w step host b.endpoints
@@ -260,11 +260,11 @@ both_step h s w (Effect t answer) steady may = go (turn_of t w.threads)
     go (Answered x) = both_not w (Effect t answer)
 both_step h s w (At host d) steady may = both_host w (At host d) host (deed_after (tcp h) host s (suc w.count) (pick w.hosts (other host)).wire (pick w.hosts host) d) (moves_deed h s w host d steady may)
 
-abbrev peer_in : Option Endpoint → Option Name
+abbrev peer_in : Option Endpoint → Option EndpointId
 peer_in o = option_map_or (λ e. e.stream.peer) o None
 
 -- the peer of one endpoint
-pub meets : (w : World tcp_shape) (step : Step tcp_shape) (b : Hosts) → BothMove w step b → (me : Name) → Meets w step me (peer_of w.hosts me) (peer_of b me)
+pub meets : (w : World tcp_shape) (step : Step tcp_shape) (b : Hosts) → BothMove w step b → (me : EndpointId) → Meets w step me (peer_of w.hosts me) (peer_of b me)
 meets w step b both me = go (find w.hosts me) (find b me) refl refl
   where
     new : (f : Endpoint) → find w.hosts me ≡ None → ((e : Endpoint) × (find w.hosts me ≡ Some e)) ⊎ Begins w step me f → Meets w step me None f.stream.peer
@@ -286,13 +286,13 @@ peers_met h before x run may me =
     meets w x.step (after (tcp h) x.moment w x.step).hosts (both_step h x.moment w x.step (steady_run h (start (tcp h)) before (steady_start h) run) may) me
 
 -- a step before which the endpoint had no peer takes the SYN of this one
-abbrev WasMet : Header → World tcp_shape → List (Stamped tcp_shape) → Name → Name → Type 0
+abbrev WasMet : Header → World tcp_shape → List (Stamped tcp_shape) → EndpointId → EndpointId → Type 0
 WasMet h w steps me q =
     (place : ℕ) × (x : Stamped tcp_shape) × (slice_get steps place ≡ Some x)
     × (peer_of (after_all (tcp h) w (take place steps)).hosts me ≡ None) × TakesSynOf (after_all (tcp h) w (take place steps)) x.step me q
 
 -- a peer at the end was there before the run, or was met in it
-from_run : (h : Header) (w : World tcp_shape) (steps : List (Stamped tcp_shape)) (me q : Name) → Steady w.hosts → Lawful (tcp h) w steps → peer_of (after_all (tcp h) w steps).hosts me ≡ Some q
+from_run : (h : Header) (w : World tcp_shape) (steps : List (Stamped tcp_shape)) (me q : EndpointId) → Steady w.hosts → Lawful (tcp h) w steps → peer_of (after_all (tcp h) w steps).hosts me ≡ Some q
     → (peer_of w.hosts me ≡ Some q) ⊎ WasMet h w steps me q
 from_run h w [] me q steady run is = inl is
 from_run h w (x ∷ xs) me q steady run is = go (from_run h v xs me q (steady_step h x.moment w x.step steady run.0) run.1 is)
@@ -304,13 +304,13 @@ from_run h w (x ∷ xs) me q steady run is = go (from_run h v xs me q (steady_st
     first now (inl stays) = inl (sym stays ∙ now)
     first now (inr met) =
         let same : met.1 ≡ q = same_Some met.1 q (sym met.2 ∙ now) in
-        inr (0, x, refl, met.0, subst (λ (n : Name). TakesSynOf w x.step me n) same met.3)
+        inr (0, x, refl, met.0, subst (λ (n : EndpointId). TakesSynOf w x.step me n) same met.3)
 
     go : (peer_of v.hosts me ≡ Some q) ⊎ WasMet h v xs me q → (peer_of w.hosts me ≡ Some q) ⊎ WasMet h w (x ∷ xs) me q
     go (inl now) = first now (meets w x.step v.hosts (both_step h x.moment w x.step steady run.0) me)
     go (inr met) = inr (suc met.0, met.1, met.2, met.3, met.4)
 
-no_peer : (h : Header) (me : Name) (host : Host) → slice_get (pick (start (tcp h)).hosts host).body.endpoints me.number ≡ None
+no_peer : (h : Header) (me : EndpointId) (host : Host) → slice_get (pick (start (tcp h)).hosts host).body.endpoints me.number ≡ None
 no_peer h me Zero = refl
 no_peer h me One = refl
 

@@ -22,45 +22,45 @@ use Rattle.verdict.specs.declared.rule.Rule.TheVariants as rules
 use Rattle.verdict.proofs.RuleLemmas.{none_all}
 use Rattle.streams.specs.Lists.{modify}
 use Rattle.streams.proofs.Places.{get_append, all_push, all_modify}
-use Rattle.hosts.specs.Tables.{pick, other, waiting}
-use Rattle.hosts.specs.Hosts.{World, Deed, Does, Expires, Makes, Sends, Gets, Hears, Takes, Drops, Answers, At}
-use Rattle.hosts.specs.HostRules.{Permitted}
-use Rattle.hosts.specs.HostSteps.{deed_after}
-use Rattle.hosts.proofs.Entries.{lookup_insert}
-use Rattle.machine.specs.declared.endpoint.Emission.{Emission}
-use Rattle.machine.specs.declared.endpoint.Endpoint.{Endpoint}
-use Rattle.machine.specs.declared.endpoint.Listener.{Listener}
-use Rattle.machine.specs.declared.endpoint.Name.{Name}
-use Rattle.machine.specs.declared.endpoint.Socket.{Socket}
-use Rattle.machine.specs.declared.endpoint.Thing.{Thing}
-use Rattle.machine.specs.declared.endpoint.Thing.TheVariants.{Listens, Ends}
-use Rattle.machine.specs.Endpoints.{new_endpoint}
-use Rattle.machine.specs.Bodies.{Body, has_ports, last_from, place_of, at_ports, listens_on, listener_on, with_endpoint, with_socket, thing_of, if_live, queue_of, dead}
-use Rattle.machine.specs.Calls.Send.{after_send}
-use Rattle.machine.specs.Calls.Receive.{after_recv}
-use Rattle.machine.specs.Calls.Close.{shut_down, after_shut, after_close, after_abort, orphaned, thing_gone, after_gone, without_listener}
-use Rattle.machine.specs.Calls.Accept.{accepted_from, after_accept}
-use Rattle.machine.specs.Calls.{change, change_thing, after_call}
-use Rattle.machine.specs.Makes.{endpoint_made, after_making}
-use Rattle.machine.specs.Heard.{as_read}
-use Rattle.machine.specs.Arrives.Otherwise.Ack.{acknowledges_syn}
-use Rattle.machine.specs.Arrives.Otherwise.Reset.{was_reset}
-use Rattle.machine.specs.Arrives.Otherwise.{taken as segment_taken}
-use Rattle.machine.specs.Arrives.SynSent.{met_peer}
-use Rattle.machine.specs.Arrives.Listen.{listener_rules, child}
-use Rattle.machine.specs.Arrives.{Taker, Nobody, AtListener, AtEndpoint, listener_taker, endpoint_taker, taker, taker_rules, endpoint_taken, joined, endpoint_after, after_taking}
-use Rattle.machine.specs.Timeouts.{after_expiry}
-use Rattle.machine.specs.Recovery.{after_recovery}
-use Rattle.machine.specs.Machine.{tcp, tcp_shape}
-use Rattle.machine_laws.specs.Consequences.{find}
-use Rattle.machine_laws.proofs.Rules.{on_passes, on_cases, map_or_cases, not_false, both_true, number_same}
-use Rattle.machine_laws.proofs.Later.{Hosts}
-use Rattle.machine_laws.proofs.Moves.{modify_each, map_onward, map_back}
-use Rattle.machine_laws.proofs.Sound.{Sound, modify_here}
+use Rattle.spec_network.specs.Tables.{pick, other, waiting}
+use Rattle.spec_network.specs.Hosts.{World, Deed, Does, Expires, Makes, Sends, Gets, Hears, Takes, Drops, Answers, At}
+use Rattle.spec_network.specs.HostRules.{Permitted}
+use Rattle.spec_network.specs.HostSteps.{deed_after}
+use Rattle.spec_network.proofs.Entries.{lookup_insert}
+use Rattle.spec_tcp.specs.declared.endpoint.Emission.{Emission}
+use Rattle.spec_tcp.specs.declared.endpoint.Endpoint.{Endpoint}
+use Rattle.spec_tcp.specs.declared.endpoint.Listener.{Listener}
+use Rattle.spec_tcp.specs.declared.endpoint.EndpointId.{EndpointId}
+use Rattle.spec_tcp.specs.declared.endpoint.Socket.{Socket}
+use Rattle.spec_tcp.specs.declared.endpoint.SocketTarget.{SocketTarget}
+use Rattle.spec_tcp.specs.declared.endpoint.SocketTarget.TheVariants.{ListenerAt, EndpointAt}
+use Rattle.spec_tcp.specs.Endpoints.{new_endpoint}
+use Rattle.spec_tcp.specs.Bodies.{Body, has_ports, last_from, place_of, at_ports, listens_on, listener_on, with_endpoint, with_socket, thing_of, if_live, queue_of, dead}
+use Rattle.spec_tcp.specs.Calls.Send.{after_send}
+use Rattle.spec_tcp.specs.Calls.Receive.{after_recv}
+use Rattle.spec_tcp.specs.Calls.Close.{shut_down, after_shut, after_close, after_abort, orphaned, thing_gone, after_gone, without_listener}
+use Rattle.spec_tcp.specs.Calls.Accept.{accepted_from, after_accept}
+use Rattle.spec_tcp.specs.Calls.{change, change_thing, after_call}
+use Rattle.spec_tcp.specs.Makes.{endpoint_made, after_making}
+use Rattle.spec_tcp.specs.Heard.{as_read}
+use Rattle.spec_tcp.specs.Arrives.OtherStates.Ack.{acknowledges_syn}
+use Rattle.spec_tcp.specs.Arrives.OtherStates.Reset.{was_reset}
+use Rattle.spec_tcp.specs.Arrives.OtherStates.{taken as segment_taken}
+use Rattle.spec_tcp.specs.Arrives.SynSent.{on_syn}
+use Rattle.spec_tcp.specs.Arrives.Listen.{listener_rules, child}
+use Rattle.spec_tcp.specs.Arrives.{Taker, Nobody, AtListener, AtEndpoint, listener_taker, endpoint_taker, taker, taker_rules, endpoint_taken, joined, endpoint_after, after_taking}
+use Rattle.spec_tcp.specs.Timeouts.{after_expiry}
+use Rattle.spec_tcp.specs.Recovery.{after_recovery}
+use Rattle.spec_tcp.specs.Machine.{tcp, tcp_shape}
+use Rattle.spec_tcp_laws.specs.Consequences.{find}
+use Rattle.spec_tcp_laws.proofs.Rules.{on_passes, on_cases, map_or_cases, not_false, both_true, number_same}
+use Rattle.spec_tcp_laws.proofs.Later.{Hosts}
+use Rattle.spec_tcp_laws.proofs.Moves.{modify_each, map_onward, map_back}
+use Rattle.spec_tcp_laws.proofs.Sound.{Sound, modify_here}
 use Rattle.checker.specs.Headline.{CallDone, Stands, HasPorts, Opened, Accepted}
 
 -- an endpoint of this name and these ports is there
-abbrev pub HasAt : Hosts → Name → ℕ → ℕ → Type 0
+abbrev pub HasAt : Hosts → EndpointId → ℕ → ℕ → Type 0
 HasAt a q lport rport = (f : Endpoint) × (find a q ≡ Some f) × (f.lport ≡ lport) × (f.rport ≡ rport)
 
 -- the port of the listener at a place
@@ -182,12 +182,12 @@ plain_end e f l r same = record { lport = l; rport = r; listener = λ k is. sym 
 -- a new endpoint has its listener's port, and its peer the same ports turned round, at the other host
 pub record Born (a : Hosts) (x : Host) (c : Body) (f : Endpoint) : Type 0 where
   pub listener : (l : ℕ) → f.listener ≡ Some l → port_at c.listeners l ≡ Some f.lport
-  pub peer : (q : Name) → f.stream.peer ≡ Some q → (q.host ≡ other x) × HasAt a q f.rport f.lport
+  pub peer : (q : EndpointId) → f.stream.peer ≡ Some q → (q.host ≡ other x) × HasAt a q f.rport f.lport
 
 -- what a socket number names has the ports of the call that gave it
-abbrev pub Names : List CallDone → Host → Body → ℕ → Thing → Type 0
-Names all x c n (Ends i) = (e : Endpoint) × (slice_get c.endpoints i ≡ Some e) × HasPorts all x e.lport e.rport n
-Names all x c n (Listens l) = (port : ℕ) × (backlog : ℕ) × (port_at c.listeners l ≡ Some port) × Stands all (calls.Listen x port backlog) (answers.Given n)
+abbrev pub Names : List CallDone → Host → Body → ℕ → SocketTarget → Type 0
+Names all x c n (EndpointAt i) = (e : Endpoint) × (slice_get c.endpoints i ≡ Some e) × HasPorts all x e.lport e.rport n
+Names all x c n (ListenerAt l) = (port : ℕ) × (backlog : ℕ) × (port_at c.listeners l ≡ Some port) × Stands all (calls.Listen x port backlog) (answers.Given n)
 
 -- what a host has after an act
 pub record Moved (all : List CallDone) (a : Hosts) (x : Host) (b c : Body) : Type 0 where
@@ -222,8 +222,8 @@ making_end : (e : Endpoint) (m : SegmentPlan) (s : ℕ) → SameEnd e (after_mak
 making_end e m s = either_end m.flags.rst e (record (shut_down (endpoint_made e m s)) { reset_due = false }) (endpoint_made e m s) (plain_end e _ refl refl refl) (plain_end e _ refl refl refl)
 
 taken_end : (h : Header) (e : Endpoint) (how : TakeChoice) (r : Emission) (s : ℕ) → SameEnd e (endpoint_taken h e how r s)
-taken_end h e how r s = either_end r.flags.rst e (was_reset e how) (if is_syn_sent e.state then met_peer h e how r s else segment_taken h e how r s) (plain_end e _ refl refl refl)
-    (either_end (is_syn_sent e.state) e (met_peer h e how r s) (segment_taken h e how r s) (plain_end e _ refl refl refl) (plain_end e _ refl refl refl))
+taken_end h e how r s = either_end r.flags.rst e (was_reset e how) (if is_syn_sent e.state then on_syn h e how r s else segment_taken h e how r s) (plain_end e _ refl refl refl)
+    (either_end (is_syn_sent e.state) e (on_syn h e how r s) (segment_taken h e how r s) (plain_end e _ refl refl refl) (plain_end e _ refl refl refl))
 
 -- a child that joins its listener's queue leaves the ports of listeners
 joined_ports : (b : Body) (i : ℕ) (e : Endpoint) (m : Emission) (j : ℕ) → port_at (joined b i e m) j ≡ port_at b.listeners j
@@ -235,7 +235,7 @@ joined_ports b i e m j = go (is_syn_received e.state && acknowledges_syn e m) e.
     go false o = refl
 
 moved_taking : (all : List CallDone) (a : Hosts) (h : Header) (x : Host) (b : Body) (how : TakeChoice) (m : Emission) (s : ℕ)
-    → (m.flags.syn ≡ true → (m.maker.host ≡ other x) × HasAt a m.maker m.lport m.rport) → first_broken (taker_rules h x b how m (taker b m)) ≡ None → Moved all a x b (after_taking h b how m s (taker b m))
+    → (m.flags.syn ≡ true → (m.sender.host ≡ other x) × HasAt a m.sender m.lport m.rport) → first_broken (taker_rules h x b how m (taker b m)) ≡ None → Moved all a x b (after_taking h b how m s (taker b m))
 moved_taking all a h x b how m s from may = go (taker b m) refl may
   where
     go : (t : Taker) → taker b m ≡ t → first_broken (taker_rules h x b how m t) ≡ None → Moved all a x b (after_taking h b how m s t)
@@ -248,7 +248,7 @@ moved_taking all a h x b how m s from may = go (taker b m) refl may
           born = all_push (λ j y. ((e : Endpoint) × (slice_get b.endpoints j ≡ Some e)) ⊎ Born a x (after_taking h b how m s (AtListener l)) y) b.endpoints (child l how m s) (λ j e at. inl (e, at))
               (inr (record {
                 listener = λ k same. subst (λ j. port_at b.listeners j ≡ Some m.rport) (same_Some l k same) (listener_port b m.rport l (taker_listener b m l is));
-                peer = λ q same. subst (λ (n : Name). (n.host ≡ other x) × HasAt a n m.lport m.rport) (same_Some m.maker q same) (from syn);
+                peer = λ q same. subst (λ (n : EndpointId). (n.host ≡ other x) × HasAt a n m.lport m.rport) (same_Some m.sender q same) (from syn);
               }));
           listeners = λ j port e. e;
           sockets = λ n t e. inl (t, e, refl);
@@ -262,7 +262,7 @@ moved_taking all a h x b how m s from may = go (taker b m) refl may
         }
 
 pub moved_deed : (all : List CallDone) (h : Header) (s : ℕ) (w : World tcp_shape) (host : Host) (d : Deed tcp_shape)
-    → ((n : ℕ) (m : Emission) → waiting n (pick w.hosts host).inbox ≡ Some m → m.flags.syn ≡ true → (m.maker.host ≡ other host) × HasAt w.hosts m.maker m.lport m.rport) → Permitted (tcp h) s w (At host d)
+    → ((n : ℕ) (m : Emission) → waiting n (pick w.hosts host).inbox ≡ Some m → m.flags.syn ≡ true → (m.sender.host ≡ other host) × HasAt w.hosts m.sender m.lport m.rport) → Permitted (tcp h) s w (At host d)
     → Moved all w.hosts host (pick w.hosts host).body (deed_after (tcp h) host s (suc w.count) (pick w.hosts (other host)).wire (pick w.hosts host) d).body
 moved_deed all h s w host (Does x) from may = moved_at_ports all w.hosts host (pick w.hosts host).body x.lport x.rport (λ e. after_recovery e x.cwnd x.ssthresh) (λ e. plain_end e (after_recovery e x.cwnd x.ssthresh) refl refl refl)
 moved_deed all h s w host (Expires line x) from may = moved_at_ports all w.hosts host (pick w.hosts host).body x.lport x.rport (λ e. after_expiry e x.expired s) (λ e. expiry_end e x.expired s)
@@ -302,7 +302,7 @@ socket_dead b n m s = go (lookup (nat_eq n) b.sockets) refl
     go (Some v) at e = by v at (socket_insert b.sockets n (record v { live = false }) m s e)
 
 -- what a live number names
-thing_here : (b : Body) (n : ℕ) (thing : Thing) → thing_of b n ≡ Some thing → (s : Socket) × (lookup (nat_eq n) b.sockets ≡ Some s) × (s.thing ≡ thing)
+thing_here : (b : Body) (n : ℕ) (thing : SocketTarget) → thing_of b n ≡ Some thing → (s : Socket) × (lookup (nat_eq n) b.sockets ≡ Some s) × (s.thing ≡ thing)
 thing_here b n thing = go (lookup (nat_eq n) b.sockets) refl
   where
     by : (s : Socket) (c : Bool) → lookup (nat_eq n) b.sockets ≡ Some s → (if c then Some s.thing else None) ≡ Some thing → (t : Socket) × (lookup (nat_eq n) b.sockets ≡ Some t) × (t.thing ≡ thing)
@@ -314,7 +314,7 @@ thing_here b n thing = go (lookup (nat_eq n) b.sockets) refl
     go (Some s) at e = by s s.live at e
 
 -- a number is given to a thing whose name is right
-with_new : (all : List CallDone) (a : Hosts) (x : Host) (b c : Body) (n : ℕ) (thing : Thing) → Moved all a x b c → c.sockets ≡ b.sockets → Names all x c n thing → Moved all a x b (with_socket c n thing)
+with_new : (all : List CallDone) (a : Hosts) (x : Host) (b c : Body) (n : ℕ) (thing : SocketTarget) → Moved all a x b c → c.sockets ≡ b.sockets → Names all x c n thing → Moved all a x b (with_socket c n thing)
 with_new all a x b c n thing g same names = record {
   ends = g.ends;
   born = λ i f at. again f (g.born i f at);
@@ -326,20 +326,20 @@ with_new all a x b c n thing g same names = record {
     again f (inl old) = inl old
     again f (inr new) = inr (record { listener = new.listener; peer = new.peer })
 
-    same_names : (t : Thing) → Names all x c n t → Names all x (with_socket c n thing) n t
-    same_names (Ends i) y = y
-    same_names (Listens l) y = y
+    same_names : (t : SocketTarget) → Names all x c n t → Names all x (with_socket c n thing) n t
+    same_names (EndpointAt i) y = y
+    same_names (ListenerAt l) y = y
 
     by : (m : ℕ) (s : Socket) → (lookup (nat_eq m) c.sockets ≡ Some s) ⊎ ((n ≡ m) × (record { thing = thing; live = true } ≡ s)) → ((t : Socket) × (lookup (nat_eq m) b.sockets ≡ Some t) × (t.thing ≡ s.thing)) ⊎ Names all x (with_socket c n thing) m s.thing
     by m s (inl old) = inl (s, subst (λ (l : List (ℕ × Socket)). lookup (nat_eq m) l ≡ Some s) same old, refl)
-    by m s (inr one) = inr (subst (λ k. Names all x (with_socket c n thing) k s.thing) one.0 (subst (λ (t : Thing). Names all x (with_socket c n thing) n t) (ap (λ (y : Socket). y.thing) one.1) (same_names thing names)))
+    by m s (inr one) = inr (subst (λ k. Names all x (with_socket c n thing) k s.thing) one.0 (subst (λ (t : SocketTarget). Names all x (with_socket c n thing) n t) (ap (λ (y : Socket). y.thing) one.1) (same_names thing names)))
 
 moved_change : (all : List CallDone) (a : Hosts) (x : Host) (b : Body) (n : ℕ) (f : Endpoint → Endpoint) → ((e : Endpoint) → SameEnd e (f e)) → Moved all a x b (change b n f)
 moved_change all a x b n f new = map_or_cases (λ (c : Body). Moved all a x b c) (thing_of b n) b (change_thing b f) (λ e. moved_not all a x b) (λ thing e. go thing)
   where
-    go : (thing : Thing) → Moved all a x b (change_thing b f thing)
-    go (Listens l) = moved_not all a x b
-    go (Ends i) = moved_one all a x b i f new
+    go : (thing : SocketTarget) → Moved all a x b (change_thing b f thing)
+    go (ListenerAt l) = moved_not all a x b
+    go (EndpointAt i) = moved_one all a x b i f new
 
 moved_dead : (all : List CallDone) (a : Hosts) (x : Host) (b c : Body) (n : ℕ) → Moved all a x b c → c.sockets ≡ b.sockets → Moved all a x b (record c { sockets = dead b.sockets n })
 moved_dead all a x b c n g same = record {
@@ -364,9 +364,9 @@ moved_map all a x b l = record {
 moved_gone : (all : List CallDone) (a : Hosts) (x : Host) (b : Body) (n : ℕ) (f : Endpoint → Endpoint) → ((e : Endpoint) → SameEnd e (f e)) → Moved all a x b (after_gone b n f)
 moved_gone all a x b n f new = map_or_cases (λ (c : Body). Moved all a x b c) (thing_of b n) b (λ thing. record (thing_gone b thing f) { sockets = dead b.sockets n }) (λ e. moved_not all a x b) (λ thing e. go thing)
   where
-    go : (thing : Thing) → Moved all a x b (record (thing_gone b thing f) { sockets = dead b.sockets n })
-    go (Listens l) = moved_dead all a x b (without_listener b l) n (moved_map all a x b l) refl
-    go (Ends i) = moved_dead all a x b (with_endpoint b i f) n (moved_one all a x b i f new) refl
+    go : (thing : SocketTarget) → Moved all a x b (record (thing_gone b thing f) { sockets = dead b.sockets n })
+    go (ListenerAt l) = moved_dead all a x b (without_listener b l) n (moved_map all a x b l) refl
+    go (EndpointAt i) = moved_dead all a x b (with_endpoint b i f) n (moved_one all a x b i f new) refl
 
 close_end : (e : Endpoint) → SameEnd e (after_close e)
 close_end e = go (is_syn_sent e.state)
@@ -381,13 +381,13 @@ pub record Known (all : List CallDone) (x : Host) (b : Body) : Type 0 where
   pub numbers : (n : ℕ) (s : Socket) → lookup (nat_eq n) b.sockets ≡ Some s → Names all x b n s.thing
   pub children : (i : ℕ) (e : Endpoint) (l : ℕ) → slice_get b.endpoints i ≡ Some e → e.listener ≡ Some l → port_at b.listeners l ≡ Some e.lport
 
-moved_accept : (all : List CallDone) (a : Hosts) (x : Host) (b : Body) (h n : ℕ) → Known all x b → Stands all (calls.Accept h) (answers.Given n) → (thing : Thing) → thing_of b h ≡ Some thing → Moved all a x b (after_accept b n thing)
-moved_accept all a x b h n known stands (Ends i) is = moved_not all a x b
-moved_accept all a x b h n known stands (Listens l) is = go (queue_of b l) refl
+moved_accept : (all : List CallDone) (a : Hosts) (x : Host) (b : Body) (h n : ℕ) → Known all x b → Stands all (calls.Accept h) (answers.Given n) → (thing : SocketTarget) → thing_of b h ≡ Some thing → Moved all a x b (after_accept b n thing)
+moved_accept all a x b h n known stands (EndpointAt i) is = moved_not all a x b
+moved_accept all a x b h n known stands (ListenerAt l) is = go (queue_of b l) refl
   where
     go : (queue : List ℕ) → queue_of b l ≡ queue → Moved all a x b (accepted_from b l n queue)
     go [] at = moved_not all a x b
-    go (c ∷ queue) at = with_new all a x b wide n (Ends c) (record {
+    go (c ∷ queue) at = with_new all a x b wide n (EndpointAt c) (record {
       ends = modify_each (λ j. SameEnd) free b.endpoints c (λ j e there no. same_end e) (λ e there. record { lport = refl; rport = refl; listener = λ k no. absurd (none-some k no) });
       born = all_modify (λ j y. ((e : Endpoint) × (slice_get b.endpoints j ≡ Some e)) ⊎ Born a x wide y) free b.endpoints c (λ j e there. inl (e, there)) (λ e there. inl (e, there));
       listeners = λ k port e. port_modify b.listeners l (λ y. record y { queue = queue }) (λ y. refl) k ∙ e;
@@ -406,8 +406,8 @@ moved_accept all a x b h n known stands (Listens l) is = go (queue_of b l) refl
         e : Endpoint
         e = first.0
 
-        listening : Names all x b h (Listens l)
-        listening = let s = thing_here b h (Listens l) is in subst (λ (t : Thing). Names all x b h t) s.2 (known.numbers h s.0 s.1)
+        listening : Names all x b h (ListenerAt l)
+        listening = let s = thing_here b h (ListenerAt l) is in subst (λ (t : SocketTarget). Names all x b h t) s.2 (known.numbers h s.0 s.1)
 
         port : listening.0 ≡ e.lport
         port = same_Some listening.0 e.lport (sym listening.2 ∙ known.children c e l first.1 first.2)
@@ -416,11 +416,11 @@ pub moved_call : (all : List CallDone) (a : Hosts) (x : Host) (b : Body) (call :
     → ((at : Host) (port backlog : ℕ) → call ≡ calls.Listen at port backlog → at ≡ x) → ((at : Host) (lport rport : ℕ) → call ≡ calls.Connect at lport rport → at ≡ x)
     → Moved all a x b (after_call b call answer)
 moved_call all a x b (calls.Listen at port backlog) (answers.Given n) known stands listens opens = let k : Listener = record { port = port; backlog = backlog; is_open = true; queue = [] } in
-    with_new all a x b (record b { listeners = b.listeners ++ k ∷ [] }) n (Listens (length b.listeners))
+    with_new all a x b (record b { listeners = b.listeners ++ k ∷ [] }) n (ListenerAt (length b.listeners))
     (record { ends = λ i e there. (e, there, same_end e); born = λ i f there. inl (f, there); listeners = λ l p e. port_push b.listeners k l p e; sockets = λ m s e. inl (s, e, refl) }) refl
     (port, backlog, port_new b.listeners k, subst (λ (y : Host). Stands all (calls.Listen y port backlog) (answers.Given n)) (listens at port backlog refl) stands)
 moved_call all a x b (calls.Connect at lport rport) (answers.Given n) known stands listens opens = let e : Endpoint = new_endpoint lport rport None states.SynSent in
-    with_new all a x b (record b { endpoints = b.endpoints ++ e ∷ [] }) n (Ends (length b.endpoints))
+    with_new all a x b (record b { endpoints = b.endpoints ++ e ∷ [] }) n (EndpointAt (length b.endpoints))
     (record {
       ends = λ i y there. (y, get_append b.endpoints (e ∷ []) i y there, same_end y);
       born = all_push (λ j y. ((z : Endpoint) × (slice_get b.endpoints j ≡ Some z)) ⊎ Born a x (record b { endpoints = b.endpoints ++ e ∷ [] }) y) b.endpoints e (λ j y there. inl (y, there))

@@ -13,39 +13,40 @@ use Rattle.case_forms.specs.declared.calls.Host.TheVariants.{Zero, One}
 use Rattle.case_forms.specs.declared.steps.SegmentPlan.{SegmentPlan}
 use Rattle.case_forms.specs.declared.trace.Header.{Header}
 use Rattle.streams.proofs.Places.{get_append}
-use Rattle.hosts.specs.Tables.{pick, other, with_host, on, Made, unsent, gone_out, waiting, settled}
-use Rattle.hosts.specs.Hosts.{HostState, Turn, Idle, Called, Answered, World, Deed, Does, Expires, Makes, Sends, Gets, Hears, Takes, Drops, Answers, Step, Begin, Finish, Effect, At, Stamped, turn_of}
-use Rattle.hosts.specs.HostRules.{aim_of, Permitted}
-use Rattle.hosts.specs.HostSteps.{deed_after, call_after, effect_after, after, after_all, start, Lawful}
-use Rattle.machine.specs.declared.endpoint.Emission.{Emission}
-use Rattle.machine.specs.declared.endpoint.Endpoint.{Endpoint}
-use Rattle.machine.specs.declared.endpoint.Name.{Name}
-use Rattle.machine.specs.declared.endpoint.Socket.{Socket}
-use Rattle.machine.specs.declared.endpoint.Thing.{Thing}
-use Rattle.machine.specs.declared.endpoint.Thing.TheVariants.{Listens, Ends}
-use Rattle.machine.specs.Bodies.{place_of}
-use Rattle.machine.specs.Calls.{after_call}
-use Rattle.machine.specs.Makes.{emission_of}
-use Rattle.machine.specs.Reset.{reset_of}
-use Rattle.machine.specs.Wire.{sent}
-use Rattle.machine.specs.Machine.{tcp, tcp_shape, aim, made_at, Calls}
-use Rattle.machine_laws.specs.Consequences.{find}
-use Rattle.machine_laws.specs.Runs.{of_turn, of_effect, owner, endpoint_place}
-use Rattle.machine_laws.proofs.Rules.{on_cases}
-use Rattle.machine_laws.proofs.Later.{Hosts}
-use Rattle.machine_laws.proofs.Moves.{with_cases}
-use Rattle.machine_laws.proofs.Runs.{Steady, steady_step, nowhere}
-use Rattle.machine_laws.proofs.Steps.{heard_nothing}
-use Rattle.machine_laws.proofs.Tables.{AllIn, all_insert, inbox_join, inbox_settled}
+use Rattle.spec_network.specs.Tables.{pick, other, with_host, on, Made, unsent, gone_out, waiting, settled}
+use Rattle.spec_network.specs.Hosts.{HostState, Turn, Idle, Called, Answered, World, Deed, Does, Expires, Makes, Sends, Gets, Hears, Takes, Drops, Answers, Step, Begin, Finish, Effect, At, Stamped, turn_of}
+use Rattle.spec_network.specs.HostRules.{aim_of, Permitted}
+use Rattle.spec_network.specs.HostSteps.{deed_after, call_after, effect_after, after, after_all, start, Lawful}
+use Rattle.spec_tcp.specs.declared.endpoint.Emission.{Emission}
+use Rattle.spec_tcp.specs.declared.endpoint.Endpoint.{Endpoint}
+use Rattle.spec_tcp.specs.declared.endpoint.EndpointId.{EndpointId}
+use Rattle.spec_tcp.specs.declared.endpoint.Socket.{Socket}
+use Rattle.spec_tcp.specs.declared.endpoint.SocketTarget.{SocketTarget}
+use Rattle.spec_tcp.specs.declared.endpoint.SocketTarget.TheVariants.{ListenerAt, EndpointAt}
+use Rattle.spec_tcp.specs.Bodies.{place_of}
+use Rattle.spec_tcp.specs.Calls.{after_call}
+use Rattle.spec_tcp.specs.Makes.{emission_of}
+use Rattle.spec_tcp.specs.Reset.{reset_of}
+use Rattle.spec_tcp.specs.Wire.{sent}
+use Rattle.spec_tcp.specs.Machine.{tcp, tcp_shape, aim, made_at, Calls}
+use Rattle.spec_tcp_laws.specs.Consequences.{find}
+use Rattle.spec_tcp_laws.specs.Runs.{of_turn, of_effect, owner, endpoint_place}
+use Rattle.spec_tcp_laws.proofs.Rules.{on_cases}
+use Rattle.spec_tcp_laws.proofs.Later.{Hosts}
+use Rattle.spec_tcp_laws.proofs.Moves.{with_cases}
+use Rattle.spec_tcp_laws.proofs.Runs.{Steady, steady_step, nowhere}
+use Rattle.spec_tcp_laws.proofs.Steps.{heard_nothing}
+use Rattle.spec_tcp_laws.proofs.Tables.{AllIn, all_insert, inbox_join, inbox_settled}
 use Rattle.checker.specs.Headline.{CallDone, Stands, HasPorts}
 use Rattle.checker.specs.Peers.{peer_of, GoesTo}
 use Rattle.checker.proofs.HeadlineLemmas.{one_done, run_done}
 use Rattle.checker.proofs.PeerLemmas.{Meets, meets, both_step}
 use Rattle.checker.proofs.PortLemmas.{HasAt, port_at, place_ports, taker_place, SameEnd, same_end, Born, Names, Moved, moved_deed, moved_call}
 
--- a segment with SYN was made at this host by an endpoint of its ports; of a reset that answers nothing is said, since it has the maker of the segment that it answers
+-- a segment with SYN was made at this host by an endpoint of its ports; of a reset that answers nothing is said, since it has the sender of the segment that it
+-- answers
 abbrev FromHost : Hosts → Host → Emission → Type 0
-FromHost a x m = m.flags.syn ≡ true → (m.maker.host ≡ x) × HasAt a m.maker m.lport m.rport
+FromHost a x m = m.flags.syn ≡ true → (m.sender.host ≡ x) × HasAt a m.sender m.lport m.rport
 
 pub record AtHome (a : Hosts) (x : Host) (h : HostState tcp_shape) : Type 0 where
   pub made : AllIn (λ (y : Made Emission). FromHost a x y.emission) h.made
@@ -111,7 +112,7 @@ deed_home h both s w host (Answers line) may g far = let k = pick w.hosts host i
 
 -- what was holds of a later world
 abbrev AllStand : Hosts → Hosts → Type 0
-AllStand a b = (q : Name) (lport rport : ℕ) → HasAt a q lport rport → HasAt b q lport rport
+AllStand a b = (q : EndpointId) (lport rport : ℕ) → HasAt a q lport rport → HasAt b q lport rport
 
 home_later : (a b : Hosts) → AllStand a b → (x : Host) (h : HostState tcp_shape) → AtHome a x h → AtHome b x h
 home_later a b later x h g = record {
@@ -121,7 +122,7 @@ home_later a b later x h g = record {
 }
   where
     still : (y : Host) (m : Emission) → FromHost a y m → FromHost b y m
-    still y m from syn = let f = from syn in (f.0, later m.maker m.lport m.rport f.1)
+    still y m from syn = let f = from syn in (f.0, later m.sender m.lport m.rport f.1)
 
 -- what holds of a world, where these calls had their effect
 pub record Ported (all : List CallDone) (a : Hosts) : Type 0 where
@@ -130,11 +131,11 @@ pub record Ported (all : List CallDone) (a : Hosts) : Type 0 where
   -- a child has its listener's port
   pub children : (x : Host) (i : ℕ) (e : Endpoint) (l : ℕ) → slice_get (pick a x).body.endpoints i ≡ Some e → e.listener ≡ Some l → port_at (pick a x).body.listeners l ≡ Some e.lport
   -- the peer is at the other host, with the same ports turned round
-  pub peers : (x : Host) (i : ℕ) (e : Endpoint) (q : Name) → slice_get (pick a x).body.endpoints i ≡ Some e → e.stream.peer ≡ Some q → (q.host ≡ other x) × HasAt a q e.rport e.lport
+  pub peers : (x : Host) (i : ℕ) (e : Endpoint) (q : EndpointId) → slice_get (pick a x).body.endpoints i ≡ Some e → e.stream.peer ≡ Some q → (q.host ≡ other x) × HasAt a q e.rport e.lport
   pub home : (x : Host) → AtHome a x (pick a x)
 
 ported_host : (all : List CallDone) (w : World tcp_shape) (step : Step tcp_shape) (host : Host) (k : HostState tcp_shape) → Ported all w.hosts → Moved all w.hosts host (pick w.hosts host).body k.body → AtHome w.hosts host k
-    → ((me : Name) → Meets w step me (peer_of w.hosts me) (peer_of (with_host w.hosts host k) me)) → Ported all (with_host w.hosts host k)
+    → ((me : EndpointId) → Meets w step me (peer_of w.hosts me) (peer_of (with_host w.hosts host k) me)) → Ported all (with_host w.hosts host k)
 ported_host all w step host k old moved home met = record { numbers = numbers; children = children; peers = peers; home = with_cases a host k (λ x y. AtHome b x y) (home_later a b stand host k home) (home_later a b stand (other host) (pick a (other host)) (old.home (other host))) }
   where
     a : Hosts
@@ -163,16 +164,16 @@ ported_host all w step host k old moved home met = record { numbers = numbers; c
     same : (x : Host) (i : ℕ) (e f : Endpoint) → slice_get (pick a x).body.endpoints i ≡ Some e → slice_get (pick b x).body.endpoints i ≡ Some f → SameEnd e f
     same x i e f was is = let g = ends x i e was in subst (λ (y : Endpoint). SameEnd e y) (same_Some g.0 f (sym g.1 ∙ is)) g.2
 
-    named : (x : Host) (n : ℕ) (t : Thing) → Names all x (pick a x).body n t → Names all x (pick b x).body n t
-    named x n (Ends i) y = let g = ends x i y.0 y.1 in
+    named : (x : Host) (n : ℕ) (t : SocketTarget) → Names all x (pick a x).body n t → Names all x (pick b x).body n t
+    named x n (EndpointAt i) y = let g = ends x i y.0 y.1 in
         (g.0, g.1, subst (λ (l : ℕ). HasPorts all x l g.0.rport n) (sym g.2.lport) (subst (λ (r : ℕ). HasPorts all x y.0.lport r n) (sym g.2.rport) y.2))
-    named x n (Listens l) y = (y.0, y.1, listeners x l y.0 y.2, y.3)
+    named x n (ListenerAt l) y = (y.0, y.1, listeners x l y.0 y.2, y.3)
 
     numbers : (x : Host) (n : ℕ) (s : Socket) → lookup (nat_eq n) (pick b x).body.sockets ≡ Some s → Names all x (pick b x).body n s.thing
     numbers x n s at = go (sockets x n s at)
       where
         go : ((t : Socket) × (lookup (nat_eq n) (pick a x).body.sockets ≡ Some t) × (t.thing ≡ s.thing)) ⊎ Names all x (pick b x).body n s.thing → Names all x (pick b x).body n s.thing
-        go (inl t) = subst (λ (y : Thing). Names all x (pick b x).body n y) t.2 (named x n t.0.thing (old.numbers x n t.0 t.1))
+        go (inl t) = subst (λ (y : SocketTarget). Names all x (pick b x).body n y) t.2 (named x n t.0.thing (old.numbers x n t.0 t.1))
         go (inr new) = new
 
     children : (x : Host) (i : ℕ) (f : Endpoint) (l : ℕ) → slice_get (pick b x).body.endpoints i ≡ Some f → f.listener ≡ Some l → port_at (pick b x).body.listeners l ≡ Some f.lport
@@ -183,33 +184,33 @@ ported_host all w step host k old moved home met = record { numbers = numbers; c
             subst (λ (port : ℕ). port_at (pick b x).body.listeners l ≡ Some port) (sym g.lport) (listeners x l e.0.lport (old.children x i e.0 l e.1 (g.listener l of')))
         go (inr new) = new.listener l of'
 
-    peer_at : (c : Hosts) (me : Name) (e : Endpoint) → find c me ≡ Some e → peer_of c me ≡ e.stream.peer
+    peer_at : (c : Hosts) (me : EndpointId) (e : Endpoint) → find c me ≡ Some e → peer_of c me ≡ e.stream.peer
     peer_at c me e at = ap (λ (o : Option Endpoint). option_map_or (λ y. y.stream.peer) o None) at
 
-    turned : (x : Host) (i : ℕ) (e f : Endpoint) (q : Name) → SameEnd e f → (q.host ≡ other x) × HasAt a q e.rport e.lport → (q.host ≡ other x) × HasAt b q f.rport f.lport
+    turned : (x : Host) (i : ℕ) (e f : Endpoint) (q : EndpointId) → SameEnd e f → (q.host ≡ other x) × HasAt a q e.rport e.lport → (q.host ≡ other x) × HasAt b q f.rport f.lport
     turned x i e f q g p = (p.0, subst (λ (r : ℕ). HasAt b q r f.lport) (sym g.rport) (subst (λ (l : ℕ). HasAt b q e.rport l) (sym g.lport) (stand q e.rport e.lport p.1)))
 
-    peers : (x : Host) (i : ℕ) (f : Endpoint) (q : Name) → slice_get (pick b x).body.endpoints i ≡ Some f → f.stream.peer ≡ Some q → (q.host ≡ other x) × HasAt b q f.rport f.lport
+    peers : (x : Host) (i : ℕ) (f : Endpoint) (q : EndpointId) → slice_get (pick b x).body.endpoints i ≡ Some f → f.stream.peer ≡ Some q → (q.host ≡ other x) × HasAt b q f.rport f.lport
     peers x i f q at is = go (born x i f at)
       where
-        me : Name
+        me : EndpointId
         me = record { host = x; number = i }
 
         by : (e : Endpoint) → slice_get (pick a x).body.endpoints i ≡ Some e → Meets w step me (peer_of a me) (peer_of b me) → (q.host ≡ other x) × HasAt a q e.rport e.lport
         by e was (inl stays) = old.peers x i e q was (sym (peer_at a me e was) ∙ sym stays ∙ peer_at b me f at ∙ is)
         by e was (inr m) = to m.3.goes
           where
-            from : (m.3.segment.maker.host ≡ other x) × HasAt a m.3.segment.maker m.3.segment.lport m.3.segment.rport
+            from : (m.3.segment.sender.host ≡ other x) × HasAt a m.3.segment.sender m.3.segment.lport m.3.segment.rport
             from = (old.home x).inbox m.3.line m.3.segment m.3.waits m.3.syn
 
-            maker : m.3.segment.maker ≡ q
-            maker = m.3.made ∙ same_Some m.1 q (sym m.2 ∙ peer_at b me f at ∙ is)
+            sender : m.3.segment.sender ≡ q
+            sender = m.3.made ∙ same_Some m.1 q (sym m.2 ∙ peer_at b me f at ∙ is)
 
             to : GoesTo a me m.3.segment → (q.host ≡ other x) × HasAt a q e.rport e.lport
             to (inl there) =
                 let ports = place_ports (pick a x).body m.3.segment.rport m.3.segment.lport i e (taker_place (pick a x).body m.3.segment i there.0 there.2) was in
-                subst (λ (n : Name). (n.host ≡ other x) × HasAt a n e.rport e.lport) maker
-                (from.0, subst (λ (r : ℕ). HasAt a m.3.segment.maker r e.lport) (sym ports.1) (subst (λ (l : ℕ). HasAt a m.3.segment.maker m.3.segment.lport l) (sym ports.0) from.1))
+                subst (λ (n : EndpointId). (n.host ≡ other x) × HasAt a n e.rport e.lport) sender
+                (from.0, subst (λ (r : ℕ). HasAt a m.3.segment.sender r e.lport) (sym ports.1) (subst (λ (l : ℕ). HasAt a m.3.segment.sender m.3.segment.lport l) (sym ports.0) from.1))
             to (inr nowhere) = absurd (none-some e (sym nowhere.1 ∙ was))
 
         go : ((e : Endpoint) × (slice_get (pick a x).body.endpoints i ≡ Some e)) ⊎ Born a x (pick b x).body f → (q.host ≡ other x) × HasAt b q f.rport f.lport
@@ -226,7 +227,7 @@ ported_step h both all s w (At host d) steady may stands old =
     (meets w (At host d) (after (tcp h) s w (At host d)).hosts (both_step h s w (At host d) steady may))
 ported_step h both all s w (Effect t answer) steady may stands old = go (turn_of t w.threads) stands (meets w (Effect t answer) (after (tcp h) s w (Effect t answer)).hosts (both_step h s w (Effect t answer) steady may))
   where
-    by : (call : Call) (o : Option Host) → aim_of (tcp h) w.hosts (aim call) ≡ o → Stands all call answer → ((me : Name) → Meets w (Effect t answer) me (peer_of w.hosts me) (peer_of (call_after (tcp h) s w.hosts (Calls call answer) o) me))
+    by : (call : Call) (o : Option Host) → aim_of (tcp h) w.hosts (aim call) ≡ o → Stands all call answer → ((me : EndpointId) → Meets w (Effect t answer) me (peer_of w.hosts me) (peer_of (call_after (tcp h) s w.hosts (Calls call answer) o) me))
         → Ported all (call_after (tcp h) s w.hosts (Calls call answer) o)
     by call None is had met = old
     by call (Some host) is had met = ported_host all w (Effect t answer) host (record (pick w.hosts host) { body = after_call (pick w.hosts host).body call answer }) old
@@ -236,7 +237,7 @@ ported_step h both all s w (Effect t answer) steady may stands old = go (turn_of
         (record { made = (old.home host).made; wire = (old.home host).wire; inbox = (old.home host).inbox }) met
 
     go : (u : Turn tcp_shape) → ((c : Call) (r : Answer) → Stands (of_turn u [] (λ call. one_done call answer)) c r → Stands all c r)
-        → ((me : Name) → Meets w (Effect t answer) me (peer_of w.hosts me) (peer_of (effect_after (tcp h) s w t answer u).hosts me)) → Ported all (effect_after (tcp h) s w t answer u).hosts
+        → ((me : EndpointId) → Meets w (Effect t answer) me (peer_of w.hosts me) (peer_of (effect_after (tcp h) s w t answer u).hosts me)) → Ported all (effect_after (tcp h) s w t answer u).hosts
     go Idle stands met = old
     go (Called call) stands met = by call (aim_of (tcp h) w.hosts (aim call)) refl (stands call answer (0, refl)) met
     go (Answered x) stands met = old
@@ -275,9 +276,9 @@ ported_start h all = record {
 pub number_ports : (all : List CallDone) (a : Hosts) → Ported all a → (x : Host) (n i : ℕ) (e : Endpoint) → owner (pick a x).body n ≡ Some i → slice_get (pick a x).body.endpoints i ≡ Some e → HasPorts all x e.lport e.rport n
 number_ports all a g x n i e own at = go (lookup (nat_eq n) (pick a x).body.sockets) refl own
   where
-    by : (s : Socket) (t : Thing) → s.thing ≡ t → Names all x (pick a x).body n t → endpoint_place t ≡ Some i → HasPorts all x e.lport e.rport n
-    by s (Listens l) is names place = absurd (none-some i place)
-    by s (Ends j) is names place =
+    by : (s : Socket) (t : SocketTarget) → s.thing ≡ t → Names all x (pick a x).body n t → endpoint_place t ≡ Some i → HasPorts all x e.lport e.rport n
+    by s (ListenerAt l) is names place = absurd (none-some i place)
+    by s (EndpointAt j) is names place =
         let same : names.0 ≡ e = same_Some names.0 e (sym names.1 ∙ (ap (λ (k : ℕ). slice_get (pick a x).body.endpoints k) (same_Some j i place) ∙ at)) in
         subst (λ (y : Endpoint). HasPorts all x y.lport y.rport n) same names.2
 

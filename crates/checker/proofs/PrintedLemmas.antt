@@ -1,4 +1,5 @@
--- Texts that stand for a trace and for a witness of its version, one behind the other, are a case whose verdict is theirs; so are the texts that are printed of them.
+-- Texts that stand for a trace and for a witness of its version, one behind the other, are a case whose verdict is theirs; so are the texts that are printed of
+-- them.
 use Rattle.std.proofs.Common.{◌≡◌, ◌≤◌, ◌<◌, ◌+◌, ◌^◌, ℕ, true, false, Bool, ◌&&◌, List, [], ◌∷◌, ◌++◌, map, length, get_or, refl, sym, ap, subst, ◌∙◌, arith, Result, Ok}
 use Rattle.std.specs.Fmt.{decimal}
 use Rattle.std.specs.Str.{bytes_eq}

@@ -14,24 +14,24 @@ use Rattle.case_forms.specs.declared.calls.Call.TheVariants as calls
 use Rattle.case_forms.specs.declared.calls.Answer.{Answer}
 use Rattle.case_forms.specs.declared.calls.Answer.TheVariants as answers
 use Rattle.verdict.specs.Rules.{first_broken}
-use Rattle.hosts.specs.Tables.{pick}
-use Rattle.hosts.specs.Hosts.{Turn, Idle, Called, Answered, World, Step, Begin, Finish, Effect, At, Stamped, turn_of}
-use Rattle.hosts.specs.HostRules.{aim_of, effect_rules, Permitted}
-use Rattle.hosts.specs.HostSteps.{after, after_all, Lawful}
-use Rattle.machine.specs.declared.endpoint.Name.{Name}
-use Rattle.machine.specs.declared.endpoint.Endpoint.{Endpoint}
-use Rattle.machine.specs.declared.endpoint.Thing.TheVariants.{Ends}
-use Rattle.machine.specs.Calls.Accept.{listener_allows}
-use Rattle.machine.specs.Calls.{is_bad_socket, call_allows}
-use Rattle.machine.specs.Machine.{tcp, tcp_shape, aim}
-use Rattle.machine_laws.specs.Runs.{owner, is_socket_of, call_told, call_accepted, call_ended, of_turn, of_effect, told_from, accepted_from, ended_from}
-use Rattle.machine_laws.specs.Consequences.{find, HasStream}
-use Rattle.machine_laws.proofs.Rules.{number_same, number_other, number_self, is_not}
-use Rattle.machine_laws.proofs.Later.{Hosts, name}
-use Rattle.machine_laws.proofs.Calls.{owner_of, socket_here, named}
-use Rattle.machine_laws.proofs.Steps.{effect_allowed}
-use Rattle.machine_laws.proofs.Sound.{owner_given}
-use Rattle.machine_laws.proofs.Runs.{Steady, steady_step, later_step, stays_run, socket_owner}
+use Rattle.spec_network.specs.Tables.{pick}
+use Rattle.spec_network.specs.Hosts.{Turn, Idle, Called, Answered, World, Step, Begin, Finish, Effect, At, Stamped, turn_of}
+use Rattle.spec_network.specs.HostRules.{aim_of, effect_rules, Permitted}
+use Rattle.spec_network.specs.HostSteps.{after, after_all, Lawful}
+use Rattle.spec_tcp.specs.declared.endpoint.EndpointId.{EndpointId}
+use Rattle.spec_tcp.specs.declared.endpoint.Endpoint.{Endpoint}
+use Rattle.spec_tcp.specs.declared.endpoint.SocketTarget.TheVariants.{EndpointAt}
+use Rattle.spec_tcp.specs.Calls.Accept.{listener_allows}
+use Rattle.spec_tcp.specs.Calls.{is_bad_socket, call_allows}
+use Rattle.spec_tcp.specs.Machine.{tcp, tcp_shape, aim}
+use Rattle.spec_tcp_laws.specs.Runs.{owner, is_socket_of, call_told, call_accepted, call_ended, of_turn, of_effect, told_from, accepted_from, ended_from}
+use Rattle.spec_tcp_laws.specs.Consequences.{find, HasStream}
+use Rattle.spec_tcp_laws.proofs.Rules.{number_same, number_other, number_self, is_not}
+use Rattle.spec_tcp_laws.proofs.Later.{Hosts, name}
+use Rattle.spec_tcp_laws.proofs.Calls.{owner_of, socket_here, named}
+use Rattle.spec_tcp_laws.proofs.Steps.{effect_allowed}
+use Rattle.spec_tcp_laws.proofs.Sound.{owner_given}
+use Rattle.spec_tcp_laws.proofs.Runs.{Steady, steady_step, later_step, stays_run, socket_owner}
 use Rattle.checker.specs.Headline.{bytes_accepted, is_ended}
 use Rattle.checker.proofs.HeadlineLemmas.{one_done, run_done, any_append}
 
@@ -61,7 +61,7 @@ sends_at : (a : Hosts) (n : ℕ) (bytes : List ℕ) (count : ℕ) (o : Option Ho
 sends_at a n bytes count None may = absurd cc
 sends_at a n bytes count (Some x) may =
     let y = named (pick a x).body n (calls.Send n bytes) (answers.Given count) may refl (λ queue. refused queue) in
-    (x, y.0, (owner_of (pick a x).body n (Ends y.0) y.1).0)
+    (x, y.0, (owner_of (pick a x).body n (EndpointAt y.0) y.1).0)
   where
     refused : (queue : List ℕ) → listener_allows queue (calls.Send n bytes) (answers.Given count) ≡ false
     refused [] = refl
@@ -71,30 +71,30 @@ reads_at : (a : Hosts) (n most : ℕ) (bytes : List ℕ) (o : Option Host) → A
 reads_at a n most bytes None may = absurd cc
 reads_at a n most bytes (Some x) may =
     let y = named (pick a x).body n (calls.Recv n most) (answers.Bytes bytes) may refl (λ queue. refused queue) in
-    (x, y.0, (owner_of (pick a x).body n (Ends y.0) y.1).0)
+    (x, y.0, (owner_of (pick a x).body n (EndpointAt y.0) y.1).0)
   where
     refused : (queue : List ℕ) → listener_allows queue (calls.Recv n most) (answers.Bytes bytes) ≡ false
     refused [] = refl
     refused (c ∷ queue) = refl
 
 -- a number that names an endpoint is that endpoint's number, or another
-pub number_named : (a z : Hosts) → Steady z → Stay a z → (socket : ℕ) (me : Name) → owner (pick z me.host).body socket ≡ Some me.number → (n : ℕ) → Owned a n → (c : Bool) → (n == socket) ≡ c → is_socket_of a n me ≡ c
+pub number_named : (a z : Hosts) → Steady z → Stay a z → (socket : ℕ) (me : EndpointId) → owner (pick z me.host).body socket ≡ Some me.number → (n : ℕ) → Owned a n → (c : Bool) → (n == socket) ≡ c → is_socket_of a n me ≡ c
 number_named a z g stay socket me own n o true is =
     let late = subst (λ k. owner (pick z o.0).body k ≡ Some o.1) (number_same n socket is) (stay o.0 n o.1 o.2) in
-    subst (λ (k : Name). is_socket_of a n k ≡ true) (one_owner z g o.0 me.host socket o.1 me.number late own) (socket_here a o.0 n o.1 o.2)
+    subst (λ (k : EndpointId). is_socket_of a n k ≡ true) (one_owner z g o.0 me.host socket o.1 me.number late own) (socket_here a o.0 n o.1 o.2)
 number_named a z g stay socket me own n o false is = is_not (is_socket_of a n me) (λ y.
     number_other n socket is ((g.sound me.host).alone n socket me.number (stay me.host n me.number (socket_owner a n me y)) own))
 
 -- 2. what sends on an endpoint's number accepted
 
-accepted_call : (a z : Hosts) (socket : ℕ) (me : Name) → Steady z → Stay a z → owner (pick z me.host).body socket ≡ Some me.number
+accepted_call : (a z : Hosts) (socket : ℕ) (me : EndpointId) → Steady z → Stay a z → owner (pick z me.host).body socket ≡ Some me.number
     → (call : Call) (answer : Answer) (o : Option Host) → Allowed a call answer o → call_accepted a call answer me ≡ bytes_accepted socket call answer ++ []
 accepted_call a z socket me g stay own (calls.Send n bytes) (answers.Given count) o may =
     ap (λ (c : Bool). if c then take count bytes else []) (number_named a z g stay socket me own n (sends_at a n bytes count o may) (n == socket) refl)
     ∙ sym (append-nil (if n == socket then take count bytes else []))
 accepted_call a z socket me g stay own call answer o may = refl
 
-accepted_step : (h : Header) (s : ℕ) (w : World tcp_shape) (z : Hosts) (socket : ℕ) (me : Name) → Steady z → Stay w.hosts z → owner (pick z me.host).body socket ≡ Some me.number
+accepted_step : (h : Header) (s : ℕ) (w : World tcp_shape) (z : Hosts) (socket : ℕ) (me : EndpointId) → Steady z → Stay w.hosts z → owner (pick z me.host).body socket ≡ Some me.number
     → (step : Step tcp_shape) → Permitted (tcp h) s w step → of_effect h w step [] (λ call answer. call_accepted w.hosts call answer me) ≡ flat_map (λ d. bytes_accepted socket d.call d.answer) (of_effect h w step [] one_done)
 accepted_step h s w z socket me g stay own (Begin line t call) may = refl
 accepted_step h s w z socket me g stay own (Finish line t answer) may = refl
@@ -106,7 +106,7 @@ accepted_step h s w z socket me g stay own (Effect t answer) may = go (turn_of t
     go (Called call) may = accepted_call w.hosts z socket me g stay own call answer (aim_of (tcp h) w.hosts (aim call)) (effect_allowed h s w.hosts call answer (aim_of (tcp h) w.hosts (aim call)) may).1
     go (Answered x) may = refl
 
-pub accepted_run : (h : Header) (w : World tcp_shape) (steps : List (Stamped tcp_shape)) (z : Hosts) (socket : ℕ) (me : Name) → Steady w.hosts → Lawful (tcp h) w steps → Steady z → Stay (after_all (tcp h) w steps).hosts z
+pub accepted_run : (h : Header) (w : World tcp_shape) (steps : List (Stamped tcp_shape)) (z : Hosts) (socket : ℕ) (me : EndpointId) → Steady w.hosts → Lawful (tcp h) w steps → Steady z → Stay (after_all (tcp h) w steps).hosts z
     → owner (pick z me.host).body socket ≡ Some me.number → accepted_from h me w steps ≡ flat_map (λ d. bytes_accepted socket d.call d.answer) (run_done h w steps)
 accepted_run h w [] z socket me f may g stay own = refl
 accepted_run h w (x ∷ xs) z socket me f may g stay own =
@@ -119,7 +119,7 @@ accepted_run h w (x ∷ xs) z socket me f may g stay own =
 
 -- 3. where something was accepted or told there is a number
 
-sender_call : (a : Hosts) (me : Name) (call : Call) (answer : Answer) → (call_accepted a call answer me ≡ []) ⊎ ((n : ℕ) × (owner (pick a me.host).body n ≡ Some me.number))
+sender_call : (a : Hosts) (me : EndpointId) (call : Call) (answer : Answer) → (call_accepted a call answer me ≡ []) ⊎ ((n : ℕ) × (owner (pick a me.host).body n ≡ Some me.number))
 sender_call a me (calls.Send n bytes) (answers.Given count) = go (is_socket_of a n me) refl
   where
     go : (c : Bool) → is_socket_of a n me ≡ c → ((if c then take count bytes else []) ≡ []) ⊎ ((n : ℕ) × (owner (pick a me.host).body n ≡ Some me.number))
@@ -127,7 +127,7 @@ sender_call a me (calls.Send n bytes) (answers.Given count) = go (is_socket_of a
     go false is = inl refl
 sender_call a me call answer = inl refl
 
-sender_step : (h : Header) (w : World tcp_shape) (me : Name) (step : Step tcp_shape) → (of_effect h w step [] (λ call answer. call_accepted w.hosts call answer me) ≡ []) ⊎ ((n : ℕ) × (owner (pick w.hosts me.host).body n ≡ Some me.number))
+sender_step : (h : Header) (w : World tcp_shape) (me : EndpointId) (step : Step tcp_shape) → (of_effect h w step [] (λ call answer. call_accepted w.hosts call answer me) ≡ []) ⊎ ((n : ℕ) × (owner (pick w.hosts me.host).body n ≡ Some me.number))
 sender_step h w me (Begin line t call) = inl refl
 sender_step h w me (Finish line t answer) = inl refl
 sender_step h w me (At host d) = inl refl
@@ -138,7 +138,7 @@ sender_step h w me (Effect t answer) = go (turn_of t w.threads)
     go (Called call) = sender_call w.hosts me call answer
     go (Answered x) = inl refl
 
-pub sender_run : (h : Header) (w : World tcp_shape) (steps : List (Stamped tcp_shape)) (me : Name) → Steady w.hosts → Lawful (tcp h) w steps
+pub sender_run : (h : Header) (w : World tcp_shape) (steps : List (Stamped tcp_shape)) (me : EndpointId) → Steady w.hosts → Lawful (tcp h) w steps
     → (accepted_from h me w steps ≡ []) ⊎ ((n : ℕ) × (owner (pick (after_all (tcp h) w steps).hosts me.host).body n ≡ Some me.number))
 sender_run h w [] me f may = inl refl
 sender_run h w (x ∷ xs) me f may = go (sender_step h w me x.step) (sender_run h (after (tcp h) x.moment w x.step) xs me (steady_step h x.moment w x.step f may.0) may.1)
@@ -183,12 +183,12 @@ reader_run h w (x ∷ xs) socket f may = go (reader_step h x.moment w socket x.s
 
 -- 4. what ended an endpoint's sending
 
-ended_call : (a z : Hosts) (socket : ℕ) (me : Name) → Steady z → Stay a z → owner (pick z me.host).body socket ≡ Some me.number → (call : Call) (answer : Answer) → call_ended a call answer me ≡ true → (is_ended socket call answer || false) ≡ true
+ended_call : (a z : Hosts) (socket : ℕ) (me : EndpointId) → Steady z → Stay a z → owner (pick z me.host).body socket ≡ Some me.number → (call : Call) (answer : Answer) → call_ended a call answer me ≡ true → (is_ended socket call answer || false) ≡ true
 ended_call a z socket me g stay own (calls.Shut n) answers.Done e = ap (λ (b : Bool). b || false) (number_self n socket ((g.sound me.host).alone n socket me.number (stay me.host n me.number (socket_owner a n me e)) own))
 ended_call a z socket me g stay own (calls.Close n) answers.Done e = ap (λ (b : Bool). b || false) (number_self n socket ((g.sound me.host).alone n socket me.number (stay me.host n me.number (socket_owner a n me e)) own))
 ended_call a z socket me g stay own call answer e = absurd cc
 
-ended_step : (h : Header) (w : World tcp_shape) (z : Hosts) (socket : ℕ) (me : Name) → Steady z → Stay w.hosts z → owner (pick z me.host).body socket ≡ Some me.number
+ended_step : (h : Header) (w : World tcp_shape) (z : Hosts) (socket : ℕ) (me : EndpointId) → Steady z → Stay w.hosts z → owner (pick z me.host).body socket ≡ Some me.number
     → (step : Step tcp_shape) → of_effect h w step false (λ call answer. call_ended w.hosts call answer me) ≡ true → list_any (λ d. is_ended socket d.call d.answer) (of_effect h w step [] one_done) ≡ true
 ended_step h w z socket me g stay own (Begin line t call) e = absurd cc
 ended_step h w z socket me g stay own (Finish line t answer) e = absurd cc
@@ -207,7 +207,7 @@ or_right : (b c : Bool) → c ≡ true → (b || c) ≡ true
 or_right true c e = refl
 or_right false c e = e
 
-pub ended_run : (h : Header) (w : World tcp_shape) (steps : List (Stamped tcp_shape)) (z : Hosts) (socket : ℕ) (me : Name) → Steady w.hosts → Lawful (tcp h) w steps → Steady z → Stay (after_all (tcp h) w steps).hosts z
+pub ended_run : (h : Header) (w : World tcp_shape) (steps : List (Stamped tcp_shape)) (z : Hosts) (socket : ℕ) (me : EndpointId) → Steady w.hosts → Lawful (tcp h) w steps → Steady z → Stay (after_all (tcp h) w steps).hosts z
     → owner (pick z me.host).body socket ≡ Some me.number → ended_from h me w steps ≡ true → list_any (λ d. is_ended socket d.call d.answer) (run_done h w steps) ≡ true
 ended_run h w [] z socket me f may g stay own e = absurd cc
 ended_run h w (x ∷ xs) z socket me f may g stay own e =
@@ -220,12 +220,12 @@ ended_run h w (x ∷ xs) z socket me f may g stay own e =
     go true is e more = or_left _ _ (ended_step h w z socket me g (λ y n i e. stay y n i (stays_run h w (x ∷ xs) f may y n i e)) own x.step is)
     go false is e more = or_right _ _ (more e)
 
-ender_call : (a : Hosts) (me : Name) (call : Call) (answer : Answer) → call_ended a call answer me ≡ true → (n : ℕ) × (owner (pick a me.host).body n ≡ Some me.number)
+ender_call : (a : Hosts) (me : EndpointId) (call : Call) (answer : Answer) → call_ended a call answer me ≡ true → (n : ℕ) × (owner (pick a me.host).body n ≡ Some me.number)
 ender_call a me (calls.Shut n) answers.Done e = (n, socket_owner a n me e)
 ender_call a me (calls.Close n) answers.Done e = (n, socket_owner a n me e)
 ender_call a me call answer e = absurd cc
 
-pub ender_run : (h : Header) (w : World tcp_shape) (steps : List (Stamped tcp_shape)) (me : Name) → Steady w.hosts → Lawful (tcp h) w steps → ended_from h me w steps ≡ true
+pub ender_run : (h : Header) (w : World tcp_shape) (steps : List (Stamped tcp_shape)) (me : EndpointId) → Steady w.hosts → Lawful (tcp h) w steps → ended_from h me w steps ≡ true
     → (n : ℕ) × (owner (pick (after_all (tcp h) w steps).hosts me.host).body n ≡ Some me.number)
 ender_run h w [] me f may e = absurd cc
 ender_run h w (x ∷ xs) me f may e = go (of_effect h w x.step false (λ call answer. call_ended w.hosts call answer me)) refl e (λ more. ender_run h (after (tcp h) x.moment w x.step) xs me (steady_step h x.moment w x.step f may.0) may.1 more)
@@ -251,7 +251,7 @@ ender_run h w (x ∷ xs) me f may e = go (of_effect h w x.step false (λ call an
 
 -- each endpoint stays, with the peer that it has
 abbrev pub AllMet : Hosts → Hosts → Type 0
-AllMet a b = (me : Name) (e : Endpoint) → find a me ≡ Some e → HasStream b me (λ s. (q : Name) → e.stream.peer ≡ Some q → s.peer ≡ Some q)
+AllMet a b = (me : EndpointId) (e : Endpoint) → find a me ≡ Some e → HasStream b me (λ s. (q : EndpointId) → e.stream.peer ≡ Some q → s.peer ≡ Some q)
 
 pub met_run : (h : Header) (w : World tcp_shape) (steps : List (Stamped tcp_shape)) → Steady w.hosts → Lawful (tcp h) w steps → AllMet w.hosts (after_all (tcp h) w steps).hosts
 met_run h w [] g may me e at = (e, at, λ q is. is)

@@ -22,10 +22,10 @@ use Rattle.verdict.specs.declared.report.Verdict.{Verdict}
 use Rattle.verdict.specs.Rules.{first_broken}
 use Rattle.interval_order.specs.Orders.{Take, Move, Order, order_of, is_placed, unplaced, last_moment, held_line, is_offered}
 use Rattle.interval_order.specs.OrderRules.{extras_of, order_rules, has_earlier, is_overdue, has_overdue}
-use Rattle.hosts.specs.Hosts.{World, Stamped}
-use Rattle.hosts.specs.HostSteps.{start}
-use Rattle.machine.specs.Machine.{tcp, tcp_shape}
-use Rattle.machine.specs.Steps.{label_step}
+use Rattle.spec_network.specs.Hosts.{World, Stamped}
+use Rattle.spec_network.specs.HostSteps.{start}
+use Rattle.spec_tcp.specs.Machine.{tcp, tcp_shape}
+use Rattle.spec_tcp.specs.Steps.{label_step}
 use Rattle.checker.specs.Seen.{move_of, moves, act_of}
 use Rattle.checker.specs.Verdicts.{act_rules, act_after, broken, next_world, verdict, verdict_from, verdict_left, refused_or}
 use Rattle.checker.specs.Again.{placeless, without_spans}

@@ -17,9 +17,9 @@ use Rattle.verdict.specs.declared.report.Verdict.{Verdict}
 use Rattle.verdict.specs.Rules.{first_broken}
 use Rattle.interval_order.specs.Orders.{Move, order_of, unplaced}
 use Rattle.interval_order.specs.OrderRules.{order_rules}
-use Rattle.hosts.specs.Hosts.{World}
-use Rattle.hosts.specs.HostSteps.{start}
-use Rattle.machine.specs.Machine.{tcp, tcp_shape}
+use Rattle.spec_network.specs.Hosts.{World}
+use Rattle.spec_network.specs.HostSteps.{start}
+use Rattle.spec_tcp.specs.Machine.{tcp, tcp_shape}
 use Rattle.checker.specs.Seen.{move_of, moves, act_of}
 use Rattle.checker.specs.Verdicts.{act_rules, broken, next_world, takes_line, verdict, verdict_from, verdict_left, refused_or}
 use Rattle.checker.specs.Again.{nowhere}

@@ -19,8 +19,8 @@ use Rattle.line_fields.specs.Left.{Yields}
 use Rattle.interval_order.specs.Orders.{Order, order_after, unplaced}
 use Rattle.interval_order.specs.Later.{TakesBelow, AreLater, with_lines, late_rule}
 use Rattle.interval_order.proofs.LaterLemmas.{order_with}
-use Rattle.machine.specs.Forgetting.{forget}
-use Rattle.machine_laws.specs.Runs.{world_at_end}
+use Rattle.spec_tcp.specs.Forgetting.{forget}
+use Rattle.spec_tcp_laws.specs.Runs.{world_at_end}
 use Rattle.endpoint_state.specs.Worlds.{Progress}
 use Rattle.checker.specs.Seen.{move_of, moves}
 use Rattle.checker.specs.Kept.{kept_broken, kept_progress}

@@ -15,8 +15,8 @@ use Rattle.endpoint_state.specs.Worlds.{Progress}
 use Rattle.checker.specs.declared.case.CaseFault.{CaseFault}
 use Rattle.checker.specs.declared.case.CaseFault.TheVariants as faults
 use Rattle.checker.specs.declared.ahead.Ahead.{Ahead}
-use Rattle.checker.specs.declared.turns.Turn.{Turn}
-use Rattle.checker.specs.declared.turns.Turn.TheVariants as turns
+use Rattle.checker.specs.declared.turns.StepOutcome.{StepOutcome}
+use Rattle.checker.specs.declared.turns.StepOutcome.TheVariants as turns
 use Rattle.checker.specs.Seen.{move_of}
 use Rattle.checker.specs.Verdicts.{takes_line, line_named}
 use Rattle.checker.specs.Kept.{held_act, kept_progress}
@@ -38,7 +38,7 @@ trace_first faults.OutOfMemory lines steps fails = tt
 -- ---- a turn that is done or refused
 
 pub turn_is : {A : Type 0} (known : A → Option (List ℕ)) (header : Header) (t : Option (Result (List Line) TextFault)) (s : Option (Result (List Step) TextFault)) (offered : List Line) (earlier : List Step)
-    (a b c d : Ahead A) (ahead next : Option (Result (List Step) TextFault)) (o n m : Order) (p q : Progress) (more : List Line) (step : Step) (broken : Option Rule) (r : Turn)
+    (a b c d : Ahead A) (ahead next : Option (Result (List Step) TextFault)) (o n m : Order) (p q : Progress) (more : List Line) (step : Step) (broken : Option Rule) (r : StepOutcome)
     → SoFar header t (left_ahead known a) s ahead o p offered earlier → b ≡ a → Yields ahead next (Some step)
     → Passes (left_ahead known b) (left_ahead known c) more → n ≡ with_lines o more → IsAhead c → IfSome (line_ahead c) (λ line. step.moment < line.moment)
     → IfNone broken (IsDone n m p q step × (d ≡ c)) → IfSome broken (λ rule. IsRefused n p step (left_ahead known c) (left_ahead known d) rule)
@@ -69,12 +69,12 @@ step_kept o n mv (Some line) step is = subst (λ (q : Order). IsInStep q (Some l
     by_take None = step.1
     by_take (Some t) = All-filter (λ e. not (t.number == e.0)) (λ (e : ℕ × Line). e.1.moment ≤ line.moment) o.held step.1
 
-pub more_in_step : {A : Type 0} (c d : Ahead A) (n m : Order) (p q : Progress) (step : Step) (broken : Option Rule) (r : Turn) → IsInStep n (line_ahead c) → IfNone broken (IsDone n m p q step × (d ≡ c))
+pub more_in_step : {A : Type 0} (c d : Ahead A) (n m : Order) (p q : Progress) (step : Step) (broken : Option Rule) (r : StepOutcome) → IsInStep n (line_ahead c) → IfNone broken (IsDone n m p q step × (d ≡ c))
     → MatchOption broken (r ≡ turns.More (takes_line step.label)) (λ rule. r ≡ turns.Refused (line_named step.label) rule) → IsOnward r → IsInStep m (line_ahead d)
 more_in_step c d n m p q step None r before done said more = subst (λ (e : Ahead _). IsInStep m (line_ahead e)) (sym done.1) (step_kept n m (move_of step) (line_ahead c) before done.0.moved)
 more_in_step c d n m p q step (Some rule) r before done said more = absurd (subst IsOnward said more)
 
-pub more_steps : {A : Type 0} (c d : Ahead A) (n m : Order) (p q : Progress) (step : Step) (broken : Option Rule) (r : Turn) → IfNone broken (IsDone n m p q step × (d ≡ c))
+pub more_steps : {A : Type 0} (c d : Ahead A) (n m : Order) (p q : Progress) (step : Step) (broken : Option Rule) (r : StepOutcome) → IfNone broken (IsDone n m p q step × (d ≡ c))
     → MatchOption broken (r ≡ turns.More (takes_line step.label)) (λ rule. r ≡ turns.Refused (line_named step.label) rule) → IsOnward r → q.steps ≤ p.steps + 1
 more_steps c d n m p q step None r done said more =
     let same : q.steps ≡ (kept_progress n p step).steps = ap (λ (x : Progress). x.steps) done.0.acted in

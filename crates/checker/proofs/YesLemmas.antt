@@ -15,10 +15,10 @@ use Rattle.interval_order.specs.Orders.{Move, unplaced, order_of}
 use Rattle.interval_order.specs.OrderRules.{order_rules}
 use Rattle.interval_order.proofs.PlacedFrom.{IsOrderly, placed_from_orderly}
 use Rattle.interval_order.proofs.PlacedTo.{orderly_from_placed}
-use Rattle.hosts.specs.Hosts.{World, Stamped}
-use Rattle.hosts.specs.HostSteps.{start, Lawful}
-use Rattle.hosts.proofs.Turns.{turns}
-use Rattle.machine.specs.Machine.{tcp, tcp_shape}
+use Rattle.spec_network.specs.Hosts.{World, Stamped}
+use Rattle.spec_network.specs.HostSteps.{start, Lawful}
+use Rattle.spec_network.proofs.Turns.{turns}
+use Rattle.spec_tcp.specs.Machine.{tcp, tcp_shape}
 use Rattle.checker.specs.Seen.{move_of, moves, act_of, stamped}
 use Rattle.checker.specs.Verdicts.{act_rules, act_after, broken, next_world, verdict, verdict_from, verdict_left, refused_or}
 use Rattle.checker.specs.Explains.{Explains, IsYes}

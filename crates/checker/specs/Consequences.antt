@@ -1,4 +1,5 @@
--- What follows, of a trace and a witness that explains it, for the bytes of streams, for windows and for states (RFC 9293, 3.3,
+-- What follows, of a trace and a witness that explains it, for the bytes of streams, for windows and for states (RFC
+-- 9293, 3.3,
 -- 3.4, 3.8 and 3.10; RFC 5681, 3.1 and 3.2).
 use Rattle.std.specs.Prelude.{◌≡◌, ℕ, false, List, Some, slice_get, take}
 use Rattle.case_forms.specs.Versions.{is_half}
@@ -6,14 +7,14 @@ use Rattle.case_forms.specs.declared.trace.Header.{Header}
 use Rattle.case_forms.specs.declared.trace.Trace.{Trace}
 use Rattle.case_forms.specs.declared.calls.Host.{Host}
 use Rattle.case_forms.specs.declared.steps.Witness.{Witness}
-use Rattle.hosts.specs.Hosts.{At, Makes, Stamped}
+use Rattle.spec_network.specs.Hosts.{At, Makes, Stamped}
 use Rattle.case_forms.specs.declared.steps.SegmentPlan.{SegmentPlan}
-use Rattle.machine.specs.Machine.{tcp_shape}
-use Rattle.machine_laws.specs.Runs.{world_at_end}
-use Rattle.machine_laws.specs.Consequences.{ReceivedIsAPrefix, EndIsWhole, AcknowledgedWasTaken}
-use Rattle.machine_laws.specs.Carried.{ReadsWereCarried}
-use Rattle.machine_laws.specs.Bounds.{NewDataFits, WindowsFollow}
-use Rattle.machine_laws.specs.Transitions.{StatesFollow, PositionsNeverFall}
+use Rattle.spec_tcp.specs.Machine.{tcp_shape}
+use Rattle.spec_tcp_laws.specs.Runs.{world_at_end}
+use Rattle.spec_tcp_laws.specs.Consequences.{ReceivedIsAPrefix, EndIsWhole, AcknowledgedWasTaken}
+use Rattle.spec_tcp_laws.specs.Carried.{ReadsWereCarried}
+use Rattle.spec_tcp_laws.specs.Bounds.{NewDataFits, WindowsFollow}
+use Rattle.spec_tcp_laws.specs.Transitions.{StatesFollow, PositionsNeverFall}
 use Rattle.checker.specs.Seen.{stamped}
 
 -- the steps of a witness as the machine sees them
@@ -28,7 +29,8 @@ EachStep steps P = (place : ℕ) (x : Stamped tcp_shape) → slice_get steps pla
 abbrev pub AreBothRecorded : Trace → Type 0
 AreBothRecorded t = is_half t.header.version ≡ false
 
--- each byte that the reads on a socket number were told, and the end where they were told it, came with a segment that was
+-- each byte that the reads on a socket number were told, and the end where they were told it, came with a segment that
+-- was
 -- taken at its endpoint; so it is in half cases, too
 abbrev pub AllReadsWereCarried : Trace → Witness → Type 0
 AllReadsWereCarried t w = ReadsWereCarried t.header (steps_of t w)
@@ -37,7 +39,8 @@ AllReadsWereCarried t w = ReadsWereCarried t.header (steps_of t w)
 abbrev pub ReadsBeginWhatWasSent : Trace → Witness → Type 0
 ReadsBeginWhatWasSent t w = ReceivedIsAPrefix t.header (steps_of t w)
 
--- reads that were told the end were told all that the sends of their peer ever accepted, and the peer's sending was ended
+-- reads that were told the end were told all that the sends of their peer ever accepted, and the peer's sending was
+-- ended
 abbrev pub EndsAreWhole : Trace → Witness → Type 0
 EndsAreWhole t w = EndIsWhole t.header (steps_of t w)
 
@@ -47,7 +50,8 @@ AllAcknowledgedWasTaken t w = EachStep (steps_of t w) (λ before x. Acknowledged
 
 -- what a step does with windows, in the world that the steps before it left
 pub record KeepsWindows (h : Header) (before : List (Stamped tcp_shape)) (x : Stamped tcp_shape) : Type 0 where
-  -- the congestion window and the slow start threshold change where a segment is taken, where a retransmission timer expires
+  -- the congestion window and the slow start threshold change where a segment is taken, where a retransmission timer
+  -- expires
   -- and where fast recovery begins alone, and stay at or below what these allow
   pub follow : WindowsFollow h x.moment (world_at_end h before) x.step
   -- bytes that are made for the first time end in the window that the peer offers and in the congestion window

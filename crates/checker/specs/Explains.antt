@@ -5,10 +5,10 @@ use Rattle.case_forms.specs.declared.steps.Witness.{Witness}
 use Rattle.verdict.specs.declared.report.Verdict.{Verdict}
 use Rattle.verdict.specs.declared.report.Verdict.TheVariants.{Yes, No}
 use Rattle.interval_order.specs.Placed.{Placed}
-use Rattle.hosts.specs.Hosts.{Idle}
-use Rattle.hosts.specs.HostSteps.{start, Lawful}
-use Rattle.hosts.specs.Turns.{Turns}
-use Rattle.machine.specs.Machine.{tcp}
+use Rattle.spec_network.specs.Hosts.{Idle}
+use Rattle.spec_network.specs.HostSteps.{start, Lawful}
+use Rattle.spec_network.specs.Turns.{Turns}
+use Rattle.spec_tcp.specs.Machine.{tcp}
 use Rattle.checker.specs.Seen.{moves, stamped}
 
 pub record Explains (t : Trace) (w : Witness) : Type 0 where

@@ -1,4 +1,5 @@
--- What reads were told is a prefix of what the peer's sends accepted, by the lines of a trace and the steps of a witness alone (RFC 9293, 3.4, 3.9.1 and 3.10).
+-- What reads were told is a prefix of what the peer's sends accepted, by the lines of a trace and the steps of a
+-- witness alone (RFC 9293, 3.4, 3.9.1 and 3.10).
 use Rattle.std.specs.Prelude.{◌≡◌, ◌⊎◌, ℕ, ◌==◌, Bool, true, false, if◌then◌else◌, List, [], ◌∷◌, ◌++◌, take, slice_get, Option, None, Some}
 use Rattle.std.specs.List.{flat_map, list_any}
 use Rattle.std.specs.Option.{option_map_or, option_or}
@@ -19,7 +20,7 @@ use Rattle.case_forms.specs.declared.steps.Step.{Step}
 use Rattle.case_forms.specs.declared.steps.Witness.{Witness}
 use Rattle.case_forms.specs.Traces.{line_at}
 use Rattle.streams.specs.Lists.{IsPrefixOf}
-use Rattle.hosts.specs.Tables.{other}
+use Rattle.spec_network.specs.Tables.{other}
 
 -- a call that had its effect, with the answer of the effect
 pub record CallDone : Type 0 where
@@ -91,7 +92,8 @@ told_end t steps socket = list_any (λ d. is_told_end socket d.call d.answer) (c
 abbrev pub ended : Trace → List Step → ℕ → Bool
 ended t steps socket = list_any (λ d. is_ended socket d.call d.answer) (calls_done t steps)
 
--- what was told on a socket number in these steps is a prefix of what was accepted on the peer's; where the end was told it is
+-- what was told on a socket number in these steps is a prefix of what was accepted on the peer's; where the end was
+-- told it is
 -- all of it, and the peer's sending was ended
 pub record ReceivesFrom (t : Trace) (steps : List Step) (socket peer : ℕ) : Type 0 where
   pub prefix : IsPrefixOf (told t steps socket) (accepted t steps peer)
@@ -122,7 +124,8 @@ pub record AreOpposite (all : List CallDone) (socket peer : ℕ) : Type 0 where
   pub here : HasPorts all host lport rport socket
   pub there : HasPorts all (other host) rport lport peer
 
--- the headline: a socket number either receives nothing in the whole witness, or there is one opposite to it from which it receives
+-- the headline: a socket number either receives nothing in the whole witness, or there is one opposite to it from which
+-- it receives
 -- at each moment, after the first `place` steps
 abbrev pub ReceivesBeginSends : Trace → Witness → Type 0
 ReceivesBeginSends t w = (socket : ℕ) → ReceivesNothing t w.steps socket

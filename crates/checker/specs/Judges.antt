@@ -10,8 +10,8 @@ use Rattle.verdict.specs.declared.report.Verdict.{Verdict}
 use Rattle.verdict.specs.declared.report.Verdict.TheVariants.{Yes, No}
 use Rattle.interval_order.specs.Orders.{unplaced}
 use Rattle.verdict.specs.Rules.{first_broken}
-use Rattle.machine_laws.specs.Runs.{world_at_end}
-use Rattle.machine_laws.specs.Ascending.{IsLeastBroken}
+use Rattle.spec_tcp_laws.specs.Runs.{world_at_end}
+use Rattle.spec_tcp_laws.specs.Ascending.{IsLeastBroken}
 use Rattle.checker.specs.Seen.{moves, stamped}
 use Rattle.checker.specs.Verdicts.{all_rules, takes_line, line_named}
 use Rattle.checker.specs.Explains.{Explains}

@@ -1,12 +1,13 @@
--- The rules of a step asked of what is kept: the lines that are not placed, and the world of which all is forgotten that may be discarded.
+-- The rules of a step asked of what is kept: the lines that are not placed, and the world of which all is forgotten
+-- that may be discarded.
 use Rattle.std.specs.Prelude.{[], ◌++◌, Option}
 use Rattle.std.specs.Option.{option_map_or}
 use Rattle.case_forms.specs.declared.trace.Header.{Header}
 use Rattle.case_forms.specs.declared.steps.Step.{Step}
 use Rattle.verdict.specs.declared.rule.Rule.{Rule}
 use Rattle.verdict.specs.Rules.{first_broken}
-use Rattle.hosts.specs.Hosts.{World, Stamped}
-use Rattle.machine.specs.Machine.{tcp_shape}
+use Rattle.spec_network.specs.Hosts.{World, Stamped}
+use Rattle.spec_tcp.specs.Machine.{tcp_shape}
 use Rattle.interval_order.specs.Orders.{Order, held_line}
 use Rattle.interval_order.specs.OrderRules.{order_rules}
 use Rattle.endpoint_state.specs.Worlds.{Progress, after}

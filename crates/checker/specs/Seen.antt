@@ -11,9 +11,9 @@ use Rattle.case_forms.specs.declared.steps.Step.{Step}
 use Rattle.case_forms.specs.Steps.{extras_count}
 use Rattle.case_forms.specs.Traces.{line_at}
 use Rattle.interval_order.specs.Orders.{Take, Move}
-use Rattle.hosts.specs.Hosts.{Stamped}
-use Rattle.machine.specs.Machine.{tcp_shape}
-use Rattle.machine.specs.Steps.{label_step}
+use Rattle.spec_network.specs.Hosts.{Stamped}
+use Rattle.spec_tcp.specs.Machine.{tcp_shape}
+use Rattle.spec_tcp.specs.Steps.{label_step}
 
 -- what a label takes: nothing where it is hidden
 abbrev pub take_of : Label NamedLine → Option Take
@@ -27,7 +27,8 @@ move_of s = record { moment = s.moment; take = take_of s.label }
 abbrev pub moves : List Step → List Move
 moves steps = map move_of steps
 
--- what a step does in the machine, at its moment, where lines are found by their numbers: nothing where the line that it names isn't found
+-- what a step does in the machine, at its moment, where lines are found by their numbers: nothing where the line that
+-- it names isn't found
 abbrev pub act_by : (ℕ → Option Line) → Step → Option (Stamped tcp_shape)
 act_by find s = option_map (λ step. record { moment = s.moment; step = step }) (label_step find s.label)
 

@@ -16,10 +16,10 @@ use Rattle.counted.specs.Counting.{one_more}
 use Rattle.line_fields.specs.declared.fault.TextFault.{TextFault}
 use Rattle.interval_order.specs.Orders.{Order, order_of, order_after}
 use Rattle.interval_order.specs.Later.{TakesBelow, AreLater, is_among, late_rule}
-use Rattle.hosts.specs.Hosts.{World}
-use Rattle.machine.specs.Machine.{tcp_shape}
-use Rattle.machine.specs.Forgetting.{forget}
-use Rattle.machine_laws.specs.Runs.{world_at_end}
+use Rattle.spec_network.specs.Hosts.{World}
+use Rattle.spec_tcp.specs.Machine.{tcp_shape}
+use Rattle.spec_tcp.specs.Forgetting.{forget}
+use Rattle.spec_tcp_laws.specs.Runs.{world_at_end}
 use Rattle.endpoint_state.specs.Worlds.{Progress}
 use Rattle.checker.specs.declared.case.CaseFault.{CaseFault}
 use Rattle.checker.specs.declared.case.CaseFault.TheVariants as faults
@@ -106,7 +106,8 @@ pub record Between (o : Order) (a b : Option (Result (List Line) TextFault)) (ah
   pub threads : (t : ℕ) → noted t ≡ is_among t between
   pub low : o.next + length between ≤ number
 
--- the least rule that is broken by a step which takes a line that is not offered: one of four, or the first where there is no such line
+-- the least rule that is broken by a step which takes a line that is not offered: one of four, or the first where there
+-- is no such line
 abbrev pub IsLate : Order → Option (Result (List Line) TextFault) → Option (Result (List Line) TextFault) → ℕ → ℕ → ℕ → Rule → Type 0
 IsLate o a b number extras moment rule =
     ((between : List Line) × (line : Line) × Passes a b (between ++ line ∷ []) × (number ≡ o.next + length between) ×

@@ -10,11 +10,11 @@ use Rattle.line_fields.specs.Left.{Yields}
 use Rattle.interval_order.specs.Orders.{Order}
 use Rattle.endpoint_state.specs.Worlds.{Progress}
 use Rattle.checker.specs.declared.case.CaseFault.{CaseFault}
-use Rattle.checker.specs.declared.turns.Tally.{Tally}
-use Rattle.checker.specs.declared.turns.Replayed.{Replayed}
-use Rattle.checker.specs.declared.turns.Replayed.TheVariants as replayed
-use Rattle.checker.specs.declared.turns.Turn.{Turn}
-use Rattle.checker.specs.declared.turns.Turn.TheVariants as turns
+use Rattle.checker.specs.declared.turns.StepCounts.{StepCounts}
+use Rattle.checker.specs.declared.turns.ReplayOutcome.{ReplayOutcome}
+use Rattle.checker.specs.declared.turns.ReplayOutcome.TheVariants as replayed
+use Rattle.checker.specs.declared.turns.StepOutcome.{StepOutcome}
+use Rattle.checker.specs.declared.turns.StepOutcome.TheVariants as turns
 use Rattle.checker.specs.Verdicts.{takes_line}
 use Rattle.checker.specs.Ahead.{Passes}
 use Rattle.checker.specs.Streaming.{SoFar, IsWhole, Tallied, CaseFails, verdict_on}
@@ -22,7 +22,7 @@ use Rattle.checker.specs.Streaming.{SoFar, IsWhole, Tallied, CaseFails, verdict_
 -- the witness is at its end; or a step more is done; or a step is refused, whatever follows
 abbrev pub AfterTurn : Header → Option (Result (List Line) TextFault) → Option (Result (List Line) TextFault) →
     Option (Result (List Step) TextFault) → Option (Result (List Step) TextFault) → Option (Result (List Step) TextFault)
-    → Order → Progress → List Line → List Step → Turn → Type 0
+    → Order → Progress → List Line → List Step → StepOutcome → Type 0
 AfterTurn header lines left steps ahead next o p offered earlier turns.End = SoFar header lines left steps ahead o p offered earlier × Yields ahead next None
 AfterTurn header lines left steps ahead next o p offered earlier (turns.More taken) =
     (more : List Line) × (s : Step) × SoFar header lines left steps next o p (offered ++ more) (earlier ++ s ∷ []) × (taken ≡ takes_line s.label)
@@ -33,13 +33,13 @@ AfterTurn header lines left steps ahead next o p offered earlier (turns.Refused 
 -- a turn, or the first fault of the two texts
 abbrev pub TellsTurn : Header → Option (Result (List Line) TextFault) → Option (Result (List Line) TextFault) →
     Option (Result (List Step) TextFault) → Option (Result (List Step) TextFault) → Option (Result (List Step) TextFault)
-    → Order → Progress → List Line → List Step → Result Turn CaseFault → Type 0
+    → Order → Progress → List Line → List Step → Result StepOutcome CaseFault → Type 0
 TellsTurn header lines left steps ahead next o p offered earlier (Ok r) = AfterTurn header lines left steps ahead next o p offered earlier r
 TellsTurn header lines left steps ahead next o p offered earlier (Err e) = CaseFails e lines steps
 
 -- the witness is at its end, after these steps
 abbrev pub IsOver : Header → Option (Result (List Line) TextFault) → Option (Result (List Line) TextFault) →
-    Option (Result (List Step) TextFault) → Option (Result (List Step) TextFault) → Order → Progress → Tally → Type 0
+    Option (Result (List Step) TextFault) → Option (Result (List Step) TextFault) → Order → Progress → StepCounts → Type 0
 IsOver header lines left steps next o p tally =
     (offered : List Line) × (earlier : List Step) × (ahead : Option (Result (List Step) TextFault))
     × SoFar header lines left steps ahead o p offered earlier × Yields ahead next None × Tallied earlier tally.lines tally.hidden
@@ -55,34 +55,34 @@ IsBroken header lines left steps next place named rule =
 -- one of both, or the first fault of the two texts
 abbrev pub TellsAll : Header → Option (Result (List Line) TextFault) → Option (Result (List Line) TextFault) →
     Option (Result (List Step) TextFault) → Option (Result (List Step) TextFault)
-    → Order → Progress → Result Replayed CaseFault → Type 0
+    → Order → Progress → Result ReplayOutcome CaseFault → Type 0
 TellsAll header lines left steps next o p (Ok (replayed.All tally)) = IsOver header lines left steps next o p tally
 TellsAll header lines left steps next o p (Ok (replayed.Refused place named rule)) = IsBroken header lines left steps next place named rule
 TellsAll header lines left steps next o p (Err e) = CaseFails e lines steps
 
 -- with one step more, which takes a line or is hidden
-abbrev pub counted_with : Tally → Bool → Tally
+abbrev pub counted_with : StepCounts → Bool → StepCounts
 counted_with t true = record { lines = t.lines + 1; hidden = t.hidden }
 counted_with t false = record { lines = t.lines; hidden = t.hidden + 1 }
 
 -- a step more is done
-abbrev pub IsMore : Turn → Type 0
+abbrev pub IsMore : StepOutcome → Type 0
 IsMore turns.End = ⊥
 IsMore (turns.More taken) = Unit {0}
 IsMore (turns.Refused named rule) = ⊥
 
 -- no step is refused
-abbrev pub IsOnward : Turn → Type 0
+abbrev pub IsOnward : StepOutcome → Type 0
 IsOnward turns.End = Unit {0}
 IsOnward (turns.More taken) = Unit {0}
 IsOnward (turns.Refused named rule) = ⊥
 
 -- each step is done
-abbrev pub IsDoneAll : Replayed → Type 0
+abbrev pub IsDoneAll : ReplayOutcome → Type 0
 IsDoneAll (replayed.All tally) = Unit {0}
 IsDoneAll (replayed.Refused place named rule) = ⊥
 
 -- how many steps are done
-abbrev pub steps_done : Replayed → ℕ
+abbrev pub steps_done : ReplayOutcome → ℕ
 steps_done (replayed.All tally) = tally.lines + tally.hidden
 steps_done (replayed.Refused place named rule) = place

@@ -1,4 +1,5 @@
--- The verdict: the first step that breaks a rule with the least rule that it breaks; where none does, the least line that is not placed; else yes.
+-- The verdict: the first step that breaks a rule with the least rule that it breaks; where none does, the least line
+-- that is not placed; else yes.
 use Rattle.std.specs.Prelude.{ℕ, ◌+◌, Bool, true, false, not, List, [], ◌∷◌, ◌++◌, length, Option, None, Some, count_by}
 use Rattle.std.specs.Option.{option_map_or}
 use Rattle.case_forms.specs.declared.trace.Header.{Header}
@@ -16,10 +17,10 @@ use Rattle.verdict.specs.declared.report.Verdict.TheVariants.{Yes, No}
 use Rattle.verdict.specs.Rules.{first_broken}
 use Rattle.interval_order.specs.Orders.{unplaced, order_of}
 use Rattle.interval_order.specs.OrderRules.{order_rules}
-use Rattle.hosts.specs.Hosts.{World, Stamped}
-use Rattle.hosts.specs.HostRules.{step_rules}
-use Rattle.hosts.specs.HostSteps.{after, start}
-use Rattle.machine.specs.Machine.{tcp, tcp_shape}
+use Rattle.spec_network.specs.Hosts.{World, Stamped}
+use Rattle.spec_network.specs.HostRules.{step_rules}
+use Rattle.spec_network.specs.HostSteps.{after, start}
+use Rattle.spec_tcp.specs.Machine.{tcp, tcp_shape}
 use Rattle.checker.specs.Seen.{move_of, moves, act_of}
 
 -- the machine's rules of a step, and the whole world after it
@@ -29,7 +30,8 @@ act_rules header w act = step_rules (tcp header) act.moment w act.step
 abbrev pub act_after : Header → World tcp_shape → Stamped tcp_shape → World tcp_shape
 act_after header w act = after (tcp header) act.moment w act.step
 
--- all rules of a step, after these earlier ones and in the world that they leave: those of order, then those of the machine
+-- all rules of a step, after these earlier ones and in the world that they leave: those of order, then those of the
+-- machine
 abbrev pub all_rules : Header → List Line → List Step → World tcp_shape → Step → List (Rule × Bool)
 all_rules header lines earlier w s =
     order_rules (order_of header lines (moves earlier)) (move_of s)

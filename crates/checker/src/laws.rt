@@ -21,13 +21,13 @@ ghost use Rattle.checker.specs.Explains.{Explains, IsYes};
 ghost use Rattle.checker.specs.Peers.{AllPeersAreMet, EachPeerWasMet};
 ghost use Rattle.checker.specs.Again.{HaveTwo, without_spans};
 ghost use Rattle.checker.specs.Headline.{ReceivesBeginSends};
-ghost use Rattle.machine_laws.specs.Consequences.{ReceivedIsAPrefix, EndIsWhole};
-ghost use Rattle.machine_laws.specs.Carried.{ReadsWereCarried};
+ghost use Rattle.spec_tcp_laws.specs.Consequences.{ReceivedIsAPrefix, EndIsWhole};
+ghost use Rattle.spec_tcp_laws.specs.Carried.{ReadsWereCarried};
 ghost use Rattle.checker.specs.Consequences.{steps_of, AreBothRecorded, ReadsBeginWhatWasSent, EndsAreWhole};
 ghost use Rattle.checker.specs.Consequences.{AllAcknowledgedWasTaken, AllReadsWereCarried, AllKeepWindows, AllStatesFollow};
 ghost use Rattle.checker.specs.Consequences.{NoPositionFalls};
 
-use machine_laws::{
+use spec_tcp_laws::{
     acknowledged_was_taken, end_is_whole, new_data_fits, positions_never_fall, reads_were_carried,
     received_is_a_prefix, states_follow, windows_follow,
 };
@@ -50,9 +50,12 @@ pub fn yes_counts_all_lines()
     ensures { (t : Trace) (w : Witness) (lines hidden : ℕ) → verdict t w ≡ Yes lines hidden → lines ≡ length t.lines }
 {}
 
-/// What the receives on a socket number were told is a prefix of what the sends on one number of the other host accepted, at each
-/// moment of the witness; once the end was told it is all of it. The ports of the one are those of the other turned round. So it
-/// is said by the lines of the trace and the steps of the witness alone. A number whose receives are told nothing need have no
+/// What the receives on a socket number were told is a prefix of what the sends on one number of the other host
+/// accepted, at each
+/// moment of the witness; once the end was told it is all of it. The ports of the one are those of the other turned
+/// round. So it
+/// is said by the lines of the trace and the steps of the witness alone. A number whose receives are told nothing need
+/// have no
 /// such other number.
 pub fn receives_begin_sends()
     ensures { (t : Trace) (w : Witness) → Explains t w → AreBothRecorded t → ReceivesBeginSends t w }
@@ -94,7 +97,8 @@ pub fn explained_follows()
 
 /// What follows for streams holds at each moment of the witness, for what was told and accepted by then.
 pub fn streams_at_each_moment()
-    // Where both hosts are recorded: what reads were told by then is a prefix of what the peer's sends accepted by then.
+    // Where both hosts are recorded: what reads were told by then is a prefix of what the peer's sends accepted by
+    // then.
     ensures received { (t : Trace) (w : Witness) → Explains t w → AreBothRecorded t → (place : ℕ) → ReceivedIsAPrefix t.header (take place (steps_of t w)) }
 
     // Reads that were told the end by then were told all of them by then.
@@ -108,9 +112,11 @@ pub fn streams_at_each_moment()
     reads_were_carried();
 }
 
-/// Who the peer of an endpoint is, where a witness explains a trace: the endpoint that made the SYN which it took first.
+/// Who the peer of an endpoint is, where a witness explains a trace: the endpoint that made the SYN which it took
+/// first.
 pub fn peers_are_met()
-    // A step leaves the peer of each endpoint as it is, or the endpoint had none and the step takes for it, at a listener
+    // A step leaves the peer of each endpoint as it is, or the endpoint had none and the step takes for it, at a
+    // listener
     // whose child it then is or in SYN-SENT, a segment with SYN, which the peer made.
     ensures each { (t : Trace) (w : Witness) → Explains t w → AllPeersAreMet t w }
 
@@ -131,7 +137,8 @@ pub fn two_witnesses_of_one_trace()
     ensures { (t : Trace) × (v : Witness) × (w : Witness) × HaveTwo t v w }
 {}
 
-/// A text that stands for a trace and one that stands for a witness of its version, one behind the other, are a case with
+/// A text that stands for a trace and one that stands for a witness of its version, one behind the other, are a case
+/// with
 /// their verdict.
 pub fn printed_case()
     ensures texts { (t : Trace) (w : Witness) (first second : List ℕ) → t.header.version ≡ w.version → IsTraceText t first →

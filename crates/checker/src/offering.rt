@@ -69,13 +69,13 @@ pub(crate) fn refuse_late<A: BufRead>(
             let is_behind = threads.contains(&line.thread);
             return Ok(window.late_rule(&line, is_behind, extras, moment));
         }
-        note(&mut threads, line)?;
+        add_thread(&mut threads, line)?;
     }
     Ok(Rule::LineRange)
 }
 
 // Keeps a line's thread.
-fn note(threads: &mut BTreeSet<u32, Global>, line: Line) -> Result<(), AllocError>
+fn add_thread(threads: &mut BTreeSet<u32, Global>, line: Line) -> Result<(), AllocError>
     ensures { IfOk result (λ u. (t : ℕ) → contains nat_cmp threads.new t ≡ (line.thread == t || contains nat_cmp threads.old t)) }
 {
     threads.insert(line.thread)?;

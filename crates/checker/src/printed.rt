@@ -17,7 +17,8 @@ use witness::print_witness;
 
 /// A trace and its witness as one text: the trace's lines, and behind them the witness's, each ended by LF.
 ///
-/// Where both are of one version and within the limits of texts, the text is a case, and its verdict is that of the two.
+/// Where both are of one version and within the limits of texts, the text is a case, and its verdict is that of the
+/// two.
 pub fn print_case(alloc: Global, trace: &Trace, witness: &Witness) -> Result<Vec<u8>, OutOfMemory>
     ensures text { IfOk result (λ text. text.items ≡ trace_text trace.now ++ witness_text witness.now) }
     ensures judged { trace.now.header.version ≡ witness.now.version → IsWithinTrace trace.now → IsWithinWitness witness.now

@@ -11,10 +11,10 @@ ghost use Rattle.case_forms.specs.Witnesses.{IsWithinLimits, IsWitness};
 ghost use Rattle.interval_order.specs.Orders.{passing, order_of, order_after};
 ghost use Rattle.interval_order.specs.OrderRules.{order_rules};
 ghost use Rattle.verdict.specs.Rules.{first_broken};
-ghost use Rattle.hosts.specs.HostSteps as hosts;
-ghost use Rattle.machine.specs.Bounds.{most_steps};
-ghost use Rattle.machine.specs.Machine.{tcp};
-ghost use Rattle.machine.specs.Steps.{line_step, hidden_step};
+ghost use Rattle.spec_network.specs.HostSteps as hosts;
+ghost use Rattle.spec_tcp.specs.Bounds.{most_steps};
+ghost use Rattle.spec_tcp.specs.Machine.{tcp};
+ghost use Rattle.spec_tcp.specs.Steps.{line_step, hidden_step};
 ghost use Rattle.endpoint_state.specs.Worlds.{start, after};
 ghost use Rattle.spec_step.specs.Asked.{broken_by, asked_rules, asked_after};
 ghost use Rattle.checker.specs.Seen.{move_of};
@@ -43,8 +43,10 @@ pub fn check(alloc: Global, trace: &Trace, witness: &Witness) -> Result<Verdict,
     requires witness { IsWitness witness.now }
     requires versions { trace.now.header.version ≡ witness.now.version }
 
-    // What follows from a yes where both hosts are recorded, by the lines of the trace and the steps of the witness alone: what
-    // receives on a socket number were told is a prefix of what sends on one of the other host accepted, at each moment; once
+    // What follows from a yes where both hosts are recorded, by the lines of the trace and the steps of the witness
+    // alone: what
+    // receives on a socket number were told is a prefix of what sends on one of the other host accepted, at each
+    // moment; once
     // they were told the end it is all of it.
     ensures heard { IfOk result (λ v. IsYes v → AreBothRecorded trace.now → ReceivesBeginSends trace.now witness.now) }
 
@@ -55,13 +57,15 @@ pub fn check(alloc: Global, trace: &Trace, witness: &Witness) -> Result<Verdict,
     ensures says { IfOk result (Says trace.now witness.now) }
     ensures explained { IfOk result (λ v. IsYes v ↔ Explains trace.now witness.now) }
 
-    // The same of the machine's endpoints: what reads were told is a prefix of what the peer's sends accepted; reads that were told
+    // The same of the machine's endpoints: what reads were told is a prefix of what the peer's sends accepted; reads
+    // that were told
     // the end were told all of it; what is acknowledged was taken before.
     ensures received { IfOk result (λ v. IsYes v → AreBothRecorded trace.now → ReadsBeginWhatWasSent trace.now witness.now) }
     ensures whole { IfOk result (λ v. IsYes v → AreBothRecorded trace.now → EndsAreWhole trace.now witness.now) }
     ensures acknowledged { IfOk result (λ v. IsYes v → AreBothRecorded trace.now → AllAcknowledgedWasTaken trace.now witness.now) }
 
-    // What follows from every yes, also of a half case: what reads were told came with segments that were taken; windows are kept;
+    // What follows from every yes, also of a half case: what reads were told came with segments that were taken;
+    // windows are kept;
     // states follow each other by the arrows of RFC 9293, 3.3.2, figure 5; positions never fall.
     ensures carried { IfOk result (λ v. IsYes v → AllReadsWereCarried trace.now witness.now) }
     ensures windows { IfOk result (λ v. IsYes v → AllKeepWindows trace.now witness.now) }
@@ -154,7 +158,7 @@ pub(crate) fn replay(
     match &step.label {
         Label::L(named) => match window.place(named.number, named.extras.count(), step.moment) {
             Ok(line) => match line.taken(named.extras) {
-                Some(taken) => take(world, step.moment, &taken),
+                Some(taken) => take_line(world, step.moment, &taken),
                 None => unreachable!(),
             },
             Err(rule) => Ok(Some(rule)),
@@ -169,7 +173,7 @@ pub(crate) fn replay(
 }
 
 // Takes a line in the machine, or says which of its rules is broken.
-fn take(world: &mut World, moment: u64, line: &TakenLine) -> Result<Option<Rule>, OutOfMemory>
+fn take_line(world: &mut World, moment: u64, line: &TakenLine) -> Result<Option<Rule>, OutOfMemory>
     requires { world.old.steps < most_steps }
     ensures rule { IfOk result (λ r. r ≡ broken_by world.old moment (line_step line.now)) }
     ensures after { IfOk result (λ r. IfNone r (world.new ≡ after world.old moment (line_step line.now))) }

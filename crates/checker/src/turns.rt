@@ -10,7 +10,7 @@ ghost use Rattle.counted.specs.Counting.{failures_of, one_more};
 ghost use Rattle.line_fields.specs.declared.fault.TextFault.{TextFault};
 ghost use Rattle.line_fields.specs.Left.{Yields};
 ghost use Rattle.witness.specs.StepsLeft.{steps_left, fault_of, number_of, reader_failures};
-ghost use Rattle.machine.specs.Bounds.{most_steps};
+ghost use Rattle.spec_tcp.specs.Bounds.{most_steps};
 ghost use Rattle.checker.specs.Ahead.{source_ahead, line_ahead, left_ahead, IsAhead, IsInStep, TraceFails};
 ghost use Rattle.checker.specs.Streaming.{OneFailed, CaseFails, IsDone, IsRefused, SoFar};
 ghost use Rattle.checker.specs.Turns.{TellsTurn, TellsAll, counted_with, IsMore, IsOnward, IsDoneAll, steps_done};
@@ -31,7 +31,7 @@ use witness::StepReader;
 
 /// What one turn has come to.
 #[derive(Clone, Copy)]
-pub(crate) enum Turn {
+pub(crate) enum StepOutcome {
     /// The witness is at its end.
     End,
     /// A step more is done, which takes a line or is hidden.
@@ -42,7 +42,7 @@ pub(crate) enum Turn {
 
 /// How many steps were done.
 #[derive(Clone, Copy)]
-pub(crate) struct Tally {
+pub(crate) struct StepCounts {
     /// Those that take a line.
     pub(crate) lines: u64,
     /// Those that are hidden.
@@ -51,27 +51,27 @@ pub(crate) struct Tally {
 
 /// What the whole replay has come to.
 #[derive(Clone, Copy)]
-pub(crate) enum Replayed {
+pub(crate) enum ReplayOutcome {
     /// Each step is done.
-    All(Tally),
+    All(StepCounts),
     /// Behind so many steps one that names this line breaks this rule.
     Refused(u64, u64, Rule),
 }
 
-impl Tally {
+impl StepCounts {
     // With one step more.
-    fn with(self, takes_line: bool) -> Tally
+    fn with(self, takes_line: bool) -> StepCounts
         requires lines { self.lines + 1 < 2 ^ 64 }
         requires hidden { self.hidden + 1 < 2 ^ 64 }
         ensures { result ≡ counted_with self takes_line }
     {
         if takes_line {
-            Tally {
+            StepCounts {
                 lines: self.lines + 1,
                 hidden: self.hidden,
             }
         } else {
-            Tally {
+            StepCounts {
                 lines: self.lines,
                 hidden: self.hidden + 1,
             }
@@ -139,13 +139,13 @@ fn judge_step<A: BufRead>(
 }
 
 // The next step of the witness, with the lines that are reached by then.
-fn go_on<A: BufRead, B: BufRead>(
+fn replay_next<A: BufRead, B: BufRead>(
     alloc: Global,
     window: &mut Window,
     world: &mut World,
     lines: &mut Ahead<A>,
     steps: &mut StepReader<B>,
-) -> Result<Turn, CaseFault>
+) -> Result<StepOutcome, CaseFault>
     requires ahead { IsAhead lines.old }
     requires in_step { IsInStep window.old (line_ahead lines.old) }
     requires working { fault_of steps.old ≡ None }
@@ -166,7 +166,7 @@ fn go_on<A: BufRead, B: BufRead>(
     ensures same_steps { result ≢ Err CaseFault.Read → reader_failures steps.new ≡ reader_failures steps.old }
 {
     let Some(step) = next_step(lines, steps)? else {
-        return Ok(Turn::End);
+        return Ok(StepOutcome::End);
     };
     offer_reached(window, lines, step.moment)?;
     let broken = judge_step(alloc, window, world, lines, &step)?;
@@ -174,23 +174,24 @@ fn go_on<A: BufRead, B: BufRead>(
 }
 
 // A turn by the rule that its step breaks.
-fn turn_of(broken: Option<Rule>, step: Step) -> Turn
-    ensures { MatchOption broken (result ≡ Turn.More (takes_line step.label)) (λ rule. result ≡ Turn.Refused (line_named step.label) rule) }
+fn turn_of(broken: Option<Rule>, step: Step) -> StepOutcome
+    ensures { MatchOption broken (result ≡ StepOutcome.More (takes_line step.label)) (λ rule. result ≡ StepOutcome.Refused (line_named step.label) rule) }
 {
     match broken {
-        None => Turn::More(takes_line(&step.label)),
-        Some(rule) => Turn::Refused(line_named(&step.label), rule),
+        None => StepOutcome::More(takes_line(&step.label)),
+        Some(rule) => StepOutcome::Refused(line_named(&step.label), rule),
     }
 }
 
-/// Does one step after the other, up to the first that breaks a rule. It is called before any line of the witness is read.
+/// Does one step after the other, up to the first that breaks a rule. It is called before any line of the witness is
+/// read.
 pub(crate) fn replay_steps<A: BufRead, B: BufRead>(
     alloc: Global,
     window: &mut Window,
     world: &mut World,
     lines: &mut Ahead<A>,
     steps: &mut StepReader<B>,
-) -> Result<Replayed, CaseFault>
+) -> Result<ReplayOutcome, CaseFault>
     requires ahead { IsAhead lines.old }
     requires in_step { IsInStep window.old (line_ahead lines.old) }
     requires working { fault_of steps.old ≡ None }
@@ -208,16 +209,16 @@ pub(crate) fn replay_steps<A: BufRead, B: BufRead>(
     ensures same_lines { result ≢ Err CaseFault.Read → failures_of (source_ahead lines.new) ≡ failures_of (source_ahead lines.old) }
     ensures same_steps { result ≢ Err CaseFault.Read → reader_failures steps.new ≡ reader_failures steps.old }
 {
-    let mut tally = Tally {
+    let mut tally = StepCounts {
         lines: 0,
         hidden: 0,
     };
     loop {
-        match go_on(alloc, window, world, lines, steps)? {
-            Turn::More(takes_line) => tally = tally.with(takes_line),
-            Turn::End => return Ok(Replayed::All(tally)),
-            Turn::Refused(named, rule) => {
-                return Ok(Replayed::Refused(tally.lines + tally.hidden, named, rule));
+        match replay_next(alloc, window, world, lines, steps)? {
+            StepOutcome::More(takes_line) => tally = tally.with(takes_line),
+            StepOutcome::End => return Ok(ReplayOutcome::All(tally)),
+            StepOutcome::Refused(named, rule) => {
+                return Ok(ReplayOutcome::Refused(tally.lines + tally.hidden, named, rule));
             }
         }
     }

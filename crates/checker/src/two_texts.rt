@@ -29,7 +29,7 @@ use crate::ahead::Ahead;
 use crate::case::CaseFault;
 use crate::laws::{explained_follows, receives_begin_sends};
 use crate::steps::drain_steps;
-use crate::turns::{Replayed, Tally, replay_steps};
+use crate::turns::{ReplayOutcome, StepCounts, replay_steps};
 use case_forms::Header;
 use counted::Counted;
 use endpoint_state::World;
@@ -39,15 +39,18 @@ use std::io::BufRead;
 use verdict::{Rule, Verdict};
 use witness::StepReader;
 
-/// The trace's fault, else the witness's, else the verdict on the case, however the bytes of both come in pieces. Read only
+/// The trace's fault, else the witness's, else the verdict on the case, however the bytes of both come in pieces. Read
+/// only
 /// where a reader's `failures()` grew in the call, which then ends at once. Both readers are given back.
 pub fn check_streams<A: BufRead, B: BufRead>(
     alloc: Global,
     a: Counted<A>,
     b: Counted<B>,
 ) -> (Result<Verdict, CaseFault>, Counted<A>, Counted<B>)
-    // What follows from a yes where both hosts are recorded, by the lines of the trace and the steps of the witness that the texts
-    // stand for: what receives on a socket number were told is a prefix of what sends on one of the other host accepted, at each
+    // What follows from a yes where both hosts are recorded, by the lines of the trace and the steps of the witness
+    // that the texts
+    // stand for: what receives on a socket number were told is a prefix of what sends on one of the other host
+    // accepted, at each
     // moment; once they were told the end it is all of it.
     ensures heard { (t : Trace) (w : Witness) → AreOf (left_of A.remaining a) (left_of B.remaining b) t w →
         IfOk result.0 (λ v. IsYes v → AreBothRecorded t → ReceivesBeginSends t w) }
@@ -59,7 +62,8 @@ pub fn check_streams<A: BufRead, B: BufRead>(
     ensures says { (t : Trace) (w : Witness) → AreOf (left_of A.remaining a) (left_of B.remaining b) t w → IfOk result.0 (Says t w) }
     ensures explained { (t : Trace) (w : Witness) → AreOf (left_of A.remaining a) (left_of B.remaining b) t w → IfOk result.0 (λ v. IsYes v ↔ Explains t w) }
 
-    // The same of the machine's endpoints: what reads were told is a prefix of what the peer's sends accepted; reads that were told
+    // The same of the machine's endpoints: what reads were told is a prefix of what the peer's sends accepted; reads
+    // that were told
     // the end were told all of it; what is acknowledged was taken before.
     ensures received { (t : Trace) (w : Witness) → AreOf (left_of A.remaining a) (left_of B.remaining b) t w →
         IfOk result.0 (λ v. IsYes v → AreBothRecorded t → ReadsBeginWhatWasSent t w) }
@@ -68,7 +72,8 @@ pub fn check_streams<A: BufRead, B: BufRead>(
     ensures acknowledged { (t : Trace) (w : Witness) → AreOf (left_of A.remaining a) (left_of B.remaining b) t w →
         IfOk result.0 (λ v. IsYes v → AreBothRecorded t → AllAcknowledgedWasTaken t w) }
 
-    // What follows from every yes, also of a half case: what reads were told came with segments that were taken; windows are kept;
+    // What follows from every yes, also of a half case: what reads were told came with segments that were taken;
+    // windows are kept;
     // states follow each other by the arrows of RFC 9293, 3.3.2, figure 5; positions never fall.
     ensures carried { (t : Trace) (w : Witness) → AreOf (left_of A.remaining a) (left_of B.remaining b) t w →
         IfOk result.0 (λ v. IsYes v → AllReadsWereCarried t w) }
@@ -111,7 +116,8 @@ fn judge_texts<A: BufRead, B: BufRead>(
     }
 }
 
-// The verdict on a trace whose header was read, and on its witness, of which nothing was read; or the first fault of both.
+// The verdict on a trace whose header was read, and on its witness, of which nothing was read; or the first fault of
+// both.
 fn judge<A: BufRead, B: BufRead>(
     alloc: Global,
     header: &Header,
@@ -155,8 +161,8 @@ fn judge_in<A: BufRead, B: BufRead>(
     ensures same_steps { result ≢ Err CaseFault.Read → reader_failures steps.new ≡ reader_failures steps.old }
 {
     match replay_steps(alloc, window, world, lines, steps)? {
-        Replayed::All(tally) => end_of_witness(window, lines, tally),
-        Replayed::Refused(place, named, rule) => {
+        ReplayOutcome::All(tally) => end_of_witness(window, lines, tally),
+        ReplayOutcome::Refused(place, named, rule) => {
             lines.drain()?;
             drain_steps(steps)?;
             Ok(Verdict::No {
@@ -172,7 +178,7 @@ fn judge_in<A: BufRead, B: BufRead>(
 fn end_of_witness<A: BufRead>(
     window: &Window,
     lines: &mut Ahead<A>,
-    tally: Tally,
+    tally: StepCounts,
 ) -> Result<Verdict, CaseFault>
     requires ahead { IsAhead lines.old }
     requires in_step { IsInStep window.now (line_ahead lines.old) }

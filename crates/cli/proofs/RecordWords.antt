@@ -9,7 +9,7 @@ use Rattle.clap.specs.Words.{Text}
 use Rattle.two_hosts.specs.declared.plan.Plan.{Plan}
 use Rattle.cli.specs.declared.record_words.Setting.{Setting}
 use Rattle.cli.specs.declared.record_words.Setting.TheVariants.{Rounds, Lose, Format}
-use Rattle.cli.specs.declared.record_words.Told.{Told}
+use Rattle.cli.specs.declared.record_words.GivenSettings.{GivenSettings}
 use Rattle.case_forms.specs.Versions.{is_half}
 use Rattle.case_forms.specs.declared.version.Version.{Version}
 use Rattle.case_forms.specs.declared.version.Version.TheVariants as versions
@@ -144,7 +144,7 @@ told_once s words m n (text, inr form, a) (other, inr again, b) = same_number s 
 -- ---- the first option of those that ask
 
 -- the options that ask for the rest begin with the one that stands first
-record Begins (s : Setting) (count : ℕ) (words : List Text) (told : Told) (plan : Plan) : Type 0 where
+record Begins (s : Setting) (count : ℕ) (words : List Text) (told : GivenSettings) (plan : Plan) : Type 0 where
   number : ℕ
   options : List (Setting × ℕ)
   tells : TellsNumber s (take count words) number
@@ -154,7 +154,7 @@ record Begins (s : Setting) (count : ℕ) (words : List Text) (told : Told) (pla
   not_each : plan.lose ≡ 1 → ⊥
   version : IsVersion (listed told.format ++ numbers_of Format ((s, number) ∷ options)) plan.version
 
-begins : (s : Setting) (count : ℕ) (words : List Text) (told : Told) (plan : Plan) → first_option words ≡ Some (s, count) → AsksRest told words plan → Begins s count words told plan
+begins : (s : Setting) (count : ℕ) (words : List Text) (told : GivenSettings) (plan : Plan) → first_option words ≡ Some (s, count) → AsksRest told words plan → Begins s count words told plan
 begins s count words told plan found asks = go asks.options asks.each asks.rounds asks.lose asks.not_each asks.version
   where
     go : (options : List (Setting × ℕ)) → TellEach options words → listed told.rounds ++ numbers_of Rounds options ≡ plan.rounds ∷ [] → listed told.lose ++ numbers_of Lose options ≡ plan.lose ∷ [] → (plan.lose ≡ 1 → ⊥)
@@ -181,7 +181,7 @@ begins s count words told plan found asks = go asks.options asks.each asks.round
 -- ---- each way out
 
 -- no words are left
-pub none_left : (told : Told) (words : List Text) (asked : Option Plan) → words ≡ [] → MatchOption asked ((plan : Plan) → ¬ AsksPlan told plan) (AsksPlan told) → MatchOption asked ((plan : Plan) → ¬ AsksRest told words plan) (AsksRest told words)
+pub none_left : (told : GivenSettings) (words : List Text) (asked : Option Plan) → words ≡ [] → MatchOption asked ((plan : Plan) → ¬ AsksPlan told plan) (AsksPlan told) → MatchOption asked ((plan : Plan) → ¬ AsksRest told words plan) (AsksRest told words)
 none_left told words asked none is = by_case asked is
   where
     numbers : (o : Option ℕ) (n : ℕ) → listed o ++ [] ≡ n ∷ [] → o ≡ Some n
@@ -224,7 +224,7 @@ none_left told words asked none is = by_case asked is
     by_case (Some plan) is = from plan is
 
 -- words of which none is an option first
-pub none_first : (told : Told) (words : List Text) (plan : Plan) → first_option words ≡ None → (words ≡ [] → ⊥) → AsksRest told words plan → ⊥
+pub none_first : (told : GivenSettings) (words : List Text) (plan : Plan) → first_option words ≡ None → (words ≡ [] → ⊥) → AsksRest told words plan → ⊥
 none_first told words plan none some asks = go asks.options asks.each
   where
     go : (options : List (Setting × ℕ)) → TellEach options words → ⊥
@@ -233,7 +233,7 @@ none_first told words plan none some asks = go asks.options asks.each
         none_some (option.0, length first) (sym none ∙ ap first_option whole ∙ told_first option.0 first rest option.1 tells)
 
 -- the option that stands first tells no number
-pub none_told : (told : Told) (words : List Text) (plan : Plan) (s : Setting) (count : ℕ) → first_option words ≡ Some (s, count) → ((n : ℕ) → ¬ TellsNumber s (take count words) n) → AsksRest told words plan → ⊥
+pub none_told : (told : GivenSettings) (words : List Text) (plan : Plan) (s : Setting) (count : ℕ) → first_option words ≡ Some (s, count) → ((n : ℕ) → ¬ TellsNumber s (take count words) n) → AsksRest told words plan → ⊥
 none_told told words plan s count found none asks = let b = begins s count words told plan found asks in none b.number b.tells
 
 two_numbers : (o : Option ℕ) (n k m : ℕ) (ns : List ℕ) → o ≡ Some n → listed o ++ k ∷ ns ≡ m ∷ [] → ⊥
@@ -251,7 +251,7 @@ two_versions (Some i) n k ns plan is e = longer (i ∷ k ∷ ns) (omega arith) p
     longer ns lt versions.Three e = absurd e
 
 -- it told one before
-pub told_before : (told : Told) (words : List Text) (plan : Plan) (s : Setting) (count n : ℕ) → first_option words ≡ Some (s, count) → number_of s told ≡ Some n → AsksRest told words plan → ⊥
+pub told_before : (told : GivenSettings) (words : List Text) (plan : Plan) (s : Setting) (count n : ℕ) → first_option words ≡ Some (s, count) → number_of s told ≡ Some n → AsksRest told words plan → ⊥
 told_before told words plan s count n found is asks = by_case s is (begins s count words told plan found asks)
   where
     by_case : (t : Setting) → number_of t told ≡ Some n → Begins t count words told plan → ⊥
@@ -260,7 +260,7 @@ told_before told words plan s count n found is asks = by_case s is (begins s cou
     by_case Format is b = two_versions told.format n b.number (numbers_of Format b.options) plan is b.version
 
 -- what is asked with its number told is what is asked
-pub told_more : (told : Told) (words : List Text) (s : Setting) (count n : ℕ) (asked : Option Plan) → first_option words ≡ Some (s, count) → TellsNumber s (take count words) n → take count words ++ drop count words ≡ words → number_of s told ≡ None
+pub told_more : (told : GivenSettings) (words : List Text) (s : Setting) (count n : ℕ) (asked : Option Plan) → first_option words ≡ Some (s, count) → TellsNumber s (take count words) n → take count words ++ drop count words ≡ words → number_of s told ≡ None
     → MatchOption asked ((plan : Plan) → ¬ AsksRest (telling s n told) (drop count words) plan) (AsksRest (telling s n told) (drop count words)) → MatchOption asked ((plan : Plan) → ¬ AsksRest told words plan) (AsksRest told words)
 told_more told words s count n asked found tells whole fresh is = by_case asked is
   where
@@ -330,17 +330,17 @@ told_more told words s count n asked found tells whole fresh is = by_case asked 
     by_case None is = λ plan asks. is plan (to plan asks)
     by_case (Some plan) is = from plan is
 
-pub told_on : (told later : Told) (words behind : List Text) (s : Setting) (count n : ℕ) (o : Option Told) (asked : Option Plan) → first_option words ≡ Some (s, count) → TellsNumber s (take count words) n → (number_of s told ≡ None)
+pub told_on : (told later : GivenSettings) (words behind : List Text) (s : Setting) (count n : ℕ) (o : Option GivenSettings) (asked : Option Plan) → first_option words ≡ Some (s, count) → TellsNumber s (take count words) n → (number_of s told ≡ None)
     → o ≡ Some later → (number_of s told ≡ None → o ≡ Some (telling s n told)) → behind ≡ drop count words → MatchOption asked ((plan : Plan) → ¬ AsksRest later behind plan) (AsksRest later behind) → MatchOption asked ((plan : Plan) → ¬ AsksRest told words plan) (AsksRest told words)
 told_on told later words behind s count n o asked found tells fresh is telling_is back asks =
     let both : Some later ≡ Some (telling s n told) = sym is ∙ telling_is fresh in
     let same : later ≡ telling s n told = cc in
     told_more told words s count n asked found tells (take-append-drop count words) fresh
-    (subst (λ (t : Told). MatchOption asked ((plan : Plan) → ¬ AsksRest t (drop count words) plan) (AsksRest t (drop count words))) same (subst (λ (ws : List Text). MatchOption asked ((plan : Plan) → ¬ AsksRest later ws plan) (AsksRest later ws)) back asks))
+    (subst (λ (t : GivenSettings). MatchOption asked ((plan : Plan) → ¬ AsksRest t (drop count words) plan) (AsksRest t (drop count words))) same (subst (λ (ws : List Text). MatchOption asked ((plan : Plan) → ¬ AsksRest later ws plan) (AsksRest later ws)) back asks))
 
 -- ---- all words
 
-pub all_words : (told : Told) (words : List Text) (asked : Option Plan) → told.rounds ≡ None → told.lose ≡ None → told.format ≡ None
+pub all_words : (told : GivenSettings) (words : List Text) (asked : Option Plan) → told.rounds ≡ None → told.lose ≡ None → told.format ≡ None
     → MatchOption asked ((plan : Plan) → ¬ AsksRest told words plan) (AsksRest told words) → MatchOption asked ((plan : Plan) → ¬ AsksRecord (codes "record" ∷ words) plan) (AsksRecord (codes "record" ∷ words))
 all_words told words asked a b c is = by_case asked is
   where
@@ -377,7 +377,7 @@ all_words told words asked a b c is = by_case asked is
     by_case None is = λ plan asks. is plan (to plan asks)
     by_case (Some plan) is = from plan is
 
-pub all_texts : (told : Told) (words : List (Bor Text)) (d : Bor Text) (rest : List Text) (asked : Option Plan) → 1 ≤ length words → (get_or words 0 d).now ≡ codes "record" → rest ≡ drop 1 (texts words) → told.rounds ≡ None → told.lose ≡ None → told.format ≡ None
+pub all_texts : (told : GivenSettings) (words : List (Bor Text)) (d : Bor Text) (rest : List Text) (asked : Option Plan) → 1 ≤ length words → (get_or words 0 d).now ≡ codes "record" → rest ≡ drop 1 (texts words) → told.rounds ≡ None → told.lose ≡ None → told.format ≡ None
     → MatchOption asked ((plan : Plan) → ¬ AsksRest told rest plan) (AsksRest told rest) → MatchOption asked ((plan : Plan) → ¬ AsksRecord (texts words) plan) (AsksRecord (texts words))
 all_texts told [] d rest asked some first back a b c is = absurd (omega (some, arith))
 all_texts told (word ∷ words) d rest asked some first back a b c is =

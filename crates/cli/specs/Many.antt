@@ -38,14 +38,16 @@ abbrev pub greatest_status : List (Result Verdict CaseFault) → ℕ
 greatest_status [] = 0
 greatest_status (answer ∷ answers) = max (status_of answer) (greatest_status answers)
 
--- answers to these cases were written, of which some may say that memory ran out, and this is the greatest of their statuses
+-- answers to these cases were written, of which some may say that memory ran out, and this is the greatest of their
+-- statuses
 pub record TellsEach (cases : List (List ℕ)) (status : ℕ) (old new : Option (List ℕ)) : Type 0 where
   pub answers : List (Result Verdict CaseFault)
   pub each : AnswersEach cases answers
   pub greatest : status ≡ greatest_status answers
   pub written : Appends old new (lines_of_all answers)
 
--- a run on these cases ends with this status and has written their lines, unless memory ran out, which has a status of its own
+-- a run on these cases ends with this status and has written their lines, unless memory ran out, which has a status of
+-- its own
 abbrev pub EndsMany : List (List ℕ) → ℕ → Option (List ℕ) → Option (List ℕ) → Type 0
 EndsMany cases status old new =
     (status ≡ 4 → Appends old new (codes "bad memory\n") ⊎ TellsEach cases status old new)

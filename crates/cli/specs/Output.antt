@@ -32,7 +32,8 @@ status_of (Err (faults.Witness fault)) = 2
 status_of (Err faults.Read) = 5
 status_of (Err faults.OutOfMemory) = 4
 
--- a run ends with this status and has written this line, unless memory ran out, which has a line and a status of its own
+-- a run ends with this status and has written this line, unless memory ran out, which has a line and a status of its
+-- own
 abbrev pub Ends : ℕ → List ℕ → ℕ → Option (List ℕ) → Option (List ℕ) → Type 0
 Ends wanted line status old new =
     (status ≡ 4 → Appends old new (codes "bad memory\n")) × (status ≢ 4 → (status ≡ wanted) × Appends old new line)

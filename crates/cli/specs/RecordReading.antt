@@ -8,7 +8,7 @@ use Rattle.clap.specs.declared.builder.value_parser.ValueParser.TheVariants.{Uns
 use Rattle.two_hosts.specs.declared.plan.Plan.{Plan}
 use Rattle.cli.specs.declared.record_words.Setting.{Setting}
 use Rattle.cli.specs.declared.record_words.Setting.TheVariants.{Rounds, Lose, Format}
-use Rattle.cli.specs.declared.record_words.Told.{Told}
+use Rattle.cli.specs.declared.record_words.GivenSettings.{GivenSettings}
 use Rattle.cli.specs.CommandLine.{without_program}
 use Rattle.cli.specs.RecordWords.{name_of, least, most, TellEach, numbers_of, IsVersion}
 
@@ -58,7 +58,7 @@ listed None = []
 listed (Some n) = n ∷ []
 
 -- options in the words ask for the rest of this recording, of which these numbers were told before
-pub record AsksRest (told : Told) (words : List Text) (plan : Plan) : Type 0 where
+pub record AsksRest (told : GivenSettings) (words : List Text) (plan : Plan) : Type 0 where
   pub options : List (Setting × ℕ)
   pub each : TellEach options words
   pub rounds : listed told.rounds ++ numbers_of Rounds options ≡ plan.rounds ∷ []
@@ -66,18 +66,18 @@ pub record AsksRest (told : Told) (words : List Text) (plan : Plan) : Type 0 whe
   pub not_each : plan.lose ≢ 1
   pub version : IsVersion (listed told.format ++ numbers_of Format options) plan.version
 
-abbrev pub number_of : Setting → Told → Option ℕ
+abbrev pub number_of : Setting → GivenSettings → Option ℕ
 number_of Rounds told = told.rounds
 number_of Lose told = told.lose
 number_of Format told = told.format
 
-abbrev pub telling : Setting → ℕ → Told → Told
+abbrev pub telling : Setting → ℕ → GivenSettings → GivenSettings
 telling Rounds n told = record told { rounds = Some n }
 telling Lose n told = record told { lose = Some n }
 telling Format n told = record told { format = Some n }
 
 -- what these numbers ask for
-pub record AsksPlan (told : Told) (plan : Plan) : Type 0 where
+pub record AsksPlan (told : GivenSettings) (plan : Plan) : Type 0 where
   pub rounds : told.rounds ≡ Some plan.rounds
   pub lose : told.lose ≡ Some plan.lose
   pub not_each : plan.lose ≢ 1

@@ -12,7 +12,8 @@
 //! - `file_words`, `files`: the words that ask for a case in two files (`specs/FileWords`), and the run on them
 //! - `many_words`, `many`: the words that ask for many cases, and the run that serves them too (`specs/ManyWords`,
 //!   `specs/Many`); it alone starts threads
-//! - `record_words`, `record`: the words that ask for a recording, and the case that is recorded and printed (`specs/RecordWords`)
+//! - `record_words`, `record`: the words that ask for a recording, and the case that is recorded and printed
+//!   (`specs/RecordWords`)
 //! - `many_laws`: what the cutting of an input into cases means (`specs/ManyLaw`)
 //!
 //! What a case is answered is told by `checker`, and what is counted as a failure by `counted`.

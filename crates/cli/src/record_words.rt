@@ -26,7 +26,7 @@ pub(crate) enum Setting {
 
 /// The numbers that options told so far.
 #[derive(Clone, Copy, Debug, PartialEq, Eq)]
-pub(crate) struct Told {
+pub(crate) struct GivenSettings {
     rounds: Option<u16>,
     lose: Option<u16>,
     format: Option<u16>,
@@ -97,7 +97,8 @@ fn joined(word: &str) -> Option<Setting>
     None
 }
 
-// The option that stands first, and how many words it takes. A text that begins with a minus sign would be another option.
+// The option that stands first, and how many words it takes. A text that begins with a minus sign would be another
+// option.
 fn first_option(words: &[&str]) -> Option<(Setting, usize)>
     ensures { result ≡ first_option (map (λ word. word.now) words.now) }
 {
@@ -113,22 +114,22 @@ fn first_option(words: &[&str]) -> Option<(Setting, usize)>
     }
 }
 
-impl Told {
+impl GivenSettings {
     // The option tells this number; None where it told one before.
-    fn with(self, setting: Setting, number: u16) -> Option<Told>
+    fn with(self, setting: Setting, number: u16) -> Option<GivenSettings>
         ensures fresh { number_of setting self ≡ None → result ≡ Some (telling setting number self) }
         ensures again { IfSome (number_of setting self) (λ _. result ≡ None) }
     {
         match setting {
-            Setting::Rounds if self.rounds.is_none() => Some(Told {
+            Setting::Rounds if self.rounds.is_none() => Some(GivenSettings {
                 rounds: Some(number),
                 ..self
             }),
-            Setting::Lose if self.lose.is_none() => Some(Told {
+            Setting::Lose if self.lose.is_none() => Some(GivenSettings {
                 lose: Some(number),
                 ..self
             }),
-            Setting::Format if self.format.is_none() => Some(Told {
+            Setting::Format if self.format.is_none() => Some(GivenSettings {
                 format: Some(number),
                 ..self
             }),
@@ -192,7 +193,7 @@ fn number_told<'a>(
 fn plan_told<'a>(
     alloc: Global,
     words: &'a [&'a str],
-    told: Told,
+    told: GivenSettings,
 ) -> Result<Option<Plan>, OutOfMemory>
     ensures { IfOk result (λ asked. MatchOption asked ((plan : Plan) →
         ¬ AsksRest told (map (λ word. word.now) words.now) plan) (AsksRest told (map (λ word. word.now) words.now))) }
@@ -225,7 +226,7 @@ pub(crate) fn asked_plan<'a>(
         [word, rest @ ..] if *word == "record" => plan_told(
             alloc,
             rest,
-            Told {
+            GivenSettings {
                 rounds: None,
                 lose: None,
                 format: None,

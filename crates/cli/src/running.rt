@@ -86,14 +86,14 @@ fn check<R: BufRead, W: Write>(alloc: Global, r: &mut Counted<R>, w: &mut Counte
 {
     let mut text = Vec::new(alloc);
     match r.append_all(&mut text) {
-        Ok(()) => answer(alloc, text.as_slice(), w),
+        Ok(()) => answer_case(alloc, text.as_slice(), w),
         Err(ReadFault::Read) => answer_bad_device(w),
         Err(ReadFault::OutOfMemory) => answer_bad_memory(w),
     }
 }
 
 // Writes the answer to a case.
-fn answer<W: Write>(alloc: Global, text: &[u8], w: &mut Counted<W>) -> u8
+fn answer_case<W: Write>(alloc: Global, text: &[u8], w: &mut Counted<W>) -> u8
     requires { failures_of w.old < 2 ^ 50 }
     ensures check { result ≢ 5 →
         Ends (status_of (case_result text.now)) (line_of (case_result text.now)) result (left_of W.contents w.old) (left_of W.contents w.new) }

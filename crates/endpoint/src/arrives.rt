@@ -2,27 +2,28 @@
 //!
 //! - `listen`: in LISTEN, where a child is made (3.10.7.2)
 //! - `syn_sent`: in SYN-SENT, where the peer is met (3.10.7.3)
-//! - `otherwise`: in any other state (3.10.7.4)
+//! - `other_states`: in any other state (3.10.7.4)
 
 ghost use Rattle.case_forms.specs.States.{is_closed};
-ghost use Rattle.machine.specs.Arrives.{endpoint_taken};
-ghost use Rattle.machine.specs.Bounds.{HasRoom, IsSmallEmission};
-ghost use Rattle.machine.specs.Forgetting.{forget_endpoint};
+ghost use Rattle.spec_tcp.specs.Arrives.{endpoint_taken};
+ghost use Rattle.spec_tcp.specs.Bounds.{HasRoom, IsSmallEmission};
+ghost use Rattle.spec_tcp.specs.Forgetting.{forget_endpoint};
 ghost use Rattle.std.specs.Prelude.{◌≡◌, false, OnOk, OnErr};
 
 pub(crate) mod listen;
-pub(crate) mod otherwise;
+pub(crate) mod other_states;
 pub(crate) mod syn_sent;
 
-use crate::arrives::otherwise::reset::was_reset;
-use crate::arrives::otherwise::taken;
-use crate::arrives::syn_sent::met_peer;
+use crate::arrives::other_states::reset::was_reset;
+use crate::arrives::other_states::taken;
+use crate::arrives::syn_sent::on_syn;
 use case_forms::{Header, TakeChoice};
-use machine::{Arrived, Endpoint};
 use segment::OutOfMemory;
+use spec_tcp::{Arrived, Endpoint};
 
 /// An endpoint takes a segment at a moment in microseconds, in every state but CLOSED (RFC 9293, 3.10.7). Where memory
-/// runs out, the endpoint stays as it was. Nothing is asked of the segment: the `admits_` functions tell whether it may be taken.
+/// runs out, the endpoint stays as it was. Nothing is asked of the segment: the `admits_` functions tell whether it may
+/// be taken.
 pub fn take_segment(
     header: &Header,
     endpoint: &mut Endpoint,
@@ -41,7 +42,7 @@ pub fn take_segment(
         return Ok(());
     }
     if endpoint.state.is_syn_sent() {
-        met_peer(header, endpoint, how, m, moment);
+        on_syn(header, endpoint, how, m, moment);
         return Ok(());
     }
     taken(header, endpoint, how, m, moment)

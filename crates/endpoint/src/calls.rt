@@ -4,9 +4,9 @@
 //! - `send`, `receive`: SEND and RECEIVE, and the endpoint then
 //! - `close`: CLOSE and ABORT, and the endpoint then
 
-ghost use Rattle.machine.specs.Calls.Await.{await_allows, is_not_connected, tells, tells_fault, is_closed_answer};
-ghost use Rattle.machine.specs.Calls.{endpoint_allows};
-ghost use Rattle.machine.specs.Same.{same_state};
+ghost use Rattle.spec_tcp.specs.Calls.Await.{await_allows, is_not_connected, tells, tells_fault, is_closed_answer};
+ghost use Rattle.spec_tcp.specs.Calls.{endpoint_allows};
+ghost use Rattle.spec_tcp.specs.Same.{same_state};
 ghost use Rattle.std.specs.Prelude.{◌≡◌};
 
 pub(crate) mod accept;
@@ -18,7 +18,7 @@ use crate::calls::close::shut_allows;
 use crate::calls::receive::recv_allows;
 use crate::calls::send::send_allows;
 use case_forms::{Answer, Call, State};
-use machine::{Endpoint, Fault};
+use spec_tcp::{Endpoint, Fault};
 
 /// Whether a call on a live socket number of an endpoint may have this answer now.
 pub fn endpoint_allows(endpoint: &Endpoint, call: &Call, answer: &Answer) -> bool

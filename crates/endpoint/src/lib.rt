@@ -1,5 +1,7 @@
-//! What one endpoint does at each event of RFC 9293, 3.10. In each file the rules of an event and its effect stand beside each
-//! other; the definitions that their contracts cite stand in the crate `machine`, in files of the same names in `specs/`.
+//! What one endpoint does at each event of RFC 9293, 3.10. In each file the rules of an event and its effect stand
+//! beside each
+//! other; the definitions that their contracts cite stand in the crate `spec_tcp`, in files of the same names in
+//! `specs/`.
 //!
 //! - `calls`: what socket calls may be answered, and what they do (3.10.1 to 3.10.6)
 //! - `makes`: a segment is made (3.8, 3.10)
@@ -8,7 +10,8 @@
 //! - `reset`: the reset that answers a segment (3.5.2); `wire`: segments as bytes on the wire (3.1)
 //! - `same`: comparisons that the rules speak of
 //!
-//! An error is the first rule that is broken, by the order of `Rule`. An effect asks nothing again: its caller asked the rules.
+//! An error is the first rule that is broken, by the order of `Rule`. An effect asks nothing again: its caller asked
+//! the rules.
 //! How endpoints are found, and what is under numbers of lines and of made segments, is `endpoint_state`'s.
 #![tactic(auto)]
 
@@ -22,9 +25,9 @@ mod timeouts;
 mod wire;
 
 pub use arrives::listen::{admits_listening, child};
-pub use arrives::otherwise::admits_connected;
-pub use arrives::otherwise::congestion::greatest_window;
-pub use arrives::syn_sent::{admits_syn_sent, greatest_at_syn, joins};
+pub use arrives::other_states::admits_connected;
+pub use arrives::other_states::congestion::greatest_window;
+pub use arrives::syn_sent::{admits_syn_sent, completes_handshake, greatest_at_syn};
 pub use arrives::take_segment;
 pub use calls::accept::{accept, listener_allows};
 pub use calls::close::{abort, close, orphan, shut};
@@ -35,4 +38,4 @@ pub use makes::{admits_making, make};
 pub use recovery::{admits_recovery, recover};
 pub use reset::reset_of;
 pub use timeouts::{admits_expiry, expire, greatest_values, has_more};
-pub use wire::{admits_in, heard, is_shown, sent};
+pub use wire::{admits_copy, heard, matches_sent, sent};

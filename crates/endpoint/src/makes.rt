@@ -5,8 +5,8 @@
 //! - `edges`: its acknowledgment, and the windows in which its bytes end
 
 ghost use Rattle.endpoint.specs.Small.{IsSmall};
-ghost use Rattle.machine.specs.Bounds.{IsSmallEmission, greatest_position};
-ghost use Rattle.machine.specs.Makes.{making_rules, emission_of, after_making, timed, endpoint_made};
+ghost use Rattle.spec_tcp.specs.Bounds.{IsSmallEmission, greatest_position};
+ghost use Rattle.spec_tcp.specs.Makes.{making_rules, emission_of, after_making, timed, endpoint_made};
 ghost use Rattle.std.specs.Prelude.{◌≡◌, IfOk, OnOk, OnErr, ◌≤◌};
 ghost use Rattle.std.specs.Result.{result_err};
 ghost use Rattle.verdict.specs.Rules.{first_broken};
@@ -17,12 +17,12 @@ pub(crate) mod payload;
 
 use crate::makes::edges::{acknowledgment, is_bad_ack, is_beyond_offer, is_congesting, own_edge};
 use crate::makes::kind::{
-    close_after_reset, given_shift, is_bad_iss, makes_nothing, may_make, numbered,
+    close_after_reset, given_shift, is_bad_iss, makes_nothing, may_make, seq_of,
 };
 use crate::makes::payload::{has_new_bytes, is_bad_payload, is_bad_place, making_length};
 use case_forms::{SegmentPlan, State, Timer};
-use machine::{Emission, Endpoint, Name};
 use segment::{Bytes, OutOfMemory};
+use spec_tcp::{Emission, Endpoint, EndpointId};
 use std::alloc::Global;
 use timer_rules::Timers;
 use verdict::Rule;
@@ -67,7 +67,7 @@ pub fn admits_making(endpoint: &Endpoint, making: &SegmentPlan) -> Result<(), Ru
 pub fn make(
     alloc: Global,
     endpoint: &mut Endpoint,
-    me: Name,
+    me: EndpointId,
     making: &SegmentPlan,
     moment: u64,
 ) -> Result<Emission, OutOfMemory>
@@ -88,7 +88,7 @@ pub fn make(
 fn emission_of(
     alloc: Global,
     endpoint: &Endpoint,
-    me: Name,
+    me: EndpointId,
     making: &SegmentPlan,
 ) -> Result<Emission, OutOfMemory>
     requires { making.now.pos ≤ greatest_position }
@@ -101,20 +101,20 @@ fn emission_of(
         .piece(alloc, making.pos, making.len as usize)?;
     let (ack, ack_seq) = acknowledgment(endpoint, making);
     Ok(Emission {
-        maker: me,
-        knew: endpoint.stream.peer,
+        sender: me,
+        peer_at_send: endpoint.stream.peer,
         lport: making.lport,
         rport: making.rport,
         pos: making.pos,
         ack,
-        seq: numbered(endpoint.iss.or(making.iss), making.pos),
+        seq: seq_of(endpoint.iss.or(making.iss), making.pos),
         ack_seq,
         flags: making.flags,
         window: making.window,
         payload: Bytes::from(payload),
         shift: given_shift(endpoint, making),
         scaled: endpoint.is_scaling(),
-        answers: false,
+        is_reset_reply: false,
         bytes: Bytes::from(Vec::new(alloc)),
         mss: None,
         scale: None,
@@ -134,10 +134,10 @@ fn change(endpoint: &mut Endpoint, making: &SegmentPlan, moment: u64) -> Result<
     let shift = given_shift(endpoint, making);
     let timers = timed(endpoint.timers, making, moment);
     let length = making_length(making);
-    endpoint.makings.make(making.pos, length, moment)?;
+    endpoint.transmissions.make(making.pos, length, moment)?;
     endpoint.iss = iss;
     endpoint.shift = shift;
-    endpoint.window.edge = edge;
+    endpoint.window.rcv_adv = edge;
     endpoint.probe_due = probe_due;
     endpoint.timers = timers;
     Ok(())

@@ -1,14 +1,14 @@
 //! Fast recovery begins (RFC 5681, 3.2).
 
-ghost use Rattle.machine.specs.Bounds.{HasRoom};
-ghost use Rattle.machine.specs.Forgetting.{forget_endpoint};
-ghost use Rattle.machine.specs.Recovery.{is_bad_recovery, recovery_rules, after_recovery};
+ghost use Rattle.spec_tcp.specs.Bounds.{HasRoom};
+ghost use Rattle.spec_tcp.specs.Forgetting.{forget_endpoint};
+ghost use Rattle.spec_tcp.specs.Recovery.{is_bad_recovery, recovery_rules, after_recovery};
 ghost use Rattle.std.specs.Prelude.{◌≡◌};
 ghost use Rattle.std.specs.Result.{result_err};
 ghost use Rattle.verdict.specs.Rules.{first_broken};
 
 use case_forms::State;
-use machine::Endpoint;
+use spec_tcp::Endpoint;
 use verdict::Rule;
 use window_rules::{on_fast, recovery_window};
 
@@ -35,7 +35,7 @@ fn is_bad_recovery(endpoint: &Endpoint, cwnd: u32, ssthresh: u32) -> bool
     let greatest = on_fast(&endpoint.congestion, endpoint.flight()).1;
     endpoint.congestion.dup < 3
         || endpoint.congestion.fast
-        || endpoint.stream.una == endpoint.max_made()
+        || endpoint.stream.snd_una == endpoint.snd_max()
         || greatest < ssthresh as u64
         || recovery_window(&endpoint.congestion, ssthresh) < cwnd as u64
 }
@@ -46,7 +46,7 @@ pub fn recover(endpoint: &mut Endpoint, cwnd: u32, ssthresh: u32)
     requires { HasRoom endpoint.old }
     ensures { endpoint.new ≡ forget_endpoint (after_recovery endpoint.old cwnd ssthresh) }
 {
-    endpoint.recover = endpoint.max_made();
+    endpoint.recover = endpoint.snd_max();
     endpoint.congestion.cwnd = cwnd;
     endpoint.congestion.ssthresh = ssthresh;
     endpoint.congestion.fast = true;

@@ -1,20 +1,21 @@
 //! The reset that answers a segment (RFC 9293, 3.5.2).
 
-ghost use Rattle.machine.specs.Bounds.{IsSmallEmission};
-ghost use Rattle.machine.specs.Reset.{reset_of};
+ghost use Rattle.spec_tcp.specs.Bounds.{IsSmallEmission};
+ghost use Rattle.spec_tcp.specs.Reset.{reset_of};
 ghost use Rattle.seqno.specs.Numbers.{number_of};
 ghost use Rattle.std.specs.Prelude.{◌≡◌};
 
 use case_forms::Flags;
-use machine::Emission;
 use segment::Bytes;
 use seqno::Word;
+use spec_tcp::Emission;
 use std::alloc::Global;
 
 /// How many numbers there are.
 const TURN: u128 = 1 << 32;
 
-/// The reset: at the number that the segment acknowledges, or at 0 with an acknowledgment of all its positions. It takes
+/// The reset: at the number that the segment acknowledges, or at 0 with an acknowledgment of all its positions. It
+/// takes
 /// no memory.
 pub fn reset_of(alloc: Global, m: &Emission) -> Emission
     ensures reset { result ≡ reset_of m.now }
@@ -23,8 +24,8 @@ pub fn reset_of(alloc: Global, m: &Emission) -> Emission
     let acknowledges = m.flags.ack;
     let behind = number_behind(m.seq, m.length());
     Emission {
-        maker: m.maker,
-        knew: None,
+        sender: m.sender,
+        peer_at_send: None,
         lport: m.rport,
         rport: m.lport,
         pos: 0,
@@ -41,7 +42,7 @@ pub fn reset_of(alloc: Global, m: &Emission) -> Emission
         payload: Bytes::from(Vec::new(alloc)),
         shift: None,
         scaled: false,
-        answers: true,
+        is_reset_reply: true,
         bytes: Bytes::from(Vec::new(alloc)),
         mss: None,
         scale: None,

@@ -1,10 +1,10 @@
 //! Comparisons that the rules speak of.
 
-ghost use Rattle.machine.specs.Same.{same_bool, same_word, same_name};
+ghost use Rattle.spec_tcp.specs.Same.{same_bool, same_word, same_name};
 ghost use Rattle.std.specs.Prelude.{◌≡◌};
 
-use machine::Name;
 use seqno::Word;
+use spec_tcp::EndpointId;
 
 pub(crate) fn same_bool(a: bool, b: bool) -> bool
     ensures { result ≡ same_bool a b }
@@ -12,7 +12,7 @@ pub(crate) fn same_bool(a: bool, b: bool) -> bool
     a == b
 }
 
-pub(crate) fn same_name(a: Name, b: Name) -> bool
+pub(crate) fn same_name(a: EndpointId, b: EndpointId) -> bool
     ensures { result ≡ same_name a b }
 {
     a.host == b.host && a.number == b.number

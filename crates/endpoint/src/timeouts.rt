@@ -1,25 +1,26 @@
 //! A timer expires (RFC 9293, 3.10.8): which may, and the endpoint then.
 
 ghost use Rattle.case_forms.specs.declared.timer.Timer.TheVariants.{Giveup};
-ghost use Rattle.machine.specs.Bounds.{HasRoom};
-ghost use Rattle.machine.specs.Calls.Close.{shut_down};
-ghost use Rattle.machine.specs.Forgetting.{forget_endpoint};
-ghost use Rattle.machine.specs.Timeouts.{expiry_rules, grows_above, is_above, is_off, greatest_values, has_more, may_give_up, after_expiry, after_rto};
-ghost use Rattle.machine.specs.Timeouts.{after_persist};
-ghost use Rattle.machine.specs.declared.endpoint.Fault.TheVariants.{Timeout};
+ghost use Rattle.spec_tcp.specs.Bounds.{HasRoom};
+ghost use Rattle.spec_tcp.specs.Calls.Close.{shut_down};
+ghost use Rattle.spec_tcp.specs.Forgetting.{forget_endpoint};
+ghost use Rattle.spec_tcp.specs.Timeouts.{expiry_rules, grows_above, is_above, is_off, greatest_values, has_more, may_give_up, after_expiry, after_rto};
+ghost use Rattle.spec_tcp.specs.Timeouts.{after_persist};
+ghost use Rattle.spec_tcp.specs.declared.endpoint.Fault.TheVariants.{Timeout};
 ghost use Rattle.std.specs.Prelude.{◌≡◌, ◌≢◌, ◌<◌, ◌+◌, ◌^◌, ◌&&◌, true, Some};
 ghost use Rattle.std.specs.Result.{result_err};
 ghost use Rattle.timer_rules.specs.Timers.{is_early};
 ghost use Rattle.verdict.specs.Rules.{first_broken};
 
 use crate::calls::close::shut_down;
-use case_forms::{Expired, Growth, Header, Timer};
-use machine::{Endpoint, Fault};
+use case_forms::{Expired, Header, RtoChoice, Timer};
+use spec_tcp::{Endpoint, Fault};
 use timer_rules::{TimerFault, Timers};
 use verdict::Rule;
 use window_rules::on_timeout;
 
-/// Whether a timer may expire at an endpoint at this moment, in microseconds; the retransmission timer with what is chosen
+/// Whether a timer may expire at an endpoint at this moment, in microseconds; the retransmission timer with what is
+/// chosen
 /// there. An error is the first rule that is broken.
 pub fn admits_expiry(
     header: &Header,
@@ -63,12 +64,12 @@ pub fn greatest_values(endpoint: &Endpoint) -> (u64, u64)
     on_timeout(
         &endpoint.congestion,
         endpoint.flight(),
-        endpoint.stream.una == 0,
-        0 < endpoint.backs,
+        endpoint.stream.snd_una == 0,
+        0 < endpoint.backoffs,
     )
 }
 
-fn is_above(endpoint: &Endpoint, growth: Growth) -> bool
+fn is_above(endpoint: &Endpoint, growth: RtoChoice) -> bool
     ensures { result ≡ is_above endpoint.now growth }
 {
     let greatest = greatest_values(endpoint);
@@ -94,18 +95,19 @@ pub fn has_more(endpoint: &Endpoint) -> bool
 {
     let end = endpoint.stream.accepted.end();
     if endpoint.stream.ended {
-        endpoint.stream.una <= end
+        endpoint.stream.snd_una <= end
     } else {
-        endpoint.stream.una < end
+        endpoint.stream.snd_una < end
     }
 }
 
 fn may_give_up(endpoint: &Endpoint) -> bool
     ensures { result ≡ may_give_up endpoint.now }
 {
-    let is_open = endpoint.stream.una < endpoint.max_made()
+    let is_open = endpoint.stream.snd_una < endpoint.snd_max()
         || endpoint.timers.persist_armed.is_some();
-    (is_open && 3 <= endpoint.tries) || (endpoint.closed && endpoint.state.is_fin_wait_2())
+    (is_open && 3 <= endpoint.unanswered_expiries)
+        || (endpoint.closed && endpoint.state.is_fin_wait_2())
 }
 
 fn is_early(timers: &Timers, timer: Timer, moment: u64, header: &Header) -> bool
@@ -129,8 +131,10 @@ fn is_refused_early(timers: &Timers, timer: Timer, moment: u64, header: &Header)
     )
 }
 
-/// A timer expires at a moment in microseconds. Behind the retransmission timer the congestion window and the slow start
-/// threshold are those that are chosen, in bytes, and all that was made may be made again; behind the persist timer a probe
+/// A timer expires at a moment in microseconds. Behind the retransmission timer the congestion window and the slow
+/// start
+/// threshold are those that are chosen, in bytes, and all that was made may be made again; behind the persist timer a
+/// probe
 /// is due; the wait in TIME-WAIT is over, or the endpoint gives up, with a reset that is due.
 pub fn expire(endpoint: &mut Endpoint, expired: Expired, moment: u64)
     requires { HasRoom endpoint.old }
@@ -144,12 +148,12 @@ pub fn expire(endpoint: &mut Endpoint, expired: Expired, moment: u64)
     }
 }
 
-fn expire_retransmission(endpoint: &mut Endpoint, growth: Growth, moment: u64)
-    requires tries { endpoint.old.tries + 1 < 2 ^ 32 }
-    requires backs { endpoint.old.backs + 1 < 2 ^ 32 }
+fn expire_retransmission(endpoint: &mut Endpoint, growth: RtoChoice, moment: u64)
+    requires unanswered_expiries { endpoint.old.unanswered_expiries + 1 < 2 ^ 32 }
+    requires backoffs { endpoint.old.backoffs + 1 < 2 ^ 32 }
     ensures { endpoint.new ≡ after_rto endpoint.old growth moment }
 {
-    endpoint.recover = endpoint.max_made();
+    endpoint.recover = endpoint.snd_max();
     endpoint.congestion.cwnd = growth.cwnd;
     endpoint.congestion.ssthresh = growth.ssthresh;
     endpoint.congestion.dup = 0;
@@ -157,19 +161,19 @@ fn expire_retransmission(endpoint: &mut Endpoint, growth: Growth, moment: u64)
     endpoint.congestion.fast = false;
     endpoint.timers.back_off();
     endpoint.timers.arm(Timer::Rto, moment);
-    endpoint.tries += 1;
-    endpoint.backs += 1;
-    endpoint.syn_lost = endpoint.syn_lost || endpoint.stream.una == 0;
+    endpoint.unanswered_expiries += 1;
+    endpoint.backoffs += 1;
+    endpoint.syn_lost = endpoint.syn_lost || endpoint.stream.snd_una == 0;
 }
 
 fn expire_persist(endpoint: &mut Endpoint, moment: u64)
-    requires { endpoint.old.tries + 1 < 2 ^ 32 }
+    requires { endpoint.old.unanswered_expiries + 1 < 2 ^ 32 }
     ensures { endpoint.new ≡ after_persist endpoint.old moment }
 {
-    endpoint.recover = endpoint.max_made();
+    endpoint.recover = endpoint.snd_max();
     endpoint.probe_due = true;
     endpoint.timers.arm(Timer::Persist, moment);
-    endpoint.tries += 1;
+    endpoint.unanswered_expiries += 1;
 }
 
 fn give_up(endpoint: &mut Endpoint)

@@ -1,22 +1,22 @@
 //! Segments as bytes on the wire (RFC 9293, 3.1; RFC 7323, 2.2).
 
-ghost use Rattle.machine.specs.Bounds.{IsSmallEmission};
-ghost use Rattle.machine.specs.Heard.{heard, most_bytes, told_flags};
-ghost use Rattle.machine.specs.Same.{same_bytes};
-ghost use Rattle.machine.specs.Wire.{same_flags, shows, shows_shift, is_shown, sent, in_rules};
+ghost use Rattle.spec_tcp.specs.Bounds.{IsSmallEmission};
+ghost use Rattle.spec_tcp.specs.Heard.{heard, most_bytes, told_flags};
+ghost use Rattle.spec_tcp.specs.Same.{same_bytes};
+ghost use Rattle.spec_tcp.specs.Wire.{same_flags, header_matches, shift_matches, matches_sent, sent, in_rules};
 ghost use Rattle.std.specs.Prelude.{◌≡◌, ◌≤◌, IfOk, ◌+◌, length, nat_lt, take};
 ghost use Rattle.std.specs.Result.{result_err};
 ghost use Rattle.verdict.specs.Rules.{first_broken};
 
 use crate::same::{same_bool, same_word};
 use case_forms::{Flags, Header, Host, Wire};
-use machine::{Emission, Name};
 use segment::{Bytes, Flag, OutOfMemory, Segment};
+use spec_tcp::{Emission, EndpointId};
 use std::alloc::Global;
 use verdict::Rule;
 
-/// All that comes from the host that is not recorded has this maker.
-const FAR_NAME: Name = Name {
+/// All that comes from the host that is not recorded has this sender.
+const FAR_NAME: EndpointId = EndpointId {
     host: Host::One,
     number: 0,
 };
@@ -26,15 +26,15 @@ const MOST_BYTES: usize = 65_535;
 
 // Whether the segment's fields are those of the made one: the acknowledgment number where there is one, the window of
 // all but a reset that answers.
-fn shows(segment: &Segment, m: &Emission) -> bool
-    ensures { result ≡ shows segment.now m.now }
+fn header_matches(segment: &Segment, m: &Emission) -> bool
+    ensures { result ≡ header_matches segment.now m.now }
 {
     segment.src == m.lport
         && segment.dst == m.rport
         && same_word(segment.seq, m.seq)
         && (!m.flags.ack || same_word(segment.ack, m.ack_seq))
         && same_flags(segment, m.flags)
-        && (m.answers || segment.window == m.window)
+        && (m.is_reset_reply || segment.window == m.window)
         && same_bytes(segment.payload.as_slice(), m.payload.as_slice())
 }
 
@@ -55,9 +55,9 @@ fn same_flags(segment: &Segment, flags: Flags) -> bool
         && same_bool(segment.has(Flag::Fin), flags.fin)
 }
 
-// A SYN tells the shift that its maker gave, or none. A byte above 14 is read as 14 (RFC 7323, 2.3).
-fn shows_shift(segment: &Segment, m: &Emission) -> bool
-    ensures { result ≡ shows_shift segment.now m.now }
+// A SYN tells the shift that its sender gave, or none. A byte above 14 is read as 14 (RFC 7323, 2.3).
+fn shift_matches(segment: &Segment, m: &Emission) -> bool
+    ensures { result ≡ shift_matches segment.now m.now }
 {
     match (segment.scale, m.shift) {
         (None, _) => true,
@@ -67,10 +67,11 @@ fn shows_shift(segment: &Segment, m: &Emission) -> bool
 }
 
 /// Whether the segment on the wire is the made one. Shifts are looked at where windows may be scaled.
-pub fn is_shown(header: &Header, wire: &Wire, m: &Emission) -> bool
-    ensures { result ≡ is_shown header.now wire.now m.now }
+pub fn matches_sent(header: &Header, wire: &Wire, m: &Emission) -> bool
+    ensures { result ≡ matches_sent header.now wire.now m.now }
 {
-    shows(&wire.seg, m) && (!(header.version.scales() && m.flags.syn) || shows_shift(&wire.seg, m))
+    header_matches(&wire.seg, m)
+        && (!(header.version.scales() && m.flags.syn) || shift_matches(&wire.seg, m))
 }
 
 /// The made segment once it went out, at a moment in microseconds: with its bytes, and the MSS and the shift that they
@@ -80,8 +81,8 @@ pub fn sent(moment: u64, wire: &Wire, m: &Emission) -> Result<Emission, OutOfMem
     ensures small { IsSmallEmission m.now → IfOk result IsSmallEmission }
 {
     Ok(Emission {
-        maker: m.maker,
-        knew: m.knew,
+        sender: m.sender,
+        peer_at_send: m.peer_at_send,
         lport: m.lport,
         rport: m.rport,
         pos: m.pos,
@@ -93,7 +94,7 @@ pub fn sent(moment: u64, wire: &Wire, m: &Emission) -> Result<Emission, OutOfMem
         payload: m.payload.copy()?,
         shift: m.shift,
         scaled: m.scaled,
-        answers: m.answers,
+        is_reset_reply: m.is_reset_reply,
         bytes: wire.bytes.copy()?,
         mss: wire.seg.mss,
         scale: wire.seg.scale,
@@ -101,7 +102,8 @@ pub fn sent(moment: u64, wire: &Wire, m: &Emission) -> Result<Emission, OutOfMem
     })
 }
 
-/// What is heard of a host that is not recorded, at a moment in microseconds: a segment as its bytes tell it. An error: memory
+/// What is heard of a host that is not recorded, at a moment in microseconds: a segment as its bytes tell it. An error:
+/// memory
 /// ran out.
 pub fn heard(alloc: Global, moment: u64, wire: &Wire) -> Result<Emission, OutOfMemory>
     ensures heard { IfOk result (λ m. m ≡ heard moment wire.now) }
@@ -109,8 +111,8 @@ pub fn heard(alloc: Global, moment: u64, wire: &Wire) -> Result<Emission, OutOfM
 {
     let payload = carried(wire.seg.payload.as_slice());
     Ok(Emission {
-        maker: FAR_NAME,
-        knew: None,
+        sender: FAR_NAME,
+        peer_at_send: None,
         lport: wire.seg.src,
         rport: wire.seg.dst,
         pos: 0,
@@ -122,7 +124,7 @@ pub fn heard(alloc: Global, moment: u64, wire: &Wire) -> Result<Emission, OutOfM
         payload: Bytes::from_slice(alloc, payload)?,
         shift: None,
         scaled: false,
-        answers: wire.seg.has(Flag::Rst),
+        is_reset_reply: wire.seg.has(Flag::Rst),
         bytes: wire.bytes.copy()?,
         mss: wire.seg.mss,
         scale: wire.seg.scale,
@@ -150,9 +152,10 @@ fn told_flags(segment: &Segment) -> Flags
     }
 }
 
-/// Whether what comes in at a moment, in microseconds, is a copy of a segment that went out, at most the maximum segment
+/// Whether what comes in at a moment, in microseconds, is a copy of a segment that went out, at most the maximum
+/// segment
 /// lifetime later (RFC 9293, 3.4.2). An error is the first rule that is broken.
-pub fn admits_in(header: &Header, moment: u64, wire: &Wire, m: &Emission) -> Result<(), Rule>
+pub fn admits_copy(header: &Header, moment: u64, wire: &Wire, m: &Emission) -> Result<(), Rule>
     ensures { result_err result ≡ first_broken (in_rules header.now moment wire.now m.now) }
 {
     if !same_bytes(wire.bytes.as_slice(), m.bytes.as_slice()) {

@@ -15,31 +15,31 @@ use Rattle.case_forms.specs.declared.calls.State.TheVariants as states
 use Rattle.verdict.specs.Rules.{first_broken}
 use Rattle.verdict.proofs.RuleLemmas.{none_all}
 use Rattle.streams.specs.Lists.{modify}
-use Rattle.machine.specs.declared.endpoint.Endpoint.{Endpoint}
-use Rattle.machine.specs.declared.endpoint.Emission.{Emission}
-use Rattle.machine.specs.declared.endpoint.Listener.{Listener}
-use Rattle.machine.specs.declared.endpoint.Thing.{Thing}
-use Rattle.machine.specs.declared.endpoint.Thing.TheVariants.{Listens, Ends}
+use Rattle.spec_tcp.specs.declared.endpoint.Endpoint.{Endpoint}
+use Rattle.spec_tcp.specs.declared.endpoint.Emission.{Emission}
+use Rattle.spec_tcp.specs.declared.endpoint.Listener.{Listener}
+use Rattle.spec_tcp.specs.declared.endpoint.SocketTarget.{SocketTarget}
+use Rattle.spec_tcp.specs.declared.endpoint.SocketTarget.TheVariants.{ListenerAt, EndpointAt}
 use Rattle.case_forms.specs.declared.steps.TakeChoice.{TakeChoice}
-use Rattle.machine.specs.Endpoints.{new_endpoint}
-use Rattle.machine.specs.Bodies.{Body, empty, place_of, queue_of, thing_of, with_endpoint, at_ports, dead}
+use Rattle.spec_tcp.specs.Endpoints.{new_endpoint}
+use Rattle.spec_tcp.specs.Bodies.{Body, empty, place_of, queue_of, thing_of, with_endpoint, at_ports, dead}
 use Rattle.case_forms.specs.States.{is_syn_received}
-use Rattle.machine.specs.Calls.{call_allows, endpoint_allows, is_bad_socket, thing_allows, change_thing, change, after_call}
-use Rattle.machine.specs.Calls.Send.{after_send}
-use Rattle.machine.specs.Calls.Receive.{after_recv}
-use Rattle.machine.specs.Calls.Close.{orphaned, without_listener, thing_gone, after_gone, after_shut, after_close, after_abort}
-use Rattle.machine.specs.Calls.Accept.{accepted_from, after_accept}
-use Rattle.machine.specs.Makes.{after_making}
-use Rattle.machine.specs.Timeouts.{after_expiry}
-use Rattle.machine.specs.Recovery.{after_recovery}
-use Rattle.machine.specs.Arrives.Otherwise.Ack.{acknowledges_syn}
-use Rattle.machine.specs.Heard.{as_read}
-use Rattle.machine.specs.Arrives.Listen.{child}
-use Rattle.machine.specs.Arrives.{Taker, Nobody, AtListener, AtEndpoint, taker, endpoint_taken, joined, after_taking}
-use Rattle.machine.specs.Bounds.{IsKept, IsKeptBody}
-use Rattle.machine.specs.Forgetting.{forget_endpoint, forget_body}
-use Rattle.machine.specs.Machine.{Act, Calls, Makes, Takes, Resets, Expires, Recovers, act_rules, act_after}
-use Rattle.machine_laws.proofs.Rules.{map_or_cases, not_false}
+use Rattle.spec_tcp.specs.Calls.{call_allows, endpoint_allows, is_bad_socket, thing_allows, change_thing, change, after_call}
+use Rattle.spec_tcp.specs.Calls.Send.{after_send}
+use Rattle.spec_tcp.specs.Calls.Receive.{after_recv}
+use Rattle.spec_tcp.specs.Calls.Close.{orphaned, without_listener, thing_gone, after_gone, after_shut, after_close, after_abort}
+use Rattle.spec_tcp.specs.Calls.Accept.{accepted_from, after_accept}
+use Rattle.spec_tcp.specs.Makes.{after_making}
+use Rattle.spec_tcp.specs.Timeouts.{after_expiry}
+use Rattle.spec_tcp.specs.Recovery.{after_recovery}
+use Rattle.spec_tcp.specs.Arrives.OtherStates.Ack.{acknowledges_syn}
+use Rattle.spec_tcp.specs.Heard.{as_read}
+use Rattle.spec_tcp.specs.Arrives.Listen.{child}
+use Rattle.spec_tcp.specs.Arrives.{Taker, Nobody, AtListener, AtEndpoint, taker, endpoint_taken, joined, after_taking}
+use Rattle.spec_tcp.specs.Bounds.{IsKept, IsKeptBody}
+use Rattle.spec_tcp.specs.Forgetting.{forget_endpoint, forget_body}
+use Rattle.spec_tcp.specs.Machine.{Act, Calls, Makes, Takes, Resets, Expires, Recovers, act_rules, act_after}
+use Rattle.spec_tcp_laws.proofs.Rules.{map_or_cases, not_false}
 use Rattle.endpoint_state.specs.Keeping.{IsSmallAct, IsSmallAnswer}
 use Rattle.endpoint_state.proofs.Lists.{all_modify, all_push, length_modify, length_push}
 use Rattle.endpoint_state.proofs.Forgets.{IsBounded, bounded, bounded_later, kept_later, all_kept_forgotten}
@@ -113,18 +113,18 @@ joins_bounded steps b e new k =
 changed_bounded : (steps : ℕ) (b : Body) (n : ℕ) (f : Endpoint → Endpoint) → ((e : Endpoint) → IsBounded steps e → IsBounded (suc steps) (f e)) → IsBoundedBody steps b → IsBoundedBody (suc steps) (change b n f)
 changed_bounded steps b n f grows k = by (thing_of b n)
   where
-    by : (o : Option Thing) → IsBoundedBody (suc steps) (option_map_or (change_thing b f) o b)
+    by : (o : Option SocketTarget) → IsBoundedBody (suc steps) (option_map_or (change_thing b f) o b)
     by None = body_later steps b k
-    by (Some (Listens l)) = body_later steps b k
-    by (Some (Ends i)) = place_bounded steps b i f (λ e there. grows e) k
+    by (Some (ListenerAt l)) = body_later steps b k
+    by (Some (EndpointAt i)) = place_bounded steps b i f (λ e there. grows e) k
 
 recv_bounded : (steps : ℕ) (b : Body) (n most : ℕ) (bytes : List ℕ) → call_allows b (calls.Recv n most) (answers.Bytes bytes) ≡ true → IsBoundedBody steps b → IsBoundedBody (suc steps) (change b n (after_recv bytes))
 recv_bounded steps b n most bytes allowed k = by (thing_of b n) allowed
   where
-    by : (o : Option Thing) → option_map_or (thing_allows b (calls.Recv n most) (answers.Bytes bytes)) o (is_bad_socket (answers.Bytes bytes)) ≡ true → IsBoundedBody (suc steps) (option_map_or (change_thing b (after_recv bytes)) o b)
+    by : (o : Option SocketTarget) → option_map_or (thing_allows b (calls.Recv n most) (answers.Bytes bytes)) o (is_bad_socket (answers.Bytes bytes)) ≡ true → IsBoundedBody (suc steps) (option_map_or (change_thing b (after_recv bytes)) o b)
     by None h = body_later steps b k
-    by (Some (Listens l)) h = body_later steps b k
-    by (Some (Ends i)) h =
+    by (Some (ListenerAt l)) h = body_later steps b k
+    by (Some (EndpointAt i)) h =
         place_bounded steps b i (after_recv bytes)
         (λ e there. after_recv_bounded most bytes steps e (subst (λ (o : Option Endpoint). option_map_or (λ x. endpoint_allows x (calls.Recv n most) (answers.Bytes bytes)) o false ≡ true) there h))
         k
@@ -148,12 +148,12 @@ gone_bounded steps b n f grows k = by (thing_of b n)
           listeners = omega arith;
         }
 
-    by : (o : Option Thing) → IsBoundedBody (suc steps) (option_map_or (λ thing. record (thing_gone b thing f) { sockets = dead b.sockets n }) o b)
+    by : (o : Option SocketTarget) → IsBoundedBody (suc steps) (option_map_or (λ thing. record (thing_gone b thing f) { sockets = dead b.sockets n }) o b)
     by None = body_later steps b k
-    by (Some (Listens l)) = plain (without_listener b l) (orphans l)
-    by (Some (Ends i)) = plain (with_endpoint b i f) (place_bounded steps b i f (λ e there. grows e) k)
+    by (Some (ListenerAt l)) = plain (without_listener b l) (orphans l)
+    by (Some (EndpointAt i)) = plain (with_endpoint b i f) (place_bounded steps b i f (λ e there. grows e) k)
 
-accept_bounded : (steps : ℕ) (b : Body) (n : ℕ) (o : Option Thing) → IsBoundedBody steps b → IsBoundedBody (suc steps) (option_map_or (after_accept b n) o b)
+accept_bounded : (steps : ℕ) (b : Body) (n : ℕ) (o : Option SocketTarget) → IsBoundedBody steps b → IsBoundedBody (suc steps) (option_map_or (after_accept b n) o b)
 accept_bounded steps b n o k = by o
   where
     from : (l : ℕ) (queue : List ℕ) → IsBoundedBody (suc steps) (accepted_from b l n queue)
@@ -164,10 +164,10 @@ accept_bounded steps b n o k = by o
         let listeners = k.listeners in
         record { bounded = one.bounded; endpoints = one.endpoints; listeners = omega arith }
 
-    by : (o : Option Thing) → IsBoundedBody (suc steps) (option_map_or (after_accept b n) o b)
+    by : (o : Option SocketTarget) → IsBoundedBody (suc steps) (option_map_or (after_accept b n) o b)
     by None = body_later steps b k
-    by (Some (Listens l)) = from l (queue_of b l)
-    by (Some (Ends i)) = body_later steps b k
+    by (Some (ListenerAt l)) = from l (queue_of b l)
+    by (Some (EndpointAt i)) = body_later steps b k
 
 listened_bounded : (steps : ℕ) (b : Body) (l : Listener) → IsBoundedBody steps b → IsBoundedBody (suc steps) (record b { listeners = b.listeners ++ l ∷ [] })
 listened_bounded steps b l k =
@@ -176,11 +176,11 @@ listened_bounded steps b l k =
 
 opened_bounded : (lport rport steps : ℕ) → IsBounded steps (new_endpoint lport rport None states.SynSent)
 opened_bounded lport rport steps = record {
-  una = omega arith;
+  snd_una = omega arith;
   counted = omega arith;
   dup = omega arith;
-  tries = omega arith;
-  backs = omega arith;
+  unanswered_expiries = omega arith;
+  backoffs = omega arith;
   accepted = omega arith;
   met = λ sent closed. absurd cc;
   unmet = λ sent. refl;

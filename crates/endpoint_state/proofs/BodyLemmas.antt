@@ -1,12 +1,12 @@
 -- A host of which there is nothing to discard.
 use Rattle.std.proofs.Common.{◌≡◌, ℕ, List, [], ◌∷◌, ◌++◌, map, ap, sym, refl}
 use Rattle.std.specs.List.{All}
-use Rattle.machine.specs.declared.endpoint.Endpoint.{Endpoint}
-use Rattle.machine.specs.declared.endpoint.Listener.{Listener}
-use Rattle.machine.specs.declared.endpoint.Socket.{Socket}
-use Rattle.machine.specs.Bodies.{Body}
-use Rattle.machine.specs.Bounds.{HasRoom}
-use Rattle.machine.specs.Forgetting.{forget_body, forget_endpoint}
+use Rattle.spec_tcp.specs.declared.endpoint.Endpoint.{Endpoint}
+use Rattle.spec_tcp.specs.declared.endpoint.Listener.{Listener}
+use Rattle.spec_tcp.specs.declared.endpoint.Socket.{Socket}
+use Rattle.spec_tcp.specs.Bodies.{Body}
+use Rattle.spec_tcp.specs.Bounds.{HasRoom}
+use Rattle.spec_tcp.specs.Forgetting.{forget_body, forget_endpoint}
 use Rattle.endpoint_state.proofs.Forgotten.{all_same, forget_same, first, later}
 
 pub body_same : (b : Body) → All HasRoom b.endpoints → forget_body b ≡ b

@@ -8,15 +8,15 @@ use Rattle.case_forms.specs.declared.calls.Answer.{Answer}
 use Rattle.verdict.specs.declared.rule.Rule.TheVariants as rules
 use Rattle.verdict.specs.Rules.{first_broken}
 use Rattle.verdict.proofs.RuleLemmas.{none_both}
-use Rattle.hosts.specs.Tables.{pick}
-use Rattle.hosts.specs.Hosts.{World, Turn, Idle, Called, Answered, Effect, turn_of}
-use Rattle.hosts.specs.HostRules.{Permitted, aim_of, call_rules, fresh_rules, open_rules, effect_rules, step_rules}
-use Rattle.hosts.specs.HostSteps.{effect_after, call_after}
-use Rattle.machine.specs.Bodies.{given}
-use Rattle.machine.specs.Calls.{call_allows, is_bad_socket}
-use Rattle.machine.specs.Machine.{tcp, tcp_shape, gives}
-use Rattle.machine.specs.Machine as acts
-use Rattle.machine.specs.Forgetting.{forget}
+use Rattle.spec_network.specs.Tables.{pick}
+use Rattle.spec_network.specs.Hosts.{World, Turn, Idle, Called, Answered, Effect, turn_of}
+use Rattle.spec_network.specs.HostRules.{Permitted, aim_of, call_rules, fresh_rules, open_rules, effect_rules, step_rules}
+use Rattle.spec_network.specs.HostSteps.{effect_after, call_after}
+use Rattle.spec_tcp.specs.Bodies.{given}
+use Rattle.spec_tcp.specs.Calls.{call_allows, is_bad_socket}
+use Rattle.spec_tcp.specs.Machine.{tcp, tcp_shape, gives}
+use Rattle.spec_tcp.specs.Machine as acts
+use Rattle.spec_tcp.specs.Forgetting.{forget}
 use Rattle.endpoint_state.specs.Worlds.{Progress, after}
 use Rattle.endpoint_state.specs.Calls.{meant, gives_again, allowed_at}
 use Rattle.endpoint_state.specs.Sides.{AreReady, forget_hosts}

@@ -7,16 +7,16 @@ use Rattle.case_forms.specs.declared.trace.Header.{Header}
 use Rattle.case_forms.specs.declared.calls.Host.{Host}
 use Rattle.case_forms.specs.declared.steps.SegmentPlan.{SegmentPlan}
 use Rattle.case_forms.specs.declared.steps.TakeChoice.{TakeChoice}
-use Rattle.hosts.specs.Tables.{Made, waiting, unsent}
-use Rattle.hosts.specs.Hosts.{HostState}
-use Rattle.hosts.specs.HostSteps.{inbox_settled}
-use Rattle.machine.specs.declared.endpoint.Emission.{Emission}
-use Rattle.machine.specs.Bodies.{Body, place_of, with_endpoint}
-use Rattle.machine.specs.Makes.{after_making, emission_of}
-use Rattle.machine.specs.Arrives.{taker, after_taking}
-use Rattle.machine.specs.Reset.{reset_of}
-use Rattle.machine.specs.Machine.{tcp_shape}
-use Rattle.machine.specs.Forgetting.{forget_body, forget_host}
+use Rattle.spec_network.specs.Tables.{Made, waiting, unsent}
+use Rattle.spec_network.specs.Hosts.{HostState}
+use Rattle.spec_network.specs.HostSteps.{inbox_settled}
+use Rattle.spec_tcp.specs.declared.endpoint.Emission.{Emission}
+use Rattle.spec_tcp.specs.Bodies.{Body, place_of, with_endpoint}
+use Rattle.spec_tcp.specs.Makes.{after_making, emission_of}
+use Rattle.spec_tcp.specs.Arrives.{taker, after_taking}
+use Rattle.spec_tcp.specs.Reset.{reset_of}
+use Rattle.spec_tcp.specs.Machine.{tcp_shape}
+use Rattle.spec_tcp.specs.Forgetting.{forget_body, forget_host}
 use Rattle.endpoint_state.specs.Kinds.{answered_one, made_one, taken_one}
 
 abbrev pub Host_ : Type 0

@@ -7,23 +7,23 @@ use Rattle.case_forms.specs.declared.calls.State.{State}
 use Rattle.case_forms.specs.declared.calls.State.TheVariants as states
 use Rattle.case_forms.specs.declared.calls.Answer.TheVariants as answers
 use Rattle.streams.specs.Received as received
-use Rattle.machine.specs.declared.endpoint.Endpoint.{Endpoint}
+use Rattle.spec_tcp.specs.declared.endpoint.Endpoint.{Endpoint}
 use Rattle.case_forms.specs.States.{is_closed, is_syn_sent}
-use Rattle.machine.specs.Calls.Receive.{recv_allows, after_recv}
-use Rattle.machine.specs.Calls.Send.{after_send}
-use Rattle.machine.specs.Calls.Close.{shut_down, ended_state, after_shut, after_close, after_abort, orphaned}
+use Rattle.spec_tcp.specs.Calls.Receive.{recv_allows, after_recv}
+use Rattle.spec_tcp.specs.Calls.Send.{after_send}
+use Rattle.spec_tcp.specs.Calls.Close.{shut_down, ended_state, after_shut, after_close, after_abort, orphaned}
 use Rattle.case_forms.specs.declared.steps.SegmentPlan.{SegmentPlan}
-use Rattle.machine.specs.Makes.{endpoint_made, after_making}
+use Rattle.spec_tcp.specs.Makes.{endpoint_made, after_making}
 use Rattle.case_forms.specs.declared.taken_line.Expired.{Expired}
 use Rattle.case_forms.specs.declared.taken_line.Expired.TheVariants.{Giveup, Msl2, Persist, Rto}
-use Rattle.machine.specs.Timeouts.{after_expiry}
-use Rattle.machine.specs.Recovery.{after_recovery}
+use Rattle.spec_tcp.specs.Timeouts.{after_expiry}
+use Rattle.spec_tcp.specs.Recovery.{after_recovery}
 use Rattle.endpoint_state.proofs.Forgets.{IsBounded, bounded_later}
 
 -- 1. calls
 
 shut : (steps : ℕ) (e : Endpoint) → IsBounded steps e → IsBounded steps (shut_down e)
-shut steps e b = record { una = b.una; counted = b.counted; dup = b.dup; tries = b.tries; backs = b.backs; accepted = b.accepted; met = λ sent closed. absurd cc; unmet = λ sent. absurd cc }
+shut steps e b = record { snd_una = b.snd_una; counted = b.counted; dup = b.dup; unanswered_expiries = b.unanswered_expiries; backoffs = b.backoffs; accepted = b.accepted; met = λ sent closed. absurd cc; unmet = λ sent. absurd cc }
 
 ended_sent : (s : State) → is_syn_sent (ended_state s) ≡ is_syn_sent s
 ended_sent states.Established = refl
@@ -38,11 +38,11 @@ ended_closed _ = refl
 shut_sending : (steps : ℕ) (e : Endpoint) → IsBounded steps e → IsBounded steps (after_shut e)
 shut_sending steps e b =
     record {
-      una = b.una;
+      snd_una = b.snd_una;
       counted = b.counted;
       dup = b.dup;
-      tries = b.tries;
-      backs = b.backs;
+      unanswered_expiries = b.unanswered_expiries;
+      backoffs = b.backoffs;
       accepted = b.accepted;
       met = λ sent closed. b.met (sym (ended_sent e.state) ∙ sent) (sym (ended_closed e.state) ∙ closed);
       unmet = λ sent. b.unmet (sym (ended_sent e.state) ∙ sent);
@@ -50,14 +50,14 @@ shut_sending steps e b =
 
 -- the sending was ended, and nothing else
 ending : (steps : ℕ) (e : Endpoint) → IsBounded steps e → IsBounded steps (record e { stream = record e.stream { ended = true } })
-ending steps e b = record { una = b.una; counted = b.counted; dup = b.dup; tries = b.tries; backs = b.backs; accepted = b.accepted; met = b.met; unmet = b.unmet }
+ending steps e b = record { snd_una = b.snd_una; counted = b.counted; dup = b.dup; unanswered_expiries = b.unanswered_expiries; backoffs = b.backoffs; accepted = b.accepted; met = b.met; unmet = b.unmet }
 
 -- what changes here is not spoken of
 closing : (steps : ℕ) (e : Endpoint) → IsBounded steps e → IsBounded steps (record e { closed = true })
-closing steps e b = record { una = b.una; counted = b.counted; dup = b.dup; tries = b.tries; backs = b.backs; accepted = b.accepted; met = b.met; unmet = b.unmet }
+closing steps e b = record { snd_una = b.snd_una; counted = b.counted; dup = b.dup; unanswered_expiries = b.unanswered_expiries; backoffs = b.backoffs; accepted = b.accepted; met = b.met; unmet = b.unmet }
 
 due : (steps : ℕ) (e : Endpoint) (c : Bool) → IsBounded steps e → IsBounded steps (record e { reset_due = c })
-due steps e c b = record { una = b.una; counted = b.counted; dup = b.dup; tries = b.tries; backs = b.backs; accepted = b.accepted; met = b.met; unmet = b.unmet }
+due steps e c b = record { snd_una = b.snd_una; counted = b.counted; dup = b.dup; unanswered_expiries = b.unanswered_expiries; backoffs = b.backoffs; accepted = b.accepted; met = b.met; unmet = b.unmet }
 
 either : (steps : ℕ) (c : Bool) (x y : Endpoint) → IsBounded steps x → IsBounded steps y → IsBounded steps (if c then x else y)
 either steps true x y p q = p
@@ -76,7 +76,7 @@ orphan_bounded : (steps l : ℕ) (e : Endpoint) → IsBounded steps e → IsBoun
 orphan_bounded steps l e b = either steps (option_map_or (λ holder. holder == l) e.listener false) (after_abort e) e (abort_bounded steps e b) b
 
 adopted_bounded : (steps : ℕ) (e : Endpoint) → IsBounded steps e → IsBounded steps (record e { listener = None })
-adopted_bounded steps e b = record { una = b.una; counted = b.counted; dup = b.dup; tries = b.tries; backs = b.backs; accepted = b.accepted; met = b.met; unmet = b.unmet }
+adopted_bounded steps e b = record { snd_una = b.snd_una; counted = b.counted; dup = b.dup; unanswered_expiries = b.unanswered_expiries; backoffs = b.backoffs; accepted = b.accepted; met = b.met; unmet = b.unmet }
 
 pub after_shut_bounded : (steps : ℕ) (e : Endpoint) → IsBounded steps e → IsBounded (suc steps) (after_shut e)
 after_shut_bounded steps e b = bounded_later steps (after_shut e) (shut_sending steps e b)
@@ -99,7 +99,7 @@ after_send_bounded bytes n small steps e b =
     let both = length-append e.stream.accepted (take n bytes) in
     let some = length-take n bytes in
     let old = b.accepted in
-    record { una = b.una; counted = b.counted; dup = later.dup; tries = later.tries; backs = later.backs; accepted = omega arith; met = b.met; unmet = b.unmet }
+    record { snd_una = b.snd_una; counted = b.counted; dup = later.dup; unanswered_expiries = later.unanswered_expiries; backoffs = later.backoffs; accepted = omega arith; met = b.met; unmet = b.unmet }
 
 third_false : (b c : Bool) → (b && c && false) ≡ true → ⊥
 third_false true true e = cc
@@ -117,11 +117,11 @@ pub after_recv_bounded : (most : ℕ) (bytes : List ℕ) (steps : ℕ) (e : Endp
 after_recv_bounded most bytes steps e allowed b =
     let later = bounded_later steps e b in
     record {
-      una = b.una;
+      snd_una = b.snd_una;
       counted = b.counted;
       dup = later.dup;
-      tries = later.tries;
-      backs = later.backs;
+      unanswered_expiries = later.unanswered_expiries;
+      backoffs = later.backoffs;
       accepted = later.accepted;
       met = b.met;
       unmet = λ sent. absurd (empty_gives e most bytes (b.unmet sent) allowed);
@@ -130,7 +130,7 @@ after_recv_bounded most bytes steps e allowed b =
 -- 2. making, timers, recovery
 
 made_bounded : (m : SegmentPlan) (moment steps : ℕ) (e : Endpoint) → IsBounded steps e → IsBounded steps (endpoint_made e m moment)
-made_bounded m moment steps e b = record { una = b.una; counted = b.counted; dup = b.dup; tries = b.tries; backs = b.backs; accepted = b.accepted; met = b.met; unmet = b.unmet }
+made_bounded m moment steps e b = record { snd_una = b.snd_una; counted = b.counted; dup = b.dup; unanswered_expiries = b.unanswered_expiries; backoffs = b.backoffs; accepted = b.accepted; met = b.met; unmet = b.unmet }
 
 pub after_making_bounded : (m : SegmentPlan) (moment steps : ℕ) (e : Endpoint) → IsBounded steps e → IsBounded (suc steps) (after_making e m moment)
 after_making_bounded m moment steps e b =
@@ -142,19 +142,19 @@ after_making_bounded m moment steps e b =
 pub after_expiry_bounded : (x : Expired) (moment steps : ℕ) (e : Endpoint) → IsBounded steps e → IsBounded (suc steps) (after_expiry e x moment)
 after_expiry_bounded (Rto growth) moment steps e b =
     let later = bounded_later steps e b in
-    let tries = b.tries in
-    let backs = b.backs in
-    record { una = b.una; counted = omega arith; dup = omega arith; tries = omega arith; backs = omega arith; accepted = later.accepted; met = b.met; unmet = b.unmet }
+    let unanswered_expiries = b.unanswered_expiries in
+    let backoffs = b.backoffs in
+    record { snd_una = b.snd_una; counted = omega arith; dup = omega arith; unanswered_expiries = omega arith; backoffs = omega arith; accepted = later.accepted; met = b.met; unmet = b.unmet }
 after_expiry_bounded Persist moment steps e b =
     let later = bounded_later steps e b in
-    let tries = b.tries in
-    record { una = b.una; counted = b.counted; dup = later.dup; tries = omega arith; backs = later.backs; accepted = later.accepted; met = b.met; unmet = b.unmet }
+    let unanswered_expiries = b.unanswered_expiries in
+    record { snd_una = b.snd_una; counted = b.counted; dup = later.dup; unanswered_expiries = omega arith; backoffs = later.backoffs; accepted = later.accepted; met = b.met; unmet = b.unmet }
 after_expiry_bounded Msl2 moment steps e b = bounded_later steps (shut_down e) (shut steps e b)
 after_expiry_bounded Giveup moment steps e b =
     let later = bounded_later steps (shut_down e) (shut steps e b) in
-    record { una = b.una; counted = b.counted; dup = later.dup; tries = later.tries; backs = later.backs; accepted = later.accepted; met = later.met; unmet = later.unmet }
+    record { snd_una = b.snd_una; counted = b.counted; dup = later.dup; unanswered_expiries = later.unanswered_expiries; backoffs = later.backoffs; accepted = later.accepted; met = later.met; unmet = later.unmet }
 
 pub after_recovery_bounded : (cwnd ssthresh steps : ℕ) (e : Endpoint) → IsBounded steps e → IsBounded (suc steps) (after_recovery e cwnd ssthresh)
 after_recovery_bounded cwnd ssthresh steps e b =
     let later = bounded_later steps e b in
-    record { una = b.una; counted = b.counted; dup = later.dup; tries = later.tries; backs = later.backs; accepted = later.accepted; met = b.met; unmet = b.unmet }
+    record { snd_una = b.snd_una; counted = b.counted; dup = later.dup; unanswered_expiries = later.unanswered_expiries; backoffs = later.backoffs; accepted = later.accepted; met = b.met; unmet = b.unmet }

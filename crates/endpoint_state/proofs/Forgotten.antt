@@ -4,9 +4,9 @@ use Rattle.std.proofs.lemmas.Option.{slice_get_past, slice_get_read}
 use Rattle.std.specs.Prelude.{is_some, slice_get, slice_set}
 use Rattle.std.specs.List.{All}
 use Rattle.streams.specs.Lists.{modify}
-use Rattle.machine.specs.declared.endpoint.Endpoint.{Endpoint}
-use Rattle.machine.specs.Bounds.{IsForgotten, HasRoom}
-use Rattle.machine.specs.Forgetting.{forget_endpoint}
+use Rattle.spec_tcp.specs.declared.endpoint.Endpoint.{Endpoint}
+use Rattle.spec_tcp.specs.Bounds.{IsForgotten, HasRoom}
+use Rattle.spec_tcp.specs.Forgetting.{forget_endpoint}
 use Rattle.endpoint_state.specs.Changes.{changed}
 use Rattle.endpoint_state.proofs.PlaceLemmas.{modified_at, modified_past}
 

@@ -17,21 +17,21 @@ use Rattle.case_forms.specs.declared.calls.Call.{Call}
 use Rattle.verdict.specs.Rules.{first_broken}
 use Rattle.verdict.specs.declared.rule.Rule.TheVariants as rules
 use Rattle.verdict.proofs.RuleLemmas.{none_both}
-use Rattle.hosts.specs.Tables.{Both, Made, gone_out, on, pick, settled, unsent, waiting}
-use Rattle.hosts.specs.Hosts.{HostState, World, Turn, Idle, Called, Answered, Deed, Does, Expires, Makes, Sends, Gets, Hears, Takes, Drops, Answers, Step, Begin, Finish, Effect, At, turn_of}
-use Rattle.hosts.specs.HostRules.{Permitted, aim_of, call_rules, deed_rules, effect_rules, fresh_rules, just}
-use Rattle.hosts.specs.HostSteps.{act_made, after, call_after, deed_after, effect_after, empty_host, makes, start}
-use Rattle.machine.specs.declared.endpoint.Emission.{Emission}
-use Rattle.machine.specs.Bodies.{Body}
-use Rattle.machine.specs.Heard.{heard}
-use Rattle.machine.specs.Reset.{reset_of}
-use Rattle.machine.specs.Wire.{sent}
+use Rattle.spec_network.specs.Tables.{Both, Made, gone_out, on, pick, settled, unsent, waiting}
+use Rattle.spec_network.specs.Hosts.{HostState, World, Turn, Idle, Called, Answered, Deed, Does, Expires, Makes, Sends, Gets, Hears, Takes, Drops, Answers, Step, Begin, Finish, Effect, At, turn_of}
+use Rattle.spec_network.specs.HostRules.{Permitted, aim_of, call_rules, deed_rules, effect_rules, fresh_rules, just}
+use Rattle.spec_network.specs.HostSteps.{act_made, after, call_after, deed_after, effect_after, empty_host, makes, start}
+use Rattle.spec_tcp.specs.declared.endpoint.Emission.{Emission}
+use Rattle.spec_tcp.specs.Bodies.{Body}
+use Rattle.spec_tcp.specs.Heard.{heard}
+use Rattle.spec_tcp.specs.Reset.{reset_of}
+use Rattle.spec_tcp.specs.Wire.{sent}
 use Rattle.case_forms.specs.declared.steps.TakeChoice.{TakeChoice}
 use Rattle.case_forms.specs.declared.steps.SegmentPlan.{SegmentPlan}
-use Rattle.machine.specs.Machine.{tcp, tcp_shape, Act, act_after, act_makes, act_rules, aim, gives}
-use Rattle.machine.specs.Machine as acts
-use Rattle.machine.specs.Forgetting.{forget, forget_body, forget_endpoint, forget_host}
-use Rattle.machine.specs.Bounds.{IsKept, IsKeptBody, IsSmallEmission, most_steps}
+use Rattle.spec_tcp.specs.Machine.{tcp, tcp_shape, Act, act_after, act_makes, act_rules, aim, gives}
+use Rattle.spec_tcp.specs.Machine as acts
+use Rattle.spec_tcp.specs.Forgetting.{forget, forget_body, forget_endpoint, forget_host}
+use Rattle.spec_tcp.specs.Bounds.{IsKept, IsKeptBody, IsSmallEmission, most_steps}
 use Rattle.endpoint_state.specs.Keeping.{IsSmallAct, IsSmallAnswer}
 use Rattle.endpoint_state.proofs.Bodies.{body_keeps, kept_body_later, starts_kept}
 use Rattle.endpoint_state.proofs.Forgets.{IsBounded, all_kept_forgotten, bounded}

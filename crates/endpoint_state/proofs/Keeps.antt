@@ -4,25 +4,25 @@ use Rattle.std.specs.Prelude.{if◌then◌else◌, slice_set}
 use Rattle.std.specs.List.{All}
 use Rattle.std.proofs.lemmas.Option.{none-some}
 use Rattle.case_forms.specs.declared.trace.Header.{Header}
-use Rattle.machine.specs.declared.endpoint.Endpoint.{Endpoint}
-use Rattle.machine.specs.declared.endpoint.Emission.{Emission}
+use Rattle.spec_tcp.specs.declared.endpoint.Endpoint.{Endpoint}
+use Rattle.spec_tcp.specs.declared.endpoint.Emission.{Emission}
 use Rattle.case_forms.specs.declared.steps.SegmentPlan.{SegmentPlan}
 use Rattle.case_forms.specs.declared.steps.TakeChoice.{TakeChoice}
 use Rattle.case_forms.specs.States.{is_syn_sent}
-use Rattle.machine.specs.Bounds.{HasRoom}
-use Rattle.machine.specs.Calls.Send.{after_send}
-use Rattle.machine.specs.Calls.Receive.{after_recv}
-use Rattle.machine.specs.Calls.Close.{shut_down, after_shut, after_close, after_abort}
-use Rattle.machine.specs.Makes.{endpoint_made, after_making}
-use Rattle.machine.specs.Arrives.Otherwise.{taken}
-use Rattle.machine.specs.Arrives.Otherwise.Reset.{was_reset}
-use Rattle.machine.specs.Arrives.SynSent.{met_peer}
-use Rattle.machine.specs.Arrives.{endpoint_taken}
+use Rattle.spec_tcp.specs.Bounds.{HasRoom}
+use Rattle.spec_tcp.specs.Calls.Send.{after_send}
+use Rattle.spec_tcp.specs.Calls.Receive.{after_recv}
+use Rattle.spec_tcp.specs.Calls.Close.{shut_down, after_shut, after_close, after_abort}
+use Rattle.spec_tcp.specs.Makes.{endpoint_made, after_making}
+use Rattle.spec_tcp.specs.Arrives.OtherStates.{taken}
+use Rattle.spec_tcp.specs.Arrives.OtherStates.Reset.{was_reset}
+use Rattle.spec_tcp.specs.Arrives.SynSent.{on_syn}
+use Rattle.spec_tcp.specs.Arrives.{endpoint_taken}
 use Rattle.case_forms.specs.declared.taken_line.Expired.{Expired}
 use Rattle.case_forms.specs.declared.taken_line.Expired.TheVariants.{Giveup, Msl2, Persist, Rto}
-use Rattle.machine.specs.Timeouts.{after_expiry}
-use Rattle.machine.specs.Recovery.{after_recovery}
-use Rattle.machine.specs.Forgetting.{forget_endpoint}
+use Rattle.spec_tcp.specs.Timeouts.{after_expiry}
+use Rattle.spec_tcp.specs.Recovery.{after_recovery}
+use Rattle.spec_tcp.specs.Forgetting.{forget_endpoint}
 use Rattle.endpoint_state.specs.Indexes.{IsIndexed}
 use Rattle.endpoint_state.specs.Changes.{Keeps, changed}
 use Rattle.endpoint_state.proofs.IndexLemmas.{indexed_modify}
@@ -55,7 +55,7 @@ keeps_recovered e cwnd ssthresh = record { lport = refl; rport = refl; listener 
 pub keeps_taken : (h : Header) (e : Endpoint) (how : TakeChoice) (m : Emission) (moment : ℕ) → Keeps e (endpoint_taken h e how m moment)
 keeps_taken h e how m moment = by m.flags.rst (is_syn_sent e.state)
   where
-    by : (b c : Bool) → Keeps e (if b then was_reset e how else if c then met_peer h e how m moment else taken h e how m moment)
+    by : (b c : Bool) → Keeps e (if b then was_reset e how else if c then on_syn h e how m moment else taken h e how m moment)
     by true c = record { lport = refl; rport = refl; listener = λ l is. is }
     by false true = record { lport = refl; rport = refl; listener = λ l is. is }
     by false false = record { lport = refl; rport = refl; listener = λ l is. is }

@@ -6,13 +6,13 @@ use Rattle.case_forms.specs.declared.trace.Header.{Header}
 use Rattle.case_forms.specs.declared.trace.Wire.{Wire}
 use Rattle.case_forms.specs.declared.calls.Host.{Host}
 use Rattle.case_forms.specs.declared.calls.Host.TheVariants.{Zero, One}
-use Rattle.hosts.specs.Tables.{Both, pick, other, with_host, on, waiting, settled, unsent}
-use Rattle.hosts.specs.Hosts.{HostState, Answers, Drops, Gets, Hears, Sends}
-use Rattle.hosts.specs.HostSteps.{inbox_after}
-use Rattle.machine.specs.declared.endpoint.Emission.{Emission}
-use Rattle.machine.specs.Reset.{reset_of}
-use Rattle.machine.specs.Machine.{tcp_shape}
-use Rattle.machine.specs.Forgetting.{forget_host}
+use Rattle.spec_network.specs.Tables.{Both, pick, other, with_host, on, waiting, settled, unsent}
+use Rattle.spec_network.specs.Hosts.{HostState, Answers, Drops, Gets, Hears, Sends}
+use Rattle.spec_network.specs.HostSteps.{inbox_after}
+use Rattle.spec_tcp.specs.declared.endpoint.Emission.{Emission}
+use Rattle.spec_tcp.specs.Reset.{reset_of}
+use Rattle.spec_tcp.specs.Machine.{tcp_shape}
+use Rattle.spec_tcp.specs.Forgetting.{forget_host}
 use Rattle.endpoint_state.specs.Kept.{IsReady}
 use Rattle.endpoint_state.specs.Kinds.{answered_one, dropped_one, heard_one, sent_one}
 use Rattle.endpoint_state.specs.Sides.{AreReady, forget_hosts, hosts_after}

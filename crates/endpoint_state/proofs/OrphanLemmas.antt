@@ -12,11 +12,11 @@ use Rattle.std.proofs.lemmas.Option.{none-some, same_Some}
 use Rattle.std.proofs.lemmas.List.Elements.{All-cons}
 use Rattle.streams.specs.Lists.{modify}
 use Rattle.streams.proofs.Places.{all_modify}
-use Rattle.machine.specs.declared.endpoint.Endpoint.{Endpoint}
-use Rattle.machine.specs.Bounds.{HasRoom}
-use Rattle.machine.specs.Calls.Close.{orphaned, after_abort, resets_at_abort}
-use Rattle.machine.specs.Forgetting.{forget_endpoint}
-use Rattle.machine.specs.Bodies.{has_ports}
+use Rattle.spec_tcp.specs.declared.endpoint.Endpoint.{Endpoint}
+use Rattle.spec_tcp.specs.Bounds.{HasRoom}
+use Rattle.spec_tcp.specs.Calls.Close.{orphaned, after_abort, resets_at_abort}
+use Rattle.spec_tcp.specs.Forgetting.{forget_endpoint}
+use Rattle.spec_tcp.specs.Bodies.{has_ports}
 use Rattle.endpoint_state.specs.Indexes.{IsIndexed, stands_in, is_child_in}
 use Rattle.endpoint_state.specs.Changes.{orphan_each}
 use Rattle.endpoint_state.proofs.IndexLemmas.{indexed_modify}
@@ -45,7 +45,7 @@ room_orphaned l e room = by (is_of l e)
   where
     by : (b : Bool) → HasRoom (if b then after_abort e else e)
     by false = room
-    by true = record { una = room.una; counted = room.counted; dup = room.dup; tries = room.tries; backs = room.backs; accepted = room.accepted; forgets = record { accepted = room.forgets.accepted; received = room.forgets.received; made = room.forgets.made }; met = λ sent closed. absurd (true≢false closed); unmet = λ sent. absurd (true≢false (sym sent)) }
+    by true = record { snd_una = room.snd_una; counted = room.counted; dup = room.dup; unanswered_expiries = room.unanswered_expiries; backoffs = room.backoffs; accepted = room.accepted; forgets = record { accepted = room.forgets.accepted; received = room.forgets.received; made = room.forgets.made }; met = λ sent closed. absurd (true≢false closed); unmet = λ sent. absurd (true≢false (sym sent)) }
 
 pub all_modified : {X : Type 0} (P : X → Type 0) (f : X → X) → ((x : X) → P x → P (f x)) → (xs : List X) (i : ℕ) → All P xs → All P (modify xs i f)
 all_modified P f keeps [] i all = all

@@ -1,7 +1,7 @@
 -- One element changed in its place.
 use Rattle.std.proofs.Common.{◌≡◌, ℕ, zero, suc, ◌<◌, ◌≤◌, ◌-◌, List, [], ◌∷◌, ◌++◌, length, length-append, get_or, refl, ap, ◌∙◌, arith}
 use Rattle.std.specs.Prelude.{slice_set, Result, Ok, Err, OnOk, OnErr, take}
-use Rattle.machine.specs.declared.endpoint.Listener.{Listener}
+use Rattle.spec_tcp.specs.declared.endpoint.Listener.{Listener}
 use Rattle.std.proofs.Math.Seq.{take-append_seam}
 use Rattle.streams.specs.Lists.{modify}
 

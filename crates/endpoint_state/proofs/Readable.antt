@@ -9,36 +9,36 @@ use Rattle.case_forms.specs.declared.calls.Host.TheVariants.{Zero, One}
 use Rattle.case_forms.specs.States.{is_syn_received}
 use Rattle.case_forms.specs.declared.steps.TakeChoice.{TakeChoice}
 use Rattle.case_forms.specs.declared.trace.Header.{Header}
-use Rattle.hosts.specs.Tables.{pick}
-use Rattle.hosts.specs.Hosts.{World}
-use Rattle.machine.specs.declared.endpoint.Endpoint.{Endpoint}
-use Rattle.machine.specs.declared.endpoint.Emission.{Emission}
-use Rattle.machine.specs.declared.endpoint.Listener.{Listener}
-use Rattle.machine.specs.Bodies.{Body}
-use Rattle.machine.specs.Heard.{as_read}
-use Rattle.machine.specs.Arrives.Otherwise.Ack.{acknowledges_syn}
-use Rattle.machine.specs.Arrives.{after_taking, endpoint_taken, joined}
-use Rattle.machine.specs.Forgetting.{forget_body}
+use Rattle.spec_network.specs.Tables.{pick}
+use Rattle.spec_network.specs.Hosts.{World}
+use Rattle.spec_tcp.specs.declared.endpoint.Endpoint.{Endpoint}
+use Rattle.spec_tcp.specs.declared.endpoint.Emission.{Emission}
+use Rattle.spec_tcp.specs.declared.endpoint.Listener.{Listener}
+use Rattle.spec_tcp.specs.Bodies.{Body}
+use Rattle.spec_tcp.specs.Heard.{as_read}
+use Rattle.spec_tcp.specs.Arrives.OtherStates.Ack.{acknowledges_syn}
+use Rattle.spec_tcp.specs.Arrives.{after_taking, endpoint_taken, joined}
+use Rattle.spec_tcp.specs.Forgetting.{forget_body}
 use Rattle.streams.specs.Lists.{modify}
-use Rattle.machine.specs.Bounds.{HasRoom, IsKept}
-use Rattle.machine.specs.Machine.{tcp_shape}
+use Rattle.spec_tcp.specs.Bounds.{HasRoom, IsKept}
+use Rattle.spec_tcp.specs.Machine.{tcp_shape}
 use Rattle.endpoint_state.specs.declared.body.arrives.Found.TheVariants as found
 use Rattle.endpoint_state.specs.Changes.{changed}
 use Rattle.endpoint_state.specs.Kept.{AreReadable, IsKeptWorld}
 use Rattle.endpoint_state.specs.Takers.{joins_by, taker_found}
 
 pub room_reads : (es : List Endpoint) → All HasRoom es → AreReadable es
-room_reads es room = All-weaker HasRoom (λ e. e.stream.una < 2 ^ 63) (λ e has. has.una) es room
+room_reads es room = All-weaker HasRoom (λ e. e.stream.snd_una < 2 ^ 63) (λ e has. has.snd_una) es room
 
 pub kept_reads : (steps : ℕ) (w : World tcp_shape) (host : Host) → IsKeptWorld steps w → AreReadable (pick w.hosts host).body.endpoints
-kept_reads steps w Zero kept = All-weaker (IsKept steps) (λ e. e.stream.una < 2 ^ 63) (λ e has. has.una) w.hosts.zero.body.endpoints kept.zero.body.kept
-kept_reads steps w One kept = All-weaker (IsKept steps) (λ e. e.stream.una < 2 ^ 63) (λ e has. has.una) w.hosts.one.body.endpoints kept.one.body.kept
+kept_reads steps w Zero kept = All-weaker (IsKept steps) (λ e. e.stream.snd_una < 2 ^ 63) (λ e has. has.snd_una) w.hosts.zero.body.endpoints kept.zero.body.kept
+kept_reads steps w One kept = All-weaker (IsKept steps) (λ e. e.stream.snd_una < 2 ^ 63) (λ e has. has.snd_una) w.hosts.one.body.endpoints kept.one.body.kept
 
 -- the endpoint at a place
-pub una_at : (es : List Endpoint) (i : ℕ) (e : Endpoint) → AreReadable es → Some e ≡ slice_get es i → e.stream.una < 2 ^ 63
+pub una_at : (es : List Endpoint) (i : ℕ) (e : Endpoint) → AreReadable es → Some e ≡ slice_get es i → e.stream.snd_una < 2 ^ 63
 una_at [] i e all is = absurd cc
-una_at (x ∷ es) zero e all is = subst (λ (o : Option Endpoint). IfSome o (λ y. y.stream.una < 2 ^ 63)) (sym is) (All-head (λ (y : Endpoint). y.stream.una < 2 ^ 63) x es all)
-una_at (x ∷ es) (suc i) e all is = una_at es i e (All-tail (λ (y : Endpoint). y.stream.una < 2 ^ 63) x es all) is
+una_at (x ∷ es) zero e all is = subst (λ (o : Option Endpoint). IfSome o (λ y. y.stream.snd_una < 2 ^ 63)) (sym is) (All-head (λ (y : Endpoint). y.stream.snd_una < 2 ^ 63) x es all)
+una_at (x ∷ es) (suc i) e all is = una_at es i e (All-tail (λ (y : Endpoint). y.stream.snd_una < 2 ^ 63) x es all) is
 
 -- the endpoint at a place takes a segment as it reads it (`r`), and joins that listener's queue if it joins one
 joined_is : (b : Body) (place : ℕ) (e : Endpoint) (r : Emission) → option_map_or (λ l. modify b.listeners l (λ x. let y : Listener = record x { queue = x.queue ++ place ∷ [] } in y)) (joins_by e r) b.listeners ≡ joined b place e r

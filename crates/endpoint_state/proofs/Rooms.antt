@@ -2,23 +2,23 @@
 use Rattle.std.proofs.Common.{ℕ, ◌<◌, List, arith}
 use Rattle.std.specs.List.{All}
 use Rattle.std.proofs.lemmas.List.Elements.{All-weaker}
-use Rattle.machine.specs.declared.endpoint.Endpoint.{Endpoint}
-use Rattle.machine.specs.Bounds.{HasRoom, IsKept, most_steps}
+use Rattle.spec_tcp.specs.declared.endpoint.Endpoint.{Endpoint}
+use Rattle.spec_tcp.specs.Bounds.{HasRoom, IsKept, most_steps}
 
 pub has_room : (steps : ℕ) (e : Endpoint) → steps < most_steps → IsKept steps e → HasRoom e
 has_room steps e few k =
-    let una = k.una in
+    let snd_una = k.snd_una in
     let counted = k.counted in
     let dup = k.dup in
-    let tries = k.tries in
-    let backs = k.backs in
+    let unanswered_expiries = k.unanswered_expiries in
+    let backoffs = k.backoffs in
     let accepted = k.accepted in
     record {
-      una = k.una;
+      snd_una = k.snd_una;
       counted = omega arith;
       dup = omega arith;
-      tries = omega arith;
-      backs = omega arith;
+      unanswered_expiries = omega arith;
+      backoffs = omega arith;
       accepted = omega arith;
       forgets = k.forgets;
       met = k.met;

@@ -7,12 +7,12 @@ use Rattle.seqno.specs.Near.{near_position}
 use Rattle.case_forms.specs.Versions.{is_half}
 use Rattle.case_forms.specs.declared.version.Version.{Version}
 use Rattle.case_forms.specs.declared.trace.Wire.{Wire}
-use Rattle.machine.specs.declared.endpoint.Emission.{Emission}
-use Rattle.machine.specs.declared.endpoint.Endpoint.{Endpoint}
-use Rattle.machine.specs.Bounds.{IsSmallEmission, greatest_position}
-use Rattle.machine.specs.Heard.{as_read, heard, position_near, read_at, readable}
-use Rattle.machine.specs.Reset.{reset_of}
-use Rattle.machine.specs.Wire.{sent}
+use Rattle.spec_tcp.specs.declared.endpoint.Emission.{Emission}
+use Rattle.spec_tcp.specs.declared.endpoint.Endpoint.{Endpoint}
+use Rattle.spec_tcp.specs.Bounds.{IsSmallEmission, greatest_position}
+use Rattle.spec_tcp.specs.Heard.{as_read, heard, position_near, read_at, readable}
+use Rattle.spec_tcp.specs.Reset.{reset_of}
+use Rattle.spec_tcp.specs.Wire.{sent}
 
 pub resets_small : (m : Emission) → IsSmallEmission (reset_of m)
 resets_small m = record { pos = omega arith; ack = omega arith; payload = omega arith }
@@ -35,8 +35,8 @@ readable_small (Some p) = by (nat_le p greatest_position) refl
 read_at_small : (e : Endpoint) (m : Emission) → (read_at e m).ack < 2 ^ 63
 read_at_small e m = by (m.flags.ack && not m.flags.rst)
   where
-    by : (acknowledges : Bool) → (if acknowledges then position_near e.stream.una e.iss m.ack_seq else 0) < 2 ^ 63
-    by true = readable_small (option_map_or (λ b. near_position e.stream.una b m.ack_seq) e.iss None)
+    by : (acknowledges : Bool) → (if acknowledges then position_near e.stream.snd_una e.iss m.ack_seq else 0) < 2 ^ 63
+    by true = readable_small (option_map_or (λ b. near_position e.stream.snd_una b m.ack_seq) e.iss None)
     by false = omega arith
 
 pub read_small : (v : Version) (e : Endpoint) (m : Emission) → m.ack < 2 ^ 63 → (as_read v e m).ack < 2 ^ 63

@@ -10,17 +10,17 @@ use Rattle.case_forms.specs.declared.calls.Answer.TheVariants as answers
 use Rattle.case_forms.specs.declared.calls.State.TheVariants as states
 use Rattle.streams.specs.Lists.{modify}
 use Rattle.streams.specs.Received.{starts, waiting}
-use Rattle.machine.specs.declared.endpoint.Endpoint.{Endpoint}
-use Rattle.machine.specs.declared.endpoint.Listener.{Listener}
-use Rattle.machine.specs.declared.endpoint.Socket.{Socket}
-use Rattle.machine.specs.declared.endpoint.Thing.{Thing}
-use Rattle.machine.specs.declared.endpoint.Thing.TheVariants.{Ends}
-use Rattle.machine.specs.Bodies.{Body, queue_of, with_socket}
-use Rattle.machine.specs.Endpoints.{new_endpoint}
-use Rattle.machine.specs.Bounds.{HasRoom}
-use Rattle.machine.specs.Calls.{call_allows, thing_allows, is_bad_socket, endpoint_allows}
-use Rattle.machine.specs.Calls.Accept.{accepted_from}
-use Rattle.machine.specs.Forgetting.{forget_body}
+use Rattle.spec_tcp.specs.declared.endpoint.Endpoint.{Endpoint}
+use Rattle.spec_tcp.specs.declared.endpoint.Listener.{Listener}
+use Rattle.spec_tcp.specs.declared.endpoint.Socket.{Socket}
+use Rattle.spec_tcp.specs.declared.endpoint.SocketTarget.{SocketTarget}
+use Rattle.spec_tcp.specs.declared.endpoint.SocketTarget.TheVariants.{EndpointAt}
+use Rattle.spec_tcp.specs.Bodies.{Body, queue_of, with_socket}
+use Rattle.spec_tcp.specs.Endpoints.{new_endpoint}
+use Rattle.spec_tcp.specs.Bounds.{HasRoom}
+use Rattle.spec_tcp.specs.Calls.{call_allows, thing_allows, is_bad_socket, endpoint_allows}
+use Rattle.spec_tcp.specs.Calls.Accept.{accepted_from}
+use Rattle.spec_tcp.specs.Forgetting.{forget_body}
 use Rattle.endpoint_state.specs.Changes.{changed}
 use Rattle.endpoint_state.specs.Waiting.{AreWaiting}
 use Rattle.endpoint_state.proofs.BodyLemmas.{body_is, forgot_push}
@@ -43,7 +43,7 @@ queue_at b l x at = ap (λ (o : Option Listener). option_map_or (λ y. y.queue) 
 
 -- the first child is accepted
 pub accepted_first : (b : Body) (l n child : ℕ) (es : List Endpoint) (xs : List Listener) (ss : List (ℕ × Socket)) → slice_get (queue_of b l) 0 ≡ Some child
-    → es ≡ changed b.endpoints child (λ e. record e { listener = None }) → xs ≡ modify b.listeners l without_first → ss ≡ insert_entry nat_eq b.sockets n (record { thing = Ends child; live = true })
+    → es ≡ changed b.endpoints child (λ e. record e { listener = None }) → xs ≡ modify b.listeners l without_first → ss ≡ insert_entry nat_eq b.sockets n (record { thing = EndpointAt child; live = true })
     → (let a : Body = record { endpoints = es; listeners = xs; sockets = ss } in a) ≡ forget_body (accepted_from b l n (queue_of b l))
 accepted_first b l n child es xs ss first e x s = by (queue_of b l) refl first
   where
@@ -58,8 +58,8 @@ accepted_first b l n child es xs ss first e x s = by (queue_of b l) refl first
 
 -- an endpoint that is opened has nothing to discard
 pub opened : (b : Body) (n lport rport : ℕ) → All HasRoom b.endpoints
-    → with_socket (record b { endpoints = b.endpoints ++ new_endpoint lport rport None states.SynSent ∷ [] }) n (Ends (length b.endpoints))
-    ≡ forget_body (with_socket (record b { endpoints = b.endpoints ++ new_endpoint lport rport None states.SynSent ∷ [] }) n (Ends (length b.endpoints)))
+    → with_socket (record b { endpoints = b.endpoints ++ new_endpoint lport rport None states.SynSent ∷ [] }) n (EndpointAt (length b.endpoints))
+    ≡ forget_body (with_socket (record b { endpoints = b.endpoints ++ new_endpoint lport rport None states.SynSent ∷ [] }) n (EndpointAt (length b.endpoints)))
 opened b n lport rport room = body_is _ _ b.listeners b.listeners _ _ (forgot_push b.endpoints (new_endpoint lport rport None states.SynSent) room refl) refl refl
 
 starts_within : (xs ys : List ℕ) → starts xs ys ≡ true → length xs ≤ length ys
@@ -78,6 +78,6 @@ both false b is = absurd (true≢false (sym is))
 -- bytes that a `recv` may give wait
 pub allowed_wait : (b : Body) (n most : ℕ) (bytes : List ℕ) → call_allows b (calls.Recv n most) (answers.Bytes bytes) ≡ true → AreWaiting b n bytes
 allowed_wait b n most bytes allowed i e named at =
-    let one : thing_allows b (calls.Recv n most) (answers.Bytes bytes) (Ends i) ≡ true = sym (ap (λ (o : Option Thing). option_map_or (thing_allows b (calls.Recv n most) (answers.Bytes bytes)) o (is_bad_socket (answers.Bytes bytes))) named) ∙ allowed in
+    let one : thing_allows b (calls.Recv n most) (answers.Bytes bytes) (EndpointAt i) ≡ true = sym (ap (λ (o : Option SocketTarget). option_map_or (thing_allows b (calls.Recv n most) (answers.Bytes bytes)) o (is_bad_socket (answers.Bytes bytes))) named) ∙ allowed in
     let two : endpoint_allows e (calls.Recv n most) (answers.Bytes bytes) ≡ true = sym (ap (λ (o : Option Endpoint). option_map_or (λ x. endpoint_allows x (calls.Recv n most) (answers.Bytes bytes)) o false) at) ∙ one in
     starts_within bytes (waiting e.stream.receive) (both (nat_le 1 (length bytes) && nat_le (length bytes) most) (starts bytes (waiting e.stream.receive)) two)

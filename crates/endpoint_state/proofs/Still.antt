@@ -6,14 +6,14 @@ use Rattle.std.proofs.lemmas.Option.{none-some}
 use Rattle.std.specs.List.{All}
 use Rattle.std.specs.Option.{IfSome}
 use Rattle.std.specs.Map.{lookup}
-use Rattle.hosts.specs.Tables.{waiting, on}
-use Rattle.hosts.specs.Hosts.{HostState}
-use Rattle.machine.specs.declared.endpoint.Emission.{Emission}
-use Rattle.machine.specs.declared.endpoint.Endpoint.{Endpoint}
-use Rattle.machine.specs.Bodies.{Body}
-use Rattle.machine.specs.Machine.{tcp_shape}
-use Rattle.machine.specs.Forgetting.{forget_endpoint, forget_body, forget_host}
-use Rattle.machine.specs.Bounds.{HasRoom, IsForgotten, IsSmallEmission}
+use Rattle.spec_network.specs.Tables.{waiting, on}
+use Rattle.spec_network.specs.Hosts.{HostState}
+use Rattle.spec_tcp.specs.declared.endpoint.Emission.{Emission}
+use Rattle.spec_tcp.specs.declared.endpoint.Endpoint.{Endpoint}
+use Rattle.spec_tcp.specs.Bodies.{Body}
+use Rattle.spec_tcp.specs.Machine.{tcp_shape}
+use Rattle.spec_tcp.specs.Forgetting.{forget_endpoint, forget_body, forget_host}
+use Rattle.spec_tcp.specs.Bounds.{HasRoom, IsForgotten, IsSmallEmission}
 use Rattle.endpoint_state.specs.Kept.{IsReady, IsSmallArrival, AreSmall}
 
 still_endpoint : (e : Endpoint) → IsForgotten e → forget_endpoint e ≡ e

@@ -9,18 +9,18 @@ use Rattle.window_rules.specs.declared.congestion.Congestion.{Congestion}
 use Rattle.window_rules.specs.Growth.{counted_after, fills_window, is_avoiding}
 use Rattle.streams.specs.Received.{body_kept}
 use Rattle.streams.proofs.Fronts.{next_put_all}
-use Rattle.machine.specs.declared.endpoint.Endpoint.{Endpoint}
-use Rattle.machine.specs.declared.endpoint.Emission.{Emission}
+use Rattle.spec_tcp.specs.declared.endpoint.Endpoint.{Endpoint}
+use Rattle.spec_tcp.specs.declared.endpoint.Emission.{Emission}
 use Rattle.case_forms.specs.States.{is_closed, is_syn_sent}
 use Rattle.case_forms.specs.declared.steps.TakeChoice.{TakeChoice}
-use Rattle.machine.specs.Arrives.Otherwise.Ack.{is_new_ack, acknowledges_syn, acked, is_duplicate, fin_acknowledged, acknowledged}
-use Rattle.machine.specs.Arrives.Otherwise.Fin.{finished, keeps_fin}
-use Rattle.machine.specs.Arrives.Otherwise.Text.{kept_start, kept_bytes, state_taken}
-use Rattle.machine.specs.Arrives.Otherwise.{taken}
-use Rattle.machine.specs.Arrives.Otherwise.Reset.{was_reset}
-use Rattle.machine.specs.Arrives.SynSent.{met_peer}
-use Rattle.machine.specs.Arrives.Listen.{child}
-use Rattle.machine.specs.Arrives.{endpoint_taken}
+use Rattle.spec_tcp.specs.Arrives.OtherStates.Ack.{is_new_ack, acknowledges_syn, acked, is_duplicate, fin_acknowledged, acknowledged}
+use Rattle.spec_tcp.specs.Arrives.OtherStates.Fin.{finished, keeps_fin}
+use Rattle.spec_tcp.specs.Arrives.OtherStates.Text.{kept_start, kept_bytes, state_taken}
+use Rattle.spec_tcp.specs.Arrives.OtherStates.{taken}
+use Rattle.spec_tcp.specs.Arrives.OtherStates.Reset.{was_reset}
+use Rattle.spec_tcp.specs.Arrives.SynSent.{on_syn}
+use Rattle.spec_tcp.specs.Arrives.Listen.{child}
+use Rattle.spec_tcp.specs.Arrives.{endpoint_taken}
 use Rattle.endpoint_state.proofs.Forgets.{IsBounded, bounded_later}
 
 -- 1. states
@@ -87,11 +87,11 @@ counted_grows c n = by (is_avoiding c) (fills_window c n)
     by false fills = omega arith
 
 -- they stay below the oldest position that is not acknowledged
-counted_below : (fresh : Bool) (una ack counted after : ℕ) → (fresh ≡ true → una < ack) → counted ≤ una → after ≤ counted + (ack - una) → (if fresh then after else counted) ≤ max una ack
-counted_below true una ack counted after new old grown = let below = new refl in omega arith
-counted_below false una ack counted after new old grown = omega arith
+counted_below : (fresh : Bool) (snd_una ack counted after : ℕ) → (fresh ≡ true → snd_una < ack) → counted ≤ snd_una → after ≤ counted + (ack - snd_una) → (if fresh then after else counted) ≤ max snd_una ack
+counted_below true snd_una ack counted after new old grown = let below = new refl in omega arith
+counted_below false snd_una ack counted after new old grown = omega arith
 
-fresh_above : (e : Endpoint) (m : Emission) → (is_new_ack e m && not (acknowledges_syn e m)) ≡ true → e.stream.una < m.ack
+fresh_above : (e : Endpoint) (m : Emission) → (is_new_ack e m && not (acknowledges_syn e m)) ≡ true → e.stream.snd_una < m.ack
 fresh_above e m h = grind (arith, nat_tests, h)
 
 dup_grows : (new again : Bool) (dup steps : ℕ) → dup ≤ steps → (if new then 0 else if again then dup + 1 else dup) ≤ suc steps
@@ -108,39 +108,39 @@ zero_or false n steps h = omega arith
 taken_bounded : (h : Header) (how : TakeChoice) (m : Emission) (moment steps : ℕ) (e : Endpoint) → m.ack < 2 ^ 63 → is_syn_sent e.state ≡ false → IsBounded steps e → IsBounded (suc steps) (taken h e how m moment)
 taken_bounded h how m moment steps e small unsent b =
     let later = bounded_later steps e b in
-    let una = b.una in
+    let snd_una = b.snd_una in
     let state = taken_stays e how m in
     let front = next_put_all e.stream.receive.taken (kept_start e m) (body_kept e.stream.receive.taken (kept_start e m) (kept_bytes e how m) (keeps_fin e how m)) in
     record {
-      una = omega arith;
-      counted = counted_below (is_new_ack e m && not (acknowledges_syn e m)) e.stream.una m.ack e.congestion.counted (counted_after e.congestion (acked e m)) (fresh_above e m) b.counted (counted_grows e.congestion (acked e m));
+      snd_una = omega arith;
+      counted = counted_below (is_new_ack e m && not (acknowledges_syn e m)) e.stream.snd_una m.ack e.congestion.counted (counted_after e.congestion (acked e m)) (fresh_above e m) b.counted (counted_grows e.congestion (acked e m));
       dup = dup_grows (is_new_ack e m) (is_duplicate e m) e.congestion.dup steps b.dup;
-      tries = omega arith;
-      backs = zero_or (is_new_ack e m) e.backs steps b.backs;
+      unanswered_expiries = omega arith;
+      backoffs = zero_or (is_new_ack e m) e.backoffs steps b.backoffs;
       accepted = later.accepted;
       met = λ sent closed. let old = b.met unsent (state.closed closed) in omega arith;
       unmet = λ sent. let no = sym unsent ∙ (sym state.sent ∙ sent) in absurd cc;
     }
 
-met_bounded : (h : Header) (how : TakeChoice) (m : Emission) (moment steps : ℕ) (e : Endpoint) → IsBounded steps e → IsBounded (suc steps) (met_peer h e how m moment)
+met_bounded : (h : Header) (how : TakeChoice) (m : Emission) (moment steps : ℕ) (e : Endpoint) → IsBounded steps e → IsBounded (suc steps) (on_syn h e how m moment)
 met_bounded h how m moment steps e b =
     let later = bounded_later steps e b in
     record {
-      una = below m.flags.ack;
+      snd_una = below m.flags.ack;
       counted = above m.flags.ack;
       dup = zero_or m.flags.ack e.congestion.dup steps b.dup;
-      tries = omega arith;
-      backs = zero_or m.flags.ack e.backs steps b.backs;
+      unanswered_expiries = omega arith;
+      backoffs = zero_or m.flags.ack e.backoffs steps b.backoffs;
       accepted = later.accepted;
       met = λ sent closed. omega arith;
       unmet = state m.flags.ack;
     }
   where
-    below : (ack : Bool) → (if ack then max e.stream.una 1 else e.stream.una) < 2 ^ 63
-    below true = let una = b.una in omega arith
-    below false = b.una
+    below : (ack : Bool) → (if ack then max e.stream.snd_una 1 else e.stream.snd_una) < 2 ^ 63
+    below true = let snd_una = b.snd_una in omega arith
+    below false = b.snd_una
 
-    above : (ack : Bool) → e.congestion.counted ≤ (if ack then max e.stream.una 1 else e.stream.una)
+    above : (ack : Bool) → e.congestion.counted ≤ (if ack then max e.stream.snd_una 1 else e.stream.snd_una)
     above true = let counted = b.counted in omega arith
     above false = b.counted
 
@@ -151,23 +151,23 @@ met_bounded h how m moment steps e b =
 reset_bounded : (how : TakeChoice) (steps : ℕ) (e : Endpoint) → IsBounded steps e → IsBounded (suc steps) (was_reset e how)
 reset_bounded how steps e b =
     let later = bounded_later steps e b in
-    record { una = b.una; counted = b.counted; dup = later.dup; tries = omega arith; backs = later.backs; accepted = later.accepted; met = λ sent closed. absurd cc; unmet = λ sent. absurd cc }
+    record { snd_una = b.snd_una; counted = b.counted; dup = later.dup; unanswered_expiries = omega arith; backoffs = later.backoffs; accepted = later.accepted; met = λ sent closed. absurd cc; unmet = λ sent. absurd cc }
 
 pub endpoint_taken_bounded : (h : Header) (how : TakeChoice) (m : Emission) (moment steps : ℕ) (e : Endpoint) → m.ack < 2 ^ 63 → IsBounded steps e → IsBounded (suc steps) (endpoint_taken h e how m moment)
 endpoint_taken_bounded h how m moment steps e small b = by m.flags.rst (is_syn_sent e.state) refl
   where
-    by : (r s : Bool) → is_syn_sent e.state ≡ s → IsBounded (suc steps) (if r then was_reset e how else if s then met_peer h e how m moment else taken h e how m moment)
+    by : (r s : Bool) → is_syn_sent e.state ≡ s → IsBounded (suc steps) (if r then was_reset e how else if s then on_syn h e how m moment else taken h e how m moment)
     by true s is = reset_bounded how steps e b
     by false true is = met_bounded h how m moment steps e b
     by false false is = taken_bounded h how m moment steps e small is b
 
 pub child_bounded : (l : ℕ) (how : TakeChoice) (m : Emission) (moment steps : ℕ) → IsBounded steps (child l how m moment)
 child_bounded l how m moment steps = record {
-  una = omega arith;
+  snd_una = omega arith;
   counted = omega arith;
   dup = omega arith;
-  tries = omega arith;
-  backs = omega arith;
+  unanswered_expiries = omega arith;
+  backoffs = omega arith;
   accepted = omega arith;
   met = λ sent closed. omega arith;
   unmet = λ sent. absurd cc;

@@ -5,12 +5,12 @@ use Rattle.case_forms.specs.declared.calls.Host.{Host}
 use Rattle.case_forms.specs.declared.calls.Call.{Call}
 use Rattle.case_forms.specs.declared.calls.Answer.{Answer}
 use Rattle.verdict.specs.declared.rule.Rule.{Rule}
-use Rattle.hosts.specs.Tables.{Both, pick}
-use Rattle.hosts.specs.Hosts.{HostState}
-use Rattle.hosts.specs.HostRules.{aim_of, call_rules}
-use Rattle.machine.specs.Bodies.{given}
-use Rattle.machine.specs.Calls.{call_allows, is_bad_socket}
-use Rattle.machine.specs.Machine.{tcp, tcp_shape, aim}
+use Rattle.spec_network.specs.Tables.{Both, pick}
+use Rattle.spec_network.specs.Hosts.{HostState}
+use Rattle.spec_network.specs.HostRules.{aim_of, call_rules}
+use Rattle.spec_tcp.specs.Bodies.{given}
+use Rattle.spec_tcp.specs.Calls.{call_allows, is_bad_socket}
+use Rattle.spec_tcp.specs.Machine.{tcp, tcp_shape, aim}
 use Rattle.endpoint_state.specs.Worlds.{Progress}
 
 -- the host that a call means, if there is one

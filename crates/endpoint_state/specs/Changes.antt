@@ -1,9 +1,9 @@
 -- Endpoints of which one changes, and nothing is kept that may be discarded.
 use Rattle.std.specs.Prelude.{◌≡◌, ℕ, List, [], ◌∷◌, Some, map}
-use Rattle.machine.specs.Calls.Close.{orphaned}
+use Rattle.spec_tcp.specs.Calls.Close.{orphaned}
 use Rattle.streams.specs.Lists.{modify}
-use Rattle.machine.specs.declared.endpoint.Endpoint.{Endpoint}
-use Rattle.machine.specs.Forgetting.{forget_endpoint}
+use Rattle.spec_tcp.specs.declared.endpoint.Endpoint.{Endpoint}
+use Rattle.spec_tcp.specs.Forgetting.{forget_endpoint}
 
 abbrev pub changed : List Endpoint → ℕ → (Endpoint → Endpoint) → List Endpoint
 changed es place f = map forget_endpoint (modify es place f)

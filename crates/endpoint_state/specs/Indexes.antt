@@ -6,9 +6,9 @@ use Rattle.std.specs.declared.cmp.Ordering.{Ordering}
 use Rattle.std.specs.Ordering.{nat_cmp, ordering_then}
 use Rattle.std.specs.BTreeMap.{is_at}
 use Rattle.std.specs.Option.{option_map_or, IsSomeAnd}
-use Rattle.machine.specs.declared.endpoint.Endpoint.{Endpoint}
-use Rattle.machine.specs.declared.endpoint.Listener.{Listener}
-use Rattle.machine.specs.Bodies.{last_from, has_ports}
+use Rattle.spec_tcp.specs.declared.endpoint.Endpoint.{Endpoint}
+use Rattle.spec_tcp.specs.declared.endpoint.Listener.{Listener}
+use Rattle.spec_tcp.specs.Bodies.{last_from, has_ports}
 
 -- the order of pairs of ports
 abbrev pub ports_cmp : ℕ × ℕ → ℕ × ℕ → Ordering
@@ -19,7 +19,8 @@ abbrev pub stands_in : ℕ → List ℕ → Bool
 stands_in n [] = false
 stands_in n (m ∷ ms) = nat_eq n m || stands_in n ms
 
--- each pair of ports leads to the endpoint created last there, and each endpoint stands among the children of its listener
+-- each pair of ports leads to the endpoint created last there, and each endpoint stands among the children of its
+-- listener
 pub record IsIndexed (found : ℕ → ℕ → Option ℕ) (is_child : ℕ → ℕ → Bool) (endpoints : List Endpoint) : Type 0 where
   pub ports : (lport rport : ℕ) → found lport rport ≡ last_from (has_ports lport rport) 0 None endpoints
   pub children : (place l : ℕ) (e : Endpoint) → slice_get endpoints place ≡ Some e → e.listener ≡ Some l → is_child l place ≡ true

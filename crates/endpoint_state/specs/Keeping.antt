@@ -7,15 +7,15 @@ use Rattle.case_forms.specs.declared.calls.Answer.{Answer}
 use Rattle.case_forms.specs.declared.calls.Answer.TheVariants as answers
 use Rattle.case_forms.specs.declared.trace.Wire.{Wire}
 use Rattle.verdict.specs.Rules.{first_broken}
-use Rattle.machine.specs.declared.endpoint.Endpoint.{Endpoint}
-use Rattle.machine.specs.declared.endpoint.Emission.{Emission}
-use Rattle.machine.specs.Bodies.{Body, empty}
-use Rattle.machine.specs.Bounds.{HasRoom, IsKept, IsKeptBody, IsSmallEmission, most_steps}
-use Rattle.machine.specs.Forgetting.{forget_body}
-use Rattle.machine.specs.Heard.{heard}
-use Rattle.machine.specs.Machine.{Act, Calls, Makes, Takes, Resets, Expires, Recovers, act_rules, act_after}
-use Rattle.machine.specs.Reset.{reset_of}
-use Rattle.machine.specs.Wire.{sent}
+use Rattle.spec_tcp.specs.declared.endpoint.Endpoint.{Endpoint}
+use Rattle.spec_tcp.specs.declared.endpoint.Emission.{Emission}
+use Rattle.spec_tcp.specs.Bodies.{Body, empty}
+use Rattle.spec_tcp.specs.Bounds.{HasRoom, IsKept, IsKeptBody, IsSmallEmission, most_steps}
+use Rattle.spec_tcp.specs.Forgetting.{forget_body}
+use Rattle.spec_tcp.specs.Heard.{heard}
+use Rattle.spec_tcp.specs.Machine.{Act, Calls, Makes, Takes, Resets, Expires, Recovers, act_rules, act_after}
+use Rattle.spec_tcp.specs.Reset.{reset_of}
+use Rattle.spec_tcp.specs.Wire.{sent}
 
 -- before the last step that a case may have, there is room for what one step more may add
 pub record HaveRoom : Type 0 where
@@ -47,7 +47,8 @@ pub record KeptLonger : Type 0 where
   pub endpoint : (steps : ℕ) (e : Endpoint) → IsKept steps e → IsKept (suc steps) e
   pub body : (steps : ℕ) (b : Body) → IsKeptBody steps b → IsKeptBody (suc steps) b
 
--- resets that answer are small, and so is what is heard of a host that is not recorded; segments that go out are as small as they were made
+-- resets that answer are small, and so is what is heard of a host that is not recorded; segments that go out are as
+-- small as they were made
 pub record EmissionsAreSmall : Type 0 where
   pub resets : (m : Emission) → IsSmallEmission (reset_of m)
   pub goes : (moment : ℕ) (wire : Wire) (m : Emission) → IsSmallEmission m → IsSmallEmission (sent moment wire m)

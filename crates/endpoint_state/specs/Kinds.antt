@@ -9,20 +9,20 @@ use Rattle.case_forms.specs.declared.calls.Ports.{Ports}
 use Rattle.case_forms.specs.declared.taken_line.Expired.{Expired}
 use Rattle.case_forms.specs.declared.steps.SegmentPlan.{SegmentPlan}
 use Rattle.case_forms.specs.declared.steps.TakeChoice.{TakeChoice}
-use Rattle.hosts.specs.Tables.{on, unsent, waiting}
-use Rattle.hosts.specs.Hosts.{HostState, Deed, Expires}
-use Rattle.hosts.specs.HostSteps.{inbox_settled, made_gone_out, wire_after}
-use Rattle.machine.specs.Bodies.{at_ports, Body}
-use Rattle.machine.specs.Machine.{act_makes, tcp_shape, rules_at}
-use Rattle.machine.specs.Machine as acts
-use Rattle.machine.specs.Heard.{heard}
-use Rattle.machine.specs.Makes.{after_making}
-use Rattle.machine.specs.Arrives.{after_taking, taker, taker_rules}
-use Rattle.machine.specs.Reset.{reset_of, reset_rules}
-use Rattle.machine.specs.Wire.{sent}
-use Rattle.machine.specs.Timeouts.{after_expiry, expiry_rules}
-use Rattle.machine.specs.Recovery.{after_recovery, recovery_rules}
-use Rattle.hosts.specs.HostRules.{just}
+use Rattle.spec_network.specs.Tables.{on, unsent, waiting}
+use Rattle.spec_network.specs.Hosts.{HostState, Deed, Expires}
+use Rattle.spec_network.specs.HostSteps.{inbox_settled, made_gone_out, wire_after}
+use Rattle.spec_tcp.specs.Bodies.{at_ports, Body}
+use Rattle.spec_tcp.specs.Machine.{act_makes, tcp_shape, rules_at}
+use Rattle.spec_tcp.specs.Machine as acts
+use Rattle.spec_tcp.specs.Heard.{heard}
+use Rattle.spec_tcp.specs.Makes.{after_making}
+use Rattle.spec_tcp.specs.Arrives.{after_taking, taker, taker_rules}
+use Rattle.spec_tcp.specs.Reset.{reset_of, reset_rules}
+use Rattle.spec_tcp.specs.Wire.{sent}
+use Rattle.spec_tcp.specs.Timeouts.{after_expiry, expiry_rules}
+use Rattle.spec_tcp.specs.Recovery.{after_recovery, recovery_rules}
+use Rattle.spec_network.specs.HostRules.{just}
 use Rattle.case_forms.specs.declared.timer.Recovery.{Recovery}
 use Rattle.verdict.specs.declared.rule.Rule.{Rule}
 use Rattle.verdict.specs.declared.rule.Rule.TheVariants as rules

@@ -1,12 +1,12 @@
 -- Whom a segment finds, by place.
 use Rattle.std.specs.Prelude.{◌≡◌, ◌&&◌, ℕ, false, if◌then◌else◌, Option, None, Some, slice_get}
 use Rattle.std.specs.Option.{option_map_or, IsSomeAnd}
-use Rattle.machine.specs.Bodies.{Body}
-use Rattle.machine.specs.declared.endpoint.Emission.{Emission}
-use Rattle.machine.specs.declared.endpoint.Endpoint.{Endpoint}
+use Rattle.spec_tcp.specs.Bodies.{Body}
+use Rattle.spec_tcp.specs.declared.endpoint.Emission.{Emission}
+use Rattle.spec_tcp.specs.declared.endpoint.Endpoint.{Endpoint}
 use Rattle.case_forms.specs.States.{is_closed, is_syn_received}
-use Rattle.machine.specs.Arrives.Otherwise.Ack.{acknowledges_syn}
-use Rattle.machine.specs.Arrives.{Taker, Nobody, AtListener, AtEndpoint}
+use Rattle.spec_tcp.specs.Arrives.OtherStates.Ack.{acknowledges_syn}
+use Rattle.spec_tcp.specs.Arrives.{Taker, Nobody, AtListener, AtEndpoint}
 use Rattle.endpoint_state.specs.declared.body.arrives.Found.{Found}
 use Rattle.endpoint_state.specs.declared.body.arrives.Found.TheVariants as found
 

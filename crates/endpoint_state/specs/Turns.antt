@@ -2,8 +2,8 @@
 use Rattle.std.specs.Prelude.{Option, None, Some}
 use Rattle.case_forms.specs.declared.calls.Answer.{Answer}
 use Rattle.case_forms.specs.declared.calls.Call.{Call}
-use Rattle.hosts.specs.Hosts.{Turn, Idle, Called, Answered}
-use Rattle.machine.specs.Machine.{tcp_shape}
+use Rattle.spec_network.specs.Hosts.{Turn, Idle, Called, Answered}
+use Rattle.spec_tcp.specs.Machine.{tcp_shape}
 use Rattle.endpoint_state.specs.declared.threads.Place.{Place}
 use Rattle.endpoint_state.specs.declared.threads.Place.TheVariants as places
 

@@ -3,12 +3,12 @@ use Rattle.std.specs.Prelude.{ℕ, suc, nat_eq}
 use Rattle.indexmap.specs.IndexMap.{insert_entry}
 use Rattle.case_forms.specs.declared.calls.Host.{Host}
 use Rattle.case_forms.specs.declared.trace.Header.{Header}
-use Rattle.hosts.specs.Tables.{Both, pick, with_host}
-use Rattle.hosts.specs.Hosts.{HostState, World, Step}
-use Rattle.hosts.specs.HostSteps as hosts
-use Rattle.machine.specs.declared.endpoint.Emission.{Emission}
-use Rattle.machine.specs.Machine.{tcp, tcp_shape}
-use Rattle.machine.specs.Forgetting.{forget}
+use Rattle.spec_network.specs.Tables.{Both, pick, with_host}
+use Rattle.spec_network.specs.Hosts.{HostState, World, Step}
+use Rattle.spec_network.specs.HostSteps as hosts
+use Rattle.spec_tcp.specs.declared.endpoint.Emission.{Emission}
+use Rattle.spec_tcp.specs.Machine.{tcp, tcp_shape}
+use Rattle.spec_tcp.specs.Forgetting.{forget}
 
 pub record Progress : Type 0 where
   -- the header of the case

@@ -11,7 +11,7 @@
 ghost use Rattle.std.specs.Prelude.{◌≡◌, length, slice_get, None, Some, IfErr, IfOk, OnErr};
 ghost use Rattle.std.specs.Option.{option_copied};
 ghost use Rattle.verdict.specs.declared.rule.Rule.TheVariants.{NoEndpoint};
-ghost use Rattle.machine.specs.Bodies.{empty, endpoint_of, given, is_connected, if_live, is_listening, listener_on, place_of, thing_of};
+ghost use Rattle.spec_tcp.specs.Bodies.{empty, endpoint_of, given, is_connected, if_live, is_listening, listener_on, place_of, thing_of};
 
 mod arrives;
 mod calls;
@@ -21,7 +21,7 @@ mod timeouts;
 
 use crate::endpoints::Endpoints;
 use crate::listeners::Listeners;
-use machine::{Endpoint, Listener, Socket, Thing};
+use spec_tcp::{Endpoint, Listener, Socket, SocketTarget};
 use std::alloc::Global;
 use std::marker::Model;
 use tables::Table;
@@ -37,7 +37,7 @@ pub struct Body {
 }
 
 impl Model for Body {
-    ghost use Rattle.machine.specs.Bodies.{Body};
+    ghost use Rattle.spec_tcp.specs.Bodies.{Body};
 
     ghost Value = { Body };
 
@@ -71,7 +71,7 @@ impl Body {
     }
 
     /// What a socket number names. None: it is not live.
-    pub fn thing(&self, number: u32) -> Option<Thing>
+    pub fn thing(&self, number: u32) -> Option<SocketTarget>
         ensures { result ≡ thing_of self.now number }
     {
         match self.sockets.get(u64::from(number)) {
@@ -152,7 +152,7 @@ impl Body {
     }
 }
 
-fn if_live(socket: Socket) -> Option<Thing>
+fn if_live(socket: Socket) -> Option<SocketTarget>
     ensures { result ≡ if_live socket }
 {
     if socket.live {

@@ -2,27 +2,27 @@
 
 ghost use Rattle.std.specs.Prelude.{◌≡◌, ◌+◌, ◌<◌, ◌^◌, ℕ, true, [], ◌∷◌, ◌++◌, None, length, slice_get, OnOk, OnErr, ◌≤◌, false, Some, is_some, IfOk, map};
 ghost use Rattle.std.specs.Option.{option_copied, option_map, IfSome, IsSomeAnd};
-ghost use Rattle.machine.specs.Bodies.{has_ports, last_from};
+ghost use Rattle.spec_tcp.specs.Bodies.{has_ports, last_from};
 ghost use Rattle.endpoint_state.specs.Indexes.{is_child_in};
 ghost use Rattle.std.specs.List.{All};
-ghost use Rattle.machine.specs.Bounds.{greatest_position, HasRoom, IsSmallEmission};
-ghost use Rattle.machine.specs.Calls.Send.{after_send};
-ghost use Rattle.machine.specs.Calls.Receive.{after_recv};
-ghost use Rattle.machine.specs.Calls.Close.{after_abort, after_close, after_shut, orphaned};
-ghost use Rattle.machine.specs.Forgetting.{forget_endpoint};
+ghost use Rattle.spec_tcp.specs.Bounds.{greatest_position, HasRoom, IsSmallEmission};
+ghost use Rattle.spec_tcp.specs.Calls.Send.{after_send};
+ghost use Rattle.spec_tcp.specs.Calls.Receive.{after_recv};
+ghost use Rattle.spec_tcp.specs.Calls.Close.{after_abort, after_close, after_shut, orphaned};
+ghost use Rattle.spec_tcp.specs.Forgetting.{forget_endpoint};
 ghost use Rattle.case_forms.specs.States.{is_closed};
-ghost use Rattle.machine.specs.Makes.{after_making, emission_of};
-ghost use Rattle.machine.specs.Arrives.{endpoint_taken};
-ghost use Rattle.machine.specs.Timeouts.{after_expiry};
-ghost use Rattle.machine.specs.Recovery.{after_recovery};
+ghost use Rattle.spec_tcp.specs.Makes.{after_making, emission_of};
+ghost use Rattle.spec_tcp.specs.Arrives.{endpoint_taken};
+ghost use Rattle.spec_tcp.specs.Timeouts.{after_expiry};
+ghost use Rattle.spec_tcp.specs.Recovery.{after_recovery};
 ghost use Rattle.streams.specs.Received.{waiting};
 ghost use Rattle.endpoint_state.specs.Changes.{changed, orphan_each};
 ghost use Rattle.streams.specs.Lists.{modify};
 
 use case_forms::{Expired, Header, SegmentPlan, TakeChoice};
 use endpoint::take_segment;
-use machine::{Arrived, Emission, Endpoint, Name};
 use segment::OutOfMemory;
+use spec_tcp::{Arrived, Emission, Endpoint, EndpointId};
 use std::alloc::Global;
 use std::collections::BTreeMap;
 use std::marker::Model;
@@ -39,7 +39,7 @@ pub(crate) struct Endpoints {
 
 impl Model for Endpoints {
     ghost use Rattle.std.specs.Prelude.{List};
-    ghost use Rattle.machine.specs.declared.endpoint.Endpoint.{Endpoint};
+    ghost use Rattle.spec_tcp.specs.declared.endpoint.Endpoint.{Endpoint};
     ghost use Rattle.endpoint_state.specs.Indexes.{IsIndexed, find_ports, is_child_in};
 
     ghost Value = { List Endpoint };
@@ -119,11 +119,12 @@ fn add_child(
 }
 
 impl Endpoints {
-    /// The endpoint of this name makes a segment, at a moment in microseconds. Where memory runs out nothing is changed.
+    /// The endpoint of this name makes a segment, at a moment in microseconds. Where memory runs out nothing is
+    /// changed.
     pub(crate) fn make(
         &mut self,
         alloc: Global,
-        me: Name,
+        me: EndpointId,
         making: &SegmentPlan,
         moment: u64,
     ) -> Result<Emission, OutOfMemory>
@@ -154,7 +155,8 @@ impl Endpoints {
         }
     }
 
-    /// Fast recovery begins at the endpoint at a place, with this congestion window and slow start threshold (in bytes).
+    /// Fast recovery begins at the endpoint at a place, with this congestion window and slow start threshold (in
+    /// bytes).
     pub(crate) fn recover(&mut self, place: u32, cwnd: u32, ssthresh: u32)
         requires { All HasRoom self.old }
         ensures { self.new ≡ changed self.old place (λ e. after_recovery e cwnd ssthresh) }
@@ -209,7 +211,8 @@ impl Endpoints {
         }
     }
 
-    /// The endpoint at a place takes a segment as it reads it, and which it may take, at a moment in microseconds. Where memory
+    /// The endpoint at a place takes a segment as it reads it, and which it may take, at a moment in microseconds.
+    /// Where memory
     /// runs out nothing is changed.
     pub(crate) fn take(
         &mut self,
@@ -264,7 +267,7 @@ impl Endpoints {
 fn make_one(
     alloc: Global,
     endpoint: &mut Endpoint,
-    me: Name,
+    me: EndpointId,
     making: &SegmentPlan,
     moment: u64,
 ) -> Result<Emission, OutOfMemory>
@@ -275,14 +278,15 @@ fn make_one(
     ensures ok { OnOk result (endpoint.new ≡ forget_endpoint (after_making endpoint.old making.now moment)) }
     ensures err { OnErr result (endpoint.new ≡ endpoint.old) }
 {
-    let una = endpoint.stream.una;
+    let snd_una = endpoint.stream.snd_una;
     let emission = endpoint::make(alloc, endpoint, me, making, moment)?;
-    endpoint.makings.forget_below(una);
+    endpoint.transmissions.forget_below(snd_una);
     Ok(emission)
 }
 
 impl Endpoints {
-    /// The children of a listener that were not accepted are aborted (RFC 9293, 3.10.5). No other endpoint is looked at.
+    /// The children of a listener that were not accepted are aborted (RFC 9293, 3.10.5). No other endpoint is looked
+    /// at.
     pub(crate) fn orphan(&mut self, listener: u32)
         requires { All HasRoom self.old }
         ensures { self.new ≡ map (orphaned listener) self.old }

@@ -1,4 +1,5 @@
-//! What one host has, and what it does. Moments are in microseconds, windows and thresholds in bytes. Where memory runs out
+//! What one host has, and what it does. Moments are in microseconds, windows and thresholds in bytes. Where memory runs
+//! out
 //! nothing is changed.
 
 ghost use Rattle.std.specs.Prelude.{◌≡◌, ◌≤◌, true, [], Some, nat_eq, IfOk, OnOk, OnErr};
@@ -7,23 +8,23 @@ ghost use Rattle.indexmap.specs.IndexMap.{insert_entry};
 ghost use Rattle.std.specs.Option.{IfSome, option_copied};
 ghost use Rattle.std.specs.Result.{result_err};
 ghost use Rattle.verdict.specs.Rules.{first_broken};
-ghost use Rattle.hosts.specs.HostSteps.{empty_host};
-ghost use Rattle.hosts.specs.Tables.{waiting};
-ghost use Rattle.hosts.specs.HostRules.{arrival_rules, sending_rules};
-ghost use Rattle.machine.specs.Wire.{in_rules, out_rules};
-ghost use Rattle.machine.specs.Bodies.{given};
-ghost use Rattle.machine.specs.Makes.{making_rules};
-ghost use Rattle.machine.specs.Calls.{call_allows, after_call};
-ghost use Rattle.machine.specs.Machine.{act_makes, rules_at, tcp};
-ghost use Rattle.machine.specs.Machine as acts;
-ghost use Rattle.machine.specs.Forgetting.{forget_host};
-ghost use Rattle.machine.specs.Bounds.{greatest_position, IsSmallEmission};
+ghost use Rattle.spec_network.specs.HostSteps.{empty_host};
+ghost use Rattle.spec_network.specs.Tables.{waiting};
+ghost use Rattle.spec_network.specs.HostRules.{arrival_rules, sending_rules};
+ghost use Rattle.spec_tcp.specs.Wire.{in_rules, out_rules};
+ghost use Rattle.spec_tcp.specs.Bodies.{given};
+ghost use Rattle.spec_tcp.specs.Makes.{making_rules};
+ghost use Rattle.spec_tcp.specs.Calls.{call_allows, after_call};
+ghost use Rattle.spec_tcp.specs.Machine.{act_makes, rules_at, tcp};
+ghost use Rattle.spec_tcp.specs.Machine as acts;
+ghost use Rattle.spec_tcp.specs.Forgetting.{forget_host};
+ghost use Rattle.spec_tcp.specs.Bounds.{greatest_position, IsSmallEmission};
 ghost use Rattle.endpoint_state.specs.Kept.{AreReadable, IsReady};
 ghost use Rattle.endpoint_state.specs.Faults.{fault_rule};
 ghost use Rattle.endpoint_state.specs.Kinds.{answered_one, dropped_one, made_one, sent_one, taken_one, answering_rules, dropping_rules, expired_body};
 ghost use Rattle.endpoint_state.specs.Kinds.{expiring_rules, recovered_body, recovering_rules, taking_rules};
 
-use crate::arriving::{Arrival, admitted_arrival, settle, waiting};
+use crate::arriving::{Arrival, admitted_arrival, consume_arrival, waiting};
 use crate::body::Body;
 use crate::fault::StepFault;
 use crate::made::{Made, admitted_sending, send};
@@ -31,8 +32,8 @@ use case_forms::{
     Answer, Call, Expired, Header, Host, Ports, Recovery, SegmentPlan, TakeChoice, Wire,
 };
 use endpoint::reset_of;
-use machine::{Emission, Name};
 use segment::OutOfMemory;
+use spec_tcp::{Emission, EndpointId};
 use std::alloc::Global;
 use std::marker::Model;
 use tables::Table;
@@ -49,15 +50,16 @@ pub(crate) struct HostState {
 }
 
 impl Model for HostState {
-    ghost use Rattle.hosts.specs.Hosts.{HostState};
-    ghost use Rattle.machine.specs.Machine.{tcp_shape};
+    ghost use Rattle.spec_network.specs.Hosts.{HostState};
+    ghost use Rattle.spec_tcp.specs.Machine.{tcp_shape};
 
     ghost Value = { HostState tcp_shape };
 
     ghost view = { λ a. record { body = a.body; made = a.made.entries; wire = a.wire.entries; inbox = a.inbox.entries } };
 }
 
-/// A segment is made under this number, and waits to go out. An error is the first rule that is broken, or that memory ran
+/// A segment is made under this number, and waits to go out. An error is the first rule that is broken, or that memory
+/// ran
 /// out; nothing is changed then.
 pub(crate) fn make(
     alloc: Global,
@@ -76,14 +78,15 @@ pub(crate) fn make(
 {
     let number = host.body.admitted_making(plan)?;
     host.made.reserve(u64::from(fresh))?;
-    let me = Name { host: me, number };
+    let me = EndpointId { host: me, number };
     let emission = host.body.make_at(alloc, me, plan, moment)?;
     // There is room for it.
     host.made.insert(u64::from(fresh), Made::unsent(emission))?;
     Ok(())
 }
 
-/// The segment of this number goes out with this line. An error is the first rule that is broken, or that memory ran out;
+/// The segment of this number goes out with this line. An error is the first rule that is broken, or that memory ran
+/// out;
 /// nothing is changed then.
 pub(crate) fn send_made(
     header: &Header,
@@ -122,7 +125,8 @@ pub(crate) fn arrive(
     Ok(())
 }
 
-/// A segment of elsewhere stands on the host's wire under this line, in place of one that stood there. Where memory runs out
+/// A segment of elsewhere stands on the host's wire under this line, in place of one that stood there. Where memory
+/// runs out
 /// nothing is changed.
 pub(crate) fn bring(host: &mut HostState, line: u64, emission: &Emission) -> Result<(), OutOfMemory>
     ensures ok { OnOk result (host.new ≡ record host.old { wire = insert_entry nat_eq host.old.wire line emission.now }) }
@@ -152,7 +156,7 @@ pub(crate) fn take(
         return Err(StepFault::Broken(Rule::Inbox));
     };
     host.body.take(alloc, header, me, how, m, moment)?;
-    settle(&mut host.inbox, line);
+    consume_arrival(&mut host.inbox, line);
     Ok(())
 }
 
@@ -163,13 +167,14 @@ pub(crate) fn drop_waiting(host: &mut HostState, line: u64) -> Result<(), Rule>
     ensures err { OnErr result (host.new ≡ host.old) }
 {
     host.admits_dropping(line)?;
-    settle(&mut host.inbox, line);
+    consume_arrival(&mut host.inbox, line);
     Ok(())
 }
 
-/// The segment that waits under this line is answered by a reset, which gets this number. An error is the first rule that is
+/// The segment that waits under this line is answered by a reset, which gets this number. An error is the first rule
+/// that is
 /// broken, or that memory ran out; nothing is changed then.
-pub(crate) fn answer(
+pub(crate) fn reply_with_reset(
     alloc: Global,
     host: &mut HostState,
     line: u64,
@@ -185,7 +190,7 @@ pub(crate) fn answer(
     host.body.admits_reset(m)?;
     let reset = reset_of(alloc, m);
     host.made.insert(u64::from(fresh), Made::unsent(reset))?;
-    settle(&mut host.inbox, line);
+    consume_arrival(&mut host.inbox, line);
     Ok(())
 }
 
@@ -298,7 +303,8 @@ impl HostState {
         Ok(())
     }
 
-    /// What this host put on its wire with the line `copied`, where what comes in at a moment at the other host is a copy of it.
+    /// What this host put on its wire with the line `copied`, where what comes in at a moment at the other host is a
+    /// copy of it.
     /// An error is the first rule that is broken.
     pub(crate) fn admitted_arrival(
         &self,
@@ -351,7 +357,8 @@ impl HostState {
         }
     }
 
-    /// Whether it may answer by a reset the segment that waits under this line. An error is the first rule that is broken.
+    /// Whether it may answer by a reset the segment that waits under this line. An error is the first rule that is
+    /// broken.
     pub(crate) fn admits_reset(&self, line: u64) -> Result<(), Rule>
         ensures { result_err result ≡ first_broken (answering_rules line self.now) }
     {

@@ -2,18 +2,18 @@
 
 ghost use Rattle.std.specs.Prelude.{◌≡◌, true, OnOk, OnErr};
 ghost use Rattle.std.specs.Borrow.{sem};
-ghost use Rattle.hosts.specs.Tables.{Both, other, pick, with_host};
-ghost use Rattle.hosts.specs.HostSteps.{empty_host};
-ghost use Rattle.machine.specs.Machine.{tcp};
-ghost use Rattle.machine.specs.Calls.{after_call, call_allows};
+ghost use Rattle.spec_network.specs.Tables.{Both, other, pick, with_host};
+ghost use Rattle.spec_network.specs.HostSteps.{empty_host};
+ghost use Rattle.spec_tcp.specs.Machine.{tcp};
+ghost use Rattle.spec_tcp.specs.Calls.{after_call, call_allows};
 ghost use Rattle.endpoint_state.specs.Sides.{AreReady, forget_hosts};
 ghost use Rattle.endpoint_state.specs.Lending.{LendsSide};
 ghost use Rattle.endpoint_state.specs.Worlds.{hosts_brought};
 
 use crate::host::{self, HostState};
 use case_forms::{Answer, Call, Header, Host};
-use machine::Emission;
 use segment::OutOfMemory;
+use spec_tcp::Emission;
 use std::alloc::Global;
 use std::marker::Model;
 
@@ -26,9 +26,9 @@ pub(crate) struct Hosts {
 
 impl Model for Hosts {
     ghost use Rattle.std.specs.Option.{IfSome};
-    ghost use Rattle.hosts.specs.Tables.{Both};
-    ghost use Rattle.hosts.specs.Hosts.{HostState};
-    ghost use Rattle.machine.specs.Machine.{tcp_shape};
+    ghost use Rattle.spec_network.specs.Tables.{Both};
+    ghost use Rattle.spec_network.specs.Hosts.{HostState};
+    ghost use Rattle.spec_tcp.specs.Machine.{tcp_shape};
 
     ghost Value = { Both (HostState tcp_shape) };
 

@@ -3,11 +3,11 @@
 ghost use Rattle.std.specs.Prelude.{◌≡◌, ◌+◌, ◌-◌, ◌<◌, ◌^◌, false, [], ◌∷◌, ◌++◌, None, length, drop, take, slice_get, OnOk, OnErr};
 ghost use Rattle.std.specs.Option.{option_copied};
 ghost use Rattle.streams.specs.Lists.{modify};
-ghost use Rattle.machine.specs.Bodies.{last_from, listens_on};
+ghost use Rattle.spec_tcp.specs.Bodies.{last_from, listens_on};
 
 use indexmap::IndexMap;
-use machine::Listener;
 use segment::OutOfMemory;
+use spec_tcp::Listener;
 use std::alloc::Global;
 use std::marker::Model;
 
@@ -22,7 +22,7 @@ pub(crate) struct Listeners {
 impl Model for Listeners {
     ghost use Rattle.std.specs.Prelude.{List, nat_eq};
     ghost use Rattle.std.specs.Map.{lookup};
-    ghost use Rattle.machine.specs.declared.endpoint.Listener.{Listener};
+    ghost use Rattle.spec_tcp.specs.declared.endpoint.Listener.{Listener};
     ghost use Rattle.endpoint_state.specs.Indexes.{IsListening};
 
     ghost Value = { List Listener };

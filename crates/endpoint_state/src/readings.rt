@@ -2,17 +2,18 @@
 
 ghost use Rattle.std.specs.Prelude.{◌≡◌};
 ghost use Rattle.std.specs.Option.{option_copied};
-ghost use Rattle.hosts.specs.Hosts.{turn_of};
-ghost use Rattle.hosts.specs.Tables.{pick, waiting};
+ghost use Rattle.spec_network.specs.Hosts.{turn_of};
+ghost use Rattle.spec_network.specs.Tables.{pick, waiting};
 ghost use Rattle.endpoint_state.specs.Turns.{given_answer};
 
 use crate::threads::given_answer;
 use crate::world::World;
 use case_forms::{Answer, Host};
-use machine::Emission;
+use spec_tcp::Emission;
 
 impl World {
-    /// The segment that came in at a host with this line, and waits in its inbox. None: none came in with it, or it waits no
+    /// The segment that came in at a host with this line, and waits in its inbox. None: none came in with it, or it
+    /// waits no
     /// longer.
     pub fn waiting(&self, host: Host, line: u64) -> Option<&Emission>
         ensures { option_copied result ≡ waiting line (pick self.now.world.hosts host).inbox }

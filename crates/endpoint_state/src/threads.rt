@@ -7,9 +7,9 @@ ghost use Rattle.std.specs.Option.{option_copied, option_map};
 ghost use Rattle.std.specs.Result.{result_err};
 ghost use Rattle.indexmap.specs.IndexMap.{insert_entry};
 ghost use Rattle.verdict.specs.Rules.{first_broken};
-ghost use Rattle.hosts.specs.HostRules.{begin_rules, end_rules, pending_rules};
-ghost use Rattle.hosts.specs.Hosts.{Answered, Called, Idle, turn_of};
-ghost use Rattle.machine.specs.Same.{same_answer};
+ghost use Rattle.spec_network.specs.HostRules.{begin_rules, end_rules, pending_rules};
+ghost use Rattle.spec_network.specs.Hosts.{Answered, Called, Idle, turn_of};
+ghost use Rattle.spec_tcp.specs.Same.{same_answer};
 ghost use Rattle.endpoint_state.specs.Turns.{given_answer, pending_call};
 ghost use Rattle.endpoint_state.specs.Faults.{fault_rule};
 
@@ -37,8 +37,8 @@ pub(crate) struct Turn {
 }
 
 impl Model for Turn {
-    ghost use Rattle.hosts.specs.Hosts.{Turn};
-    ghost use Rattle.machine.specs.Machine.{tcp_shape};
+    ghost use Rattle.spec_network.specs.Hosts.{Turn};
+    ghost use Rattle.spec_tcp.specs.Machine.{tcp_shape};
     ghost use Rattle.endpoint_state.specs.Turns.{turn_shown};
 
     ghost Value = { Turn tcp_shape };
@@ -72,7 +72,8 @@ pub(crate) fn admits_begin(threads: &Table<Turn>, thread: u32) -> Result<(), Rul
     }
 }
 
-/// Whether a thread's call may end with this answer: one is open, and had its effect with it. An error is the first rule
+/// Whether a thread's call may end with this answer: one is open, and had its effect with it. An error is the first
+/// rule
 /// that is broken.
 pub(crate) fn admits_end(threads: &Table<Turn>, thread: u32, answer: &Answer) -> Result<(), Rule>
     ensures { result_err result ≡ first_broken (end_rules (λ given answer. not (same_answer given answer)) (turn_of thread threads.now.entries) answer.now) }
@@ -90,7 +91,8 @@ pub(crate) fn admits_end(threads: &Table<Turn>, thread: u32, answer: &Answer) ->
     }
 }
 
-/// The call of a thread that is open and had no effect yet. An error is the first rule that is broken: there is none, or
+/// The call of a thread that is open and had no effect yet. An error is the first rule that is broken: there is none,
+/// or
 /// it had its effect.
 pub(crate) fn open_call(threads: &Table<Turn>, thread: u32) -> Result<&Call, Rule>
     ensures call { IfOk result (λ call. turn_of thread threads.now.entries ≡ Called call.now) }
@@ -150,7 +152,8 @@ pub(crate) fn finish(
     Ok(())
 }
 
-/// A thread's call has its effect, with this answer. Where memory runs out nothing is changed; a thread that called before
+/// A thread's call has its effect, with this answer. Where memory runs out nothing is changed; a thread that called
+/// before
 /// takes none.
 pub(crate) fn answered(
     threads: &mut Table<Turn>,

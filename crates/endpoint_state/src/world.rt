@@ -5,11 +5,11 @@ ghost use Rattle.std.specs.Map.{lookup};
 ghost use Rattle.std.specs.Option.{option_copied};
 ghost use Rattle.std.specs.Result.{result_err};
 ghost use Rattle.verdict.specs.Rules.{first_broken};
-ghost use Rattle.hosts.specs.Tables.{pick};
-ghost use Rattle.hosts.specs.Hosts.{At, Begin, Finish, Answers, Does, Drops, Gets, Hears, Makes, Sends, Takes, turn_of};
-ghost use Rattle.hosts.specs.HostRules.{step_rules};
-ghost use Rattle.machine.specs.Bounds.{greatest_position, most_steps, IsSmallEmission};
-ghost use Rattle.machine.specs.Machine.{tcp};
+ghost use Rattle.spec_network.specs.Tables.{pick};
+ghost use Rattle.spec_network.specs.Hosts.{At, Begin, Finish, Answers, Does, Drops, Gets, Hears, Makes, Sends, Takes, turn_of};
+ghost use Rattle.spec_network.specs.HostRules.{step_rules};
+ghost use Rattle.spec_tcp.specs.Bounds.{greatest_position, most_steps, IsSmallEmission};
+ghost use Rattle.spec_tcp.specs.Machine.{tcp};
 ghost use Rattle.endpoint_state.specs.Faults.{fault_rule};
 ghost use Rattle.endpoint_state.specs.Kept.{IsKeptWorld};
 ghost use Rattle.endpoint_state.specs.Kinds.{expiry_of};
@@ -27,8 +27,8 @@ use case_forms::{
     Answer, Call, Expired, Header, Host, Ports, Recovery, SegmentPlan, TakeChoice, Wire,
 };
 use endpoint::heard;
-use machine::Emission;
 use segment::OutOfMemory;
+use spec_tcp::Emission;
 use std::alloc::Global;
 use std::marker::Model;
 use tables::Table;
@@ -133,8 +133,10 @@ impl World {
         let _ = &self.alloc;
     }
 
-    /// A segment of elsewhere stands on a host's wire under this line, in place of one that stood there. It is no step, and
-    /// nothing else is changed: a copy that came in stays as it was. The error is that memory ran out, and then nothing is
+    /// A segment of elsewhere stands on a host's wire under this line, in place of one that stood there. It is no step,
+    /// and
+    /// nothing else is changed: a copy that came in stays as it was. The error is that memory ran out, and then nothing
+    /// is
     /// changed.
     pub fn bring(&mut self, host: Host, line: u64, emission: &Emission) -> Result<(), OutOfMemory>
         requires small { IsSmallEmission emission.now }
@@ -152,14 +154,16 @@ impl World {
         admits_begin(&self.threads, thread)
     }
 
-    /// Whether a thread's call may end with this answer: it had its effect with it. An error is the first rule that is broken.
+    /// Whether a thread's call may end with this answer: it had its effect with it. An error is the first rule that is
+    /// broken.
     pub fn admits_finish(&self, thread: u32, answer: &Answer) -> Result<(), Rule>
         ensures { result_err result ≡ first_broken (step_rules (tcp self.now.header) 0 self.now.world (Finish 0 thread answer.now)) }
     {
         admits_end(&self.threads, thread, answer)
     }
 
-    /// Whether the segment that a host made under this number may go out so: it looks so, and didn't go out before. An error is
+    /// Whether the segment that a host made under this number may go out so: it looks so, and didn't go out before. An
+    /// error is
     /// the first rule that is broken.
     pub fn admits_sending(&self, host: Host, number: u32, wire: &Wire) -> Result<(), Rule>
         ensures { result_err result ≡ first_broken (step_rules (tcp self.now.header) 0 self.now.world (At host (Sends 0 number wire.now))) }
@@ -169,7 +173,8 @@ impl World {
             .admits_sending(&self.header, number, wire)
     }
 
-    /// Whether a copy of the other host's line `copied` may come in so, at a moment in microseconds. An error is the first
+    /// Whether a copy of the other host's line `copied` may come in so, at a moment in microseconds. An error is the
+    /// first
     /// rule that is broken.
     pub fn admits_arrival(
         &self,
@@ -186,7 +191,8 @@ impl World {
         Ok(())
     }
 
-    /// Whether a segment of the other host may come in that is no copy of a line: that host is not recorded. An error is the rule
+    /// Whether a segment of the other host may come in that is no copy of a line: that host is not recorded. An error
+    /// is the rule
     /// that is broken.
     pub fn admits_hearing(&self, host: Host, wire: &Wire) -> Result<(), Rule>
         ensures { result_err result ≡ first_broken (step_rules (tcp self.now.header) 0 self.now.world (At host (Hears 0 wire.now))) }
@@ -207,7 +213,8 @@ impl World {
         self.hosts.near(host).admits_making(plan)
     }
 
-    /// Whether a host may take the segment that came in with this line, at a moment in microseconds. An error is the first rule
+    /// Whether a host may take the segment that came in with this line, at a moment in microseconds. An error is the
+    /// first rule
     /// that is broken: nothing waits under this line (`Inbox`), or a later one.
     pub fn admits_taking(
         &self,
@@ -223,14 +230,16 @@ impl World {
             .admits_taking(&self.header, host, line, how)
     }
 
-    /// Whether a host may drop what came in with this line. An error is the first rule that is broken: nothing waits (`Inbox`).
+    /// Whether a host may drop what came in with this line. An error is the first rule that is broken: nothing waits
+    /// (`Inbox`).
     pub fn admits_dropping(&self, host: Host, line: u64) -> Result<(), Rule>
         ensures { result_err result ≡ first_broken (step_rules (tcp self.now.header) 0 self.now.world (At host (Drops line))) }
     {
         self.hosts.near(host).admits_dropping(line)
     }
 
-    /// Whether a host may answer by a reset what came in with this line, at a moment in microseconds. An error is the first rule
+    /// Whether a host may answer by a reset what came in with this line, at a moment in microseconds. An error is the
+    /// first rule
     /// that is broken.
     pub fn admits_reset(&self, host: Host, moment: u64, line: u64) -> Result<(), Rule>
         ensures { result_err result ≡ first_broken (step_rules (tcp self.now.header) moment self.now.world (At host (Answers line))) }
@@ -238,7 +247,8 @@ impl World {
         self.hosts.near(host).admits_reset(line)
     }
 
-    /// Whether a timer of the host's endpoint of these ports may expire at a moment in microseconds. An error is the first rule
+    /// Whether a timer of the host's endpoint of these ports may expire at a moment in microseconds. An error is the
+    /// first rule
     /// that is broken.
     pub fn admits_expiry(
         &self,
@@ -261,7 +271,8 @@ impl World {
         self.hosts.near(host).admits_recovery(recovery)
     }
 
-    /// A thread begins a call. An error is the rule that is broken, or that memory ran out; the world is then as it was.
+    /// A thread begins a call. An error is the rule that is broken, or that memory ran out; the world is then as it
+    /// was.
     pub fn begin(&mut self, thread: u32, call: &Call) -> Result<(), StepFault>
         requires { self.old.steps < most_steps }
         ensures fault { fault_rule result ≡ first_broken (step_rules (tcp self.old.header) 0 self.old.world (Begin 0 thread call.now)) }
@@ -273,7 +284,8 @@ impl World {
         Ok(())
     }
 
-    /// A thread's call ends. An error is the first rule that is broken, or that memory ran out; the world is then as it was.
+    /// A thread's call ends. An error is the first rule that is broken, or that memory ran out; the world is then as it
+    /// was.
     pub fn finish(&mut self, thread: u32, answer: &Answer) -> Result<(), StepFault>
         requires { self.old.steps < most_steps }
         ensures fault { fault_rule result ≡ first_broken (step_rules (tcp self.old.header) 0 self.old.world (Finish 0 thread answer.now)) }
@@ -285,7 +297,8 @@ impl World {
         Ok(())
     }
 
-    /// A host makes a segment, at a moment in microseconds; it gets the next number. An error is the first rule that is broken,
+    /// A host makes a segment, at a moment in microseconds; it gets the next number. An error is the first rule that is
+    /// broken,
     /// or that memory ran out; the world is then as it was.
     pub fn make(&mut self, host: Host, plan: &SegmentPlan, moment: u64) -> Result<(), StepFault>
         requires steps { self.old.steps < most_steps }
@@ -301,7 +314,8 @@ impl World {
         Ok(())
     }
 
-    /// The segment that a host made under this number goes out with this line, at a moment in microseconds. An error is the first
+    /// The segment that a host made under this number goes out with this line, at a moment in microseconds. An error is
+    /// the first
     /// rule that is broken, or that memory ran out; the world is then as it was.
     pub fn send(
         &mut self,
@@ -328,7 +342,8 @@ impl World {
         Ok(())
     }
 
-    /// A copy of the other host's line `copied` comes in with this line, at a moment in microseconds, and waits in the inbox. An
+    /// A copy of the other host's line `copied` comes in with this line, at a moment in microseconds, and waits in the
+    /// inbox. An
     /// error is the first rule that is broken, or that memory ran out; the world is then as it was.
     pub fn arrive(
         &mut self,
@@ -353,7 +368,8 @@ impl World {
         Ok(())
     }
 
-    /// A segment of the host that is not recorded comes in with this line, at a moment in microseconds, and waits in the inbox. An
+    /// A segment of the host that is not recorded comes in with this line, at a moment in microseconds, and waits in
+    /// the inbox. An
     /// error is the rule that is broken, or that memory ran out; the world is then as it was.
     pub fn hear(&mut self, host: Host, line: u64, wire: &Wire, moment: u64) -> Result<(), StepFault>
         requires { self.old.steps < most_steps }
@@ -368,7 +384,8 @@ impl World {
         Ok(())
     }
 
-    /// A host takes what came in with this line, at a moment in microseconds. An error is the first rule that is broken, or that
+    /// A host takes what came in with this line, at a moment in microseconds. An error is the first rule that is
+    /// broken, or that
     /// memory ran out; the world is then as it was.
     pub fn take(
         &mut self,
@@ -395,7 +412,8 @@ impl World {
         Ok(())
     }
 
-    /// A host drops what came in with this line, at a moment in microseconds. An error is the first rule that is broken; the world
+    /// A host drops what came in with this line, at a moment in microseconds. An error is the first rule that is
+    /// broken; the world
     /// is then as it was.
     pub fn drop_arrival(&mut self, host: Host, line: u64, moment: u64) -> Result<(), Rule>
         requires { self.old.steps < most_steps }
@@ -408,22 +426,24 @@ impl World {
         Ok(())
     }
 
-    /// A host answers by a reset what came in with this line, at a moment in microseconds; the reset gets the next number, and
+    /// A host answers by a reset what came in with this line, at a moment in microseconds; the reset gets the next
+    /// number, and
     /// goes out later. An error is the first rule that is broken, or that memory ran out; the world is then as it was.
-    pub fn answer(&mut self, host: Host, line: u64, moment: u64) -> Result<(), StepFault>
+    pub fn reply_with_reset(&mut self, host: Host, line: u64, moment: u64) -> Result<(), StepFault>
         requires { self.old.steps < most_steps }
         ensures fault { fault_rule result ≡ first_broken (step_rules (tcp self.old.header) moment self.old.world (At host (Answers line))) }
         ensures ok { OnOk result (self.new ≡ after self.old moment (At host (Answers line))) }
         ensures err { OnErr result (self.new ≡ self.old) }
     {
         let fresh = self.count + 1;
-        host::answer(self.alloc, self.hosts.side(host), line, fresh)?;
+        host::reply_with_reset(self.alloc, self.hosts.side(host), line, fresh)?;
         self.count = fresh;
         self.steps += 1;
         Ok(())
     }
 
-    /// A timer of the host's endpoint of these ports expires, at a moment in microseconds. An error is the first rule that is
+    /// A timer of the host's endpoint of these ports expires, at a moment in microseconds. An error is the first rule
+    /// that is
     /// broken; the world is then as it was.
     pub fn expire(
         &mut self,
@@ -442,7 +462,8 @@ impl World {
         Ok(())
     }
 
-    /// Fast recovery begins, at a moment in microseconds (RFC 5681, 3.2). An error is the first rule that is broken; the world is
+    /// Fast recovery begins, at a moment in microseconds (RFC 5681, 3.2). An error is the first rule that is broken;
+    /// the world is
     /// then as it was.
     pub fn recover(&mut self, host: Host, recovery: Recovery, moment: u64) -> Result<(), Rule>
         requires { self.old.steps < most_steps }

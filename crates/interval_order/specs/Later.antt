@@ -28,7 +28,8 @@ waits o thread = list_any (λ e. e.1.thread == thread) o.held
 abbrev pub is_among : ℕ → List Line → Bool
 is_among thread lines = list_any (λ line. line.thread == thread) lines
 
--- the least rule that a step breaks which takes a line whose moment is not reached, told whether a line of its thread stands
+-- the least rule that a step breaks which takes a line whose moment is not reached, told whether a line of its thread
+-- stands
 -- before it that is not offered either
 abbrev pub late_by : Order → Bool → Line → ℕ → ℕ → Rule
 late_by o behind line extras moment =

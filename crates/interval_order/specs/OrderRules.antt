@@ -12,7 +12,8 @@ use Rattle.verdict.specs.declared.rule.Rule.{Rule}
 use Rattle.verdict.specs.declared.rule.Rule.TheVariants.{LineRange, LineAgain, ThreadOrder, MomentFalls, MomentOff, Overdue}
 use Rattle.interval_order.specs.Orders.{Take, Move, Order, held_line, is_offered}
 
--- how many extra numbers follow the number of a line of this kind: one for a segment that goes out, that of the segment made;
+-- how many extra numbers follow the number of a line of this kind: one for a segment that goes out, that of the segment
+-- made;
 -- one for a segment that comes in, that of its O line, which a half case doesn't have; two for a retransmission timeout
 abbrev pub extras_of : Version → Event → ℕ
 extras_of v (CallBegin call) = 0

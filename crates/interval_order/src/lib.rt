@@ -6,7 +6,8 @@
 //! in the order is left to the machine above.
 //!
 //! - `window`: the lines that wait for their step, and the steps that may take them
-//! - `laws`: what lines that are offered later mean to a step, and how many lines wait; each law is the contract of a call
+//! - `laws`: what lines that are offered later mean to a step, and how many lines wait; each law is the contract of a
+//!   call
 //!   that does nothing
 #![tactic(auto)]
 

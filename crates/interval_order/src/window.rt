@@ -3,7 +3,8 @@
 //! A line that is offered, or a step, costs the logarithm of the number of threads, whatever numbers a text gives them.
 //! Nothing is scanned:
 //!
-//! - Lines wait in a queue by their numbers. A line that was placed keeps its slot there while one before it waits, so there
+//! - Lines wait in a queue by their numbers. A line that was placed keeps its slot there while one before it waits, so
+//!   there
 //!   are as many slots as lines were offered from the first that waits on. If no line is overdue, their moments are at most the
 //!   skew before the last step.
 //! - Each line that waits names the line of its thread that was offered before it. The lines of a thread are placed in
@@ -72,8 +73,10 @@ impl Window {
         }
     }
 
-    /// One more line of the trace, at its end: its number is the next one, `first_event_line` of the header for the first line
-    /// and one more for each after it, up to 2^64 - 2, and its moment is not below that of any line that waits. Where memory
+    /// One more line of the trace, at its end: its number is the next one, `first_event_line` of the header for the
+    /// first line
+    /// and one more for each after it, up to 2^64 - 2, and its moment is not below that of any line that waits. Where
+    /// memory
     /// runs out the window is as it was.
     pub fn offer(&mut self, line: Line) -> Result<(), OutOfMemory>
         requires number { line.number ≡ self.old.next }
@@ -86,11 +89,12 @@ impl Window {
         let thread = line.thread;
         let previous = latest_with_room(&mut self.latest, thread)?;
         self.waiting.push(Waiting { line, previous })?;
-        note(&mut self.latest, thread, number);
+        remember_last_line(&mut self.latest, thread, number);
         Ok(())
     }
 
-    /// Takes a line for a step at this moment, which is followed by that many extra numbers. The window no longer holds it. Where
+    /// Takes a line for a step at this moment, which is followed by that many extra numbers. The window no longer holds
+    /// it. Where
     /// the step breaks a rule of order, the least of them is the error, and the window is as it was.
     pub fn place(&mut self, line: u64, extras: u8, moment: u64) -> Result<Line, Rule>
         ensures rule { result_err result ≡ first_broken (order_rules self.old (taking moment line extras)) }
@@ -133,7 +137,8 @@ impl Window {
         self.waiting.len()
     }
 
-    /// The number of the first line that may not wait until this moment, if there is one. Where there is none, and no line that
+    /// The number of the first line that may not wait until this moment, if there is one. Where there is none, and no
+    /// line that
     /// waits has a later moment, each has one that is at most the skew earlier.
     pub fn overdue(&self, moment: u64) -> Option<u64>
         ensures first { result ≡ first_overdue self.now moment }
@@ -275,7 +280,7 @@ fn latest_with_room(latest: &mut Table<u64>, thread: u32) -> Result<Option<u64>,
 }
 
 // A line is the last one of its thread.
-fn note(latest: &mut Table<u64>, thread: u32, number: u64)
+fn remember_last_line(latest: &mut Table<u64>, thread: u32, number: u64)
     requires { HasRoom latest.old thread }
     ensures { (t : ℕ) → latest_in latest.new.entries t ≡ cond (nat_eq thread t) (Some number) (latest_in latest.old.entries t) }
 {

@@ -18,7 +18,8 @@ pub data IsWholeFault (number : ℕ) (raw : List ℕ) (e : TextFault) : Type 0 w
   TooMany : length (without_terminator raw) ≤ 140000 → is_ended raw ≡ true → 10000000 < number → e
       ≡ record { kind = kinds.TooManyLines; span = whole_line number (without_terminator raw) } → IsWholeFault number raw e
 
--- the first fault of a line of this form: that of the line as a whole, or else that of the first of its fields that doesn't fit the form
+-- the first fault of a line of this form: that of the line as a whole, or else that of the first of its fields that
+-- doesn't fit the form
 abbrev pub IsFaultOf : Form → ℕ → List ℕ → TextFault → Type 0
 IsFaultOf form number raw e = IsWholeFault number raw e ⊎ ((r : Rest) × (line_rest number raw ≡ Ok r) × IsFirstFault form r e)
 
@@ -38,7 +39,8 @@ abbrev pub state_behind : {S A : Type 0} → (S → A → S) → S → List A �
 state_behind after state [] = state
 state_behind after state (item ∷ items) = state_behind after (after state item) items
 
--- the first fault of lines that are read one after the other: those before are spelled so, and it is that of the next one
+-- the first fault of lines that are read one after the other: those before are spelled so, and it is that of the next
+-- one
 pub record IsFaultAmong {S A : Type 0} (R : S → A → List ℕ → Type 0) (Fault : S → List ℕ → TextFault → Type 0) (after : S → A → S) (state : S)
     (raws : List (List ℕ)) (e : TextFault) : Type 0 where
   pub front : List (List ℕ)

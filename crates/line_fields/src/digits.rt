@@ -27,7 +27,8 @@ const DIGITS: [u8; 256] = [
     16, 16, 16, 16, 16, 16, 16, 16, 16, 16, 16, 16, 16, 16,
 ];
 
-/// The number whose decimal digits these are, without sign and leading zeros; None where they are no such number below 2^64.
+/// The number whose decimal digits these are, without sign and leading zeros; None where they are no such number below
+/// 2^64.
 pub fn decimal_value(text: &[u8]) -> Option<u64>
     ensures found { IfSome result (λ n. text.now ≡ decimal n) }
     ensures none { IfNone result ((n : ℕ) → n < 2 ^ 64 → text.now ≢ decimal n) }

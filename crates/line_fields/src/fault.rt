@@ -142,7 +142,8 @@ impl From<TextFault> for ReadFault {
     }
 }
 
-/// The fault of a text in memory. A read of it fails only where its `Counted` made 2^50 reads before, more than any text
+/// The fault of a text in memory. A read of it fails only where its `Counted` made 2^50 reads before, more than any
+/// text
 /// takes that memory holds. That is told as if memory had run out.
 impl From<ReadFault> for TextFault {
     ghost use Rattle.line_fields.specs.Faults.{IsTextFault};

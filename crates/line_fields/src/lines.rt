@@ -27,7 +27,8 @@ pub fn content(raw: &[u8]) -> (&[u8], bool)
     }
 }
 
-/// The text of the line of that number, whose bytes are given with the line's end. LineTooLong, Cut and TooManyLines are
+/// The text of the line of that number, whose bytes are given with the line's end. LineTooLong, Cut and TooManyLines
+/// are
 /// asked in this order, each at the whole line.
 #[tactic(auto, unfolding(crate::specs::Lines::line_text))]
 pub fn text_of(number: u64, raw: &[u8]) -> Result<&[u8], TextFault>

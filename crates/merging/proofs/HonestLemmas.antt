@@ -10,12 +10,12 @@ use Rattle.case_forms.specs.declared.trace.Trace.{Trace}
 use Rattle.case_forms.specs.declared.steps.Witness.{Witness}
 use Rattle.checker.specs.Explains.{Explains, IsYes}
 use Rattle.checker.specs.Verdicts.{verdict}
-use Rattle.hosts.specs.Tables.{Both, on, pick}
-use Rattle.machine.specs.declared.endpoint.Emission.{Emission}
-use Rattle.machine.specs.Machine.{tcp, tcp_shape}
-use Rattle.recordings.specs.Books.{Item, Do, Bring, Key, item_line}
-use Rattle.recordings.specs.Keys.{Book, Books, EachEntry, NamesOne, Numbered}
-use Rattle.recordings.specs.Recordings.{IsKept, NamesSent, TcpEntry, merged, next_line, world_of}
+use Rattle.spec_network.specs.Tables.{Both, on, pick}
+use Rattle.spec_tcp.specs.declared.endpoint.Emission.{Emission}
+use Rattle.spec_tcp.specs.Machine.{tcp, tcp_shape}
+use Rattle.spec_merge.specs.Books.{Item, Do, Bring, Key, item_line}
+use Rattle.spec_merge.specs.Keys.{Book, Books, EachEntry, NamesOne, Numbered}
+use Rattle.spec_merge.specs.Recordings.{IsKept, NamesSent, TcpEntry, merged, next_line, world_of}
 use Rattle.stack_core.specs.CoreWorlds.{Event, IsCoreWorld, Side, entries_of}
 use Rattle.stack_core.specs.Recordings.{Recorded}
 use Rattle.stack_core.proofs.FlightLemmas.{wire_recorded}

@@ -4,12 +4,12 @@ use Rattle.std.specs.Prelude.{slice_get}
 use Rattle.std.proofs.lemmas.Option.{none-some, same_Some}
 use Rattle.case_forms.specs.declared.calls.Host.{Host}
 use Rattle.case_forms.specs.declared.trace.Header.{Header}
-use Rattle.hosts.specs.Tables.{pick}
-use Rattle.hosts.specs.Hosts.{Deed, Does, Expires, Makes, Sends, Gets, Hears, Takes, Drops, Answers, Begin, Finish, Effect, At}
-use Rattle.machine.specs.Machine.{tcp, tcp_shape}
-use Rattle.recordings.specs.Books.{Item, Do, Bring, Key, item_line}
-use Rattle.recordings.specs.Keys.{EachEntry, If, NamesOne, Numbered, before}
-use Rattle.recordings.specs.Recordings.{NamesSent, TcpEntry, world_of}
+use Rattle.spec_network.specs.Tables.{pick}
+use Rattle.spec_network.specs.Hosts.{Deed, Does, Expires, Makes, Sends, Gets, Hears, Takes, Drops, Answers, Begin, Finish, Effect, At}
+use Rattle.spec_tcp.specs.Machine.{tcp, tcp_shape}
+use Rattle.spec_merge.specs.Books.{Item, Do, Bring, Key, item_line}
+use Rattle.spec_merge.specs.Keys.{EachEntry, If, NamesOne, Numbered, before}
+use Rattle.spec_merge.specs.Recordings.{NamesSent, TcpEntry, world_of}
 use Rattle.stack_core.specs.Entries.{item_steps, steps_in}
 use Rattle.merging.specs.Naming.{AllAbove, AllNamed, IsAbove, NamedItem, line_keys}
 use Rattle.merging.specs.Numbers.{AllSmall, takes_line}

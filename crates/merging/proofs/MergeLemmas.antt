@@ -11,19 +11,19 @@ use Rattle.case_forms.specs.declared.version.Version.{Version}
 use Rattle.case_forms.specs.declared.version.Version.TheVariants as versions
 use Rattle.case_forms.specs.Traces.{first_event_line, IsRecorded}
 use Rattle.case_forms.specs.Versions.{first_line_of, is_half}
-use Rattle.hosts.specs.Hosts.{Step, Does, Expires, Makes, Sends, Gets, Hears, Takes, Drops, Answers, Begin, Finish, Effect, At, Stamped}
-use Rattle.hosts.specs.HostSteps.{start}
-use Rattle.hosts.specs.Tables.{on, pick}
-use Rattle.machine.specs.Machine.{tcp, tcp_shape}
-use Rattle.recordings.specs.Keys as keys
-use Rattle.recordings.specs.Keys.{Books}
-use Rattle.recordings.specs.Merging.{Names, names_of, steps_of}
-use Rattle.recordings.specs.Placing.{MomentsRise}
-use Rattle.recordings.specs.Recordings.{IsKept, NamesSent, TcpEntry, merged, world_of}
-use Rattle.recordings.proofs.Joint.{LinesRise}
-use Rattle.recordings.proofs.Law.{law}
-use Rattle.recordings.proofs.Merged.{is_placed_run}
-use Rattle.recordings.proofs.Order.{told}
+use Rattle.spec_network.specs.Hosts.{Step, Does, Expires, Makes, Sends, Gets, Hears, Takes, Drops, Answers, Begin, Finish, Effect, At, Stamped}
+use Rattle.spec_network.specs.HostSteps.{start}
+use Rattle.spec_network.specs.Tables.{on, pick}
+use Rattle.spec_tcp.specs.Machine.{tcp, tcp_shape}
+use Rattle.spec_merge.specs.Keys as keys
+use Rattle.spec_merge.specs.Keys.{Books}
+use Rattle.spec_merge.specs.Merging.{Names, names_of, steps_of}
+use Rattle.spec_merge.specs.Placing.{MomentsRise}
+use Rattle.spec_merge.specs.Recordings.{IsKept, NamesSent, TcpEntry, merged, world_of}
+use Rattle.spec_merge.proofs.Joint.{LinesRise}
+use Rattle.spec_merge.proofs.Law.{law}
+use Rattle.spec_merge.proofs.Merged.{is_placed_run}
+use Rattle.spec_merge.proofs.Order.{told}
 use Rattle.stack_core.specs.Entries.{steps_in}
 use Rattle.stack_core.specs.Recordings.{Recorded}
 use Rattle.merging.specs.Faults.{NamesAll}

@@ -5,15 +5,15 @@ use Rattle.std.proofs.lemmas.Bool.Decides.{nat_tests}
 use Rattle.case_forms.specs.declared.calls.Host.{Host}
 use Rattle.case_forms.specs.declared.calls.Host.TheVariants.{Zero, One}
 use Rattle.case_forms.specs.declared.trace.Header.{Header}
-use Rattle.hosts.specs.Tables.{on}
-use Rattle.hosts.specs.Hosts.{Deed, Does, Expires, Makes, Sends, Gets, Hears, Takes, Drops, Answers, Step, Begin, Finish, Effect, At, Stamped}
-use Rattle.machine.specs.Machine.{tcp, tcp_shape}
-use Rattle.recordings.specs.Books.{Item, Do, Bring, item_line}
-use Rattle.recordings.specs.Keys as keys
-use Rattle.recordings.specs.Keys.{before}
-use Rattle.recordings.specs.Merging.{Names, mine, nth, pass, heads, line_turns, make_turns, names_of, item_makes, restep, steps_of, with_step}
-use Rattle.recordings.specs.Recordings.{TcpEntry}
-use Rattle.recordings.proofs.Counting.{nth_heads}
+use Rattle.spec_network.specs.Tables.{on}
+use Rattle.spec_network.specs.Hosts.{Deed, Does, Expires, Makes, Sends, Gets, Hears, Takes, Drops, Answers, Step, Begin, Finish, Effect, At, Stamped}
+use Rattle.spec_tcp.specs.Machine.{tcp, tcp_shape}
+use Rattle.spec_merge.specs.Books.{Item, Do, Bring, item_line}
+use Rattle.spec_merge.specs.Keys as keys
+use Rattle.spec_merge.specs.Keys.{before}
+use Rattle.spec_merge.specs.Merging.{Names, mine, nth, pass, heads, line_turns, make_turns, names_of, item_makes, restep, steps_of, with_step}
+use Rattle.spec_merge.specs.Recordings.{TcpEntry}
+use Rattle.spec_merge.proofs.Counting.{nth_heads}
 use Rattle.merging.specs.Numbers.{Turns, Counts, no_turns, no_counts, with_turn_if, turns_of, number_in, counted, counted_one, takes_line, makes_segment, names_in}
 use Rattle.merging.specs.Order.{in_order, in_order_with}
 use Rattle.merging.specs.Saying.{all_renumbered, renumbered, with_renumbered}

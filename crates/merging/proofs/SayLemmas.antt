@@ -20,18 +20,18 @@ use Rattle.case_forms.specs.Traces.{line_at, IsRecorded}
 use Rattle.case_forms.specs.Versions.{is_half}
 use Rattle.verdict.specs.declared.rule.Rule.TheVariants as rules
 use Rattle.verdict.specs.Rules.{first_broken}
-use Rattle.hosts.specs.Tables.{on, other, pick}
-use Rattle.hosts.specs.Hosts.{Deed, Does, Expires, Makes, Sends, Gets, Hears, Takes, Drops, Answers, Step, Begin, Finish, Effect, At, Stamped, HostState, World}
-use Rattle.hosts.specs.HostRules.{Permitted, deed_rules, just}
-use Rattle.hosts.specs.HostSteps.{Lawful, after}
-use Rattle.machine.specs.declared.endpoint.Emission.{Emission}
-use Rattle.machine.specs.Machine.{tcp, tcp_shape}
-use Rattle.machine.specs.Steps.{label_step, step_of}
-use Rattle.recordings.specs.Books.{step_line}
-use Rattle.recordings.specs.Keys.{If}
-use Rattle.recordings.specs.Placing as placing
-use Rattle.recordings.specs.Placing.{MomentsRise, event_of}
-use Rattle.recordings.proofs.Joint.{LinesRise}
+use Rattle.spec_network.specs.Tables.{on, other, pick}
+use Rattle.spec_network.specs.Hosts.{Deed, Does, Expires, Makes, Sends, Gets, Hears, Takes, Drops, Answers, Step, Begin, Finish, Effect, At, Stamped, HostState, World}
+use Rattle.spec_network.specs.HostRules.{Permitted, deed_rules, just}
+use Rattle.spec_network.specs.HostSteps.{Lawful, after}
+use Rattle.spec_tcp.specs.declared.endpoint.Emission.{Emission}
+use Rattle.spec_tcp.specs.Machine.{tcp, tcp_shape}
+use Rattle.spec_tcp.specs.Steps.{label_step, step_of}
+use Rattle.spec_merge.specs.Books.{step_line}
+use Rattle.spec_merge.specs.Keys.{If}
+use Rattle.spec_merge.specs.Placing as placing
+use Rattle.spec_merge.specs.Placing.{MomentsRise, event_of}
+use Rattle.spec_merge.proofs.Joint.{LinesRise}
 use Rattle.checker.specs.Seen.{stamped}
 use Rattle.merging.specs.Saying.{label_said, line_said, lines_said, steps_said}
 use Rattle.merging.specs.Told.{TakesWell, AllTakeWell, event_told, line_told}

@@ -12,18 +12,18 @@ use Rattle.case_forms.specs.declared.trace.Header.{Header}
 use Rattle.verdict.specs.declared.rule.Rule.{Rule}
 use Rattle.verdict.specs.declared.rule.Rule.TheVariants as rules
 use Rattle.verdict.specs.Rules.{first_broken}
-use Rattle.hosts.specs.Tables.{Both, gone_out, on, other, pick, unsent, waiting, with_host}
-use Rattle.hosts.specs.Hosts.{Deed, Does, Expires, Makes, Sends, Gets, Hears, Takes, Drops, Answers, Begin, Finish, Effect, At, HostState, World, Turn, Idle, Called, Answered, turn_of}
-use Rattle.hosts.specs.HostRules.{Permitted, aim_of, deed_rules, just}
-use Rattle.hosts.specs.HostSteps.{act_made, call_after, deed_after, effect_after, makes, start}
-use Rattle.hosts.proofs.Entries.{lookup_insert}
-use Rattle.machine.specs.declared.endpoint.Emission.{Emission}
-use Rattle.machine.specs.Machine.{tcp, tcp_shape}
-use Rattle.machine.specs.Bodies.{Body}
-use Rattle.recordings.specs.Books.{Item, Do, Bring, FitsItem, Flying, HostRun, bring, deed_line, item_line, next, next_item}
-use Rattle.recordings.specs.Keys.{Numbered}
-use Rattle.recordings.specs.Recordings.{IsKept, TcpEntry}
-use Rattle.recordings.proofs.Rename.{on_passes}
+use Rattle.spec_network.specs.Tables.{Both, gone_out, on, other, pick, unsent, waiting, with_host}
+use Rattle.spec_network.specs.Hosts.{Deed, Does, Expires, Makes, Sends, Gets, Hears, Takes, Drops, Answers, Begin, Finish, Effect, At, HostState, World, Turn, Idle, Called, Answered, turn_of}
+use Rattle.spec_network.specs.HostRules.{Permitted, aim_of, deed_rules, just}
+use Rattle.spec_network.specs.HostSteps.{act_made, call_after, deed_after, effect_after, makes, start}
+use Rattle.spec_network.proofs.Entries.{lookup_insert}
+use Rattle.spec_tcp.specs.declared.endpoint.Emission.{Emission}
+use Rattle.spec_tcp.specs.Machine.{tcp, tcp_shape}
+use Rattle.spec_tcp.specs.Bodies.{Body}
+use Rattle.spec_merge.specs.Books.{Item, Do, Bring, FitsItem, Flying, HostRun, bring, deed_line, item_line, next, next_item}
+use Rattle.spec_merge.specs.Keys.{Numbered}
+use Rattle.spec_merge.specs.Recordings.{IsKept, TcpEntry}
+use Rattle.spec_merge.proofs.Rename.{on_passes}
 use Rattle.stack_core.specs.Entries.{item_steps, steps_in}
 use Rattle.merging.specs.Naming.{AllNamed, NamedItem, line_keys}
 use Rattle.merging.specs.Numbers.{AllSmall, IsSmall, IsSmallDeed, IsSmallItem, takes_line}

@@ -1,9 +1,9 @@
 -- A first stranger stands at a place.
 use Rattle.std.proofs.Common.{◌≡◌, ℕ, ◌+◌, zero, suc, Bool, true, false, if◌then◌else◌, List, [], ◌∷◌, length, take, refl, sym, ap, subst, arith, inl, inr}
-use Rattle.machine.specs.declared.endpoint.Emission.{Emission}
-use Rattle.machine.specs.Machine.{tcp_shape}
-use Rattle.recordings.specs.Books.{Item, Do, Bring, Key}
-use Rattle.recordings.specs.Recordings.{TcpEntry}
+use Rattle.spec_tcp.specs.declared.endpoint.Emission.{Emission}
+use Rattle.spec_tcp.specs.Machine.{tcp_shape}
+use Rattle.spec_merge.specs.Books.{Item, Do, Bring, Key}
+use Rattle.spec_merge.specs.Recordings.{TcpEntry}
 use Rattle.merging.specs.Numbers.{takes_line}
 use Rattle.merging.specs.Naming.{AllNamed, line_keys, NamedItem, StrangerItem, FirstStranger, IsStranger, StrangerFrom}
 

@@ -6,13 +6,13 @@ use Rattle.case_forms.specs.declared.taken_line.TakenLine.{TakenLine}
 use Rattle.case_forms.specs.declared.taken_line.TakenLine.TheVariants as taken
 use Rattle.case_forms.specs.declared.trace.Line.{Line}
 use Rattle.case_forms.specs.declared.steps.Step as witness
-use Rattle.hosts.specs.Tables.{on}
-use Rattle.hosts.specs.Hosts.{Step}
-use Rattle.machine.specs.Machine.{tcp_shape}
-use Rattle.machine.specs.Steps.{line_step}
-use Rattle.recordings.specs.Books.{Item, Do, Bring, Key}
-use Rattle.recordings.specs.Merging.{Names}
-use Rattle.recordings.specs.Recordings.{TcpEntry}
+use Rattle.spec_network.specs.Tables.{on}
+use Rattle.spec_network.specs.Hosts.{Step}
+use Rattle.spec_tcp.specs.Machine.{tcp_shape}
+use Rattle.spec_tcp.specs.Steps.{line_step}
+use Rattle.spec_merge.specs.Books.{Item, Do, Bring, Key}
+use Rattle.spec_merge.specs.Merging.{Names}
+use Rattle.spec_merge.specs.Recordings.{TcpEntry}
 use Rattle.stack_core.specs.Entries.{item_steps, steps_in}
 use Rattle.merging.specs.Numbers.{Counts, IsSmall, IsSmallStep, Turns, counted_one, makes_segment, takes_line, with_turn_if}
 use Rattle.merging.specs.Saying.{all_renumbered, event_said, extras_said, label_said, line_said, lines_said, names as labelled, own_number}

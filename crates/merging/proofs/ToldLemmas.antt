@@ -28,13 +28,13 @@ use Rattle.case_forms.specs.Versions.{is_half}
 use Rattle.interval_order.specs.Orders.{Take, Move, taking}
 use Rattle.interval_order.specs.OrderRules.{extras_of}
 use Rattle.interval_order.specs.Placed.{Placed, TakesAt, IsTimely}
-use Rattle.hosts.specs.Hosts.{Stamped}
-use Rattle.recordings.specs.Books.{step_line}
-use Rattle.recordings.specs.Placing as placing
-use Rattle.recordings.specs.Placing.{IsPlacedRun, lines_of, MomentsRise, NamesAt, Placement}
-use Rattle.hosts.specs.HostSteps.{start, Lawful}
-use Rattle.machine.specs.Machine.{tcp, tcp_shape}
-use Rattle.machine.specs.Steps.{line_step, step_of}
+use Rattle.spec_network.specs.Hosts.{Stamped}
+use Rattle.spec_merge.specs.Books.{step_line}
+use Rattle.spec_merge.specs.Placing as placing
+use Rattle.spec_merge.specs.Placing.{IsPlacedRun, lines_of, MomentsRise, NamesAt, Placement}
+use Rattle.spec_network.specs.HostSteps.{start, Lawful}
+use Rattle.spec_tcp.specs.Machine.{tcp, tcp_shape}
+use Rattle.spec_tcp.specs.Steps.{line_step, step_of}
 use Rattle.checker.specs.Seen.{take_of, move_of, moves, act_of, stamped}
 use Rattle.checker.specs.Explains.{Explains}
 use Rattle.merging.specs.Told.{line_told, TakesWell, AllTakeWell, Tells}

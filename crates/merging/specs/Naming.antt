@@ -2,12 +2,12 @@
 use Rattle.std.specs.Prelude.{◌≡◌, ◌≤◌, ◌+◌, ◌-◌, ◌⊎◌, ℕ, nat_eq, if◌then◌else◌, List, [], ◌∷◌, length, Some, true}
 use Rattle.std.specs.Prelude.{slice_get, take}
 use Rattle.std.specs.Map.{lookup}
-use Rattle.hosts.specs.Tables.{pick}
-use Rattle.machine.specs.declared.endpoint.Emission.{Emission}
-use Rattle.machine.specs.Machine.{tcp_shape}
-use Rattle.recordings.specs.Books.{Item, Do, Bring, Flying, Key}
-use Rattle.recordings.specs.Keys.{before}
-use Rattle.recordings.specs.Recordings.{TcpEntry}
+use Rattle.spec_network.specs.Tables.{pick}
+use Rattle.spec_tcp.specs.declared.endpoint.Emission.{Emission}
+use Rattle.spec_tcp.specs.Machine.{tcp_shape}
+use Rattle.spec_merge.specs.Books.{Item, Do, Bring, Flying, Key}
+use Rattle.spec_merge.specs.Keys.{before}
+use Rattle.spec_merge.specs.Recordings.{TcpEntry}
 use Rattle.stack_core.specs.Recordings.{Recorded, world_left}
 use Rattle.merging.specs.Numbers.{takes_line}
 
@@ -20,7 +20,8 @@ line_keys (x ∷ xs) = if takes_line x.item then x.key ∷ line_keys xs else lin
 abbrev pub wire_of : Recorded → List (ℕ × Emission)
 wire_of r = (pick (world_left r).hosts r.me).wire
 
--- a segment is one that went out: the line that it names has its key, and stands on the wire with its emission; `first` is the
+-- a segment is one that went out: the line that it names has its key, and stands on the wire with its emission; `first`
+-- is the
 -- number of the first line
 pub record IsNamed (first : ℕ) (keys : List Key) (wire : List (ℕ × Emission)) (f : Flying tcp_shape) : Type 0 where
   pub event : first ≤ f.line
@@ -35,7 +36,8 @@ abbrev pub AllNamed : ℕ → List Key → List (ℕ × Emission) → List TcpEn
 AllNamed first keys wire [] = Unit {0}
 AllNamed first keys wire (x ∷ xs) = NamedItem first keys wire x.item × AllNamed first keys wire xs
 
--- the first segment of these entries that is none that went out was brought where the line to come has number n; their first
+-- the first segment of these entries that is none that went out was brought where the line to come has number n; their
+-- first
 -- line has the number `line`
 abbrev pub StrangerItem : ℕ → List Key → List (ℕ × Emission) → ℕ → ℕ → Item tcp_shape → Type 0 → Type 0
 StrangerItem first keys wire line n (Do step) rest = rest
@@ -46,7 +48,8 @@ FirstStranger first keys wire line [] n = ⊥
 FirstStranger first keys wire line (x ∷ xs) n =
     StrangerItem first keys wire line n x.item (FirstStranger first keys wire (if takes_line x.item then line + 1 else line) xs n)
 
--- the same in places: at this place of the entries a segment was brought that is none that went out; those before it are all;
+-- the same in places: at this place of the entries a segment was brought that is none that went out; those before it
+-- are all;
 -- and the line to come there has number n
 pub record StrangerFrom (first : ℕ) (keys : List Key) (wire : List (ℕ × Emission)) (line : ℕ) (xs : List TcpEntry) (n : ℕ) : Type 0 where
   pub place : ℕ
@@ -62,7 +65,7 @@ IsStranger first keys wire xs n = StrangerFrom first keys wire first xs n
 
 -- two segments have the same mark, head, options, and bytes
 abbrev pub SameMark : Emission → Emission → Type 0
-SameMark a b = (a.maker ≡ b.maker) × (a.knew ≡ b.knew) × (a.pos ≡ b.pos) × (a.ack ≡ b.ack) × (a.answers ≡ b.answers) × (a.moment ≡ b.moment)
+SameMark a b = (a.sender ≡ b.sender) × (a.peer_at_send ≡ b.peer_at_send) × (a.pos ≡ b.pos) × (a.ack ≡ b.ack) × (a.is_reset_reply ≡ b.is_reset_reply) × (a.moment ≡ b.moment)
 
 abbrev pub SameHead : Emission → Emission → Type 0
 SameHead a b =

@@ -3,11 +3,11 @@ use Rattle.std.specs.Prelude.{◌≤◌, ℕ, ◌+◌, ◌-◌, nat_lt, Bool, tr
 use Rattle.std.specs.Prelude.{List, [], ◌∷◌, ◌++◌, length, slice_get, unwrap_or}
 use Rattle.case_forms.specs.declared.calls.Host.{Host}
 use Rattle.case_forms.specs.declared.calls.Host.TheVariants.{Zero, One}
-use Rattle.hosts.specs.Hosts.{Deed, Expires, Makes, Sends, Gets, Hears, Takes, Drops, Answers, Step, Begin, Finish, Effect, At}
-use Rattle.machine.specs.Machine.{tcp_shape}
-use Rattle.recordings.specs.Books.{Item, Do, Bring}
-use Rattle.recordings.specs.Merging.{Names}
-use Rattle.recordings.specs.Recordings.{TcpEntry}
+use Rattle.spec_network.specs.Hosts.{Deed, Expires, Makes, Sends, Gets, Hears, Takes, Drops, Answers, Step, Begin, Finish, Effect, At}
+use Rattle.spec_tcp.specs.Machine.{tcp_shape}
+use Rattle.spec_merge.specs.Books.{Item, Do, Bring}
+use Rattle.spec_merge.specs.Merging.{Names}
+use Rattle.spec_merge.specs.Recordings.{TcpEntry}
 
 -- whether a deed takes a line, and a step, and an item
 abbrev pub deed_takes : Deed tcp_shape → Bool

@@ -1,7 +1,7 @@
 -- Two hosts' entries in the order of their keys. Nothing of it depends on a header.
 use Rattle.std.specs.Prelude.{if◌then◌else◌, List, [], ◌∷◌}
-use Rattle.recordings.specs.Keys.{before}
-use Rattle.recordings.specs.Recordings.{TcpEntry}
+use Rattle.spec_merge.specs.Keys.{before}
+use Rattle.spec_merge.specs.Recordings.{TcpEntry}
 
 abbrev pub in_order_with : TcpEntry → (List TcpEntry → List TcpEntry) → List TcpEntry → List TcpEntry
 in_order_with x rest [] = x ∷ rest []

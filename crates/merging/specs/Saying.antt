@@ -15,13 +15,13 @@ use Rattle.case_forms.specs.declared.taken_line.TakenLine.TheVariants as taken
 use Rattle.case_forms.specs.declared.trace.Event.{Event}
 use Rattle.case_forms.specs.declared.trace.Event.TheVariants as events
 use Rattle.case_forms.specs.declared.trace.Line.{Line}
-use Rattle.hosts.specs.Tables.{on, other}
-use Rattle.hosts.specs.Hosts.{Deed, Does, Expires, Makes, Sends, Gets, Hears, Takes, Drops, Answers, Step, Begin, Finish, Effect, At, Stamped}
-use Rattle.machine.specs.Machine.{tcp_shape}
-use Rattle.recordings.specs.Books.{Item, Do, Bring, Key}
-use Rattle.recordings.specs.Merging.{Names}
-use Rattle.recordings.specs.Keys.{rank}
-use Rattle.recordings.specs.Recordings.{TcpEntry}
+use Rattle.spec_network.specs.Tables.{on, other}
+use Rattle.spec_network.specs.Hosts.{Deed, Does, Expires, Makes, Sends, Gets, Hears, Takes, Drops, Answers, Step, Begin, Finish, Effect, At, Stamped}
+use Rattle.spec_tcp.specs.Machine.{tcp_shape}
+use Rattle.spec_merge.specs.Books.{Item, Do, Bring, Key}
+use Rattle.spec_merge.specs.Merging.{Names}
+use Rattle.spec_merge.specs.Keys.{rank}
+use Rattle.spec_merge.specs.Recordings.{TcpEntry}
 use Rattle.checker.specs.Again.{nowhere}
 use Rattle.merging.specs.Numbers.{counted, names_in, no_counts}
 use Rattle.merging.specs.Order.{in_order}
@@ -70,7 +70,8 @@ label_said (Finish line t answer) = names line extras.Bare
 label_said (Effect t answer) = labels.D t answer
 label_said (At host deed) = deed_said host deed
 
--- the same of a line that a step takes: its number in its host's recording, its thread, its event, and what its step adds
+-- the same of a line that a step takes: its number in its host's recording, its thread, its event, and what its step
+-- adds
 abbrev pub own_number : TakenLine → ℕ
 own_number (taken.CallBegin line t call) = line
 own_number (taken.CallEnd line t answer) = line

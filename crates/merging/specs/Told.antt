@@ -13,10 +13,10 @@ use Rattle.case_forms.specs.declared.steps.Witness.{Witness}
 use Rattle.case_forms.specs.Steps.{extras_count}
 use Rattle.case_forms.specs.Traces.{line_at, IsTrace}
 use Rattle.interval_order.specs.OrderRules.{extras_of}
-use Rattle.hosts.specs.Hosts.{Stamped}
-use Rattle.recordings.specs.Keys.{rank}
-use Rattle.recordings.specs.Placing as placing
-use Rattle.machine.specs.Machine.{tcp, tcp_shape}
+use Rattle.spec_network.specs.Hosts.{Stamped}
+use Rattle.spec_merge.specs.Keys.{rank}
+use Rattle.spec_merge.specs.Placing as placing
+use Rattle.spec_tcp.specs.Machine.{tcp, tcp_shape}
 use Rattle.checker.specs.Seen.{stamped}
 
 -- what an event of that thread is to the machine, to which the threads of segments and timers are nothing
@@ -42,7 +42,8 @@ abbrev pub AllTakeWell : Header → List Line → List Step → Type 0
 AllTakeWell h lines [] = Unit {0}
 AllTakeWell h lines (s ∷ steps) = TakesWell h lines s.label × AllTakeWell h lines steps
 
--- trace and witness say these steps: the witness's steps are these, as the checker sees them, and the trace's lines are those that they take
+-- trace and witness say these steps: the witness's steps are these, as the checker sees them, and the trace's lines are
+-- those that they take
 pub record Tells (t : Trace) (w : Witness) (steps : List (Stamped tcp_shape)) : Type 0 where
   pub trace : IsTrace t
   pub version : t.header.version ≡ w.version

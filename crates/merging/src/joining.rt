@@ -4,9 +4,9 @@ ghost use Rattle.std.specs.Prelude.{◌≡◌, ◌≤◌, ◌+◌, false, IfOk, 
 ghost use Rattle.case_forms.specs.declared.calls.Host.TheVariants.{Zero, One};
 ghost use Rattle.case_forms.specs.Traces.{first_event_line};
 ghost use Rattle.case_forms.specs.Versions.{is_half};
-ghost use Rattle.machine.specs.Machine.{tcp};
-ghost use Rattle.recordings.specs.Keys.{Books};
-ghost use Rattle.recordings.specs.Recordings.{merged};
+ghost use Rattle.spec_tcp.specs.Machine.{tcp};
+ghost use Rattle.spec_merge.specs.Keys.{Books};
+ghost use Rattle.spec_merge.specs.Recordings.{merged};
 ghost use Rattle.stack_core.specs.Entries.{steps_in};
 ghost use Rattle.checker.specs.Explains.{Explains};
 ghost use Rattle.merging.specs.declared.joining.MergeFault.TheVariants.{OutOfMemory};
@@ -23,7 +23,7 @@ use crate::numbers::count_all;
 use crate::order::InOrder;
 use crate::telling::tell_all;
 use case_forms::{OutOfMemory, Trace, Witness};
-use recordings::books_grow;
+use spec_merge::books_grow;
 use stack_core::Recording;
 use std::alloc::Global;
 use thiserror::Error;
@@ -38,7 +38,8 @@ pub struct Recorded {
 /// Why two recordings were not merged.
 #[derive(Clone, Copy, Debug, PartialEq, Eq, Error)]
 pub enum MergeFault {
-    /// A segment that came to a host is none that the other let out. `arrival_line` is the line of that host's recording with
+    /// A segment that came to a host is none that the other let out. `arrival_line` is the line of that host's
+    /// recording with
     /// which it came in, or would have.
     #[error("a segment of line {arrival_line} is not one that the other host let out")]
     Stranger { arrival_line: u64 },
@@ -82,7 +83,8 @@ fn tell(alloc: Global, zero: &Recording, one: &Recording) -> Result<Recorded, Ou
     })
 }
 
-/// The recordings of host 0 and of host 1 in a whole case, merged in the order of their keys, with lines and made segments
+/// The recordings of host 0 and of host 1 in a whole case, merged in the order of their keys, with lines and made
+/// segments
 /// counted anew. Two books beside each other are merged, or memory runs out.
 pub fn merge_recordings(
     alloc: Global,

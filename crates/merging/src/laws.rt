@@ -6,12 +6,12 @@ ghost use Rattle.case_forms.specs.declared.steps.Witness.{Witness};
 ghost use Rattle.case_forms.specs.Traces.{first_event_line};
 ghost use Rattle.case_forms.specs.declared.calls.Host.TheVariants.{Zero, One};
 ghost use Rattle.case_forms.specs.declared.trace.Header.{Header};
-ghost use Rattle.hosts.specs.Hosts.{Stamped};
-ghost use Rattle.hosts.specs.Tables.{Both};
-ghost use Rattle.recordings.specs.Keys.{Books};
-ghost use Rattle.recordings.specs.Placing.{IsPlacedRun, lines_of};
-ghost use Rattle.recordings.specs.Recordings.{TcpEntry, merged};
-ghost use Rattle.machine.specs.Machine.{tcp, tcp_shape};
+ghost use Rattle.spec_network.specs.Hosts.{Stamped};
+ghost use Rattle.spec_network.specs.Tables.{Both};
+ghost use Rattle.spec_merge.specs.Keys.{Books};
+ghost use Rattle.spec_merge.specs.Placing.{IsPlacedRun, lines_of};
+ghost use Rattle.spec_merge.specs.Recordings.{TcpEntry, merged};
+ghost use Rattle.spec_tcp.specs.Machine.{tcp, tcp_shape};
 ghost use Rattle.checker.specs.Explains.{Explains, IsYes};
 ghost use Rattle.checker.specs.Verdicts.{verdict};
 ghost use Rattle.stack_core.specs.CoreWorlds.{Event, IsCoreWorld, Side, entries_of};
@@ -20,10 +20,11 @@ ghost use Rattle.merging.specs.Faults.{IsFirstStranger};
 ghost use Rattle.merging.specs.Told.{Tells};
 
 use checker::explained_is_yes;
-use recordings::merged_books_are_a_run;
+use spec_merge::merged_books_are_a_run;
 use stack_core::core_worlds_are_books;
 
-/// Where a trace and a witness say the steps of a run that is a placement of the lines that these steps take, the witness
+/// Where a trace and a witness say the steps of a run that is a placement of the lines that these steps take, the
+/// witness
 /// explains the trace, and the verdict is yes. The merged steps of two books beside each other are such a run.
 pub fn what_is_told_explains()
     ensures steps { (t : Trace) (w : Witness) (steps : List (Stamped tcp_shape))

@@ -1,8 +1,11 @@
 //! Two hosts' recordings, merged into a trace and a witness that explain each other.
 //!
-//! `merge_recordings` puts the entries of both in the order of their keys, counts lines and made segments anew, and tells what
-//! there is as lines of a trace and as steps of a witness. `specs/Told` says when these say the steps of a run; a law joins that
-//! to what `checker` calls explained, so `check` of what is merged answers yes. What a host brought has to be what the other let
+//! `merge_recordings` puts the entries of both in the order of their keys, counts lines and made segments anew, and
+//! tells what
+//! there is as lines of a trace and as steps of a witness. `specs/Told` says when these say the steps of a run; a law
+//! joins that
+//! to what `checker` calls explained, so `check` of what is merged answers yes. What a host brought has to be what the
+//! other let
 //! out (`specs/Naming`).
 //!
 //! - `order`: entries of two hosts in the order of their keys

@@ -10,7 +10,7 @@ ghost use Rattle.merging.specs.Faults.{NamesAll, HasStranger};
 use crate::numbers::takes_line;
 use crate::order::first_entry;
 use case_forms::OutOfMemory;
-use machine::Emission;
+use spec_tcp::Emission;
 use stack_core::{Entry, Flying, Item, Key, Recording};
 use std::alloc::Global;
 
@@ -18,11 +18,11 @@ use std::alloc::Global;
 fn has_same_mark(a: &Emission, b: &Emission) -> bool
     ensures { IsTrue result ↔ SameMark a.now b.now }
 {
-    a.maker == b.maker
-        && a.knew == b.knew
+    a.sender == b.sender
+        && a.peer_at_send == b.peer_at_send
         && a.pos == b.pos
         && a.ack == b.ack
-        && a.answers == b.answers
+        && a.is_reset_reply == b.is_reset_reply
         && a.moment == b.moment
 }
 
@@ -116,7 +116,8 @@ fn line_keys(alloc: Global, entries: &[Entry]) -> Result<Vec<Key>, OutOfMemory>
     Ok(keys)
 }
 
-// The number of the line behind the first segment among these entries that was not let out, where the first line has the
+// The number of the line behind the first segment among these entries that was not let out, where the first line has
+// the
 // number `first`.
 fn find_stranger(keys: &[Key], other: &Recording, first: u64, entries: &[Entry]) -> Option<u64>
     requires { first ≤ 100 }
@@ -137,7 +138,8 @@ fn find_stranger(keys: &[Key], other: &Recording, first: u64, entries: &[Entry])
     None
 }
 
-/// The number of the line behind the first segment that a recording brought and that the other's host didn't let out. None:
+/// The number of the line behind the first segment that a recording brought and that the other's host didn't let out.
+/// None:
 /// there is no such segment. The error is that memory ran out.
 #[tactic(auto, using(crate::proofs::Strangers::stranger_at))]
 pub(crate) fn first_stranger(

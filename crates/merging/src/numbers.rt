@@ -1,7 +1,7 @@
 //! Lines and made segments of two hosts, counted anew.
 
 ghost use Rattle.std.specs.Prelude.{◌≡◌, ◌<◌, ◌≤◌, ◌+◌, IfOk, OnOk, OnErr};
-ghost use Rattle.hosts.specs.Tables.{pick};
+ghost use Rattle.spec_network.specs.Tables.{pick};
 ghost use Rattle.stack_core.specs.Entries.{steps_in};
 ghost use Rattle.merging.specs.Numbers.{IsSmall, counted, counted_one, makes_segment, no_counts, no_turns, number_in, takes_line, with_turn};
 

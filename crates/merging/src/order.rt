@@ -2,7 +2,7 @@
 
 ghost use Rattle.std.specs.Prelude.{◌≡◌, ◌∷◌, [], IfNone};
 ghost use Rattle.std.specs.Option.{IfSome};
-ghost use Rattle.recordings.specs.Keys.{before, rank};
+ghost use Rattle.spec_merge.specs.Keys.{before, rank};
 ghost use Rattle.stack_core.specs.Keys.{key_shown};
 ghost use Rattle.merging.specs.Order.{in_order};
 
@@ -19,7 +19,7 @@ pub(crate) struct InOrder<'a> {
 
 impl<'a> Model for InOrder<'a> {
     ghost use Rattle.std.specs.Prelude.{List};
-    ghost use Rattle.recordings.specs.Recordings.{TcpEntry};
+    ghost use Rattle.spec_merge.specs.Recordings.{TcpEntry};
     ghost use Rattle.merging.specs.Order.{in_order};
 
     ghost Value = { List TcpEntry };

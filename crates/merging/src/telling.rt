@@ -1,8 +1,8 @@
 //! Steps as lines of a trace, and as steps of a witness.
 
 ghost use Rattle.std.specs.Prelude.{◌≡◌, ◌≤◌, ◌+◌, ◌++◌, ◌∷◌, [], Some, IfOk, OnOk};
-ghost use Rattle.hosts.specs.Tables.{on};
-ghost use Rattle.machine.specs.Steps.{line_step, step_of};
+ghost use Rattle.spec_network.specs.Tables.{on};
+ghost use Rattle.spec_tcp.specs.Steps.{line_step, step_of};
 ghost use Rattle.merging.specs.Numbers.{AllSmall, IsSmallItem, IsSmallStep, names_by};
 ghost use Rattle.merging.specs.Saying.{all_renumbered, event_said, extras_said, growth_said, label_said, line_said, lines_said};
 ghost use Rattle.merging.specs.Saying.{names, own_number, renumbered, said, steps_said, thread_said};

@@ -64,7 +64,7 @@ pub(crate) fn check_one<C: Cases, G: Gate>(
 }
 
 // The least case that none has taken, or None where all are.
-fn take<H: Wait>(rt: &H, next: &Mutex<usize>, count: usize) -> Option<usize>
+fn take_next<H: Wait>(rt: &H, next: &Mutex<usize>, count: usize) -> Option<usize>
     ensures { IfSome result (λ index. index < count) }
 {
     let mut next = next.lock(rt);
@@ -76,7 +76,8 @@ fn take<H: Wait>(rt: &H, next: &Mutex<usize>, count: usize) -> Option<usize>
     Some(index)
 }
 
-// What one worker does. It finds room for an answer before it takes the case; where there is none it takes no further one.
+// What one worker does. It finds room for an answer before it takes the case; where there is none it takes no further
+// one.
 fn work<C: Cases, G: Gate, H: Wait>(
     rt: &H,
     alloc: Global,
@@ -91,7 +92,7 @@ fn work<C: Cases, G: Gate, H: Wait>(
         if done.reserve(1).is_err() {
             break;
         }
-        let Some(index) = take(rt, next, cases.len()) else {
+        let Some(index) = take_next(rt, next, cases.len()) else {
             break;
         };
         done.push_reserved(check_one(alloc, cases, index, gate));
@@ -120,8 +121,10 @@ fn check_named<C: Cases + Send + Sync, G: Gate + Sync, H: Threads + Wait + Sync>
     gather(alloc, cases, parts, gate)
 }
 
-/// Checks all cases by this many threads, 1 to 64 of them. Where a thread can't be started this one does its work. A case
-/// for which memory runs out is answered so, and the others as ever; `Err` says that memory ran out for the list itself.
+/// Checks all cases by this many threads, 1 to 64 of them. Where a thread can't be started this one does its work. A
+/// case
+/// for which memory runs out is answered so, and the others as ever; `Err` says that memory ran out for the list
+/// itself.
 pub fn check_many_slices<G: Gate + Sync, H: Threads + Wait + Sync>(
     rt: &H,
     alloc: Global,

@@ -3,11 +3,11 @@ use Rattle.std.proofs.Common.{◌≡◌, inl, inr, ℕ, ◌+◌, ◌≤◌, ◌<
 use Rattle.case_forms.specs.declared.calls.Answer.{Answer}
 use Rattle.case_forms.specs.declared.calls.Call.{Call}
 use Rattle.case_forms.specs.declared.trace.Wire.{Wire}
-use Rattle.hosts.specs.Hosts.{Answers, At, Begin, Does, Drops, Effect, Finish, Gets, Makes, Sends, Step, Takes}
-use Rattle.machine.specs.Machine.{tcp_shape}
-use Rattle.recordings.specs.Books.{Bring, Do, Flying, Item}
-use Rattle.recordings.specs.Keys.{before}
-use Rattle.recordings.specs.Recordings.{TcpEntry}
+use Rattle.spec_network.specs.Hosts.{Answers, At, Begin, Does, Drops, Effect, Finish, Gets, Makes, Sends, Step, Takes}
+use Rattle.spec_tcp.specs.Machine.{tcp_shape}
+use Rattle.spec_merge.specs.Books.{Bring, Do, Flying, Item}
+use Rattle.spec_merge.specs.Keys.{before}
+use Rattle.spec_merge.specs.Recordings.{TcpEntry}
 use Rattle.stack_core.specs.declared.answered.Answered.{Answered}
 use Rattle.stack_core.specs.declared.tick.Tick.{Tick}
 use Rattle.stack_core.specs.ArrivalEvents.{IsArrival, IsArrived, IsArrivedShort, IsRecovered, IsSettled, brought, came, ports_of}

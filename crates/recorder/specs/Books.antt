@@ -1,9 +1,9 @@
 -- What holds of a host's book.
 use Rattle.std.specs.Prelude.{◌≡◌, ◌≤◌, ℕ, suc, List, [], ◌∷◌}
-use Rattle.hosts.specs.Hosts.{Step, Begin, Finish, Effect, At}
-use Rattle.machine.specs.Machine.{tcp_shape}
-use Rattle.recordings.specs.Books.{Item, Do, Bring}
-use Rattle.recordings.specs.Recordings.{TcpEntry}
+use Rattle.spec_network.specs.Hosts.{Step, Begin, Finish, Effect, At}
+use Rattle.spec_tcp.specs.Machine.{tcp_shape}
+use Rattle.spec_merge.specs.Books.{Item, Do, Bring}
+use Rattle.spec_merge.specs.Recordings.{TcpEntry}
 use Rattle.stack_core.specs.Cores.{Core}
 use Rattle.merging.specs.Naming.{AllAbove}
 
@@ -22,7 +22,8 @@ abbrev pub ends_in : List TcpEntry → ℕ
 ends_in [] = 0
 ends_in (x ∷ xs) = item_ends x.item (ends_in xs)
 
--- the total is the number of lines that end a call; what was brought has a key below that of its entry; and the counts are small
+-- the total is the number of lines that end a call; what was brought has a key below that of its entry; and the counts
+-- are small
 pub record IsBook (c : Core) (total : ℕ) : Type 0 where
   pub ends : total ≡ ends_in c.recorded.entries
   pub few : total ≤ c.events

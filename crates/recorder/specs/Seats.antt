@@ -7,7 +7,8 @@ use Rattle.recorder.specs.declared.recorder.RecFault.TheVariants.{Stopped, OutOf
 abbrev pub IsReserved : ℕ → Type 0
 IsReserved thread = (4 ≤ thread) × (thread ≤ 9)
 
--- why a thread got no seat of a recorder that was stopped or not, and had so many seats left; `has` says whether the thread has one
+-- why a thread got no seat of a recorder that was stopped or not, and had so many seats left; `has` says whether the
+-- thread has one
 abbrev pub WhyNoSeat : Bool → ℕ → Bool → ℕ → RecFault → Type 0
 WhyNoSeat stopped left has thread Stopped = stopped ≡ true
 WhyNoSeat stopped left has thread OutOfMemory = Unit {0}

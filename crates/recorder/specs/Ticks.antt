@@ -3,7 +3,8 @@ use Rattle.std.specs.Prelude.{◌≤◌, ◌<◌, ◌⊎◌, ℕ, suc, max}
 use Rattle.stack_core.specs.declared.tick.Tick.{Tick}
 use Rattle.stack_core.specs.Cores.{Core}
 
--- its moment is the greater of this one and that of the last event; its counter is one more than the greater of this one and that of the last event
+-- its moment is the greater of this one and that of the last event; its counter is one more than the greater of this
+-- one and that of the last event
 abbrev pub tick_after : Tick → ℕ → ℕ → Tick
 tick_after last moment counter = record { moment = max moment last.moment; counter = suc (max counter last.counter) }
 

@@ -4,10 +4,10 @@ ghost use Rattle.std.specs.Prelude.{◌≡◌, ◌+◌, ◌≤◌, ◌<◌, ◌�
 ghost use Rattle.std.specs.BTreeSet.{contains};
 ghost use Rattle.std.specs.Option.{IfSome};
 ghost use Rattle.case_forms.specs.declared.calls.Host.{Host};
-ghost use Rattle.hosts.specs.Tables.{lane};
-ghost use Rattle.machine.specs.Machine.{aim};
-ghost use Rattle.recordings.specs.Books.{Aims};
-ghost use Rattle.recordings.specs.Keys.{before};
+ghost use Rattle.spec_network.specs.Tables.{lane};
+ghost use Rattle.spec_tcp.specs.Machine.{aim};
+ghost use Rattle.spec_merge.specs.Books.{Aims};
+ghost use Rattle.spec_merge.specs.Keys.{before};
 ghost use Rattle.stack_core.specs.Cores.{IsAfter, IsCallWithin};
 ghost use Rattle.stack_core.specs.Keys.{key_of, key_shown};
 ghost use Rattle.recorder.specs.Seats.{IsReserved, WhyNoSeat};
@@ -58,7 +58,8 @@ pub(crate) struct Desk<L: Site> {
     ghost fits: { left ≤ 65535 },
 }
 
-// The next tick of a book, at this moment and counter or above. None: it would pass the limits, or there were too many events.
+// The next tick of a book, at this moment and counter or above. None: it would pass the limits, or there were too many
+// events.
 fn next_tick(book: &HostBook, moment: u64, counter: u64) -> Option<Tick>
     ensures tick { IfSome result (λ t. t ≡ tick_after book.now.core.last moment counter) }
     ensures after { IfSome result (IsAfter book.now.core.last) }

@@ -2,11 +2,11 @@
 
 ghost use Rattle.std.specs.Prelude.{◌≡◌, ◌↔◌, ◌+◌, ◌<◌, ◌≤◌, true, IsTrue, IfNone, IfOk, OnErr};
 ghost use Rattle.std.specs.Option.{IfSome};
-ghost use Rattle.hosts.specs.Hosts.{Idle, turn_of};
-ghost use Rattle.hosts.specs.Tables.{lane};
-ghost use Rattle.machine.specs.Machine.{aim};
-ghost use Rattle.recordings.specs.Books.{Aims};
-ghost use Rattle.recordings.specs.Keys.{before};
+ghost use Rattle.spec_network.specs.Hosts.{Idle, turn_of};
+ghost use Rattle.spec_network.specs.Tables.{lane};
+ghost use Rattle.spec_tcp.specs.Machine.{aim};
+ghost use Rattle.spec_merge.specs.Books.{Aims};
+ghost use Rattle.spec_merge.specs.Keys.{before};
 ghost use Rattle.stack_core.specs.Cores.{IsAfter, IsCallWithin, IsRecorded, world};
 ghost use Rattle.stack_core.specs.Entries.{steps_in};
 ghost use Rattle.stack_core.specs.Keys.{key_of};
@@ -76,7 +76,8 @@ impl HostBook {
         self.core.events()
     }
 
-    /// What it recorded is a run of its host for its lines, and its total is the number of those that end a call: a call that
+    /// What it recorded is a run of its host for its lines, and its total is the number of those that end a call: a
+    /// call that
     /// does nothing, whose contract says it.
     pub fn is_book(&self)
         ensures run { IsRecorded self.now.core }
@@ -85,7 +86,8 @@ impl HostBook {
         self.core.is_recording();
     }
 
-    // What was brought has keys below those of its entries, and the steps are few: a call that does nothing, whose contract
+    // What was brought has keys below those of its entries, and the steps are few: a call that does nothing, whose
+    // contract
     // says it.
     pub(crate) fn few_steps(&self)
         ensures above { AllAbove self.now.core.recorded.entries }

@@ -107,7 +107,8 @@ impl<L: Site> Recorder<L> {
         Ok(true)
     }
 
-    /// Lets the host's segments go out and sends each as its fate is, in so many turns. A turn without a segment ends by
+    /// Lets the host's segments go out and sends each as its fate is, in so many turns. A turn without a segment ends
+    /// by
     /// yielding. The sender is dropped as the loop ends.
     pub fn pump_loop_by<R: Wait, F: WireFate + Drop>(
         &self,

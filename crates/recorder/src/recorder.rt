@@ -2,9 +2,9 @@
 
 ghost use Rattle.std.specs.Prelude.{◌≡◌, ◌+◌, ◌<◌, IfOk, IfErr, OnOk, OnErr, sum_by, length};
 ghost use Rattle.std.specs.Fn.{FnOnceReturnsAt};
-ghost use Rattle.hosts.specs.Tables.{lane};
-ghost use Rattle.machine.specs.Machine.{aim};
-ghost use Rattle.recordings.specs.Books.{Aims};
+ghost use Rattle.spec_network.specs.Tables.{lane};
+ghost use Rattle.spec_tcp.specs.Machine.{aim};
+ghost use Rattle.spec_merge.specs.Books.{Aims};
 ghost use Rattle.stack_core.specs.Cores.{IsCallWithin};
 ghost use Rattle.recorder.specs.declared.recorder.Cause.TheVariants.{SeatMissing};
 ghost use Rattle.recorder.specs.Seats.{IsReserved};
@@ -26,7 +26,8 @@ use thiserror::Error;
 /// Why a seat or a call was refused.
 #[derive(Clone, Copy, Debug, PartialEq, Eq, Error)]
 pub enum RecFault {
-    /// The recorder was stopped, its host had 10,000,000 events, its next tick would pass the limits, or the seat has a pending
+    /// The recorder was stopped, its host had 10,000,000 events, its next tick would pass the limits, or the seat has a
+    /// pending
     /// call. The seat is as it was.
     #[error("the recorder is stopped")]
     Stopped,
@@ -101,7 +102,8 @@ impl<L: Site> Recorder<L> {
         self.desk.lock(rt).seat(thread)
     }
 
-    /// A call of the seat's thread, which means this host or a socket number of its own. It waits until the call has its
+    /// A call of the seat's thread, which means this host or a socket number of its own. It waits until the call has
+    /// its
     /// effect. Where it is refused the seat counts as before.
     pub fn call<R: Wait>(&self, rt: &R, seat: &mut Seat<L>, call: Call) -> Result<Receipt, RecFault>
         requires lane { lane seat.old.thread ≡ L.host }
@@ -139,7 +141,8 @@ impl<L: Site> Recorder<L> {
         self.moved.notify_all();
     }
 
-    /// Ends the recording, where all seats are handed in. The book's total is the sum of their counts. There are 65,535 seats, so
+    /// Ends the recording, where all seats are handed in. The book's total is the sum of their counts. There are 65,535
+    /// seats, so
     /// none is missing among as many.
     pub fn finish<R: Wait>(self, rt: &R, seats: Vec<Seat<L>>) -> Result<HostBook, Unfinished<L>>
         requires { L.parts ≡ 65535 }

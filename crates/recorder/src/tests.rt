@@ -29,7 +29,8 @@ fn none_is_lost(rt: HostRuntime) {
     assert_eq!(rt; fates(0), ['.', '.', '.', '.', '.']);
 }
 
-// Which segments go out late in each turn, where segments have the numbers 1 to 6 and the given ones are held back behind so many
+// Which segments go out late in each turn, where segments have the numbers 1 to 6 and the given ones are held back
+// behind so many
 // further ones.
 fn late(alloc: Global, holds: &[(u64, u32)]) -> Result<Vec<(u64, u64)>, AllocError> {
     let mut held = HeldBack::new(alloc);

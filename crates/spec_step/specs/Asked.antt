@@ -3,9 +3,9 @@ use Rattle.std.specs.Prelude.{ℕ, Bool, List, [], Option}
 use Rattle.std.specs.Option.{option_map_or}
 use Rattle.verdict.specs.declared.rule.Rule.{Rule}
 use Rattle.verdict.specs.Rules.{first_broken}
-use Rattle.hosts.specs.Hosts.{Step}
-use Rattle.hosts.specs.HostRules.{step_rules}
-use Rattle.machine.specs.Machine.{tcp, tcp_shape}
+use Rattle.spec_network.specs.Hosts.{Step}
+use Rattle.spec_network.specs.HostRules.{step_rules}
+use Rattle.spec_tcp.specs.Machine.{tcp, tcp_shape}
 use Rattle.endpoint_state.specs.Worlds.{Progress, after}
 
 -- the least rule that a step breaks

@@ -4,9 +4,9 @@ ghost use Rattle.std.specs.Prelude.{◌≡◌, ◌<◌, None, Some, Err, IfErr, 
 ghost use Rattle.std.specs.Result.{result_err};
 ghost use Rattle.case_forms.specs.Witnesses.{IsWithinLimits};
 ghost use Rattle.verdict.specs.Rules.{first_broken};
-ghost use Rattle.hosts.specs.Hosts.{Effect};
-ghost use Rattle.machine.specs.Bounds.{most_steps};
-ghost use Rattle.machine.specs.Steps.{hidden_step};
+ghost use Rattle.spec_network.specs.Hosts.{Effect};
+ghost use Rattle.spec_tcp.specs.Bounds.{most_steps};
+ghost use Rattle.spec_tcp.specs.Steps.{hidden_step};
 ghost use Rattle.endpoint_state.specs.Faults.{fault_rule};
 ghost use Rattle.endpoint_state.specs.Worlds.{after};
 ghost use Rattle.spec_step.specs.Faults.{IfBroken};
@@ -40,7 +40,7 @@ pub fn apply_hidden<Taken>(
             world.drop_arrival(*host, *line, moment)?;
             Ok(())
         }
-        Label::R { host, line } => world.answer(*host, *line, moment),
+        Label::R { host, line } => world.reply_with_reset(*host, *line, moment),
         Label::F { host, recovery } => {
             world.recover(*host, *recovery, moment)?;
             Ok(())

@@ -2,8 +2,8 @@
 
 ghost use Rattle.std.specs.Prelude.{◌≡◌, ◌<◌, None, Some, Err, IfErr, OnOk, OnErr};
 ghost use Rattle.std.specs.Result.{result_err};
-ghost use Rattle.machine.specs.Bounds.{most_steps};
-ghost use Rattle.machine.specs.Steps.{line_step};
+ghost use Rattle.spec_tcp.specs.Bounds.{most_steps};
+ghost use Rattle.spec_tcp.specs.Steps.{line_step};
 ghost use Rattle.endpoint_state.specs.Worlds.{after};
 ghost use Rattle.spec_step.specs.Asked.{broken_by};
 ghost use Rattle.spec_step.specs.Faults.{IfBroken};

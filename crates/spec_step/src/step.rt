@@ -3,8 +3,8 @@
 ghost use Rattle.std.specs.Prelude.{◌≡◌, ◌<◌, None, Some, Err, IfErr, OnOk, OnErr};
 ghost use Rattle.std.specs.Result.{result_err};
 ghost use Rattle.case_forms.specs.Witnesses.{IsWithinLimits};
-ghost use Rattle.machine.specs.Bounds.{most_steps};
-ghost use Rattle.machine.specs.Steps.{step_of};
+ghost use Rattle.spec_tcp.specs.Bounds.{most_steps};
+ghost use Rattle.spec_tcp.specs.Steps.{step_of};
 ghost use Rattle.endpoint_state.specs.Worlds.{after};
 ghost use Rattle.spec_step.specs.Asked.{broken_by};
 ghost use Rattle.spec_step.specs.Faults.{IfBroken};
@@ -35,7 +35,8 @@ pub fn admits(world: &World, moment: u64, label: &Label) -> Result<(), Rule>
     }
 }
 
-/// Does a step at a moment, in microseconds, where the machine admits it and memory allows. An error is the least rule that
+/// Does a step at a moment, in microseconds, where the machine admits it and memory allows. An error is the least rule
+/// that
 /// the step breaks, or that it breaks none and memory ran out; the world is then as it was.
 pub fn apply(world: &mut World, moment: u64, label: &Label) -> Result<(), StepFault>
     requires steps { world.old.steps < most_steps }

@@ -3,13 +3,13 @@
 ghost use Rattle.std.specs.Prelude.{◌≡◌, nat_eq, OnOk, OnErr};
 ghost use Rattle.std.specs.Map.{lookup};
 ghost use Rattle.std.specs.Option.{option_copied};
-ghost use Rattle.hosts.specs.Tables.{pick};
-ghost use Rattle.machine.specs.Bounds.{IsSmallEmission};
+ghost use Rattle.spec_network.specs.Tables.{pick};
+ghost use Rattle.spec_tcp.specs.Bounds.{IsSmallEmission};
 ghost use Rattle.endpoint_state.specs.Worlds.{brought};
 
 use case_forms::{Host, OutOfMemory};
 use endpoint_state::World;
-use machine::Emission;
+use spec_tcp::Emission;
 
 /// What a host put on its wire with this line of the trace, or what was brought there under it. None: nothing.
 pub fn sent(world: &World, host: Host, line: u64) -> Option<&Emission>
@@ -18,7 +18,8 @@ pub fn sent(world: &World, host: Host, line: u64) -> Option<&Emission>
     world.sent(host, line)
 }
 
-/// Puts a segment on a host's wire under this line, in place of one that stood there. It is no step, and nothing else is
+/// Puts a segment on a host's wire under this line, in place of one that stood there. It is no step, and nothing else
+/// is
 /// changed: a copy that came in before stays as it was. The error is that memory ran out, and then nothing is changed.
 pub fn bring(
     world: &mut World,

@@ -16,30 +16,30 @@ use Rattle.streams.specs.Received.{starts}
 use Rattle.verdict.specs.declared.rule.Rule.{Rule}
 use Rattle.verdict.specs.declared.rule.Rule.TheVariants as rules
 use Rattle.verdict.specs.Rules.{first_broken}
-use Rattle.hosts.specs.Tables.{lane, other, pick}
-use Rattle.hosts.specs.Hosts.{ThatSocket, Idle, Called, Answered, World, Turn, Effect, Finish, turn_of}
-use Rattle.hosts.specs.HostRules.{Permitted, aim_of, call_rules, effect_rules, fresh_rules}
-use Rattle.hosts.specs.HostSteps.{after, effect_after, start}
-use Rattle.hosts.proofs.Entries.{turn_insert}
-use Rattle.hosts.proofs.Turns.{effect_passes}
-use Rattle.machine.specs.declared.endpoint.Endpoint.{Endpoint}
-use Rattle.machine.specs.declared.endpoint.Socket.{Socket}
-use Rattle.machine.specs.declared.endpoint.Thing.{Thing}
-use Rattle.machine.specs.declared.endpoint.Thing.TheVariants.{Ends}
-use Rattle.machine.specs.Bodies.{Body, given, if_live, thing_of}
-use Rattle.machine.specs.Calls.{call_allows, is_bad_socket, socket_allows, thing_allows}
-use Rattle.machine.specs.Forgetting.{forget, forget_body, forget_endpoint}
-use Rattle.machine.specs.Machine.{aim, gives, tcp, tcp_shape}
-use Rattle.machine_laws.specs.ForgettingLaws.{ForgettingIsFree}
-use Rattle.machine_laws.specs.Runs.{endpoint_place, owner}
-use Rattle.machine_laws.proofs.Calls.{Apart}
-use Rattle.machine_laws.proofs.Sound.{Sound}
-use Rattle.machine_laws.proofs.SoundSteps.{sound_step}
+use Rattle.spec_network.specs.Tables.{lane, other, pick}
+use Rattle.spec_network.specs.Hosts.{ThatSocket, Idle, Called, Answered, World, Turn, Effect, Finish, turn_of}
+use Rattle.spec_network.specs.HostRules.{Permitted, aim_of, call_rules, effect_rules, fresh_rules}
+use Rattle.spec_network.specs.HostSteps.{after, effect_after, start}
+use Rattle.spec_network.proofs.Entries.{turn_insert}
+use Rattle.spec_network.proofs.Turns.{effect_passes}
+use Rattle.spec_tcp.specs.declared.endpoint.Endpoint.{Endpoint}
+use Rattle.spec_tcp.specs.declared.endpoint.Socket.{Socket}
+use Rattle.spec_tcp.specs.declared.endpoint.SocketTarget.{SocketTarget}
+use Rattle.spec_tcp.specs.declared.endpoint.SocketTarget.TheVariants.{EndpointAt}
+use Rattle.spec_tcp.specs.Bodies.{Body, given, if_live, thing_of}
+use Rattle.spec_tcp.specs.Calls.{call_allows, is_bad_socket, socket_allows, thing_allows}
+use Rattle.spec_tcp.specs.Forgetting.{forget, forget_body, forget_endpoint}
+use Rattle.spec_tcp.specs.Machine.{aim, gives, tcp, tcp_shape}
+use Rattle.spec_tcp_laws.specs.ForgettingLaws.{ForgettingIsFree}
+use Rattle.spec_tcp_laws.specs.Runs.{endpoint_place, owner}
+use Rattle.spec_tcp_laws.proofs.Calls.{Apart}
+use Rattle.spec_tcp_laws.proofs.Sound.{Sound}
+use Rattle.spec_tcp_laws.proofs.SoundSteps.{sound_step}
 use Rattle.endpoint_state.specs.Turns.{pending_call}
-use Rattle.recordings.specs.Books.{Bring, Do, Entry, HostRun, Item, FitsItem, end, next, next_item}
+use Rattle.spec_merge.specs.Books.{Bring, Do, Entry, HostRun, Item, FitsItem, end, next, next_item}
 use Rattle.stack_core.specs.Answers.{IsNamed}
 use Rattle.case_forms.specs.Traces.{first_event_line}
-use Rattle.recordings.proofs.Lines.{next_more}
+use Rattle.spec_merge.proofs.Lines.{next_more}
 use Rattle.stack_core.specs.declared.tick.Tick.{Tick}
 use Rattle.stack_core.specs.CallEvents.{answered}
 use Rattle.stack_core.specs.Cores.{Core, Fits, GivesNext, IsOwn, line_to_come, next_socket, opened, own_body, with_step, world}
@@ -104,14 +104,14 @@ run_sound : (h : Header) (me : Host) (w : World tcp_shape) (xs : List (Entry tcp
 run_sound h me w [] are runs = are
 run_sound h me w (x ∷ xs) are runs = run_sound h me (next (tcp h) me w x) xs (item_sound h me x.key.moment w x.item are runs.0) runs.2
 
-live_owner : (b : Body) (n i : ℕ) → thing_of b n ≡ Some (Ends i) → owner b n ≡ Some i
+live_owner : (b : Body) (n i : ℕ) → thing_of b n ≡ Some (EndpointAt i) → owner b n ≡ Some i
 live_owner b n i is = by (lookup (nat_eq n) b.sockets) is
   where
-    live : (alive : Bool) (s : Socket) → (if alive then Some s.thing else None) ≡ Some (Ends i) → option_map_or (λ x. endpoint_place x.thing) (Some s) None ≡ Some i
+    live : (alive : Bool) (s : Socket) → (if alive then Some s.thing else None) ≡ Some (EndpointAt i) → option_map_or (λ x. endpoint_place x.thing) (Some s) None ≡ Some i
     live true s is = ap (λ o. option_map_or endpoint_place o None) is
     live false s is = absurd cc
 
-    by : (o : Option Socket) → option_map_or if_live o None ≡ Some (Ends i) → option_map_or (λ x. endpoint_place x.thing) o None ≡ Some i
+    by : (o : Option Socket) → option_map_or if_live o None ≡ Some (EndpointAt i) → option_map_or (λ x. endpoint_place x.thing) o None ≡ Some i
     by None is = absurd cc
     by (Some s) is = live s.live s is
 
@@ -169,7 +169,7 @@ module _ (h : Header) (me : Host) (moment : ℕ) (v : World tcp_shape) (own : Is
       by One = second (given v.hosts.zero.body n) (given v.hosts.one.body n) is
 
   at_socket : (n : ℕ) (c : Call) → aim_of (tcp h) v.hosts (ThatSocket n) ≡ None → socket_allows b n c answer ≡ true → is_bad_socket answer ≡ true
-  at_socket n c is may = subst (λ (o : Option Thing). option_map_or (thing_allows b c answer) o (is_bad_socket answer) ≡ true) (nobody n is) may
+  at_socket n c is may = subst (λ (o : Option SocketTarget). option_map_or (thing_allows b c answer) o (is_bad_socket answer) ≡ true) (nobody n is) may
 
   stray : (c : Call) → aim_of (tcp h) v.hosts (aim c) ≡ None → call_allows b c answer ≡ true → is_bad_socket answer ≡ true
   stray (calls.Listen host port backlog) is may = absurd (none-some host (sym is))

@@ -14,17 +14,17 @@ use Rattle.case_forms.specs.declared.trace.Header.{Header}
 use Rattle.case_forms.specs.declared.trace.Wire.{Wire}
 use Rattle.verdict.specs.Rules.{first_broken}
 use Rattle.verdict.specs.declared.rule.Rule.TheVariants as rules
-use Rattle.hosts.specs.Tables.{on, other, pick, waiting}
-use Rattle.hosts.specs.Hosts.{World, Answers, At, Does, Drops, Gets, Takes}
-use Rattle.hosts.specs.HostRules.{Permitted, just}
-use Rattle.hosts.specs.HostSteps.{after, start}
-use Rattle.hosts.proofs.Entries.{lookup_insert}
-use Rattle.machine.specs.declared.endpoint.Emission.{Emission}
-use Rattle.machine.specs.Machine.{tcp, tcp_shape}
-use Rattle.machine.specs.Wire.{in_rules}
-use Rattle.recordings.specs.Books.{Bring, Flying, bring}
-use Rattle.recordings.proofs.Growing.{end_more}
-use Rattle.recordings.proofs.Lines.{next_more}
+use Rattle.spec_network.specs.Tables.{on, other, pick, waiting}
+use Rattle.spec_network.specs.Hosts.{World, Answers, At, Does, Drops, Gets, Takes}
+use Rattle.spec_network.specs.HostRules.{Permitted, just}
+use Rattle.spec_network.specs.HostSteps.{after, start}
+use Rattle.spec_network.proofs.Entries.{lookup_insert}
+use Rattle.spec_tcp.specs.declared.endpoint.Emission.{Emission}
+use Rattle.spec_tcp.specs.Machine.{tcp, tcp_shape}
+use Rattle.spec_tcp.specs.Wire.{in_rules}
+use Rattle.spec_merge.specs.Books.{Bring, Flying, bring}
+use Rattle.spec_merge.proofs.Growing.{end_more}
+use Rattle.spec_merge.proofs.Lines.{next_more}
 use Rattle.stack_core.specs.declared.tick.Tick.{Tick}
 use Rattle.stack_core.specs.ArrivalEvents.{Brought, Came, Dropped, Taken, Ticked, Took, IsArrived, IsArrivedShort, IsCameIn, IsChoice, IsHeld, IsRecovered, IsRecoveryAt, IsSettled, IsSettledShort, MayDrop, MayRecover, MayTake, came, ports_of}
 use Rattle.stack_core.specs.Cores.{Core, Fits, MayDo, line_to_come, opened, with_item, with_step, world}

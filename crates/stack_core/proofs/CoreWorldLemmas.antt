@@ -7,12 +7,12 @@ use Rattle.case_forms.specs.Traces.{first_event_line}
 use Rattle.case_forms.specs.declared.calls.Host.{Host}
 use Rattle.case_forms.specs.declared.calls.Host.TheVariants.{Zero, One}
 use Rattle.case_forms.specs.declared.trace.Header.{Header}
-use Rattle.hosts.specs.Hosts.{At, Effect, Takes, Does}
-use Rattle.hosts.specs.Tables.{Both, other, pick, with_host}
-use Rattle.machine.specs.Machine.{tcp, tcp_shape}
-use Rattle.recordings.specs.Books.{Bring, Do, Entry, Flying, Item, Key}
-use Rattle.recordings.specs.Keys.{Books, EachEntry, NamesOne, before}
-use Rattle.recordings.specs.Recordings.{IsKept, NamesSent, TcpEntry}
+use Rattle.spec_network.specs.Hosts.{At, Effect, Takes, Does}
+use Rattle.spec_network.specs.Tables.{Both, other, pick, with_host}
+use Rattle.spec_tcp.specs.Machine.{tcp, tcp_shape}
+use Rattle.spec_merge.specs.Books.{Bring, Do, Entry, Flying, Item, Key}
+use Rattle.spec_merge.specs.Keys.{Books, EachEntry, NamesOne, before}
+use Rattle.spec_merge.specs.Recordings.{IsKept, NamesSent, TcpEntry}
 use Rattle.stack_core.specs.declared.tick.Tick.{Tick}
 use Rattle.stack_core.specs.ArrivalEvents.{IsArrived, IsArrivedShort, IsRecovered, IsSettled, brought, came, ports_of}
 use Rattle.stack_core.specs.ArrivalEvents.IsSettled.{Taken, Reset, Dropped}

@@ -9,15 +9,15 @@ use Rattle.case_forms.specs.declared.trace.Header.{Header}
 use Rattle.case_forms.specs.declared.version.Version.{Version}
 use Rattle.case_forms.specs.declared.version.Version.TheVariants as versions
 use Rattle.case_forms.specs.Versions.{first_line_of}
-use Rattle.hosts.specs.Tables.{on, other, pick}
-use Rattle.hosts.specs.Hosts.{World, Step, Begin, Finish, Effect, At, Does, Expires, Makes, Sends, Gets, Hears, Takes, Drops, Answers}
-use Rattle.hosts.specs.HostSteps.{after, start}
-use Rattle.machine.specs.Machine.{tcp, tcp_shape}
-use Rattle.recordings.specs.Books.{Bring, Do, FitsItem, Flying, Item, Key, bring, step_line}
-use Rattle.recordings.specs.Keys.{EachEntry, If, before, lesser, rank}
-use Rattle.recordings.specs.Recordings.{TcpEntry, next_line}
-use Rattle.recordings.proofs.Growing.{end_more}
-use Rattle.recordings.proofs.Lines.{next_more}
+use Rattle.spec_network.specs.Tables.{on, other, pick}
+use Rattle.spec_network.specs.Hosts.{World, Step, Begin, Finish, Effect, At, Does, Expires, Makes, Sends, Gets, Hears, Takes, Drops, Answers}
+use Rattle.spec_network.specs.HostSteps.{after, start}
+use Rattle.spec_tcp.specs.Machine.{tcp, tcp_shape}
+use Rattle.spec_merge.specs.Books.{Bring, Do, FitsItem, Flying, Item, Key, bring, step_line}
+use Rattle.spec_merge.specs.Keys.{EachEntry, If, before, lesser, rank}
+use Rattle.spec_merge.specs.Recordings.{TcpEntry, next_line}
+use Rattle.spec_merge.proofs.Growing.{end_more}
+use Rattle.spec_merge.proofs.Lines.{next_more}
 use Rattle.stack_core.specs.declared.tick.Tick.{Tick}
 use Rattle.stack_core.specs.Keys.{key_of}
 use Rattle.stack_core.specs.Entries.{entry_at, steps_in}

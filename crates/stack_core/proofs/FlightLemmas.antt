@@ -12,21 +12,21 @@ use Rattle.case_forms.specs.declared.calls.Host.{Host}
 use Rattle.case_forms.specs.declared.calls.Host.TheVariants.{Zero, One}
 use Rattle.case_forms.specs.declared.trace.Header.{Header}
 use Rattle.case_forms.specs.declared.trace.Wire.{Wire}
-use Rattle.hosts.specs.Tables.{Both, Made, on, other, pick, with_host}
-use Rattle.hosts.specs.Hosts.{Deed, Does, Expires, Makes, Sends, Gets, Hears, Takes, Drops, Answers, HostState, Turn, Idle, Called, Answered, World, Step, Begin, Finish, Effect, At, turn_of}
-use Rattle.hosts.specs.HostRules.{aim_of}
-use Rattle.hosts.specs.HostSteps.{after, call_after, deed_after, effect_after, start}
-use Rattle.hosts.proofs.Entries.{lookup_insert}
-use Rattle.machine.specs.Bodies.{Body}
-use Rattle.machine.specs.declared.endpoint.Emission.{Emission}
-use Rattle.machine.specs.Machine.{aim, tcp, tcp_shape}
-use Rattle.machine.specs.Machine as acts
-use Rattle.machine.specs.Wire.{sent}
-use Rattle.recordings.specs.Books.{Bring, Do, FitsItem, Flying, HostRun, Item, Key, deed_line, end, item_line, next, next_item, step_line}
-use Rattle.recordings.specs.Keys.{EachEntry, If, NamesOne, Numbered, lesser, rank}
-use Rattle.recordings.specs.Recordings.{IsKept, TcpEntry, next_line, world_of}
-use Rattle.recordings.proofs.Growing.{end_more}
-use Rattle.recordings.proofs.Lines.{next_more}
+use Rattle.spec_network.specs.Tables.{Both, Made, on, other, pick, with_host}
+use Rattle.spec_network.specs.Hosts.{Deed, Does, Expires, Makes, Sends, Gets, Hears, Takes, Drops, Answers, HostState, Turn, Idle, Called, Answered, World, Step, Begin, Finish, Effect, At, turn_of}
+use Rattle.spec_network.specs.HostRules.{aim_of}
+use Rattle.spec_network.specs.HostSteps.{after, call_after, deed_after, effect_after, start}
+use Rattle.spec_network.proofs.Entries.{lookup_insert}
+use Rattle.spec_tcp.specs.Bodies.{Body}
+use Rattle.spec_tcp.specs.declared.endpoint.Emission.{Emission}
+use Rattle.spec_tcp.specs.Machine.{aim, tcp, tcp_shape}
+use Rattle.spec_tcp.specs.Machine as acts
+use Rattle.spec_tcp.specs.Wire.{sent}
+use Rattle.spec_merge.specs.Books.{Bring, Do, FitsItem, Flying, HostRun, Item, Key, deed_line, end, item_line, next, next_item, step_line}
+use Rattle.spec_merge.specs.Keys.{EachEntry, If, NamesOne, Numbered, lesser, rank}
+use Rattle.spec_merge.specs.Recordings.{IsKept, TcpEntry, next_line, world_of}
+use Rattle.spec_merge.proofs.Growing.{end_more}
+use Rattle.spec_merge.proofs.Lines.{next_more}
 use Rattle.stack_core.specs.declared.tick.Tick.{Tick}
 use Rattle.stack_core.specs.Cores.{Core, IsRecorded, line_to_come, opened, with_step, world}
 use Rattle.stack_core.specs.PumpEvents.{IsPumped, made}

@@ -4,16 +4,16 @@ use Rattle.case_forms.specs.Traces.{first_event_line}
 use Rattle.case_forms.specs.declared.calls.Host.{Host}
 use Rattle.case_forms.specs.declared.calls.Host.TheVariants.{Zero, One}
 use Rattle.case_forms.specs.declared.trace.Header.{Header}
-use Rattle.hosts.specs.Hosts.{World, Step}
-use Rattle.hosts.specs.HostSteps as machine
-use Rattle.hosts.specs.Tables.{other}
-use Rattle.machine.specs.Machine.{tcp, tcp_shape}
-use Rattle.machine.specs.Forgetting.{forget}
-use Rattle.machine_laws.proofs.ForgetWorlds.{after-forgets, makes_permitted}
+use Rattle.spec_network.specs.Hosts.{World, Step}
+use Rattle.spec_network.specs.HostSteps as machine
+use Rattle.spec_network.specs.Tables.{other}
+use Rattle.spec_tcp.specs.Machine.{tcp, tcp_shape}
+use Rattle.spec_tcp.specs.Forgetting.{forget}
+use Rattle.spec_tcp_laws.proofs.ForgetWorlds.{after-forgets, makes_permitted}
 use Rattle.endpoint_state.specs.Worlds.{Progress, after, brought}
-use Rattle.recordings.specs.Books.{Key, Flying, Item, Do, Bring, bring}
-use Rattle.recordings.specs.Recordings.{TcpEntry, IsKept, MayJoin, world_of}
-use Rattle.recordings.proofs.Growing.{end_more}
+use Rattle.spec_merge.specs.Books.{Key, Flying, Item, Do, Bring, bring}
+use Rattle.spec_merge.specs.Recordings.{TcpEntry, IsKept, MayJoin, world_of}
+use Rattle.spec_merge.proofs.Growing.{end_more}
 use Rattle.stack_core.specs.Entries.{item_steps, steps_in}
 use Rattle.stack_core.specs.Recordings.{IsRecording}
 

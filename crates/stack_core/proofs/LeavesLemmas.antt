@@ -4,8 +4,8 @@ use Rattle.std.proofs.Common.{◌≡◌, ℕ, Bool, Option, None, Some, Result, 
 use Rattle.std.specs.Prelude.{IfNone, IfOk, OnErr, OnOk}
 use Rattle.std.specs.Option.{IfSome}
 use Rattle.case_forms.specs.declared.calls.Call.{Call}
-use Rattle.machine.specs.Machine.{tcp_shape}
-use Rattle.recordings.specs.Books.{Flying}
+use Rattle.spec_tcp.specs.Machine.{tcp_shape}
+use Rattle.spec_merge.specs.Books.{Flying}
 use Rattle.stack_core.specs.declared.answered.Answered.{Answered}
 use Rattle.stack_core.specs.declared.tick.Tick.{Tick}
 use Rattle.stack_core.specs.ArrivalEvents.{IsArrival, IsArrivedShort}

@@ -13,7 +13,7 @@ pub mod WaitLemmas
 pub mod MadeLemmas
 pub mod TimerLemmas
 pub mod ArriveLemmas
-pub mod AgendaLemmas
+pub mod DeadlineQueueLemmas
 pub mod TouchLemmas
 pub mod TendedLemmas
 pub mod CoreWorldLemmas

@@ -5,15 +5,15 @@ use Rattle.std.specs.Option.{IfSome}
 use Rattle.std.proofs.lemmas.Map.Entries.{All-lookup}
 use Rattle.case_forms.specs.declared.calls.Host.{Host}
 use Rattle.case_forms.specs.declared.calls.Host.TheVariants.{Zero, One}
-use Rattle.hosts.specs.Tables.{Made, pick}
-use Rattle.hosts.specs.Hosts.{World}
-use Rattle.machine.specs.declared.endpoint.Emission.{Emission}
-use Rattle.machine.specs.Bounds.{IsSmallEmission}
-use Rattle.machine.specs.Machine.{tcp_shape}
-use Rattle.machine.specs.Forgetting.{forget, forget_body}
+use Rattle.spec_network.specs.Tables.{Made, pick}
+use Rattle.spec_network.specs.Hosts.{World}
+use Rattle.spec_tcp.specs.declared.endpoint.Emission.{Emission}
+use Rattle.spec_tcp.specs.Bounds.{IsSmallEmission}
+use Rattle.spec_tcp.specs.Machine.{tcp_shape}
+use Rattle.spec_tcp.specs.Forgetting.{forget, forget_body}
 use Rattle.endpoint_state.specs.Kept.{IsKeptWorld}
 use Rattle.endpoint_state.specs.Worlds.{Progress}
-use Rattle.recordings.specs.Recordings.{TcpEntry, world_of}
+use Rattle.spec_merge.specs.Recordings.{TcpEntry, world_of}
 use Rattle.stack_core.specs.Entries.{steps_in}
 use Rattle.stack_core.specs.Recordings.{IsRecording}
 

@@ -9,11 +9,11 @@ use Rattle.case_forms.specs.declared.version.Version.{Version}
 use Rattle.case_forms.specs.Versions.{scales}
 use Rattle.case_forms.specs.Witnesses.{IsShift}
 use Rattle.verdict.specs.declared.rule.Rule.TheVariants as rules
-use Rattle.hosts.specs.Tables.{pick}
-use Rattle.hosts.specs.Hosts.{World, At, Makes}
-use Rattle.hosts.specs.HostRules.{Permitted}
-use Rattle.machine.specs.Machine.{tcp, tcp_shape}
-use Rattle.machine.specs.Bodies.{Body}
+use Rattle.spec_network.specs.Tables.{pick}
+use Rattle.spec_network.specs.Hosts.{World, At, Makes}
+use Rattle.spec_network.specs.HostRules.{Permitted}
+use Rattle.spec_tcp.specs.Machine.{tcp, tcp_shape}
+use Rattle.spec_tcp.specs.Bodies.{Body}
 use Rattle.std.specs.Prelude.{if◌then◌else◌, nat_le, slice_get, not, ◌&&◌, ◌||◌, ◌==◌, is_some, ◌⊎◌}
 use Rattle.std.proofs.lemmas.Bool.Decides.{nat_tests}
 use Rattle.verdict.specs.Rules.{first_broken}
@@ -22,14 +22,14 @@ use Rattle.seqno.specs.declared.word.Word.{Word}
 use Rattle.streams.specs.Sent.{end_of}
 use Rattle.window_rules.specs.Windows.{offered_edge, congestion_edge}
 use Rattle.case_forms.specs.declared.steps.SegmentPlan.{SegmentPlan}
-use Rattle.machine.specs.declared.endpoint.Endpoint.{Endpoint}
-use Rattle.machine.specs.Endpoints.{max_made, next, flag_count}
-use Rattle.machine.specs.Bodies.{last_from, has_ports, place_of, endpoint_of}
+use Rattle.spec_tcp.specs.declared.endpoint.Endpoint.{Endpoint}
+use Rattle.spec_tcp.specs.Endpoints.{snd_max, rcv_nxt, flag_count}
+use Rattle.spec_tcp.specs.Bodies.{last_from, has_ports, place_of, endpoint_of}
 use Rattle.case_forms.specs.States.{is_closed, is_syn_sent, is_syn_received}
-use Rattle.machine.specs.Makes.{making_rules}
-use Rattle.machine.specs.Makes.Payload.{making_length, is_bad_empty_place, old_end}
-use Rattle.machine.specs.Makes.Kind.{may_not_send, may_carry, may_finish}
-use Rattle.stack_core.specs.declared.plans.Opening.{Opening}
+use Rattle.spec_tcp.specs.Makes.{making_rules}
+use Rattle.spec_tcp.specs.Makes.Payload.{making_length, is_bad_empty_place, old_end}
+use Rattle.spec_tcp.specs.Makes.Kind.{may_not_send, may_carry, may_finish}
+use Rattle.stack_core.specs.declared.plans.SynOptions.{SynOptions}
 use Rattle.stack_core.specs.Makings.{syn_of, bytes_of, fin_of, IsMakeable, IsTried, NothingToMake, Refuses}
 use Rattle.stack_core.specs.Told.{MayOpen, TellsWell}
 use Rattle.std.specs.List.{All}
@@ -37,15 +37,15 @@ use Rattle.std.specs.Prelude.{IfNone}
 use Rattle.std.specs.Option.{IfSome}
 use Rattle.verdict.specs.declared.rule.Rule.{Rule}
 use Rattle.std.specs.Option.{option_map}
-use Rattle.machine.specs.Forgetting.{forget, forget_endpoint}
-use Rattle.machine_laws.proofs.ForgetBodies.{endpoint-forget}
-use Rattle.machine_laws.proofs.ForgetReads.{max_made-forget}
+use Rattle.spec_tcp.specs.Forgetting.{forget, forget_endpoint}
+use Rattle.spec_tcp_laws.proofs.ForgetBodies.{endpoint-forget}
+use Rattle.spec_tcp_laws.proofs.ForgetReads.{snd_max-forget}
 use Rattle.stack_core.proofs.AnswerLemmas.{kept_body}
-use Rattle.machine_laws.specs.ForgettingLaws.{ForgettingIsFree}
+use Rattle.spec_tcp_laws.specs.ForgettingLaws.{ForgettingIsFree}
 use Rattle.endpoint_state.specs.Worlds.{Progress}
 use Rattle.stack_core.specs.Recordings.{Recorded, world_left}
 use Rattle.std.proofs.lemmas.List.Elements.{All-head, All-tail, All-weaker}
-use Rattle.machine.specs.Bounds.{greatest_position, most_steps, IsKept, IsKeptBody}
+use Rattle.spec_tcp.specs.Bounds.{greatest_position, most_steps, IsKept, IsKeptBody}
 use Rattle.endpoint_state.specs.Kept.{IsKeptWorld}
 use Rattle.case_forms.specs.declared.calls.Host.TheVariants.{Zero, One}
 
@@ -64,10 +64,10 @@ pub record Room (e : Endpoint) (pos len : ℕ) (fin : Bool) : Type 0 where
   pub accepted : 0 < len → pos + len ≤ end_of e.stream.accepted
   pub behind : fin ≡ true → pos + len ≡ end_of e.stream.accepted
   pub ended : fin ≡ true → e.stream.ended ≡ true
-  pub una : e.stream.una ≤ pos
-  pub max : pos ≤ max_made e
-  pub offered : 0 < len → max_made e < pos + len → pos + len ≤ offered_edge e.stream.una e.window.wnd e.probe_due
-  pub congested : 0 < len → max_made e < pos + len → pos + len ≤ congestion_edge e.stream.una e.congestion
+  pub snd_una : e.stream.snd_una ≤ pos
+  pub max : pos ≤ snd_max e
+  pub offered : 0 < len → snd_max e < pos + len → pos + len ≤ offered_edge e.stream.snd_una e.window.snd_wnd e.probe_due
+  pub congested : 0 < len → snd_max e < pos + len → pos + len ≤ congestion_edge e.stream.snd_una e.congestion
   pub size : len ≤ e.congestion.smss
 
 -- tests that are false, or true
@@ -137,10 +137,10 @@ module _ (e : Endpoint) (pos len : ℕ) (ack fin : Bool) (window : ℕ) (iss : O
       let payload = neither (nat_lt 0 len && (pos == 0 || nat_lt (end_of e.stream.accepted) (pos + len))) (fin && not (e.stream.ended && pos + len == end_of e.stream.accepted)) t.1.1.1.0 in
       let bytes : 0 < len → (pos == 0 || nat_lt (end_of e.stream.accepted) (pos + len)) ≡ false = λ p. then_false (nat_lt 0 len) _ payload.0 (is_less 0 len p) in
       let finish : fin ≡ true → (e.stream.ended ≡ true) × ((pos + len == end_of e.stream.accepted) ≡ true) = λ p. both_true e.stream.ended _ (then_false fin _ payload.1 p) in
-      let place : ((nat_lt pos e.stream.una || nat_lt (max_made e) pos) || (nat_lt pos (max_made e) && nat_lt e.recover (old_end e m))) ≡ false = subst (λ (b : Bool). (if b then is_bad_empty_place e m else ((nat_lt pos e.stream.una || nat_lt (max_made e) pos) || (nat_lt pos (max_made e) && nat_lt e.recover (old_end e m)))) ≡ false) (is_zero (making_length m) some) t.1.1.1.1.1.0 in
-      let both = neither (nat_lt pos e.stream.una || nat_lt (max_made e) pos) (nat_lt pos (max_made e) && nat_lt e.recover (old_end e m)) place in
-      let low = neither (nat_lt pos e.stream.una) (nat_lt (max_made e) pos) both.0 in
-      let fresh : 0 < len → max_made e < pos + len → (nat_lt 0 len && nat_lt (max_made e) (pos + len)) ≡ true = λ p q. rw (is_less 0 len p, is_less (max_made e) (pos + len) q) refl in
+      let place : ((nat_lt pos e.stream.snd_una || nat_lt (snd_max e) pos) || (nat_lt pos (snd_max e) && nat_lt e.recover (old_end e m))) ≡ false = subst (λ (b : Bool). (if b then is_bad_empty_place e m else ((nat_lt pos e.stream.snd_una || nat_lt (snd_max e) pos) || (nat_lt pos (snd_max e) && nat_lt e.recover (old_end e m)))) ≡ false) (is_zero (making_length m) some) t.1.1.1.1.1.0 in
+      let both = neither (nat_lt pos e.stream.snd_una || nat_lt (snd_max e) pos) (nat_lt pos (snd_max e) && nat_lt e.recover (old_end e m)) place in
+      let low = neither (nat_lt pos e.stream.snd_una) (nat_lt (snd_max e) pos) both.0 in
+      let fresh : 0 < len → snd_max e < pos + len → (nat_lt 0 len && nat_lt (snd_max e) (pos + len)) ≡ true = λ p q. rw (is_less 0 len p, is_less (snd_max e) (pos + len) q) refl in
       record {
         opened = left_false (is_closed e.state) t.0;
         quiet = not_true (may_not_send e.state) more.0;
@@ -151,10 +151,10 @@ module _ (e : Endpoint) (pos len : ℕ) (ack fin : Bool) (window : ℕ) (iss : O
         accepted = λ p. at_most (pos + len) (end_of e.stream.accepted) (neither (pos == 0) _ (bytes p)).1;
         behind = λ p. is_same (pos + len) (end_of e.stream.accepted) (finish p).1;
         ended = λ p. (finish p).0;
-        una = at_most e.stream.una pos low.0;
-        max = at_most pos (max_made e) low.1;
-        offered = λ p q. at_most (pos + len) _ (then_false (nat_lt 0 len && nat_lt (max_made e) (pos + len)) _ t.1.1.1.1.1.1.0 (fresh p q));
-        congested = λ p q. at_most (pos + len) _ (then_false (nat_lt 0 len && nat_lt (max_made e) (pos + len)) _ t.1.1.1.1.1.1.1.0 (fresh p q));
+        snd_una = at_most e.stream.snd_una pos low.0;
+        max = at_most pos (snd_max e) low.1;
+        offered = λ p q. at_most (pos + len) _ (then_false (nat_lt 0 len && nat_lt (snd_max e) (pos + len)) _ t.1.1.1.1.1.1.0 (fresh p q));
+        congested = λ p q. at_most (pos + len) _ (then_false (nat_lt 0 len && nat_lt (snd_max e) (pos + len)) _ t.1.1.1.1.1.1.1.0 (fresh p q));
         size = at_most len e.congestion.smss t.1.1.1.1.1.1.1.1.0;
       }
 
@@ -175,15 +175,15 @@ no_test : (b : Bool) → (b && false) ≡ false
 no_test true = refl
 no_test false = refl
 
-pub byte_may : (e : Endpoint) (pos len window : ℕ) (fin : Bool) → Room e pos len fin → 0 < len → max_made e < pos + len → first_broken (making_rules e (bytes_of e 1 window)) ≡ None
+pub byte_may : (e : Endpoint) (pos len window : ℕ) (fin : Bool) → Room e pos len fin → 0 < len → snd_max e < pos + len → first_broken (making_rules e (bytes_of e 1 window)) ≡ None
 byte_may e pos len window fin r some new =
     let r_max = r.max in
-    let r_una = r.una in
+    let r_una = r.snd_una in
     let r_size = r.size in
     let positive : 0 < pos = r.positive some in
     let accepted : pos + len ≤ end_of e.stream.accepted = r.accepted some in
-    let offered : pos + len ≤ offered_edge e.stream.una e.window.wnd e.probe_due = r.offered some new in
-    let congested : pos + len ≤ congestion_edge e.stream.una e.congestion = r.congested some new in
+    let offered : pos + len ≤ offered_edge e.stream.snd_una e.window.snd_wnd e.probe_due = r.offered some new in
+    let congested : pos + len ≤ congestion_edge e.stream.snd_una e.congestion = r.congested some new in
     all_none (making_rules e (bytes_of e 1 window)) ((
       rw r.opened refl,
       (
@@ -191,15 +191,15 @@ byte_may e pos len window fin r some new =
         (
           rw r.numbered refl,
           (
-            rw (is_zero (max_made e) (omega arith), not_above (max_made e + 1) (end_of e.stream.accepted) (omega arith)) refl,
+            rw (is_zero (snd_max e) (omega arith), not_above (snd_max e + 1) (end_of e.stream.accepted) (omega arith)) refl,
             (
-              ack_good (next e),
+              ack_good (rcv_nxt e),
               (
-                rw (not_above e.stream.una (max_made e) (omega arith), not_above (max_made e) (max_made e) (omega arith)) refl,
+                rw (not_above e.stream.snd_una (snd_max e) (omega arith), not_above (snd_max e) (snd_max e) (omega arith)) refl,
                 (
-                  rw (not_above (max_made e + 1) (offered_edge e.stream.una e.window.wnd e.probe_due) (omega arith)) (no_test _),
+                  rw (not_above (snd_max e + 1) (offered_edge e.stream.snd_una e.window.snd_wnd e.probe_due) (omega arith)) (no_test _),
                   (
-                    rw (not_above (max_made e + 1) (congestion_edge e.stream.una e.congestion) (omega arith)) (no_test _),
+                    rw (not_above (snd_max e + 1) (congestion_edge e.stream.snd_una e.congestion) (omega arith)) (no_test _),
                     (
                       not_above 1 e.congestion.smss (omega arith),
                       tt,
@@ -213,10 +213,10 @@ byte_may e pos len window fin r some new =
       ),
     ))
 
-pub fin_may : (e : Endpoint) (pos len window : ℕ) → Room e pos len true → pos + len ≡ max_made e → first_broken (making_rules e (fin_of e window)) ≡ None
+pub fin_may : (e : Endpoint) (pos len window : ℕ) → Room e pos len true → pos + len ≡ snd_max e → first_broken (making_rules e (fin_of e window)) ≡ None
 fin_may e pos len window r new =
     let r_max = r.max in
-    let r_una = r.una in
+    let r_una = r.snd_una in
     let behind : pos + len ≡ end_of e.stream.accepted = r.behind refl in
     all_none (making_rules e (fin_of e window)) ((
       rw r.opened refl,
@@ -225,11 +225,11 @@ fin_may e pos len window r new =
         (
           rw r.numbered refl,
           (
-            rw (r.ended refl, same (max_made e + 0) (end_of e.stream.accepted) (omega arith)) refl,
+            rw (r.ended refl, same (snd_max e + 0) (end_of e.stream.accepted) (omega arith)) refl,
             (
-              ack_good (next e),
+              ack_good (rcv_nxt e),
               (
-                rw (not_above e.stream.una (max_made e) (omega arith), not_above (max_made e) (max_made e) (omega arith)) refl,
+                rw (not_above e.stream.snd_una (snd_max e) (omega arith), not_above (snd_max e) (snd_max e) (omega arith)) refl,
                 (
                   refl,
                   (
@@ -259,25 +259,25 @@ iss_good : (b : Bool) (iss : Word) → (if b then is_some (if b then None else S
 iss_good true iss = refl
 iss_good false iss = refl
 
-pub syn_place : (e : Endpoint) (ack : Bool) → e.stream.una ≡ 0 → max_made e ≤ 0
-    → (if ack then false else ((nat_lt 0 e.stream.una || nat_lt (max_made e) 0) || (nat_lt 0 (max_made e) && nat_lt e.recover (min 1 (max_made e))))) ≡ false
-syn_place e true una max = refl
-syn_place e false una max = rw (una, not_above 0 (max_made e) (omega arith), not_above (max_made e) 0 max) refl
+pub syn_place : (e : Endpoint) (ack : Bool) → e.stream.snd_una ≡ 0 → snd_max e ≤ 0
+    → (if ack then false else ((nat_lt 0 e.stream.snd_una || nat_lt (snd_max e) 0) || (nat_lt 0 (snd_max e) && nat_lt e.recover (min 1 (snd_max e))))) ≡ false
+syn_place e true snd_una max = refl
+syn_place e false snd_una max = rw (snd_una, not_above 0 (snd_max e) (omega arith), not_above (snd_max e) 0 max) refl
 
-pub syn_may : (e : Endpoint) (pos len window w : ℕ) (ack fin : Bool) (iss : Option Word) (shift : Option ℕ) (new : Opening) → first_broken (making_rules e (synned e pos len ack fin window iss shift)) ≡ None
-    → max_made e < pos + making_length (synned e pos len ack fin window iss shift) → (max_made e ≤ 0) × (first_broken (making_rules e (syn_of e new w)) ≡ None)
+pub syn_may : (e : Endpoint) (pos len window w : ℕ) (ack fin : Bool) (iss : Option Word) (shift : Option ℕ) (new : SynOptions) → first_broken (making_rules e (synned e pos len ack fin window iss shift)) ≡ None
+    → snd_max e < pos + making_length (synned e pos len ack fin window iss shift) → (snd_max e ≤ 0) × (first_broken (making_rules e (syn_of e new w)) ≡ None)
 syn_may e pos len window w ack fin iss shift new h past =
     let t = none_all (making_rules e (synned e pos len ack fin window iss shift)) h in
-    let acks : nat_le 1 (next e) ≡ ack = ack_is (next e) ack t.1.1.1.1.0 in
-    let state = both_hold (((if ack then is_syn_received e.state else is_syn_sent e.state) && e.stream.una == 0) && not fin) true (not_false _ t.1.0) in
-    let fins = both_hold ((if ack then is_syn_received e.state else is_syn_sent e.state) && e.stream.una == 0) (not fin) state.0 in
-    let at_zero = both_hold (if ack then is_syn_received e.state else is_syn_sent e.state) (e.stream.una == 0) fins.0 in
+    let acks : nat_le 1 (rcv_nxt e) ≡ ack = ack_is (rcv_nxt e) ack t.1.1.1.1.0 in
+    let state = both_hold (((if ack then is_syn_received e.state else is_syn_sent e.state) && e.stream.snd_una == 0) && not fin) true (not_false _ t.1.0) in
+    let fins = both_hold ((if ack then is_syn_received e.state else is_syn_sent e.state) && e.stream.snd_una == 0) (not fin) state.0 in
+    let at_zero = both_hold (if ack then is_syn_received e.state else is_syn_sent e.state) (e.stream.snd_una == 0) fins.0 in
     let empty = both_true (pos == 0) (len == 0) t.1.1.1.0 in
-    let una : e.stream.una ≡ 0 = is_same e.stream.una 0 at_zero.1 in
+    let snd_una : e.stream.snd_una ≡ 0 = is_same e.stream.snd_una 0 at_zero.1 in
     let pos_is : pos ≡ 0 = is_same pos 0 empty.0 in
     let len_is : len ≡ 0 = is_same len 0 empty.1 in
-    let past2 : max_made e < pos + (len + 1 + 0) = subst (λ (b : Bool). max_made e < pos + (len + 1 + flag_count b)) (not_true fin fins.1) past in
-    let max : max_made e ≤ 0 = omega arith in (
+    let past2 : snd_max e < pos + (len + 1 + 0) = subst (λ (b : Bool). snd_max e < pos + (len + 1 + flag_count b)) (not_true fin fins.1) past in
+    let max : snd_max e ≤ 0 = omega arith in (
       max,
       all_none (making_rules e (syn_of e new w)) (
         rw (left_false (is_closed e.state) t.0) refl,
@@ -288,9 +288,9 @@ syn_may e pos len window w ack fin iss shift new h past =
             (
               refl,
               (
-                ack_good (next e),
+                ack_good (rcv_nxt e),
                 (
-                  syn_place e (nat_le 1 (next e)) una max,
+                  syn_place e (nat_le 1 (rcv_nxt e)) snd_una max,
                   (
                     refl,
                     (
@@ -315,8 +315,8 @@ by_test : {P : Type 0} (b : Bool) → (b ≡ true → P) → (b ≡ false → P)
 by_test true yes_ no_ = yes_ refl
 by_test false yes_ no_ = no_ refl
 
-abbrev pub OneMay : Endpoint → Opening → (at_syn window : ℕ) → Type 0
-OneMay e new v w = ((max_made e ≤ 0) × (first_broken (making_rules e (syn_of e new v)) ≡ None)) ⊎ ((first_broken (making_rules e (bytes_of e 1 w)) ≡ None) ⊎ (first_broken (making_rules e (fin_of e w)) ≡ None))
+abbrev pub OneMay : Endpoint → SynOptions → (at_syn window : ℕ) → Type 0
+OneMay e new v w = ((snd_max e ≤ 0) × (first_broken (making_rules e (syn_of e new v)) ≡ None)) ⊎ ((first_broken (making_rules e (bytes_of e 1 w)) ≡ None) ⊎ (first_broken (making_rules e (fin_of e w)) ≡ None))
 
 -- so many positions, with the counts of SYN and FIN
 abbrev pub reach : SegmentPlan → Bool → Bool → ℕ
@@ -326,16 +326,16 @@ abbrev pub flagged : SegmentPlan → Bool → Bool → Bool → SegmentPlan
 flagged m rst syn fin = record { lport = m.lport; rport = m.rport; pos = m.pos; len = m.len; flags = record { ack = m.flags.ack; rst = rst; syn = syn; fin = fin }; window = m.window; iss = m.iss; shift = m.shift }
 
 -- an empty one takes no new positions
-not_empty : (e : Endpoint) (m : SegmentPlan) (fin : Bool) → first_broken (making_rules e (flagged m false false fin)) ≡ None → max_made e < reach m false fin → 0 < making_length (flagged m false false fin)
+not_empty : (e : Endpoint) (m : SegmentPlan) (fin : Bool) → first_broken (making_rules e (flagged m false false fin)) ≡ None → snd_max e < reach m false fin → 0 < making_length (flagged m false false fin)
 not_empty e m fin h past = by_test (making_length (flagged m false false fin) == 0) empty (not_zero (making_length (flagged m false false fin)))
   where
     empty : (making_length (flagged m false false fin) == 0) ≡ true → 0 < making_length (flagged m false false fin)
     empty is =
         let t = none_all (making_rules e (flagged m false false fin)) h in
-        let place : (nat_lt (m.pos + 1) e.stream.una || nat_lt (max_made e) m.pos) ≡ false = subst (λ (b : Bool). (if b then is_bad_empty_place e (flagged m false false fin) else ((nat_lt m.pos e.stream.una || nat_lt (max_made e) m.pos) || (nat_lt m.pos (max_made e) && nat_lt e.recover (old_end e (flagged m false false fin))))) ≡ false) is t.1.1.1.1.1.0 in
-        let low : m.pos ≤ max_made e = at_most m.pos (max_made e) (neither (nat_lt (m.pos + 1) e.stream.una) (nat_lt (max_made e) m.pos) place).1 in
+        let place : (nat_lt (m.pos + 1) e.stream.snd_una || nat_lt (snd_max e) m.pos) ≡ false = subst (λ (b : Bool). (if b then is_bad_empty_place e (flagged m false false fin) else ((nat_lt m.pos e.stream.snd_una || nat_lt (snd_max e) m.pos) || (nat_lt m.pos (snd_max e) && nat_lt e.recover (old_end e (flagged m false false fin))))) ≡ false) is t.1.1.1.1.1.0 in
+        let low : m.pos ≤ snd_max e = at_most m.pos (snd_max e) (neither (nat_lt (m.pos + 1) e.stream.snd_una) (nat_lt (snd_max e) m.pos) place).1 in
         let zero_long : making_length (flagged m false false fin) ≡ 0 = is_same (making_length (flagged m false false fin)) 0 is in
-        let past2 : max_made e < m.pos + making_length (flagged m false false fin) = past in
+        let past2 : snd_max e < m.pos + making_length (flagged m false false fin) = past in
         absurd (omega arith)
 
 is_more : (a b : ℕ) → nat_lt a b ≡ true → a < b
@@ -345,18 +345,18 @@ spent : (max pos len : ℕ) (fin : Bool) → max < pos + (len + 0 + flag_count f
 spent max pos len true past is = let top = at_most (pos + len) max is in (refl, omega arith)
 spent max pos len false past is = let top = at_most (pos + len) max is in absurd (omega arith)
 
-plain_may : (e : Endpoint) (new : Opening) (v w : ℕ) (m : SegmentPlan) (fin : Bool) → first_broken (making_rules e (flagged m false false fin)) ≡ None → max_made e < reach m false fin → OneMay e new v w
+plain_may : (e : Endpoint) (new : SynOptions) (v w : ℕ) (m : SegmentPlan) (fin : Bool) → first_broken (making_rules e (flagged m false false fin)) ≡ None → snd_max e < reach m false fin → OneMay e new v w
 plain_may e new v w m fin h past =
     let r : Room e m.pos m.len fin = room e m.pos m.len m.flags.ack fin m.window m.iss m.shift h (not_empty e m fin h past) in
     let low = r.max in
-    by_test (nat_lt (max_made e) (m.pos + m.len))
-    (λ is. let new_end : max_made e < m.pos + m.len = is_more (max_made e) (m.pos + m.len) is in inr (inl (byte_may e m.pos m.len w fin r (omega arith) new_end)))
-    (λ is. let fins = spent (max_made e) m.pos m.len fin past is in inr (inr (fin_may e m.pos m.len w (subst (λ (b : Bool). Room e m.pos m.len b) fins.0 r) fins.1)))
+    by_test (nat_lt (snd_max e) (m.pos + m.len))
+    (λ is. let new_end : snd_max e < m.pos + m.len = is_more (snd_max e) (m.pos + m.len) is in inr (inl (byte_may e m.pos m.len w fin r (omega arith) new_end)))
+    (λ is. let fins = spent (snd_max e) m.pos m.len fin past is in inr (inr (fin_may e m.pos m.len w (subst (λ (b : Bool). Room e m.pos m.len b) fins.0 r) fins.1)))
 
-pub one_may : (e : Endpoint) (new : Opening) (v w : ℕ) (m : SegmentPlan) → m.flags.rst ≡ false → first_broken (making_rules e m) ≡ None → max_made e < m.pos + making_length m → OneMay e new v w
+pub one_may : (e : Endpoint) (new : SynOptions) (v w : ℕ) (m : SegmentPlan) → m.flags.rst ≡ false → first_broken (making_rules e m) ≡ None → snd_max e < m.pos + making_length m → OneMay e new v w
 one_may e new v w m rst h past = by m.flags.syn (subst (λ (b : Bool). first_broken (making_rules e (flagged m b m.flags.syn m.flags.fin)) ≡ None) rst h) past
   where
-    by : (syn : Bool) → first_broken (making_rules e (flagged m false syn m.flags.fin)) ≡ None → max_made e < reach m syn m.flags.fin → OneMay e new v w
+    by : (syn : Bool) → first_broken (making_rules e (flagged m false syn m.flags.fin)) ≡ None → snd_max e < reach m syn m.flags.fin → OneMay e new v w
     by true h past = inl (syn_may e m.pos m.len m.window v m.flags.ack m.flags.fin m.iss m.shift new h past)
     by false h past = plain_may e new v w m m.flags.fin h past
 
@@ -443,7 +443,7 @@ far h me w m fin all some above ends permitted = by (endpoint_of (pick w.hosts m
         too_far e (short_at IsShort (pick w.hosts me).body.endpoints place.0 e place.1 all) (room e m.pos m.len m.flags.ack fin m.window m.iss m.shift may some)
 
 -- an endpoint with more than that was tried where its SYN was
-pub tried_far : (h : Header) (me : Host) (w : World tcp_shape) (opening : Opening) (window : ℕ) (e : Endpoint) → All (λ e. IsShort e) (pick w.hosts me).body.endpoints → greatest_position < max_made e → IsTried h me w e
+pub tried_far : (h : Header) (me : Host) (w : World tcp_shape) (opening : SynOptions) (window : ℕ) (e : Endpoint) → All (λ e. IsShort e) (pick w.hosts me).body.endpoints → greatest_position < snd_max e → IsTried h me w e
 tried_far h me w opening window e all above = record {
   opening = opening;
   at_syn = window;
@@ -496,7 +496,7 @@ plan_whole free p r me header left is (Some m) f = (
 nothing_whole : ForgettingIsFree → (h : Header) (me : Host) (w : World tcp_shape) → NothingToMake h me (forget w) → NothingToMake h me w
 nothing_whole free h me w none m e rst found past permitted = none m (forget_endpoint e) rst
     (ap (λ (b : Body). endpoint_of b m.lport m.rport) (kept_body me w) ∙ endpoint-forget (pick w.hosts me).body m.lport m.rport ∙ ap (option_map forget_endpoint) found)
-    (subst (λ (n : ℕ). n < m.pos + making_length m) (sym (max_made-forget e)) past)
+    (subst (λ (n : ℕ). n < m.pos + making_length m) (sym (snd_max-forget e)) past)
     (subst (λ (rs : List (Rule × Bool)). first_broken rs ≡ None) (sym (free.rules h 0 w (At me (Makes m)))) permitted)
 
 pub none_whole : ForgettingIsFree → (p : Progress) (r : Recorded) (me : Host) → p.header ≡ r.header → p.world ≡ forget (world_left r) → me ≡ r.me → (o : Option SegmentPlan)
@@ -506,13 +506,13 @@ none_whole free p r me header left is None f = nothing_whole free r.header r.me 
 
 -- 7. all three were tried
 
-pub all_tried : (h : Header) (me : Host) (w : World tcp_shape) (opening : Opening) (at_syn window : ℕ) (e : Endpoint) (byte fin : SegmentPlan) (o : Option SegmentPlan) → (max_made e ≤ 0 → Refuses h me w (syn_of e opening at_syn)) → byte ≡ bytes_of e 1 window → Refuses h me w byte
+pub all_tried : (h : Header) (me : Host) (w : World tcp_shape) (opening : SynOptions) (at_syn window : ℕ) (e : Endpoint) (byte fin : SegmentPlan) (o : Option SegmentPlan) → (snd_max e ≤ 0 → Refuses h me w (syn_of e opening at_syn)) → byte ≡ bytes_of e 1 window → Refuses h me w byte
     → fin ≡ fin_of e window → IfNone o (Refuses h me w fin) → IfNone o (IsTried h me w e)
 all_tried h me w opening at_syn window e byte fin (Some m) syn byte_is no_byte fin_is no_fin = tt
 all_tried h me w opening at_syn window e byte fin None syn byte_is no_byte fin_is no_fin = record { opening = opening; at_syn = at_syn; window = window; syn = syn; byte = subst (λ (m : SegmentPlan). Refuses h me w m) byte_is no_byte; fin = subst (λ (m : SegmentPlan). Refuses h me w m) fin_is no_fin }
 
 -- a SYN tells the shift that its endpoint is given with its initial number
-pub syn_tells : (v : Version) (e : Endpoint) (opening : Opening) (window : ℕ) (plan : SegmentPlan) → MayOpen v opening → plan ≡ syn_of e opening window → TellsWell v plan
+pub syn_tells : (v : Version) (e : Endpoint) (opening : SynOptions) (window : ℕ) (plan : SegmentPlan) → MayOpen v opening → plan ≡ syn_of e opening window → TellsWell v plan
 syn_tells v e opening window plan may is = subst (λ (m : SegmentPlan). TellsWell v m) (sym is) (by (is_some e.iss) opening.shift may)
   where
     by : (known : Bool) (shift : Option ℕ) → IfSome shift (λ n. (scales v ≡ true) × (n ≤ 14))

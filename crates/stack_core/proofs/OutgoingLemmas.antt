@@ -12,19 +12,19 @@ use Rattle.case_forms.specs.declared.trace.Header.{Header}
 use Rattle.case_forms.specs.declared.trace.Wire.{Wire}
 use Rattle.verdict.specs.Rules.{first_broken}
 use Rattle.verdict.specs.declared.rule.Rule.TheVariants as rules
-use Rattle.hosts.specs.Tables.{Made, on, pick, unsent}
-use Rattle.hosts.specs.Hosts.{World, At, Makes, Sends, Step}
-use Rattle.hosts.specs.HostRules.{Permitted, just}
-use Rattle.hosts.specs.HostSteps.{after}
-use Rattle.hosts.proofs.Entries.{lookup_insert}
-use Rattle.machine.specs.Bodies.{Body, place_of}
-use Rattle.machine.specs.declared.endpoint.Emission.{Emission}
-use Rattle.machine.specs.declared.endpoint.Endpoint.{Endpoint}
-use Rattle.machine.specs.Machine.{act_makes, act_rules, made_at, tcp, tcp_shape}
-use Rattle.machine.specs.Machine as acts
-use Rattle.machine.specs.Makes.{emission_of, making_rules}
-use Rattle.machine.specs.Wire.{is_shown, out_rules, sent}
-use Rattle.recordings.specs.Books.{Flying}
+use Rattle.spec_network.specs.Tables.{Made, on, pick, unsent}
+use Rattle.spec_network.specs.Hosts.{World, At, Makes, Sends, Step}
+use Rattle.spec_network.specs.HostRules.{Permitted, just}
+use Rattle.spec_network.specs.HostSteps.{after}
+use Rattle.spec_network.proofs.Entries.{lookup_insert}
+use Rattle.spec_tcp.specs.Bodies.{Body, place_of}
+use Rattle.spec_tcp.specs.declared.endpoint.Emission.{Emission}
+use Rattle.spec_tcp.specs.declared.endpoint.Endpoint.{Endpoint}
+use Rattle.spec_tcp.specs.Machine.{act_makes, act_rules, made_at, tcp, tcp_shape}
+use Rattle.spec_tcp.specs.Machine as acts
+use Rattle.spec_tcp.specs.Makes.{emission_of, making_rules}
+use Rattle.spec_tcp.specs.Wire.{matches_sent, out_rules, sent}
+use Rattle.spec_merge.specs.Books.{Flying}
 use Rattle.stack_core.specs.Cores.{Core, Fits, line_to_come, with_step, world}
 use Rattle.stack_core.specs.Outgoing.{GoesOut, MayGo, WaitsToGo, greatest_payload}
 use Rattle.stack_core.proofs.Cores.{leads}
@@ -75,7 +75,7 @@ made_waits c d m may short is = subst (λ (x : Core). WaitsToGo x (world x).coun
 
 -- 2. sent
 
-goes : (h : Header) (o : Option (Made Emission)) (wire : Wire) (e : Emission) → o ≡ Some (unsent e) → is_shown h wire e ≡ true → first_broken (on o (just rules.NotMade true) (λ m. out_rules h wire m.emission ++ just rules.NotMade m.sent)) ≡ None
+goes : (h : Header) (o : Option (Made Emission)) (wire : Wire) (e : Emission) → o ≡ Some (unsent e) → matches_sent h wire e ≡ true → first_broken (on o (just rules.NotMade true) (λ m. out_rules h wire m.emission ++ just rules.NotMade m.sent)) ≡ None
 goes h o wire e is shown = rw (is, shown) refl
 
 pub go_fits : (c : Core) (number : ℕ) (wire : Wire) (f : Flying tcp_shape) (me : Host) (line : ℕ) → MayGo c number wire f → me ≡ c.recorded.me → Fits c (At me (Sends line number wire))

@@ -9,17 +9,17 @@ use Rattle.case_forms.specs.declared.calls.Host.TheVariants.{Zero, One}
 use Rattle.case_forms.specs.declared.calls.Answer.{Answer}
 use Rattle.case_forms.specs.declared.calls.Call.{Call}
 use Rattle.case_forms.specs.declared.trace.Header.{Header}
-use Rattle.hosts.specs.Tables.{lane, other, pick, with_host}
-use Rattle.hosts.specs.Hosts.{Aim, ThatHost, ThatSocket, HostState, Turn, Idle, Called, Answered, World, Step, Begin, Finish, Effect, At, turn_of}
-use Rattle.hosts.specs.HostRules.{aim_of}
-use Rattle.hosts.specs.HostSteps.{after, call_after, deed_after, effect_after}
-use Rattle.hosts.proofs.Entries.{turn_insert}
-use Rattle.machine.specs.Bodies.{Body, given}
-use Rattle.machine.specs.Calls.{after_call}
-use Rattle.machine.specs.Machine.{aim, gives, tcp, tcp_shape}
-use Rattle.machine.specs.Machine as acts
-use Rattle.machine_laws.proofs.Sound.{dead_given, given_insert}
-use Rattle.recordings.specs.Books.{Aims, Do, FitsItem, Flying, bring}
+use Rattle.spec_network.specs.Tables.{lane, other, pick, with_host}
+use Rattle.spec_network.specs.Hosts.{Aim, ThatHost, ThatSocket, HostState, Turn, Idle, Called, Answered, World, Step, Begin, Finish, Effect, At, turn_of}
+use Rattle.spec_network.specs.HostRules.{aim_of}
+use Rattle.spec_network.specs.HostSteps.{after, call_after, deed_after, effect_after}
+use Rattle.spec_network.proofs.Entries.{turn_insert}
+use Rattle.spec_tcp.specs.Bodies.{Body, given}
+use Rattle.spec_tcp.specs.Calls.{after_call}
+use Rattle.spec_tcp.specs.Machine.{aim, gives, tcp, tcp_shape}
+use Rattle.spec_tcp.specs.Machine as acts
+use Rattle.spec_tcp_laws.proofs.Sound.{dead_given, given_insert}
+use Rattle.spec_merge.specs.Books.{Aims, Do, FitsItem, Flying, bring}
 use Rattle.stack_core.specs.Cores.{GivesNext, IsCallWithin, IsOrderly, IsOwn, first_socket, next_socket}
 use Rattle.stack_core.proofs.Sockets.{Sockets, SocketsAfter, call_sockets, dead_length, deed_sockets, new_length}
 

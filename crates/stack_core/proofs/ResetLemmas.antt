@@ -11,20 +11,20 @@ use Rattle.case_forms.specs.declared.calls.Host.{Host}
 use Rattle.case_forms.specs.declared.calls.Host.TheVariants.{Zero, One}
 use Rattle.case_forms.specs.declared.steps.SegmentPlan.{SegmentPlan}
 use Rattle.case_forms.specs.declared.trace.Header.{Header}
-use Rattle.hosts.specs.Tables.{Both, Made, gone_out, on, other, pick, unsent, waiting, with_host}
-use Rattle.hosts.specs.Hosts.{Deed, Does, Expires, Makes, Sends, Gets, Hears, Takes, Drops, Answers, HostState, Turn, Idle, Called, Answered, World, Step, Begin, Finish, Effect, At, turn_of}
-use Rattle.hosts.specs.HostRules.{aim_of}
-use Rattle.hosts.specs.HostSteps.{after, call_after, deed_after, effect_after, made_gone_out, start}
-use Rattle.hosts.proofs.Entries.{lookup_insert}
-use Rattle.machine.specs.Bodies.{Body, place_of}
-use Rattle.machine.specs.declared.endpoint.Emission.{Emission}
-use Rattle.machine.specs.declared.endpoint.Endpoint.{Endpoint}
-use Rattle.machine.specs.Machine.{act_makes, aim, made_at, tcp, tcp_shape}
-use Rattle.machine.specs.Machine as acts
-use Rattle.machine.specs.Makes.{emission_of}
-use Rattle.machine.specs.Reset.{reset_of}
-use Rattle.recordings.specs.Books.{Bring, Do, FitsItem, Flying, OwnStep, bring}
-use Rattle.recordings.proofs.Growing.{end_more}
+use Rattle.spec_network.specs.Tables.{Both, Made, gone_out, on, other, pick, unsent, waiting, with_host}
+use Rattle.spec_network.specs.Hosts.{Deed, Does, Expires, Makes, Sends, Gets, Hears, Takes, Drops, Answers, HostState, Turn, Idle, Called, Answered, World, Step, Begin, Finish, Effect, At, turn_of}
+use Rattle.spec_network.specs.HostRules.{aim_of}
+use Rattle.spec_network.specs.HostSteps.{after, call_after, deed_after, effect_after, made_gone_out, start}
+use Rattle.spec_network.proofs.Entries.{lookup_insert}
+use Rattle.spec_tcp.specs.Bodies.{Body, place_of}
+use Rattle.spec_tcp.specs.declared.endpoint.Emission.{Emission}
+use Rattle.spec_tcp.specs.declared.endpoint.Endpoint.{Endpoint}
+use Rattle.spec_tcp.specs.Machine.{act_makes, aim, made_at, tcp, tcp_shape}
+use Rattle.spec_tcp.specs.Machine as acts
+use Rattle.spec_tcp.specs.Makes.{emission_of}
+use Rattle.spec_tcp.specs.Reset.{reset_of}
+use Rattle.spec_merge.specs.Books.{Bring, Do, FitsItem, Flying, OwnStep, bring}
+use Rattle.spec_merge.proofs.Growing.{end_more}
 use Rattle.stack_core.specs.declared.tick.Tick.{Tick}
 use Rattle.stack_core.specs.Entries.{entry_at}
 use Rattle.stack_core.specs.Recordings.{Recorded, with_entry, world_left}
@@ -58,11 +58,11 @@ unsent_same : (a b : Emission) → Some (unsent a) ≡ Some (unsent b) → a ≡
 unsent_same a b is = ap (λ (m : Made Emission). m.emission) (same_Some (unsent a) (unsent b) is)
 
 -- a segment that is no answer
-plain_joins : (made : Table) (xs : List ℕ) (fresh : ℕ) (a : Emission) → a.answers ≡ false → AreAwaited made xs → AreAwaited (insert_entry nat_eq made fresh (unsent a)) xs
+plain_joins : (made : Table) (xs : List ℕ) (fresh : ℕ) (a : Emission) → a.is_reset_reply ≡ false → AreAwaited made xs → AreAwaited (insert_entry nat_eq made fresh (unsent a)) xs
 plain_joins made xs fresh a plain are n e waits = by (nat_eq n fresh) (sym (lookup_insert n fresh (unsent a) made) ∙ waits.found)
   where
     by : (b : Bool) → cond b (Some (unsent a)) (lookup (nat_eq n) made) ≡ Some (unsent e) → IsAmong n xs × (length e.payload ≡ 0)
-    by true is = absurd (differ (sym plain ∙ ap (λ (x : Emission). x.answers) (unsent_same a e is) ∙ waits.answers))
+    by true is = absurd (differ (sym plain ∙ ap (λ (x : Emission). x.is_reset_reply) (unsent_same a e is) ∙ waits.answers))
       where
         differ : false ≡ true → ⊥
         differ is = absurd cc
@@ -193,19 +193,19 @@ none_left made [] first are n e waits = (are n e waits).0
 none_left made (x ∷ xs) first are n e waits = absurd (none-some x first)
 
 -- what is seen of an entry
-waits_so : (m : Made Emission) → (not m.sent && m.emission.answers) ≡ true → (m ≡ unsent m.emission) × (m.emission.answers ≡ true)
-waits_so m is = by m.sent m.emission.answers refl refl is
+waits_so : (m : Made Emission) → (not m.sent && m.emission.is_reset_reply) ≡ true → (m ≡ unsent m.emission) × (m.emission.is_reset_reply ≡ true)
+waits_so m is = by m.sent m.emission.is_reset_reply refl refl is
   where
-    by : (s a : Bool) → m.sent ≡ s → m.emission.answers ≡ a → (not s && a) ≡ true → (m ≡ unsent m.emission) × (m.emission.answers ≡ true)
+    by : (s a : Bool) → m.sent ≡ s → m.emission.is_reset_reply ≡ a → (not s && a) ≡ true → (m ≡ unsent m.emission) × (m.emission.is_reset_reply ≡ true)
     by true a sent answers is = absurd cc
     by false true sent answers is = (ap (λ (b : Bool). record { emission = m.emission; sent = b }) sent, answers)
     by false false sent answers is = absurd cc
 
-pub waits_there : (made : Table) (n : ℕ) (m : Made Emission) → Some m ≡ lookup (nat_eq n) made → (not m.sent && m.emission.answers) ≡ true → (e : Emission) × IsWaitingReset made n e
+pub waits_there : (made : Table) (n : ℕ) (m : Made Emission) → Some m ≡ lookup (nat_eq n) made → (not m.sent && m.emission.is_reset_reply) ≡ true → (e : Emission) × IsWaitingReset made n e
 waits_there made n m found is = let so = waits_so m is in (m.emission, record { found = sym found ∙ ap (λ (x : Made Emission). Some x) so.0; answers = so.1 })
 
-pub waits_not : (made : Table) (n : ℕ) (m : Made Emission) → Some m ≡ lookup (nat_eq n) made → (not m.sent && m.emission.answers) ≡ false → (e : Emission) → IsWaitingReset made n e → ⊥
-waits_not made n m found is e waits = differ (sym is ∙ ap (λ (x : Made Emission). not x.sent && x.emission.answers) (same_Some m (unsent e) (found ∙ waits.found)) ∙ waits.answers)
+pub waits_not : (made : Table) (n : ℕ) (m : Made Emission) → Some m ≡ lookup (nat_eq n) made → (not m.sent && m.emission.is_reset_reply) ≡ false → (e : Emission) → IsWaitingReset made n e → ⊥
+waits_not made n m found is e waits = differ (sym is ∙ ap (λ (x : Made Emission). not x.sent && x.emission.is_reset_reply) (same_Some m (unsent e) (found ∙ waits.found)) ∙ waits.answers)
   where
     differ : false ≡ true → ⊥
     differ is = absurd cc

@@ -4,7 +4,7 @@ use Rattle.std.specs.Prelude.{◌==◌}
 use Rattle.std.proofs.lemmas.Bool.Decides.{nat_tests}
 use Rattle.case_forms.specs.declared.calls.Answer.{Answer}
 use Rattle.case_forms.specs.declared.calls.Answer.TheVariants as answers
-use Rattle.machine.specs.Same.{same_answer, same_bytes, state_place}
+use Rattle.spec_tcp.specs.Same.{same_answer, same_bytes, state_place}
 
 pub number_same : (n : ℕ) → (n == n) ≡ true
 number_same n = grind (arith, nat_tests)

@@ -7,8 +7,8 @@ use Rattle.case_forms.specs.declared.trace.Header.{Header}
 use Rattle.case_forms.specs.declared.steps.Flags.{Flags}
 use Rattle.segment.specs.declared.fields.Segment.{Segment}
 use Rattle.segment.specs.Encoding.{as_written}
-use Rattle.machine.specs.declared.endpoint.Emission.{Emission}
-use Rattle.machine.specs.Wire.{shows, shows_shift, same_flags}
+use Rattle.spec_tcp.specs.declared.endpoint.Emission.{Emission}
+use Rattle.spec_tcp.specs.Wire.{header_matches, shift_matches, same_flags}
 use Rattle.stack_core.specs.Outgoing.{flag_bits, segment_of}
 use Rattle.stack_core.proofs.Same.{bytes_same, number_same}
 
@@ -34,14 +34,14 @@ bits false false true false s is = rw is refl
 bits false false false true s is = rw is refl
 bits false false false false s is = rw is refl
 
-pub shown : (m : Emission) (mss : Option ℕ) → shows (as_written (segment_of m mss)) m ≡ true
-shown m mss = rw (number_same m.lport, number_same m.rport, number_same m.seq.0, number_same m.ack_seq.0, number_same m.window, bits m.flags.ack m.flags.rst m.flags.syn m.flags.fin (as_written (segment_of m mss)) refl, or_true m.answers, or_true (not m.flags.ack), bytes_same m.payload) refl
+pub shown : (m : Emission) (mss : Option ℕ) → header_matches (as_written (segment_of m mss)) m ≡ true
+shown m mss = rw (number_same m.lport, number_same m.rport, number_same m.seq.0, number_same m.ack_seq.0, number_same m.window, bits m.flags.ack m.flags.rst m.flags.syn m.flags.fin (as_written (segment_of m mss)) refl, or_true m.is_reset_reply, or_true (not m.flags.ack), bytes_same m.payload) refl
 
--- the shift that a SYN tells is the one that its maker gave
+-- the shift that a SYN tells is the one that its sender gave
 shift_shown : (syn : Bool) (shift : Option ℕ) → option_map_or (λ told. option_map_or (λ given. min told 14 == min given 14) shift false) (if syn then shift else None) true ≡ true
 shift_shown false shift = refl
 shift_shown true None = refl
 shift_shown true (Some n) = number_same (min n 14)
 
-pub all_shown : (h : Header) (s : Segment) (m : Emission) (mss : Option ℕ) → s ≡ as_written (segment_of m mss) → (shows s m && (not (scales h.version && m.flags.syn) || shows_shift s m)) ≡ true
+pub all_shown : (h : Header) (s : Segment) (m : Emission) (mss : Option ℕ) → s ≡ as_written (segment_of m mss) → (header_matches s m && (not (scales h.version && m.flags.syn) || shift_matches s m)) ≡ true
 all_shown h s m mss is = rw (is, shown m mss, shift_shown m.flags.syn m.shift) (or_true (not (scales h.version && m.flags.syn)))

@@ -11,23 +11,23 @@ use Rattle.case_forms.specs.declared.calls.Call.{Call}
 use Rattle.case_forms.specs.declared.calls.Call.TheVariants as calls
 use Rattle.case_forms.specs.declared.steps.TakeChoice.{TakeChoice}
 use Rattle.case_forms.specs.declared.trace.Header.{Header}
-use Rattle.hosts.specs.Tables.{waiting}
-use Rattle.hosts.specs.Hosts.{HostState, Deed, Does, Expires, Makes, Sends, Gets, Hears, Takes, Drops, Answers}
-use Rattle.hosts.specs.HostSteps.{deed_after}
-use Rattle.machine.specs.declared.endpoint.Emission.{Emission}
-use Rattle.machine.specs.declared.endpoint.Endpoint.{Endpoint}
-use Rattle.machine.specs.declared.endpoint.Socket.{Socket}
-use Rattle.machine.specs.declared.endpoint.Thing.{Thing}
-use Rattle.machine.specs.declared.endpoint.Thing.TheVariants.{Listens, Ends}
-use Rattle.machine.specs.Arrives.{Taker, Nobody, AtListener, AtEndpoint, taker, after_taking}
-use Rattle.machine.specs.Bodies.{Body, at_ports, dead, place_of, queue_of, thing_of, with_endpoint}
-use Rattle.machine.specs.Calls.{after_call, change, change_thing}
-use Rattle.machine.specs.Calls.Accept.{accepted_from, after_accept}
-use Rattle.machine.specs.Calls.Close.{after_abort, after_close, after_gone, after_shut, thing_gone}
-use Rattle.machine.specs.Calls.Receive.{after_recv}
-use Rattle.machine.specs.Calls.Send.{after_send}
-use Rattle.machine.specs.Machine.{gives, tcp, tcp_shape}
-use Rattle.machine_laws.proofs.Rules.{map_or_cases, on_cases}
+use Rattle.spec_network.specs.Tables.{waiting}
+use Rattle.spec_network.specs.Hosts.{HostState, Deed, Does, Expires, Makes, Sends, Gets, Hears, Takes, Drops, Answers}
+use Rattle.spec_network.specs.HostSteps.{deed_after}
+use Rattle.spec_tcp.specs.declared.endpoint.Emission.{Emission}
+use Rattle.spec_tcp.specs.declared.endpoint.Endpoint.{Endpoint}
+use Rattle.spec_tcp.specs.declared.endpoint.Socket.{Socket}
+use Rattle.spec_tcp.specs.declared.endpoint.SocketTarget.{SocketTarget}
+use Rattle.spec_tcp.specs.declared.endpoint.SocketTarget.TheVariants.{ListenerAt, EndpointAt}
+use Rattle.spec_tcp.specs.Arrives.{Taker, Nobody, AtListener, AtEndpoint, taker, after_taking}
+use Rattle.spec_tcp.specs.Bodies.{Body, at_ports, dead, place_of, queue_of, thing_of, with_endpoint}
+use Rattle.spec_tcp.specs.Calls.{after_call, change, change_thing}
+use Rattle.spec_tcp.specs.Calls.Accept.{accepted_from, after_accept}
+use Rattle.spec_tcp.specs.Calls.Close.{after_abort, after_close, after_gone, after_shut, thing_gone}
+use Rattle.spec_tcp.specs.Calls.Receive.{after_recv}
+use Rattle.spec_tcp.specs.Calls.Send.{after_send}
+use Rattle.spec_tcp.specs.Machine.{gives, tcp, tcp_shape}
+use Rattle.spec_tcp_laws.proofs.Rules.{map_or_cases, on_cases}
 
 abbrev pub Sockets : Type 0
 Sockets = List (ℕ × Socket)
@@ -62,24 +62,24 @@ SocketsAfter old new given = (new ≡ old) ⊎ (((n : ℕ) × (new ≡ dead old 
 change_sockets : (b : Body) (n : ℕ) (f : Endpoint → Endpoint) → (change b n f).sockets ≡ b.sockets
 change_sockets b n f = map_or_cases (λ (c : Body). c.sockets ≡ b.sockets) (thing_of b n) b (change_thing b f) (λ e. refl) (λ thing e. by thing)
   where
-    by : (thing : Thing) → (change_thing b f thing).sockets ≡ b.sockets
-    by (Listens l) = refl
-    by (Ends i) = refl
+    by : (thing : SocketTarget) → (change_thing b f thing).sockets ≡ b.sockets
+    by (ListenerAt l) = refl
+    by (EndpointAt i) = refl
 
 gone_sockets : (b : Body) (n : ℕ) (f : Endpoint → Endpoint) → SocketsAfter b.sockets (after_gone b n f).sockets None
 gone_sockets b n f = map_or_cases (λ (c : Body). SocketsAfter b.sockets c.sockets None) (thing_of b n) b (λ thing. record (thing_gone b thing f) { sockets = dead b.sockets n }) (λ e. inl refl) (λ thing e. inr (inl (n, refl)))
 
-accept_sockets : (b : Body) (n : ℕ) (thing : Thing) → SocketsAfter b.sockets (after_accept b n thing).sockets (Some n)
-accept_sockets b n (Ends i) = inl refl
-accept_sockets b n (Listens l) = by (queue_of b l)
+accept_sockets : (b : Body) (n : ℕ) (thing : SocketTarget) → SocketsAfter b.sockets (after_accept b n thing).sockets (Some n)
+accept_sockets b n (EndpointAt i) = inl refl
+accept_sockets b n (ListenerAt l) = by (queue_of b l)
   where
     by : (queue : List ℕ) → SocketsAfter b.sockets (accepted_from b l n queue).sockets (Some n)
     by [] = inl refl
-    by (child ∷ queue) = inr (inr (n, record { thing = Ends child; live = true }, refl, refl))
+    by (child ∷ queue) = inr (inr (n, record { thing = EndpointAt child; live = true }, refl, refl))
 
 pub call_sockets : (b : Body) (call : Call) (answer : Answer) → SocketsAfter b.sockets (after_call b call answer).sockets (gives call answer)
-call_sockets b (calls.Listen host port backlog) (answers.Given n) = inr (inr (n, record { thing = Listens (length b.listeners); live = true }, refl, refl))
-call_sockets b (calls.Connect host lport rport) (answers.Given n) = inr (inr (n, record { thing = Ends (length b.endpoints); live = true }, refl, refl))
+call_sockets b (calls.Listen host port backlog) (answers.Given n) = inr (inr (n, record { thing = ListenerAt (length b.listeners); live = true }, refl, refl))
+call_sockets b (calls.Connect host lport rport) (answers.Given n) = inr (inr (n, record { thing = EndpointAt (length b.endpoints); live = true }, refl, refl))
 call_sockets b (calls.Accept h) (answers.Given n) = map_or_cases (λ (c : Body). SocketsAfter b.sockets c.sockets (Some n)) (thing_of b h) b (after_accept b n) (λ e. inl refl) (λ thing e. accept_sockets b n thing)
 call_sockets b (calls.Send h bytes) (answers.Given n) = inl (change_sockets b h (after_send bytes n))
 call_sockets b (calls.Recv h most) (answers.Bytes bytes) = inl (change_sockets b h (after_recv bytes))

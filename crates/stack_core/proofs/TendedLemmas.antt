@@ -18,28 +18,28 @@ use Rattle.case_forms.specs.declared.trace.Header.{Header}
 use Rattle.verdict.specs.Rules.{first_broken}
 use Rattle.verdict.specs.declared.rule.Rule.TheVariants as rules
 use Rattle.verdict.proofs.RuleLemmas.{none_all}
-use Rattle.hosts.specs.Tables.{other, pick}
-use Rattle.hosts.specs.Hosts.{Step, World}
-use Rattle.hosts.specs.HostSteps.{after, start}
+use Rattle.spec_network.specs.Tables.{other, pick}
+use Rattle.spec_network.specs.Hosts.{Step, World}
+use Rattle.spec_network.specs.HostSteps.{after, start}
 use Rattle.timer_rules.specs.Timers.{earliest}
-use Rattle.machine.specs.Bodies.{Body, endpoint_of}
-use Rattle.machine.specs.Bounds.{IsKept}
-use Rattle.machine.specs.declared.endpoint.Endpoint.{Endpoint}
-use Rattle.machine.specs.Endpoints.{is_up, max_made}
-use Rattle.machine.specs.Forgetting.{forget, forget_endpoint}
-use Rattle.machine.specs.Machine.{tcp, tcp_shape}
-use Rattle.machine.specs.Makes.{making_rules}
-use Rattle.machine.specs.Timeouts.{expiry_rules, has_more}
-use Rattle.machine_laws.proofs.ForgetRules.{expiry_rules-forget}
+use Rattle.spec_tcp.specs.Bodies.{Body, endpoint_of}
+use Rattle.spec_tcp.specs.Bounds.{IsKept}
+use Rattle.spec_tcp.specs.declared.endpoint.Endpoint.{Endpoint}
+use Rattle.spec_tcp.specs.Endpoints.{is_up, snd_max}
+use Rattle.spec_tcp.specs.Forgetting.{forget, forget_endpoint}
+use Rattle.spec_tcp.specs.Machine.{tcp, tcp_shape}
+use Rattle.spec_tcp.specs.Makes.{making_rules}
+use Rattle.spec_tcp.specs.Timeouts.{expiry_rules, has_more}
+use Rattle.spec_tcp_laws.proofs.ForgetRules.{expiry_rules-forget}
 use Rattle.endpoint_state.specs.Kept.{AreReadable, IsKeptWorld}
-use Rattle.recordings.specs.Books.{Bring, Do, FitsItem, Flying, bring}
-use Rattle.recordings.proofs.Growing.{end_more}
-use Rattle.stack_core.specs.declared.agenda.Agenda.{Agenda}
-use Rattle.stack_core.specs.declared.agenda.Touch.{Touch}
-use Rattle.stack_core.specs.declared.agenda.Wake.{Wake}
-use Rattle.stack_core.specs.declared.plans.Opening.{Opening}
+use Rattle.spec_merge.specs.Books.{Bring, Do, FitsItem, Flying, bring}
+use Rattle.spec_merge.proofs.Growing.{end_more}
+use Rattle.stack_core.specs.declared.deadline_queue.DeadlineQueue.{DeadlineQueue}
+use Rattle.stack_core.specs.declared.deadline_queue.Touch.{Touch}
+use Rattle.stack_core.specs.declared.deadline_queue.Deadline.{Deadline}
+use Rattle.stack_core.specs.declared.plans.SynOptions.{SynOptions}
 use Rattle.stack_core.specs.declared.tick.Tick.{Tick}
-use Rattle.stack_core.specs.Agendas.{AreFrom, IsListed, IsRenewed, IsTouched, Leaves, from}
+use Rattle.stack_core.specs.DeadlineQueues.{AreFrom, IsListed, IsRenewed, IsTouched, Leaves, from}
 use Rattle.stack_core.specs.Entries.{entry_at}
 use Rattle.stack_core.specs.Makings.{NothingToMake, bytes_of, fin_of, syn_of}
 use Rattle.stack_core.specs.Recordings.{Recorded, with_entry, world_left}
@@ -48,7 +48,7 @@ use Rattle.stack_core.specs.TimerEvents.{NoneDueAt}
 use Rattle.stack_core.specs.Touches.{touched}
 use Rattle.endpoint_state.specs.Worlds.{Progress}
 use Rattle.stack_core.proofs.AnswerLemmas.{kept_body}
-use Rattle.stack_core.proofs.AgendaLemmas.{left_covered, leaves_kept, none_covered, renewed_covered, touched_covered}
+use Rattle.stack_core.proofs.DeadlineQueueLemmas.{left_covered, leaves_kept, none_covered, renewed_covered, touched_covered}
 use Rattle.stack_core.proofs.MakingLemmas.{OneMay, of_ports, one_may}
 use Rattle.stack_core.proofs.ResetLemmas.{own_host}
 use Rattle.stack_core.proofs.TimerLemmas.{kept_there}
@@ -56,7 +56,7 @@ use Rattle.stack_core.proofs.TouchLemmas.{bring_leaves, ends, leaves_same, step_
 
 -- 1. an endpoint makes nothing
 
-pub quiet : (e : Endpoint) (new : Opening) → (max_made e ≤ 0 → first_broken (making_rules e (syn_of e new 0)) ≡ None → ⊥) → (first_broken (making_rules e (bytes_of e 1 0)) ≡ None → ⊥) → (first_broken (making_rules e (fin_of e 0)) ≡ None → ⊥) → IsQuiet e
+pub quiet : (e : Endpoint) (new : SynOptions) → (snd_max e ≤ 0 → first_broken (making_rules e (syn_of e new 0)) ≡ None → ⊥) → (first_broken (making_rules e (bytes_of e 1 0)) ≡ None → ⊥) → (first_broken (making_rules e (fin_of e 0)) ≡ None → ⊥) → IsQuiet e
 quiet e new no_syn no_byte no_fin m rst past may = refute (one_may e new 0 0 m rst may past)
   where
     refute : OneMay e new 0 0 → ⊥
@@ -73,7 +73,7 @@ within (y ∷ ys) zero x at = omega arith
 within (y ∷ ys) (suc i) x at = let less = within ys i x at in omega arith
 
 -- all were looked at, and none is to be looked at again
-pub nothing_ready : (h : Header) (me : Host) (w : World tcp_shape) (looked : ℕ) (ks : List Wake) → length (pick w.hosts me).body.endpoints ≤ looked → None ≡ slice_get ks 0 → AreQuiet looked ks (pick w.hosts me).body.endpoints → NothingToMake h me w
+pub nothing_ready : (h : Header) (me : Host) (w : World tcp_shape) (looked : ℕ) (ks : List Deadline) → length (pick w.hosts me).body.endpoints ≤ looked → None ≡ slice_get ks 0 → AreQuiet looked ks (pick w.hosts me).body.endpoints → NothingToMake h me w
 nothing_ready h me w looked (k ∷ ks) all none are m e rst found past permitted = absurd (none-some k none)
 nothing_ready h me w looked [] all none are m e rst found past permitted =
     let b : Body = (pick w.hosts me).body in
@@ -92,7 +92,7 @@ nothing_ready h me w looked [] all none are m e rst found past permitted =
 -- 2. numbers can be read near the positions of all
 
 readable_all : (steps : ℕ) (es : List Endpoint) → All (IsKept steps) es → AreReadable es
-readable_all steps es kept = All-weaker (IsKept steps) (λ e. e.stream.una < 2 ^ 63) (λ e k. k.una) es kept
+readable_all steps es kept = All-weaker (IsKept steps) (λ e. e.stream.snd_una < 2 ^ 63) (λ e k. k.snd_una) es kept
 
 pub readable_host : (steps : ℕ) (w : World tcp_shape) (me : Host) → IsKeptWorld steps w → AreReadable (pick w.hosts me).body.endpoints
 readable_host steps w Zero k = readable_all steps w.hosts.zero.body.endpoints k.zero.body.kept
@@ -102,10 +102,10 @@ pub few_host : (steps : ℕ) (w : World tcp_shape) (me : Host) → IsKeptWorld s
 few_host steps w Zero k = k.zero.body.endpoints
 few_host steps w One k = k.one.body.endpoints
 
-pub readable_at : (es : List Endpoint) (i : ℕ) (e : Endpoint) → AreReadable es → slice_get es i ≡ Some e → e.stream.una < 2 ^ 63
+pub readable_at : (es : List Endpoint) (i : ℕ) (e : Endpoint) → AreReadable es → slice_get es i ≡ Some e → e.stream.snd_una < 2 ^ 63
 readable_at [] i e all at = absurd (none-some e at)
-readable_at (x ∷ es) zero e all at = subst (λ (y : Endpoint). y.stream.una < 2 ^ 63) (same_Some x e at) (All-head (λ (y : Endpoint). y.stream.una < 2 ^ 63) x es all)
-readable_at (x ∷ es) (suc i) e all at = readable_at es i e (All-tail (λ (y : Endpoint). y.stream.una < 2 ^ 63) x es all) at
+readable_at (x ∷ es) zero e all at = subst (λ (y : Endpoint). y.stream.snd_una < 2 ^ 63) (same_Some x e at) (All-head (λ (y : Endpoint). y.stream.snd_una < 2 ^ 63) x es all)
+readable_at (x ∷ es) (suc i) e all at = readable_at es i e (All-tail (λ (y : Endpoint). y.stream.snd_una < 2 ^ 63) x es all) at
 
 -- 3. timers
 
@@ -170,7 +170,7 @@ none_due_by r moment still x unlike may = by (endpoint_of b x.lport x.rport) ref
         let here : first_broken (expiry_rules r.header moment e x.expired) ≡ None = subst (λ (o : Option Endpoint). first_broken (option_map_or (λ e. expiry_rules r.header moment e x.expired) o ((rules.NoEndpoint, true) ∷ [])) ≡ None) at may in
         still place.0 (forget_endpoint e) (kept_there b.endpoints place.0 e place.1) x.expired unlike (ap first_broken (expiry_rules-forget r.header moment e x.expired) ∙ here)
 
-pub tended_starts : (h : Header) (me : Host) (r : Recorded) (ready wakes : Agenda) → ready.looked ≡ 0 → wakes.looked ≡ 0 → IsTended r ready wakes
+pub tended_starts : (h : Header) (me : Host) (r : Recorded) (ready wakes : DeadlineQueue) → ready.looked ≡ 0 → wakes.looked ≡ 0 → IsTended r ready wakes
 tended_starts h me r ready wakes none_ready none_wake = record {
   quiet = none_covered (λ m e. Unit {0}) IsQuiet ready.looked ready.entries.keys (kept_ends r) none_ready;
   timed = none_covered (IsStillBefore r.header) (IsStill r.header) wakes.looked wakes.entries.keys (kept_ends r) none_wake;
@@ -179,7 +179,7 @@ tended_starts h me r ready wakes none_ready none_wake = record {
 pub never_before : (h : Header) (e : Endpoint) → IsStillBefore h 0 e
 never_before h e moment early x not may = absurd (omega arith)
 
-module _ (r : Recorded) (ready wakes ready_then wakes_then : Agenda) (touch : Touch) (is_ready : IsTouched touch ready.looked ready.entries.keys ready_then.looked ready_then.entries.keys)
+module _ (r : Recorded) (ready wakes ready_then wakes_then : DeadlineQueue) (touch : Touch) (is_ready : IsTouched touch ready.looked ready.entries.keys ready_then.looked ready_then.entries.keys)
     (is_wakes : IsTouched touch wakes.looked wakes.entries.keys wakes_then.looked wakes_then.entries.keys) (is : IsTended r ready wakes) where
   leads : (s : Recorded) → s.header ≡ r.header → Leaves touch (kept_ends r) (kept_ends s) → IsTended s ready_then wakes_then
   leads s same leaves = record {
@@ -203,7 +203,7 @@ module _ (r : Recorded) (ready wakes ready_then wakes_then : Agenda) (touch : To
       (step_leaves r.header r.me last.moment (world_left r) step (own_host r.header r.me (world_left r) step fits.1))))))
 
 -- a segment is brought
-pub tended_brings : (r s : Recorded) (ready wakes : Agenda) (last : Tick) (f : Flying tcp_shape) → s ≡ with_entry r (entry_at r.me last (Bring f)) → IsTended r ready wakes → IsTended s ready wakes
+pub tended_brings : (r s : Recorded) (ready wakes : DeadlineQueue) (last : Tick) (f : Flying tcp_shape) → s ≡ with_entry r (entry_at r.me last (Bring f)) → IsTended r ready wakes → IsTended s ready wakes
 tended_brings r s ready wakes last f same is =
     let left : world_left (with_entry r (entry_at r.me last (Bring f))) ≡ bring (tcp r.header) (other r.me) f (world_left r) = end_more (tcp r.header) r.me (start (tcp r.header)) r.entries (entry_at r.me last (Bring f) ∷ []) in
     let stay : kept_ends (with_entry r (entry_at r.me last (Bring f))) ≡ kept_ends r = ap (λ (w : World tcp_shape). map forget_endpoint (ends r.me w)) left ∙ ap (map forget_endpoint) (bring_leaves r.header r.me f (world_left r)) in
@@ -311,7 +311,7 @@ no_probe h e lacks moment expireds.Persist kind may = by lacks (needs (is_some e
 
 -- 6. the first entry leaves
 
-pub left_quiet : (me : Host) (w : World tcp_shape) (b : Body) (looked now : ℕ) (ks ls : List Wake) (x : Wake) → b ≡ (pick w.hosts me).body → Some x ≡ slice_get ks 0 → now ≡ looked → ls ≡ drop 1 ks → ((e : Endpoint) → slice_get b.endpoints x.place ≡ Some e → IsQuiet e)
+pub left_quiet : (me : Host) (w : World tcp_shape) (b : Body) (looked now : ℕ) (ks ls : List Deadline) (x : Deadline) → b ≡ (pick w.hosts me).body → Some x ≡ slice_get ks 0 → now ≡ looked → ls ≡ drop 1 ks → ((e : Endpoint) → slice_get b.endpoints x.place ≡ Some e → IsQuiet e)
     → (length (pick w.hosts me).body.endpoints ≤ looked) × AreQuiet looked ks (pick w.hosts me).body.endpoints → (length (pick w.hosts me).body.endpoints ≤ now) × AreQuiet now ls (pick w.hosts me).body.endpoints
 left_quiet me w b looked now ks ls x is first same rest quiet are = (
   subst (λ (n : ℕ). length (pick w.hosts me).body.endpoints ≤ n) (sym same) are.0,
@@ -321,7 +321,7 @@ left_quiet me w b looked now ks ls x is first same rest quiet are = (
 -- 7. timers of a recording
 
 -- none is to be looked at any more by then
-pub none_among : (r : Recorded) (moment looked : ℕ) (ks : List Wake) → length (kept_ends r) ≤ looked → ((w : Wake) → IsListed w ks → moment < w.moment) → AreTimed r.header looked ks (kept_ends r) → NoneDueAt r moment
+pub none_among : (r : Recorded) (moment looked : ℕ) (ks : List Deadline) → length (kept_ends r) ≤ looked → ((w : Deadline) → IsListed w ks → moment < w.moment) → AreTimed r.header looked ks (kept_ends r) → NoneDueAt r moment
 none_among r moment looked ks all later are = none_due_by r moment (λ i e at. by i e (are.each i e (low i e at) at))
   where
     low : (i : ℕ) (e : Endpoint) → slice_get (kept_ends r) i ≡ Some e → i < looked
@@ -331,20 +331,20 @@ none_among r moment looked ks all later are = none_due_by r moment (λ i e at. b
     by i e (inl (m, listed, before)) = before moment (later (from m i) listed)
     by i e (inr ever) = ever moment
 
-nobody_listed : (ks : List Wake) → None ≡ slice_get ks 0 → (w : Wake) → IsListed w ks → ⊥
+nobody_listed : (ks : List Deadline) → None ≡ slice_get ks 0 → (w : Deadline) → IsListed w ks → ⊥
 nobody_listed [] none w listed = listed
 nobody_listed (k ∷ ks) none w listed = absurd (none-some k none)
 
-pub none_listed : (r : Recorded) (moment looked : ℕ) (ks : List Wake) → length (kept_ends r) ≤ looked → None ≡ slice_get ks 0 → AreTimed r.header looked ks (kept_ends r) → NoneDueAt r moment
+pub none_listed : (r : Recorded) (moment looked : ℕ) (ks : List Deadline) → length (kept_ends r) ≤ looked → None ≡ slice_get ks 0 → AreTimed r.header looked ks (kept_ends r) → NoneDueAt r moment
 none_listed r moment looked ks all none are = none_among r moment looked ks all (λ w listed. absurd (nobody_listed ks none w listed)) are
 
 -- the first is the earliest
-pub all_later : (r : Recorded) (moment looked : ℕ) (ks : List Wake) (first : Wake) → length (kept_ends r) ≤ looked → AreFrom first.moment ks → moment < first.moment → AreTimed r.header looked ks (kept_ends r) → NoneDueAt r moment
+pub all_later : (r : Recorded) (moment looked : ℕ) (ks : List Deadline) (first : Deadline) → length (kept_ends r) ≤ looked → AreFrom first.moment ks → moment < first.moment → AreTimed r.header looked ks (kept_ends r) → NoneDueAt r moment
 all_later r moment looked ks first all lowest less are = none_among r moment looked ks all (λ w listed. let low = lowest w listed in omega arith) are
 
 -- looked at later
-pub later_timed : (h : Header) (es : List Endpoint) (looked now : ℕ) (ks ls : List Wake) (w : Wake) (m : ℕ) → slice_get ks 0 ≡ Some w → IsRenewed (from m w.place) looked ks now ls → ((e : Endpoint) → slice_get es w.place ≡ Some e → IsStillBefore h m e) → AreTimed h looked ks es → AreTimed h now ls es
+pub later_timed : (h : Header) (es : List Endpoint) (looked now : ℕ) (ks ls : List Deadline) (w : Deadline) (m : ℕ) → slice_get ks 0 ≡ Some w → IsRenewed (from m w.place) looked ks now ls → ((e : Endpoint) → slice_get es w.place ≡ Some e → IsStillBefore h m e) → AreTimed h looked ks es → AreTimed h now ls es
 later_timed h es looked now ks ls w m first renewed before are = renewed_covered (IsStillBefore h) (IsStill h) looked now ks ls w m es (sym first) renewed before are
 
-pub left_timed : (h : Header) (es : List Endpoint) (looked now : ℕ) (ks ls : List Wake) (w : Wake) → slice_get ks 0 ≡ Some w → now ≡ looked → ls ≡ drop 1 ks → ((e : Endpoint) → slice_get es w.place ≡ Some e → IsStill h e) → AreTimed h looked ks es → AreTimed h now ls es
+pub left_timed : (h : Header) (es : List Endpoint) (looked now : ℕ) (ks ls : List Deadline) (w : Deadline) → slice_get ks 0 ≡ Some w → now ≡ looked → ls ≡ drop 1 ks → ((e : Endpoint) → slice_get es w.place ≡ Some e → IsStill h e) → AreTimed h looked ks es → AreTimed h now ls es
 left_timed h es looked now ks ls w first same rest ever are = left_covered (IsStillBefore h) (IsStill h) looked now ks ls w es (sym first) same rest ever are

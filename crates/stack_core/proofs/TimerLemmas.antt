@@ -12,14 +12,14 @@ use Rattle.case_forms.specs.declared.trace.Header.{Header}
 use Rattle.verdict.specs.Rules.{first_broken}
 use Rattle.verdict.specs.declared.rule.Rule.TheVariants as rules
 use Rattle.verdict.proofs.RuleLemmas.{none_all, all_none}
-use Rattle.hosts.specs.Tables.{pick}
-use Rattle.hosts.specs.Hosts.{At, Expires}
-use Rattle.hosts.specs.HostRules.{Permitted}
-use Rattle.machine.specs.Bodies.{Body, endpoint_of}
-use Rattle.machine.specs.Forgetting.{forget_body, forget_endpoint}
-use Rattle.machine.specs.Machine.{Expiring, tcp}
-use Rattle.machine.specs.Timeouts.{expiry_rules, greatest_values}
-use Rattle.machine.specs.declared.endpoint.Endpoint.{Endpoint}
+use Rattle.spec_network.specs.Tables.{pick}
+use Rattle.spec_network.specs.Hosts.{At, Expires}
+use Rattle.spec_network.specs.HostRules.{Permitted}
+use Rattle.spec_tcp.specs.Bodies.{Body, endpoint_of}
+use Rattle.spec_tcp.specs.Forgetting.{forget_body, forget_endpoint}
+use Rattle.spec_tcp.specs.Machine.{Expiring, tcp}
+use Rattle.spec_tcp.specs.Timeouts.{expiry_rules, greatest_values}
+use Rattle.spec_tcp.specs.declared.endpoint.Endpoint.{Endpoint}
 use Rattle.stack_core.specs.Recordings.{Recorded, world_left}
 use Rattle.stack_core.specs.declared.tick.Tick.{Tick}
 use Rattle.stack_core.specs.Cores.{Core, Fits, opened, world}

@@ -13,29 +13,29 @@ use Rattle.case_forms.specs.declared.calls.Ports.{Ports}
 use Rattle.case_forms.specs.declared.steps.TakeChoice.{TakeChoice}
 use Rattle.case_forms.specs.declared.trace.Header.{Header}
 use Rattle.streams.specs.Lists.{modify}
-use Rattle.hosts.specs.Tables.{Both, on, other, pick, waiting, with_host}
-use Rattle.hosts.specs.Hosts.{HostState, Deed, Does, Expires, Makes, Sends, Gets, Hears, Takes, Drops, Answers, Turn, Idle, Called, Answered, World, Step, Begin, Finish, Effect, At, turn_of}
-use Rattle.hosts.specs.HostRules.{aim_of}
-use Rattle.hosts.specs.HostSteps.{after, call_after, deed_after, effect_after, start}
-use Rattle.machine.specs.declared.endpoint.Emission.{Emission}
-use Rattle.machine.specs.declared.endpoint.Endpoint.{Endpoint}
-use Rattle.machine.specs.declared.endpoint.Thing.{Thing}
-use Rattle.machine.specs.declared.endpoint.Thing.TheVariants.{Listens, Ends}
-use Rattle.machine.specs.Arrives.{Nobody, AtListener, AtEndpoint, after_taking, endpoint_taker, listener_taker, taker}
-use Rattle.machine.specs.Bodies.{Body, at_ports, dead, listener_on, place_of, queue_of, thing_of, with_endpoint}
-use Rattle.machine.specs.Calls.{after_call, change, change_thing}
-use Rattle.machine.specs.Calls.Accept.{accepted_from, after_accept}
-use Rattle.machine.specs.Calls.Close.{after_abort, after_close, after_gone, after_shut, orphaned, thing_gone}
-use Rattle.machine.specs.Calls.Receive.{after_recv}
-use Rattle.machine.specs.Calls.Send.{after_send}
-use Rattle.machine.specs.Forgetting.{forget_body}
-use Rattle.machine.specs.Machine.{aim, tcp, tcp_shape}
-use Rattle.machine.specs.Machine as acts
+use Rattle.spec_network.specs.Tables.{Both, on, other, pick, waiting, with_host}
+use Rattle.spec_network.specs.Hosts.{HostState, Deed, Does, Expires, Makes, Sends, Gets, Hears, Takes, Drops, Answers, Turn, Idle, Called, Answered, World, Step, Begin, Finish, Effect, At, turn_of}
+use Rattle.spec_network.specs.HostRules.{aim_of}
+use Rattle.spec_network.specs.HostSteps.{after, call_after, deed_after, effect_after, start}
+use Rattle.spec_tcp.specs.declared.endpoint.Emission.{Emission}
+use Rattle.spec_tcp.specs.declared.endpoint.Endpoint.{Endpoint}
+use Rattle.spec_tcp.specs.declared.endpoint.SocketTarget.{SocketTarget}
+use Rattle.spec_tcp.specs.declared.endpoint.SocketTarget.TheVariants.{ListenerAt, EndpointAt}
+use Rattle.spec_tcp.specs.Arrives.{Nobody, AtListener, AtEndpoint, after_taking, endpoint_taker, listener_taker, taker}
+use Rattle.spec_tcp.specs.Bodies.{Body, at_ports, dead, listener_on, place_of, queue_of, thing_of, with_endpoint}
+use Rattle.spec_tcp.specs.Calls.{after_call, change, change_thing}
+use Rattle.spec_tcp.specs.Calls.Accept.{accepted_from, after_accept}
+use Rattle.spec_tcp.specs.Calls.Close.{after_abort, after_close, after_gone, after_shut, orphaned, thing_gone}
+use Rattle.spec_tcp.specs.Calls.Receive.{after_recv}
+use Rattle.spec_tcp.specs.Calls.Send.{after_send}
+use Rattle.spec_tcp.specs.Forgetting.{forget_body}
+use Rattle.spec_tcp.specs.Machine.{aim, tcp, tcp_shape}
+use Rattle.spec_tcp.specs.Machine as acts
 use Rattle.endpoint_state.specs.Turns.{pending_call}
-use Rattle.recordings.specs.Books.{Flying, bring}
-use Rattle.stack_core.specs.declared.agenda.Touch.{Touch}
-use Rattle.stack_core.specs.declared.agenda.Touch.TheVariants as touches
-use Rattle.stack_core.specs.Agendas.{Leaves}
+use Rattle.spec_merge.specs.Books.{Flying, bring}
+use Rattle.stack_core.specs.declared.deadline_queue.Touch.{Touch}
+use Rattle.stack_core.specs.declared.deadline_queue.Touch.TheVariants as touches
+use Rattle.stack_core.specs.DeadlineQueues.{Leaves}
 use Rattle.stack_core.specs.ArrivalEvents.{IsHeld}
 use Rattle.stack_core.specs.Cores.{Core, own_body, world}
 use Rattle.stack_core.specs.Touches.{accept_touch, call_touch, deed_touch, gone_touch, queue_touch, thing_touch, touch_at, touched}
@@ -135,18 +135,18 @@ deed_leaves h me moment fresh far s (Answers line) = by (waiting line s.inbox)
 change_leaves : (b : Body) (n : ℕ) (f : Endpoint → Endpoint) → Leaves (option_map_or thing_touch (thing_of b n) touches.Nobody) b.endpoints (change b n f).endpoints
 change_leaves b n f = by (thing_of b n)
   where
-    by : (o : Option Thing) → Leaves (option_map_or thing_touch o touches.Nobody) b.endpoints (option_map_or (change_thing b f) o b).endpoints
+    by : (o : Option SocketTarget) → Leaves (option_map_or thing_touch o touches.Nobody) b.endpoints (option_map_or (change_thing b f) o b).endpoints
     by None = leaves_same touches.Nobody b.endpoints
-    by (Some (Listens l)) = leaves_same touches.Nobody b.endpoints
-    by (Some (Ends i)) = leaves_modify b.endpoints i f
+    by (Some (ListenerAt l)) = leaves_same touches.Nobody b.endpoints
+    by (Some (EndpointAt i)) = leaves_modify b.endpoints i f
 
 gone_leaves : (b : Body) (n : ℕ) (f : Endpoint → Endpoint) → Leaves (option_map_or gone_touch (thing_of b n) touches.Nobody) b.endpoints (after_gone b n f).endpoints
 gone_leaves b n f = by (thing_of b n)
   where
-    by : (o : Option Thing) → Leaves (option_map_or gone_touch o touches.Nobody) b.endpoints (option_map_or (λ thing. record (thing_gone b thing f) { sockets = dead b.sockets n }) o b).endpoints
+    by : (o : Option SocketTarget) → Leaves (option_map_or gone_touch o touches.Nobody) b.endpoints (option_map_or (λ thing. record (thing_gone b thing f) { sockets = dead b.sockets n }) o b).endpoints
     by None = leaves_same touches.Nobody b.endpoints
-    by (Some (Listens l)) = leaves_map b.endpoints (orphaned l)
-    by (Some (Ends i)) = leaves_modify b.endpoints i f
+    by (Some (ListenerAt l)) = leaves_map b.endpoints (orphaned l)
+    by (Some (EndpointAt i)) = leaves_modify b.endpoints i f
 
 accept_leaves : (b : Body) (h n : ℕ) → Leaves (option_map_or (accept_touch b) (thing_of b h) touches.Nobody) b.endpoints (option_map_or (after_accept b n) (thing_of b h) b).endpoints
 accept_leaves b h n = by (thing_of b h)
@@ -155,10 +155,10 @@ accept_leaves b h n = by (thing_of b h)
     queued l [] = leaves_same touches.Nobody b.endpoints
     queued l (child ∷ queue) = leaves_modify b.endpoints child _
 
-    by : (o : Option Thing) → Leaves (option_map_or (accept_touch b) o touches.Nobody) b.endpoints (option_map_or (after_accept b n) o b).endpoints
+    by : (o : Option SocketTarget) → Leaves (option_map_or (accept_touch b) o touches.Nobody) b.endpoints (option_map_or (after_accept b n) o b).endpoints
     by None = leaves_same touches.Nobody b.endpoints
-    by (Some (Listens l)) = queued l (queue_of b l)
-    by (Some (Ends i)) = leaves_same touches.Nobody b.endpoints
+    by (Some (ListenerAt l)) = queued l (queue_of b l)
+    by (Some (EndpointAt i)) = leaves_same touches.Nobody b.endpoints
 
 call_leaves : (b : Body) (call : Call) (answer : Answer) → Leaves (call_touch b call) b.endpoints (after_call b call answer).endpoints
 call_leaves b (calls.Listen host port backlog) (answers.Given n) = leaves_same touches.Nobody b.endpoints
@@ -224,10 +224,10 @@ call_touch-forget b (calls.Abort n) = refl
 call_touch-forget b (calls.Status n) = refl
 call_touch-forget b (calls.Accept n) = by (thing_of b n)
   where
-    by : (o : Option Thing) → option_map_or (accept_touch (forget_body b)) o touches.Nobody ≡ option_map_or (accept_touch b) o touches.Nobody
+    by : (o : Option SocketTarget) → option_map_or (accept_touch (forget_body b)) o touches.Nobody ≡ option_map_or (accept_touch b) o touches.Nobody
     by None = refl
-    by (Some (Listens l)) = refl
-    by (Some (Ends i)) = refl
+    by (Some (ListenerAt l)) = refl
+    by (Some (EndpointAt i)) = refl
 
 pub touch-forget : (b : Body) (o : Option Call) → option_map_or (call_touch (forget_body b)) o touches.Nobody ≡ option_map_or (call_touch b) o touches.Nobody
 touch-forget b None = refl

@@ -6,13 +6,13 @@ use Rattle.std.proofs.lemmas.Option.{none-some, slice_get-map}
 use Rattle.case_forms.specs.declared.calls.Call.{Call}
 use Rattle.case_forms.specs.declared.calls.Call.TheVariants as calls
 use Rattle.case_forms.specs.declared.calls.Answer.TheVariants as answers
-use Rattle.machine.specs.Bodies.{Body, thing_of}
-use Rattle.machine.specs.declared.endpoint.Endpoint.{Endpoint}
-use Rattle.machine.specs.declared.endpoint.Thing.{Thing}
-use Rattle.machine.specs.declared.endpoint.Thing.TheVariants.{Listens, Ends}
-use Rattle.machine.specs.Forgetting.{forget_body, forget_endpoint}
-use Rattle.machine_laws.proofs.ForgetCalls.{call_allows-forget}
-use Rattle.machine_laws.proofs.ForgetReads.{end_of-forget}
+use Rattle.spec_tcp.specs.Bodies.{Body, thing_of}
+use Rattle.spec_tcp.specs.declared.endpoint.Endpoint.{Endpoint}
+use Rattle.spec_tcp.specs.declared.endpoint.SocketTarget.{SocketTarget}
+use Rattle.spec_tcp.specs.declared.endpoint.SocketTarget.TheVariants.{ListenerAt, EndpointAt}
+use Rattle.spec_tcp.specs.Forgetting.{forget_body, forget_endpoint}
+use Rattle.spec_tcp_laws.proofs.ForgetCalls.{call_allows-forget}
+use Rattle.spec_tcp_laws.proofs.ForgetReads.{end_of-forget}
 use Rattle.stack_core.specs.Answers.{SendWaits, Waits, endpoint_named, thing_endpoint}
 use Rattle.stack_core.specs.CallEvents.{KeptNoAnswer, NoAnswer}
 use Rattle.stack_core.specs.Cores.{Core, own_body}
@@ -20,17 +20,17 @@ use Rattle.stack_core.specs.Cores.{Core, own_body}
 named_forget : (b : Body) (n : ℕ) (e : Endpoint) → endpoint_named b n ≡ Some e → endpoint_named (forget_body b) n ≡ Some (forget_endpoint e)
 named_forget b n e = by (thing_of b n)
   where
-    at : (t : Thing) → thing_endpoint b t ≡ Some e → thing_endpoint (forget_body b) t ≡ Some (forget_endpoint e)
-    at (Listens l) is = absurd (none-some e is)
-    at (Ends i) is = slice_get-map forget_endpoint b.endpoints i ∙ ap (option_map forget_endpoint) is
+    at : (t : SocketTarget) → thing_endpoint b t ≡ Some e → thing_endpoint (forget_body b) t ≡ Some (forget_endpoint e)
+    at (ListenerAt l) is = absurd (none-some e is)
+    at (EndpointAt i) is = slice_get-map forget_endpoint b.endpoints i ∙ ap (option_map forget_endpoint) is
 
-    by : (o : Option Thing) → option_map_or (thing_endpoint b) o None ≡ Some e → option_map_or (thing_endpoint (forget_body b)) o None ≡ Some (forget_endpoint e)
+    by : (o : Option SocketTarget) → option_map_or (thing_endpoint b) o None ≡ Some e → option_map_or (thing_endpoint (forget_body b)) o None ≡ Some (forget_endpoint e)
     by None is = absurd (none-some e is)
     by (Some t) is = at t is
 
 send_waits : (ring : ℕ) (e : Endpoint) → SendWaits ring (forget_endpoint e) → SendWaits ring e
 send_waits ring e (inl early) = inl early
-send_waits ring e (inr full) = inr (subst (λ (n : ℕ). ring ≤ n - max e.stream.una 1) (end_of-forget e) full)
+send_waits ring e (inr full) = inr (subst (λ (n : ℕ). ring ≤ n - max e.stream.snd_una 1) (end_of-forget e) full)
 
 waits_whole : (ring : ℕ) (b : Body) (call : Call) → Waits ring (forget_body b) call → Waits ring b call
 waits_whole ring b (calls.Send n bytes) waits = (sym (call_allows-forget b (calls.Send n bytes) answers.Again) ∙ waits.0, λ e is. send_waits ring e (waits.1 (forget_endpoint e) (named_forget b n e is)))

@@ -8,11 +8,11 @@ use Rattle.case_forms.specs.declared.calls.Call.TheVariants as calls
 use Rattle.case_forms.specs.declared.calls.State.{State}
 use Rattle.case_forms.specs.declared.calls.State.TheVariants as states
 use Rattle.streams.specs.Sent.{end_of}
-use Rattle.machine.specs.Bodies.{Body, thing_of}
-use Rattle.machine.specs.Calls.{call_allows}
-use Rattle.machine.specs.declared.endpoint.Endpoint.{Endpoint}
-use Rattle.machine.specs.declared.endpoint.Thing.{Thing}
-use Rattle.machine.specs.declared.endpoint.Thing.TheVariants.{Listens, Ends}
+use Rattle.spec_tcp.specs.Bodies.{Body, thing_of}
+use Rattle.spec_tcp.specs.Calls.{call_allows}
+use Rattle.spec_tcp.specs.declared.endpoint.Endpoint.{Endpoint}
+use Rattle.spec_tcp.specs.declared.endpoint.SocketTarget.{SocketTarget}
+use Rattle.spec_tcp.specs.declared.endpoint.SocketTarget.TheVariants.{ListenerAt, EndpointAt}
 
 -- the answer says that the call has to be made again
 abbrev pub is_again : Answer → Bool
@@ -33,7 +33,7 @@ is_before_handshake state = false
 
 -- how many bytes that were accepted are not acknowledged
 abbrev pub unacknowledged : Endpoint → ℕ
-unacknowledged e = end_of e.stream.accepted - max e.stream.una 1
+unacknowledged e = end_of e.stream.accepted - max e.stream.snd_una 1
 
 -- a send waits: before the handshake is done, or while the ring is full
 abbrev pub SendWaits : ℕ → Endpoint → Type 0
@@ -44,9 +44,9 @@ IfSendWaits ring e (calls.Send n bytes) = SendWaits ring e
 IfSendWaits ring e call = Unit {0}
 
 -- the endpoint that a live socket number names
-abbrev pub thing_endpoint : Body → Thing → Option Endpoint
-thing_endpoint b (Listens l) = None
-thing_endpoint b (Ends i) = slice_get b.endpoints i
+abbrev pub thing_endpoint : Body → SocketTarget → Option Endpoint
+thing_endpoint b (ListenerAt l) = None
+thing_endpoint b (EndpointAt i) = slice_get b.endpoints i
 
 abbrev pub endpoint_named : Body → ℕ → Option Endpoint
 endpoint_named b n = option_map_or (thing_endpoint b) (thing_of b n) None
@@ -65,4 +65,4 @@ Waits ring b call = (call_allows b call answers.Again ≡ true) × IfSendingWait
 
 -- each live socket number of an endpoint has its endpoint
 abbrev pub IsNamed : Body → Type 0
-IsNamed b = (n i : ℕ) → thing_of b n ≡ Some (Ends i) → IsSomeAnd (slice_get b.endpoints i) (λ e. Unit {0})
+IsNamed b = (n i : ℕ) → thing_of b n ≡ Some (EndpointAt i) → IsSomeAnd (slice_get b.endpoints i) (λ e. Unit {0})

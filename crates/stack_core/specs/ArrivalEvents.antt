@@ -4,11 +4,11 @@ use Rattle.case_forms.specs.declared.calls.Ports.{Ports}
 use Rattle.case_forms.specs.declared.steps.TakeChoice.{TakeChoice}
 use Rattle.case_forms.specs.declared.timer.Recovery.{Recovery}
 use Rattle.case_forms.specs.declared.trace.Wire.{Wire}
-use Rattle.hosts.specs.Tables.{pick, waiting}
-use Rattle.hosts.specs.Hosts.{Answers, At, Does, Drops, Gets, Takes}
-use Rattle.machine.specs.declared.endpoint.Emission.{Emission}
-use Rattle.machine.specs.Machine.{tcp_shape}
-use Rattle.recordings.specs.Books.{Bring, Flying}
+use Rattle.spec_network.specs.Tables.{pick, waiting}
+use Rattle.spec_network.specs.Hosts.{Answers, At, Does, Drops, Gets, Takes}
+use Rattle.spec_tcp.specs.declared.endpoint.Emission.{Emission}
+use Rattle.spec_tcp.specs.Machine.{tcp_shape}
+use Rattle.spec_merge.specs.Books.{Bring, Flying}
 use Rattle.stack_core.specs.declared.tick.Tick.{Tick}
 use Rattle.stack_core.specs.Cores.{Core, MayDo, line_to_come, opened, with_item, with_step, world}
 
@@ -72,7 +72,8 @@ IsRecovered c ports d =
     ((x : Recovery) × (x.lport ≡ ports.lport) × (x.rport ≡ ports.rport) ×
     (d ≡ with_step c (At c.recorded.me (Does x)))) ⊎ ((d ≡ c) × (MayRecover c ports → ⊥))
 
--- what waits was taken with its bytes, and fast recovery began where it may; else it was answered by a reset; else it was dropped
+-- what waits was taken with its bytes, and fast recovery began where it may; else it was answered by a reset; else it
+-- was dropped
 pub data IsSettled (c : Core) (n : ℕ) (ports : Ports) (d : Core) : Type 0 where
   Taken : (choice : TakeChoice) (keep : choice.keep ≡ true) (may : MayTake c n)
       (recovered : IsRecovered (with_step c (At c.recorded.me (Takes n choice))) ports d) → IsSettled c n ports d
@@ -100,7 +101,8 @@ IsNotLetIn c tick f = (f.key.host ≡ c.recorded.me) ⊎ (nat_lt (f.emission.mom
 abbrev pub IsYoung : Core → Tick → Flying tcp_shape → Type 0
 IsYoung c tick f = nat_lt (f.emission.moment + c.recorded.header.msl) tick.moment ≡ false
 
--- what memory may leave of it: the tick has passed, it was brought, came in, or was taken with its bytes too, where fast recovery was to begin
+-- what memory may leave of it: the tick has passed, it was brought, came in, or was taken with its bytes too, where
+-- fast recovery was to begin
 pub data IsArrivedShort (c : Core) (tick : Tick) (f : Flying tcp_shape) (d : Core) : Type 0 where
   Ticked : (row : d ≡ opened c tick) → IsArrivedShort c tick f d
   Brought : (row : d ≡ brought c tick f) → IsArrivedShort c tick f d

@@ -2,10 +2,10 @@
 use Rattle.std.specs.Prelude.{◌≡◌, ◌⊎◌, ℕ, false}
 use Rattle.case_forms.specs.declared.calls.Answer.{Answer}
 use Rattle.case_forms.specs.declared.calls.Call.{Call}
-use Rattle.hosts.specs.Hosts.{Begin, Called, Effect, Finish, turn_of}
-use Rattle.hosts.specs.HostRules.{Permitted}
-use Rattle.machine.specs.Forgetting.{forget_body}
-use Rattle.machine.specs.Machine.{tcp}
+use Rattle.spec_network.specs.Hosts.{Begin, Called, Effect, Finish, turn_of}
+use Rattle.spec_network.specs.HostRules.{Permitted}
+use Rattle.spec_tcp.specs.Forgetting.{forget_body}
+use Rattle.spec_tcp.specs.Machine.{tcp}
 use Rattle.stack_core.specs.declared.answered.Answered.{Answered}
 use Rattle.stack_core.specs.declared.tick.Tick.{Tick}
 use Rattle.stack_core.specs.Answers.{Waits, is_again}

@@ -6,11 +6,11 @@ use Rattle.case_forms.specs.declared.calls.Call.{Call}
 use Rattle.case_forms.specs.declared.calls.Host.{Host}
 use Rattle.case_forms.specs.declared.calls.Host.TheVariants.{Zero, One}
 use Rattle.case_forms.specs.declared.trace.Header.{Header}
-use Rattle.hosts.specs.Hosts.{Idle, turn_of}
-use Rattle.hosts.specs.Tables.{Both, lane, other, pick, with_host}
-use Rattle.machine.specs.Machine.{aim, tcp_shape}
-use Rattle.recordings.specs.Books.{Aims, Flying}
-use Rattle.recordings.specs.Recordings.{TcpEntry}
+use Rattle.spec_network.specs.Hosts.{Idle, turn_of}
+use Rattle.spec_network.specs.Tables.{Both, lane, other, pick, with_host}
+use Rattle.spec_tcp.specs.Machine.{aim, tcp_shape}
+use Rattle.spec_merge.specs.Books.{Aims, Flying}
+use Rattle.spec_merge.specs.Recordings.{TcpEntry}
 use Rattle.stack_core.specs.declared.answered.Answered.{Answered}
 use Rattle.stack_core.specs.declared.tick.Tick.{Tick}
 use Rattle.stack_core.specs.ArrivalEvents.{IsArrival, IsArrivedShort}

@@ -7,15 +7,15 @@ use Rattle.case_forms.specs.declared.calls.Answer.{Answer}
 use Rattle.case_forms.specs.declared.calls.Call.{Call}
 use Rattle.case_forms.specs.declared.calls.Call.TheVariants as calls
 use Rattle.case_forms.specs.declared.trace.Header.{Header}
-use Rattle.hosts.specs.HostRules.{Permitted}
-use Rattle.hosts.specs.Tables.{lane, other, pick}
-use Rattle.hosts.specs.Hosts.{Deed, Does, Drops, Expires, Gets, Hears, Makes, Sends, Takes, Answers, At, Begin, Called, Effect}
-use Rattle.hosts.specs.Hosts.{Finish, Idle, Answered, Step, Turn, World, turn_of}
-use Rattle.recordings.specs.Books.{Aims, Do, FitsItem, Item, Key, step_line}
-use Rattle.recordings.specs.Keys.{EachEntry, If}
-use Rattle.recordings.specs.Recordings.{IsKept, next_line}
-use Rattle.machine.specs.Bodies.{Body, given}
-use Rattle.machine.specs.Machine.{aim, gives, tcp, tcp_shape}
+use Rattle.spec_network.specs.HostRules.{Permitted}
+use Rattle.spec_network.specs.Tables.{lane, other, pick}
+use Rattle.spec_network.specs.Hosts.{Deed, Does, Drops, Expires, Gets, Hears, Makes, Sends, Takes, Answers, At, Begin, Called, Effect}
+use Rattle.spec_network.specs.Hosts.{Finish, Idle, Answered, Step, Turn, World, turn_of}
+use Rattle.spec_merge.specs.Books.{Aims, Do, FitsItem, Item, Key, step_line}
+use Rattle.spec_merge.specs.Keys.{EachEntry, If}
+use Rattle.spec_merge.specs.Recordings.{IsKept, next_line}
+use Rattle.spec_tcp.specs.Bodies.{Body, given}
+use Rattle.spec_tcp.specs.Machine.{aim, gives, tcp, tcp_shape}
 use Rattle.stack_core.specs.declared.tick.Tick.{Tick}
 use Rattle.stack_core.specs.Entries.{entry_at, steps_in}
 use Rattle.stack_core.specs.Recordings.{Recorded, with_entry, world_left}
@@ -41,7 +41,8 @@ own_body c = (pick (world c).hosts c.recorded.me).body
 abbrev pub line_to_come : Core → ℕ
 line_to_come c = next_line c.recorded.header (first_event_line c.recorded.header) c.recorded.entries
 
--- what it recorded is a run of its host alone, under keys that don't fall: so it may be merged with what the other host recorded
+-- what it recorded is a run of its host alone, under keys that don't fall: so it may be merged with what the other host
+-- recorded
 abbrev pub IsRecorded : Core → Type 0
 IsRecorded c = IsKept c.recorded.header c.recorded.me (first_event_line c.recorded.header) c.recorded.entries
 
@@ -122,14 +123,16 @@ GivesNext me b Idle answer = Unit {0}
 GivesNext me b (Called call) answer = (n : ℕ) → gives call answer ≡ Some n → n ≡ next_socket me b
 GivesNext me b (Answered given) answer = Unit {0}
 
--- what a core asks of a step beside that it fits: the call that begins is within limits, a number that is given is the next
+-- what a core asks of a step beside that it fits: the call that begins is within limits, a number that is given is the
+-- next
 abbrev pub IsOrderly : Host → World tcp_shape → Step tcp_shape → Type 0
 IsOrderly me w (Begin line t call) = IsCallWithin call
 IsOrderly me w (Finish line t answer) = Unit {0}
 IsOrderly me w (Effect t answer) = GivesNext me (pick w.hosts me).body (turn_of t w.threads) answer
 IsOrderly me w (At host deed) = Unit {0}
 
--- the host gave socket numbers of its own below the next one, the other host none; and calls that are open are its own, within limits
+-- the host gave socket numbers of its own below the next one, the other host none; and calls that are open are its own,
+-- within limits
 pub record IsOwn (me : Host) (w : World tcp_shape) : Type 0 where
   pub own : (n : ℕ) → given (pick w.hosts me).body n ≡ true → lane n ≡ me
   pub below : (n : ℕ) → given (pick w.hosts me).body n ≡ true → n < next_socket me (pick w.hosts me).body

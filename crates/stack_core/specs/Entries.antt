@@ -1,10 +1,10 @@
 -- The entries of a recording, as code has them, in the words of two hosts' books.
 use Rattle.std.specs.Prelude.{ℕ, suc, List, [], ◌∷◌}
 use Rattle.case_forms.specs.declared.calls.Host.{Host}
-use Rattle.recordings.specs.Books as books
-use Rattle.recordings.specs.Recordings.{TcpEntry}
-use Rattle.machine.specs.Machine.{tcp_shape}
-use Rattle.machine.specs.Steps.{step_of}
+use Rattle.spec_merge.specs.Books as books
+use Rattle.spec_merge.specs.Recordings.{TcpEntry}
+use Rattle.spec_tcp.specs.Machine.{tcp_shape}
+use Rattle.spec_tcp.specs.Steps.{step_of}
 use Rattle.stack_core.specs.declared.tick.Tick.{Tick}
 use Rattle.stack_core.specs.declared.item.Item.{Item}
 use Rattle.stack_core.specs.declared.item.Item.TheVariants.{Does, Brings}

@@ -2,8 +2,8 @@
 use Rattle.std.specs.Prelude.{◌≡◌}
 use Rattle.case_forms.specs.declared.trace.Wire.{Wire}
 use Rattle.segment.specs.Layout.{IsSegment}
-use Rattle.machine.specs.Bounds.{IsSmallEmission}
-use Rattle.machine.specs.declared.endpoint.Emission.{Emission}
+use Rattle.spec_tcp.specs.Bounds.{IsSmallEmission}
+use Rattle.spec_tcp.specs.declared.endpoint.Emission.{Emission}
 
 -- what flies is small, and has the bytes of a segment
 pub record IsFlying (m : Emission) (wire : Wire) : Type 0 where

@@ -2,11 +2,11 @@
 use Rattle.std.specs.Prelude.{◌≡◌, ◌≤◌, ◌<◌, nat_eq, Some}
 use Rattle.std.specs.Map.{lookup}
 use Rattle.case_forms.specs.Traces.{first_event_line}
-use Rattle.hosts.specs.Tables.{pick}
-use Rattle.machine.specs.Machine.{tcp, tcp_shape}
-use Rattle.recordings.specs.Books.{Flying, item_line}
-use Rattle.recordings.specs.Keys.{EachEntry}
-use Rattle.recordings.specs.Recordings.{next_line}
+use Rattle.spec_network.specs.Tables.{pick}
+use Rattle.spec_tcp.specs.Machine.{tcp, tcp_shape}
+use Rattle.spec_merge.specs.Books.{Flying, item_line}
+use Rattle.spec_merge.specs.Keys.{EachEntry}
+use Rattle.spec_merge.specs.Recordings.{next_line}
 use Rattle.stack_core.specs.declared.tick.Tick.{Tick}
 use Rattle.stack_core.specs.Recordings.{Recorded, world_left}
 

@@ -1,6 +1,6 @@
 -- Keys, as code has them.
 use Rattle.case_forms.specs.declared.calls.Host.{Host}
-use Rattle.recordings.specs.Books as books
+use Rattle.spec_merge.specs.Books as books
 use Rattle.stack_core.specs.declared.tick.Key.{Key}
 use Rattle.stack_core.specs.declared.tick.Tick.{Tick}
 

@@ -12,7 +12,7 @@ pub mod CallEvents
 pub mod PumpEvents
 pub mod TimerEvents
 pub mod ArrivalEvents
-pub mod Agendas
+pub mod DeadlineQueues
 pub mod Touches
 pub mod Tended
 pub mod CoreWorlds

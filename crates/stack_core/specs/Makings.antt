@@ -3,27 +3,27 @@ use Rattle.std.specs.Prelude.{◌≡◌, ◌+◌, ◌<◌, ◌≤◌, ℕ, nat_l
 use Rattle.case_forms.specs.declared.calls.Host.{Host}
 use Rattle.case_forms.specs.declared.steps.SegmentPlan.{SegmentPlan}
 use Rattle.case_forms.specs.declared.trace.Header.{Header}
-use Rattle.hosts.specs.Tables.{pick}
-use Rattle.hosts.specs.Hosts.{At, Makes, World}
-use Rattle.hosts.specs.HostRules.{Permitted}
-use Rattle.machine.specs.Bodies.{endpoint_of}
-use Rattle.machine.specs.Bounds.{greatest_position}
-use Rattle.machine.specs.declared.endpoint.Endpoint.{Endpoint}
-use Rattle.machine.specs.Endpoints.{max_made, next}
-use Rattle.machine.specs.Machine.{tcp, tcp_shape}
-use Rattle.machine.specs.Makes.Payload.{making_length}
-use Rattle.stack_core.specs.declared.plans.Opening.{Opening}
+use Rattle.spec_network.specs.Tables.{pick}
+use Rattle.spec_network.specs.Hosts.{At, Makes, World}
+use Rattle.spec_network.specs.HostRules.{Permitted}
+use Rattle.spec_tcp.specs.Bodies.{endpoint_of}
+use Rattle.spec_tcp.specs.Bounds.{greatest_position}
+use Rattle.spec_tcp.specs.declared.endpoint.Endpoint.{Endpoint}
+use Rattle.spec_tcp.specs.Endpoints.{snd_max, rcv_nxt}
+use Rattle.spec_tcp.specs.Machine.{tcp, tcp_shape}
+use Rattle.spec_tcp.specs.Makes.Payload.{making_length}
+use Rattle.stack_core.specs.declared.plans.SynOptions.{SynOptions}
 use Rattle.stack_core.specs.Outgoing.{greatest_payload}
 use Rattle.stack_core.specs.Told.{TellsWell}
 
 -- the SYN, with an acknowledgment once the peer's SYN is taken
-abbrev pub syn_of : Endpoint → Opening → ℕ → SegmentPlan
+abbrev pub syn_of : Endpoint → SynOptions → ℕ → SegmentPlan
 syn_of e opening window = record {
   lport = e.lport;
   rport = e.rport;
   pos = 0;
   len = 0;
-  flags = record { ack = nat_le 1 (next e); rst = false; syn = true; fin = false };
+  flags = record { ack = nat_le 1 (rcv_nxt e); rst = false; syn = true; fin = false };
   window = window;
   iss = if is_some e.iss then None else Some opening.iss;
   shift = if is_some e.iss then None else opening.shift;
@@ -35,10 +35,10 @@ bytes_of e len window =
     record {
       lport = e.lport;
       rport = e.rport;
-      pos = max_made e;
+      pos = snd_max e;
       len = len;
       flags =
-          record { ack = nat_le 1 (next e); rst = false; syn = false; fin = false };
+          record { ack = nat_le 1 (rcv_nxt e); rst = false; syn = false; fin = false };
       window = window;
       iss = None;
       shift = None;
@@ -50,10 +50,10 @@ fin_of e window =
     record {
       lport = e.lport;
       rport = e.rport;
-      pos = max_made e;
+      pos = snd_max e;
       len = 0;
       flags =
-          record { ack = nat_le 1 (next e); rst = false; syn = false; fin = true };
+          record { ack = nat_le 1 (rcv_nxt e); rst = false; syn = false; fin = true };
       window = window;
       iss = None;
       shift = None;
@@ -67,12 +67,12 @@ abbrev pub Refuses : Header → Host → World tcp_shape → SegmentPlan → Typ
 Refuses h me w plan = Permitted (tcp h) 0 w (At me (Makes plan)) → ⊥
 
 -- its SYN may not be made; it takes a new position where nothing was made before
-abbrev pub IsSynRefused : Header → Host → World tcp_shape → Endpoint → Opening → ℕ → Type 0
-IsSynRefused h me w e opening window = max_made e ≤ 0 → Refuses h me w (syn_of e opening window)
+abbrev pub IsSynRefused : Header → Host → World tcp_shape → Endpoint → SynOptions → ℕ → Type 0
+IsSynRefused h me w e opening window = snd_max e ≤ 0 → Refuses h me w (syn_of e opening window)
 
 -- none of the three may be made for this endpoint, with some windows
 pub record IsTried (h : Header) (me : Host) (w : World tcp_shape) (e : Endpoint) : Type 0 where
-  pub opening : Opening
+  pub opening : SynOptions
   pub at_syn : ℕ
   pub window : ℕ
   pub syn : IsSynRefused h me w e opening at_syn
@@ -83,4 +83,4 @@ pub record IsTried (h : Header) (me : Host) (w : World tcp_shape) (e : Endpoint)
 abbrev pub NothingToMake : Header → Host → World tcp_shape → Type 0
 NothingToMake h me w =
     (m : SegmentPlan) (e : Endpoint) → m.flags.rst ≡ false → endpoint_of (pick w.hosts me).body m.lport m.rport ≡ Some e →
-    max_made e < m.pos + making_length m → Refuses h me w m
+    snd_max e < m.pos + making_length m → Refuses h me w m

@@ -4,12 +4,12 @@ use Rattle.std.specs.Map.{lookup}
 use Rattle.case_forms.specs.declared.steps.Flags.{Flags}
 use Rattle.case_forms.specs.declared.trace.Wire.{Wire}
 use Rattle.segment.specs.declared.fields.Segment.{Segment}
-use Rattle.hosts.specs.Tables.{pick, unsent}
-use Rattle.hosts.specs.Hosts.{At, Sends}
-use Rattle.machine.specs.declared.endpoint.Emission.{Emission}
-use Rattle.machine.specs.Machine.{tcp_shape}
-use Rattle.machine.specs.Wire.{is_shown, sent}
-use Rattle.recordings.specs.Books.{Flying}
+use Rattle.spec_network.specs.Tables.{pick, unsent}
+use Rattle.spec_network.specs.Hosts.{At, Sends}
+use Rattle.spec_tcp.specs.declared.endpoint.Emission.{Emission}
+use Rattle.spec_tcp.specs.Machine.{tcp_shape}
+use Rattle.spec_tcp.specs.Wire.{matches_sent, sent}
+use Rattle.spec_merge.specs.Books.{Flying}
 use Rattle.stack_core.specs.Cores.{Core, line_to_come, with_step, world}
 use Rattle.stack_core.specs.Keys.{key_of}
 
@@ -17,7 +17,7 @@ use Rattle.stack_core.specs.Keys.{key_of}
 abbrev pub flag_bits : Flags → ℕ
 flag_bits f = (if f.ack then 16 else 0) + (if f.rst then 4 else 0) + (if f.syn then 2 else 0) + (if f.fin then 1 else 0)
 
--- a SYN tells the shift that its maker gave (RFC 7323, 2.2)
+-- a SYN tells the shift that its sender gave (RFC 7323, 2.2)
 abbrev pub told_shift : Emission → Option ℕ
 told_shift m = if m.flags.syn then m.shift else None
 
@@ -52,10 +52,11 @@ pub record WaitsToGo (c : Core) (number : ℕ) : Type 0 where
 pub record MayGo (c : Core) (number : ℕ) (wire : Wire) (f : Flying tcp_shape) : Type 0 where
   pub emission : Emission
   pub found : lookup (nat_eq number) (pick (world c).hosts c.recorded.me).made ≡ Some (unsent emission)
-  pub shown : is_shown c.recorded.header wire emission ≡ true
+  pub shown : matches_sent c.recorded.header wire emission ≡ true
   pub flying : f ≡ record { key = key_of c.recorded.me c.last; line = line_to_come c; emission = sent c.last.moment wire emission }
 
--- the segment that was made under this number went out: its line; this flies, and stands on its host's wire under that line
+-- the segment that was made under this number went out: its line; this flies, and stands on its host's wire under that
+-- line
 pub record GoesOut (c : Core) (number : ℕ) (f : Flying tcp_shape) (d : Core) : Type 0 where
   pub wire : Wire
   pub row : d ≡ with_step c (At c.recorded.me (Sends (line_to_come c) number wire))

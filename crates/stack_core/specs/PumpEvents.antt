@@ -1,9 +1,9 @@
 -- What an event adds that makes a segment and lets it out.
 use Rattle.std.specs.Prelude.{◌≡◌, ◌⊎◌, ℕ}
 use Rattle.case_forms.specs.declared.steps.SegmentPlan.{SegmentPlan}
-use Rattle.hosts.specs.Hosts.{At, Makes}
-use Rattle.machine.specs.Machine.{tcp_shape}
-use Rattle.recordings.specs.Books.{Flying}
+use Rattle.spec_network.specs.Hosts.{At, Makes}
+use Rattle.spec_tcp.specs.Machine.{tcp_shape}
+use Rattle.spec_merge.specs.Books.{Flying}
 use Rattle.stack_core.specs.declared.tick.Tick.{Tick}
 use Rattle.stack_core.specs.Cores.{Core, opened, with_step, world}
 use Rattle.stack_core.specs.Makings.{NothingToMake}
@@ -14,7 +14,8 @@ use Rattle.stack_core.specs.Resets.{IsResetToGo, NoResetWaits}
 abbrev pub made : Core → Tick → SegmentPlan → Core
 made c tick plan = with_step (opened c tick) (At c.recorded.me (Makes plan))
 
--- an event let a segment out, which flies: a reset that waited, or, where none did, one that it made, with the number of the last one made
+-- an event let a segment out, which flies: a reset that waited, or, where none did, one that it made, with the number
+-- of the last one made
 pub data IsPumped (c : Core) (tick : Tick) (f : Flying tcp_shape) (d : Core) : Type 0 where
   Answered : (number : ℕ) (waited : IsResetToGo c.recorded number) (out : GoesOut (opened c tick) number f d) → IsPumped c tick f d
   Made : (free : NoResetWaits c.recorded) (plan : SegmentPlan) (out : GoesOut (made c tick plan) (world (made c tick plan)).count f d) → IsPumped c tick f d

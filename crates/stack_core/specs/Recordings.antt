@@ -3,11 +3,11 @@ use Rattle.std.specs.Prelude.{◌≡◌, List, [], ◌∷◌, ◌++◌}
 use Rattle.case_forms.specs.Traces.{first_event_line}
 use Rattle.case_forms.specs.declared.calls.Host.{Host}
 use Rattle.case_forms.specs.declared.trace.Header.{Header}
-use Rattle.hosts.specs.Hosts.{World}
-use Rattle.machine.specs.Forgetting.{forget}
-use Rattle.machine.specs.Machine.{tcp_shape}
+use Rattle.spec_network.specs.Hosts.{World}
+use Rattle.spec_tcp.specs.Forgetting.{forget}
+use Rattle.spec_tcp.specs.Machine.{tcp_shape}
 use Rattle.endpoint_state.specs.Worlds.{Progress}
-use Rattle.recordings.specs.Recordings.{TcpEntry, IsKept, MayJoin, world_of}
+use Rattle.spec_merge.specs.Recordings.{TcpEntry, IsKept, MayJoin, world_of}
 use Rattle.stack_core.specs.Entries.{steps_in}
 
 pub record Recorded : Type 0 where
@@ -26,7 +26,8 @@ with_entry r x = record r { entries = r.entries ++ x ∷ [] }
 abbrev pub Joins : Recorded → TcpEntry → Type 0
 Joins r x = MayJoin r.header r.me (first_event_line r.header) r.entries (x ∷ [])
 
--- the entries are a run of the host; the world is the one to which they lead, of which all is discarded that may be; and its steps are theirs
+-- the entries are a run of the host; the world is the one to which they lead, of which all is discarded that may be;
+-- and its steps are theirs
 pub record IsRecording (me : Host) (p : Progress) (entries : List TcpEntry) : Type 0 where
   pub kept : IsKept p.header me (first_event_line p.header) entries
   pub world : p.world ≡ forget (world_of p.header me entries)

@@ -1,10 +1,10 @@
 -- Resets that answer segments of the other host, and wait to go out.
 use Rattle.std.specs.Prelude.{◌≡◌, ◌⊎◌, ℕ, nat_eq, true, List, [], ◌∷◌, ◌++◌, length, Some}
 use Rattle.std.specs.Map.{lookup}
-use Rattle.hosts.specs.Tables.{Made, pick, unsent}
-use Rattle.hosts.specs.Hosts.{Answers, At, Step}
-use Rattle.machine.specs.declared.endpoint.Emission.{Emission}
-use Rattle.machine.specs.Machine.{tcp_shape}
+use Rattle.spec_network.specs.Tables.{Made, pick, unsent}
+use Rattle.spec_network.specs.Hosts.{Answers, At, Step}
+use Rattle.spec_tcp.specs.declared.endpoint.Emission.{Emission}
+use Rattle.spec_tcp.specs.Machine.{tcp_shape}
 use Rattle.stack_core.specs.Recordings.{Recorded, world_left}
 
 -- what the host made, by numbers
@@ -14,7 +14,7 @@ made_of r = (pick (world_left r).hosts r.me).made
 -- a reset that answers a segment was made under this number, and did not go out
 pub record IsWaitingReset (made : List (ℕ × Made Emission)) (n : ℕ) (e : Emission) : Type 0 where
   pub found : lookup (nat_eq n) made ≡ Some (unsent e)
-  pub answers : e.answers ≡ true
+  pub answers : e.is_reset_reply ≡ true
 
 -- and carries nothing
 pub record IsResetToGo (r : Recorded) (n : ℕ) : Type 0 where

@@ -7,22 +7,22 @@ use Rattle.case_forms.specs.declared.timer.Timer.{Timer}
 use Rattle.case_forms.specs.TakenLines.{timer_of}
 use Rattle.case_forms.specs.declared.trace.Header.{Header}
 use Rattle.verdict.specs.Rules.{first_broken}
-use Rattle.hosts.specs.Tables.{pick}
+use Rattle.spec_network.specs.Tables.{pick}
 use Rattle.timer_rules.specs.Timers.{earliest}
-use Rattle.machine.specs.declared.endpoint.Endpoint.{Endpoint}
-use Rattle.machine.specs.Endpoints.{max_made}
-use Rattle.machine.specs.Forgetting.{forget_body}
-use Rattle.machine.specs.Makes.{making_rules}
-use Rattle.machine.specs.Makes.Payload.{making_length}
-use Rattle.machine.specs.Timeouts.{expiry_rules}
-use Rattle.stack_core.specs.declared.agenda.Agenda.{Agenda}
-use Rattle.stack_core.specs.declared.agenda.Wake.{Wake}
-use Rattle.stack_core.specs.Agendas.{AreCovered}
+use Rattle.spec_tcp.specs.declared.endpoint.Endpoint.{Endpoint}
+use Rattle.spec_tcp.specs.Endpoints.{snd_max}
+use Rattle.spec_tcp.specs.Forgetting.{forget_body}
+use Rattle.spec_tcp.specs.Makes.{making_rules}
+use Rattle.spec_tcp.specs.Makes.Payload.{making_length}
+use Rattle.spec_tcp.specs.Timeouts.{expiry_rules}
+use Rattle.stack_core.specs.declared.deadline_queue.DeadlineQueue.{DeadlineQueue}
+use Rattle.stack_core.specs.declared.deadline_queue.Deadline.{Deadline}
+use Rattle.stack_core.specs.DeadlineQueues.{AreCovered}
 use Rattle.stack_core.specs.Recordings.{Recorded, world_left}
 
 -- the endpoint makes nothing without RST that takes new positions
 abbrev pub IsQuiet : Endpoint → Type 0
-IsQuiet e = (m : SegmentPlan) → m.flags.rst ≡ false → max_made e < m.pos + making_length m → first_broken (making_rules e m) ≡ None → ⊥
+IsQuiet e = (m : SegmentPlan) → m.flags.rst ≡ false → snd_max e < m.pos + making_length m → first_broken (making_rules e m) ≡ None → ⊥
 
 -- none of its timers may expire at this moment, but that it may give up
 abbrev pub IsStillAt : Header → ℕ → Endpoint → Type 0
@@ -36,11 +36,11 @@ abbrev pub IsStill : Header → Endpoint → Type 0
 IsStill h e = (moment : ℕ) → IsStillAt h moment e
 
 -- endpoints that are not to be looked at make nothing
-abbrev pub AreQuiet : ℕ → List Wake → List Endpoint → Type 0
+abbrev pub AreQuiet : ℕ → List Deadline → List Endpoint → Type 0
 AreQuiet looked entries es = AreCovered (λ m e. Unit {0}) IsQuiet looked entries es
 
 -- those that are not to be looked at yet have no timer that is due
-abbrev pub AreTimed : Header → ℕ → List Wake → List Endpoint → Type 0
+abbrev pub AreTimed : Header → ℕ → List Deadline → List Endpoint → Type 0
 AreTimed h looked entries es = AreCovered (IsStillBefore h) (IsStill h) looked entries es
 
 -- what is kept of a recording's endpoints
@@ -48,7 +48,7 @@ abbrev pub kept_ends : Recorded → List Endpoint
 kept_ends r = (forget_body (pick (world_left r).hosts r.me).body).endpoints
 
 -- both of a core
-pub record IsTended (r : Recorded) (ready wakes : Agenda) : Type 0 where
+pub record IsTended (r : Recorded) (ready wakes : DeadlineQueue) : Type 0 where
   pub quiet : AreQuiet ready.looked ready.entries.keys (kept_ends r)
   pub timed : AreTimed r.header wakes.looked wakes.entries.keys (kept_ends r)
 

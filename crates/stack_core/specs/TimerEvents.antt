@@ -5,13 +5,13 @@ use Rattle.case_forms.specs.declared.calls.Ports.{Ports}
 use Rattle.case_forms.specs.declared.taken_line.Expired.{Expired}
 use Rattle.case_forms.specs.declared.taken_line.Expired.TheVariants as expireds
 use Rattle.case_forms.specs.States.{is_fin_wait_2}
-use Rattle.hosts.specs.Hosts.{At, Expires, Step}
-use Rattle.hosts.specs.HostRules.{Permitted}
-use Rattle.hosts.specs.Tables.{pick}
-use Rattle.machine.specs.Bodies.{endpoint_of}
-use Rattle.machine.specs.declared.endpoint.Endpoint.{Endpoint}
-use Rattle.machine.specs.Forgetting.{forget_body}
-use Rattle.machine.specs.Machine.{Expiring, tcp, tcp_shape}
+use Rattle.spec_network.specs.Hosts.{At, Expires, Step}
+use Rattle.spec_network.specs.HostRules.{Permitted}
+use Rattle.spec_network.specs.Tables.{pick}
+use Rattle.spec_tcp.specs.Bodies.{endpoint_of}
+use Rattle.spec_tcp.specs.declared.endpoint.Endpoint.{Endpoint}
+use Rattle.spec_tcp.specs.Forgetting.{forget_body}
+use Rattle.spec_tcp.specs.Machine.{Expiring, tcp, tcp_shape}
 use Rattle.stack_core.specs.declared.tick.Tick.{Tick}
 use Rattle.stack_core.specs.Cores.{Core, line_to_come, opened, with_step}
 use Rattle.stack_core.specs.Recordings.{Recorded, world_left}
@@ -35,7 +35,7 @@ expired c tick ports e = with_step (opened c tick) (expiry_step c.recorded.me (l
 pub record HasTried (r : Recorded) (ports : Ports) : Type 0 where
   pub endpoint : Endpoint
   pub found : endpoint_of (forget_body (pick (world_left r).hosts r.me).body) ports.lport ports.rport ≡ Some endpoint
-  pub tries : 12 ≤ endpoint.tries
+  pub unanswered_expiries : 12 ≤ endpoint.unanswered_expiries
   pub state : is_fin_wait_2 endpoint.state ≡ false
 
 -- where an endpoint gives up, it has tried so often

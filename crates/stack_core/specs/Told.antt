@@ -4,22 +4,23 @@ use Rattle.case_forms.specs.Versions.{scales}
 use Rattle.case_forms.specs.Witnesses.{IsShift}
 use Rattle.case_forms.specs.declared.steps.SegmentPlan.{SegmentPlan}
 use Rattle.case_forms.specs.declared.version.Version.{Version}
-use Rattle.hosts.specs.Hosts.{Answers, At, Begin, Deed, Does, Drops, Effect, Expires, Finish, Gets, Hears, Makes, Sends, Step, Takes}
-use Rattle.machine.specs.Bounds.{greatest_position}
-use Rattle.machine.specs.Machine.{tcp_shape}
-use Rattle.recordings.specs.Books.{Bring, Do, Item}
-use Rattle.recordings.specs.Recordings.{TcpEntry}
-use Rattle.stack_core.specs.declared.plans.Opening.{Opening}
+use Rattle.spec_network.specs.Hosts.{Answers, At, Begin, Deed, Does, Drops, Effect, Expires, Finish, Gets, Hears, Makes, Sends, Step, Takes}
+use Rattle.spec_tcp.specs.Bounds.{greatest_position}
+use Rattle.spec_tcp.specs.Machine.{tcp_shape}
+use Rattle.spec_merge.specs.Books.{Bring, Do, Item}
+use Rattle.spec_merge.specs.Recordings.{TcpEntry}
+use Rattle.stack_core.specs.declared.plans.SynOptions.{SynOptions}
 
 -- the shift that an endpoint is given with its first SYN is one that may be told
-abbrev pub MayOpen : Version → Opening → Type 0
+abbrev pub MayOpen : Version → SynOptions → Type 0
 MayOpen v opening = IfSome opening.shift (λ n. (scales v ≡ true) × (n ≤ 14))
 
 -- a plan's shift is one that may be told
 abbrev pub TellsWell : Version → SegmentPlan → Type 0
 TellsWell v m = IfSome m.shift (IsShift v m.iss)
 
--- a segment is made at a position that a text may name, with a payload that fits into a segment beside its options, and with a shift
+-- a segment is made at a position that a text may name, with a payload that fits into a segment beside its options, and
+-- with a shift
 -- that may be told
 abbrev pub IsToldDeed : Version → Deed tcp_shape → Type 0
 IsToldDeed v (Does x) = Unit {0}

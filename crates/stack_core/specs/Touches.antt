@@ -4,15 +4,15 @@ use Rattle.std.specs.Option.{option_map_or}
 use Rattle.case_forms.specs.declared.calls.Call.{Call}
 use Rattle.case_forms.specs.declared.calls.Call.TheVariants as calls
 use Rattle.case_forms.specs.declared.calls.Host.{Host}
-use Rattle.hosts.specs.Tables.{on, pick, waiting}
-use Rattle.hosts.specs.Hosts.{Answers, At, Begin, Deed, Does, Drops, Effect, Expires, Finish, Gets, Hears, HostState, Makes, Sends, Step, Takes, World, turn_of}
-use Rattle.machine.specs.Bodies.{Body, place_of, queue_of, thing_of}
-use Rattle.machine.specs.declared.endpoint.Thing.{Thing}
-use Rattle.machine.specs.declared.endpoint.Thing.TheVariants.{Listens, Ends}
-use Rattle.machine.specs.Machine.{tcp_shape}
+use Rattle.spec_network.specs.Tables.{on, pick, waiting}
+use Rattle.spec_network.specs.Hosts.{Answers, At, Begin, Deed, Does, Drops, Effect, Expires, Finish, Gets, Hears, HostState, Makes, Sends, Step, Takes, World, turn_of}
+use Rattle.spec_tcp.specs.Bodies.{Body, place_of, queue_of, thing_of}
+use Rattle.spec_tcp.specs.declared.endpoint.SocketTarget.{SocketTarget}
+use Rattle.spec_tcp.specs.declared.endpoint.SocketTarget.TheVariants.{ListenerAt, EndpointAt}
+use Rattle.spec_tcp.specs.Machine.{tcp_shape}
 use Rattle.endpoint_state.specs.Turns.{pending_call}
-use Rattle.stack_core.specs.declared.agenda.Touch.{Touch}
-use Rattle.stack_core.specs.declared.agenda.Touch.TheVariants.{All, Nobody, Place}
+use Rattle.stack_core.specs.declared.deadline_queue.Touch.{Touch}
+use Rattle.stack_core.specs.declared.deadline_queue.Touch.TheVariants.{All, Nobody, Place}
 
 abbrev pub touch_at : Option ℕ → Touch
 touch_at None = Nobody
@@ -24,18 +24,18 @@ queue_touch [] = Nobody
 queue_touch (child ∷ queue) = Place child
 
 -- the endpoint that a socket number names
-abbrev pub thing_touch : Thing → Touch
-thing_touch (Listens l) = Nobody
-thing_touch (Ends i) = Place i
+abbrev pub thing_touch : SocketTarget → Touch
+thing_touch (ListenerAt l) = Nobody
+thing_touch (EndpointAt i) = Place i
 
 -- what goes with what it names: a listener's children
-abbrev pub gone_touch : Thing → Touch
-gone_touch (Listens l) = All
-gone_touch (Ends i) = Place i
+abbrev pub gone_touch : SocketTarget → Touch
+gone_touch (ListenerAt l) = All
+gone_touch (EndpointAt i) = Place i
 
-abbrev pub accept_touch : Body → Thing → Touch
-accept_touch b (Listens l) = queue_touch (queue_of b l)
-accept_touch b (Ends i) = Nobody
+abbrev pub accept_touch : Body → SocketTarget → Touch
+accept_touch b (ListenerAt l) = queue_touch (queue_of b l)
+accept_touch b (EndpointAt i) = Nobody
 
 -- a call's effect
 abbrev pub call_touch : Body → Call → Touch

@@ -3,10 +3,10 @@
 ghost use Rattle.std.specs.Prelude.{◌≡◌, ℕ, true, false, is_some, slice_get, Some, IfNone, IfOk};
 ghost use Rattle.std.specs.Option.{IfSome};
 ghost use Rattle.case_forms.specs.declared.calls.Answer.TheVariants as answers;
-ghost use Rattle.machine.specs.Bodies.{queue_of};
-ghost use Rattle.machine.specs.Calls.{call_allows, socket_allows};
-ghost use Rattle.machine.specs.Calls.Accept.{listener_allows};
-ghost use Rattle.machine.specs.Machine.{gives};
+ghost use Rattle.spec_tcp.specs.Bodies.{queue_of};
+ghost use Rattle.spec_tcp.specs.Calls.{call_allows, socket_allows};
+ghost use Rattle.spec_tcp.specs.Calls.Accept.{listener_allows};
+ghost use Rattle.spec_tcp.specs.Machine.{gives};
 ghost use Rattle.stack_core.specs.Answers.{IsNamed, IsOnSocket, Waits, WaitsAt, is_again};
 ghost use Rattle.stack_core.specs.Cores.{IsCallWithin};
 
@@ -15,10 +15,11 @@ mod connected;
 use crate::answers::connected::at_endpoint;
 use case_forms::{Answer, Call, OutOfMemory, State};
 use endpoint_state::Body;
-use machine::Thing;
+use spec_tcp::SocketTarget;
 use std::alloc::Global;
 
-/// The answer of a call at the host that it means, which may give the next socket number. A send is answered by as many bytes
+/// The answer of a call at the host that it means, which may give the next socket number. A send is answered by as many
+/// bytes
 /// as the ring has room for, at least one. None: the call waits. The error is that memory ran out.
 pub(crate) fn choose(
     alloc: Global,
@@ -75,8 +76,8 @@ fn on_socket(
 {
     match body.thing(number) {
         None => Ok(Some(Answer::BadSocket)),
-        Some(Thing::Listens(place)) => Ok(at_listener(body, place, call, next)),
-        Some(Thing::Ends(place)) => match body.endpoint_at(place) {
+        Some(SocketTarget::ListenerAt(place)) => Ok(at_listener(body, place, call, next)),
+        Some(SocketTarget::EndpointAt(place)) => match body.endpoint_at(place) {
             Some(endpoint) => at_endpoint(alloc, endpoint, call, ring),
             // The number is live, so its endpoint is there.
             None => unreachable!(),

@@ -3,10 +3,10 @@
 ghost use Rattle.std.specs.Prelude.{◌≡◌, ◌≤◌, ◌<◌, ◌+◌, ◌*◌, ◌⊎◌, suc, true, false, nat_lt, IfOk, IfNone, OnOk, OnErr};
 ghost use Rattle.std.specs.Option.{IfSome};
 ghost use Rattle.case_forms.specs.Witnesses.{IsWithinLimits};
-ghost use Rattle.hosts.specs.Hosts.{At, Takes};
-ghost use Rattle.machine.specs.Bounds.{most_steps};
-ghost use Rattle.machine.specs.Steps.{step_of};
-ghost use Rattle.recordings.specs.Books.{Bring};
+ghost use Rattle.spec_network.specs.Hosts.{At, Takes};
+ghost use Rattle.spec_tcp.specs.Bounds.{most_steps};
+ghost use Rattle.spec_tcp.specs.Steps.{step_of};
+ghost use Rattle.spec_merge.specs.Books.{Bring};
 ghost use Rattle.stack_core.specs.ArrivalEvents.{IsArrival, IsArrivedShort, IsCameIn, IsChoice, IsHeld, IsRecovered, IsRecoveryAt};
 ghost use Rattle.stack_core.specs.ArrivalEvents.{IsRefusedRecovery, IsSettled, IsSettledShort, IsYoung, MayDrop, MayRecover, MayTake, ports_of};
 ghost use Rattle.stack_core.specs.CoreWorlds.{Leaves};
@@ -14,20 +14,23 @@ ghost use Rattle.stack_core.specs.CoreWorlds.CoreCall.{Arrive};
 ghost use Rattle.stack_core.specs.Cores.{IsAfter, IsRecorded, MayDo, line_to_come, with_item};
 ghost use Rattle.stack_core.specs.Entries.{steps_in};
 
-use crate::agenda::Touch;
-use crate::duties::{Before, Seen};
+use crate::deadline_queue::Touch;
 use crate::flying::Flying;
 use crate::greatest::{at_recovery, cwnd_at_arrival};
 use crate::host_core::HostCore;
+use crate::send_states::{Before, Seen};
 use crate::tick::Tick;
-use case_forms::{Growth, OutOfMemory, Ports, Recovery, TakeChoice, TakenLine};
-use machine::Emission;
+use case_forms::{OutOfMemory, Ports, Recovery, RtoChoice, TakeChoice, TakenLine};
 use spec_step::Label;
+use spec_tcp::Emission;
 
 impl HostCore {
-    /// A segment of the other host arrives: it is brought, and comes in, which is its line. It is taken with its bytes where it
-    /// may be, and fast recovery begins where it may; else it is answered by a reset where it may be; else it is dropped. False,
-    /// and nothing is changed: it is this host's own, or older than the maximum segment lifetime. The error is that memory ran
+    /// A segment of the other host arrives: it is brought, and comes in, which is its line. It is taken with its bytes
+    /// where it
+    /// may be, and fast recovery begins where it may; else it is answered by a reset where it may be; else it is
+    /// dropped. False,
+    /// and nothing is changed: it is this host's own, or older than the maximum segment lifetime. The error is that
+    /// memory ran
     /// out; then the tick has passed, and a beginning of this is added.
     pub fn arrive(&mut self, flying: Flying, tick: Tick) -> Result<bool, OutOfMemory>
         requires tick { IsAfter self.old.last tick }
@@ -60,7 +63,7 @@ impl HostCore {
         let ports = ports_of(flying.emission());
         let before = self.before(flying.emission(), ports);
         self.come_in(flying)?;
-        self.settle(line, ports, before.window)?;
+        self.resolve_arrival(line, ports, before.window)?;
         self.note_arrival(ports, before);
         Ok(true)
     }
@@ -92,11 +95,11 @@ impl HostCore {
             return;
         };
         if let Some(endpoint) = body.endpoint_at(place) {
-            let duty = self
-                .duties
+            let send_state = self
+                .send_states
                 .of(place)
                 .after_arrival(place, &before, endpoint);
-            self.duties.note(place, duty);
+            self.send_states.set(place, send_state);
         }
     }
 
@@ -137,7 +140,7 @@ impl HostCore {
     }
 
     // What waits under a line is taken, answered or dropped. The window is tried first.
-    fn settle(&mut self, line: u64, ports: Ports, window: u32) -> Result<(), OutOfMemory>
+    fn resolve_arrival(&mut self, line: u64, ports: Ports, window: u32) -> Result<(), OutOfMemory>
         requires room { steps_in self.old.recorded.entries + 2 ≤ 4 * self.old.events }
         requires events { self.old.events ≤ 10000000 }
         requires waits { MayDrop self.old line }
@@ -146,7 +149,7 @@ impl HostCore {
         ensures err { OnErr result (IsSettledShort self.old line ports self.new) }
     {
         let Some(choice) = self.choice(line, window) else {
-            return self.turn_away(line, ports);
+            return self.reject(line, ports);
         };
         let host = self.me();
         let touch = self.touch_at(ports.lport, ports.rport);
@@ -156,7 +159,7 @@ impl HostCore {
     }
 
     // What is not taken is answered by a reset where it may be, and else dropped.
-    fn turn_away(&mut self, line: u64, ports: Ports) -> Result<(), OutOfMemory>
+    fn reject(&mut self, line: u64, ports: Ports) -> Result<(), OutOfMemory>
         requires room { steps_in self.old.recorded.entries < 4 * self.old.events }
         requires events { self.old.events ≤ 10000000 }
         requires waits { MayDrop self.old line }
@@ -274,10 +277,10 @@ impl HostCore {
     }
 
     // The greatest congestion window and slow start threshold of fast recovery.
-    fn greatest_recovery(&self, ports: Ports) -> Growth {
+    fn greatest_recovery(&self, ports: Ports) -> RtoChoice {
         match self.recording.body().endpoint_of(ports.lport, ports.rport) {
             Some(endpoint) => at_recovery(endpoint),
-            None => Growth {
+            None => RtoChoice {
                 cwnd: 0,
                 ssthresh: 0,
             },

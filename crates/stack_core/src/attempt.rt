@@ -2,8 +2,8 @@
 
 ghost use Rattle.std.specs.Prelude.{◌≡◌, ◌<◌, ◌≤◌, false, length, IfNone, IfOk, OnErr};
 ghost use Rattle.std.specs.Option.{IfSome};
-ghost use Rattle.hosts.specs.Tables.{lane};
-ghost use Rattle.hosts.specs.Hosts.{turn_of};
+ghost use Rattle.spec_network.specs.Tables.{lane};
+ghost use Rattle.spec_network.specs.Hosts.{turn_of};
 ghost use Rattle.stack_core.specs.Cores.{GivesNext, IsAfter, IsRecorded, next_socket, own_body, world};
 ghost use Rattle.stack_core.specs.Entries.{steps_in};
 ghost use Rattle.stack_core.specs.Answers.{is_again};
@@ -11,16 +11,16 @@ ghost use Rattle.stack_core.specs.CoreWorlds.{Leaves};
 ghost use Rattle.stack_core.specs.CoreWorlds.CoreCall.{Attempt};
 ghost use Rattle.stack_core.specs.CallEvents.{IsAttempted, IsAttemptShort, KeptNoAnswer, MayAnswer, NoAnswer};
 
-use crate::agenda::Touch;
 use crate::answered::Answered;
 use crate::answers::choose;
+use crate::deadline_queue::Touch;
 use crate::host_core::HostCore;
 use crate::tick::Tick;
 use case_forms::{Answer, Call, Host, OutOfMemory, TakenLine};
 use endpoint_state::Body;
-use machine::Thing;
-use machine_laws::forgetting_is_free;
 use spec_step::Label;
+use spec_tcp::SocketTarget;
+use spec_tcp_laws::forgetting_is_free;
 
 // What a call is about.
 #[derive(Clone, Copy, Debug, PartialEq, Eq)]
@@ -34,9 +34,12 @@ enum Subject {
 }
 
 impl HostCore {
-    /// The open call of a thread of this host has its effect, and ends with that answer: its line. A socket number that it gives
-    /// is the next one. None, and nothing is changed: the thread has no open call without effect, or the call waits (for `send`:
-    /// before the handshake is done, or while the ring is full). The error is that memory ran out; then the tick has passed, and
+    /// The open call of a thread of this host has its effect, and ends with that answer: its line. A socket number that
+    /// it gives
+    /// is the next one. None, and nothing is changed: the thread has no open call without effect, or the call waits
+    /// (for `send`:
+    /// before the handshake is done, or while the ring is full). The error is that memory ran out; then the tick has
+    /// passed, and
     /// the effect may stand without the end.
     pub fn attempt(&mut self, thread: u32, tick: Tick) -> Result<Option<Answered>, OutOfMemory>
         requires tick { IsAfter self.old.last tick }
@@ -106,8 +109,8 @@ impl HostCore {
             | Call::Shut(number)
             | Call::Close(number)
             | Call::Abort(number) => match self.recording.body().thing(*number) {
-                Some(Thing::Ends(place)) => Subject::At(place),
-                Some(Thing::Listens(_)) | None => Subject::Nothing,
+                Some(SocketTarget::EndpointAt(place)) => Subject::At(place),
+                Some(SocketTarget::ListenerAt(_)) | None => Subject::Nothing,
             },
             Call::Listen(_, _, _) | Call::Await(_) | Call::Accept(_) | Call::Status(_) => {
                 Subject::Nothing
@@ -129,11 +132,11 @@ impl HostCore {
             return;
         };
         if let Some(endpoint) = body.endpoint_at(place) {
-            let duty = self
-                .duties
+            let send_state = self
+                .send_states
                 .of(place)
                 .after_call(endpoint, answer, self.config.ring);
-            self.duties.note(place, duty);
+            self.send_states.set(place, send_state);
         }
     }
 

@@ -1,23 +1,24 @@
 //! A thread begins a call.
 
 ghost use Rattle.std.specs.Prelude.{◌≡◌, ◌<◌, OnOk, OnErr};
-ghost use Rattle.hosts.specs.Hosts.{Idle, turn_of};
-ghost use Rattle.hosts.specs.Tables.{lane};
-ghost use Rattle.machine.specs.Machine.{aim};
-ghost use Rattle.recordings.specs.Books.{Aims};
+ghost use Rattle.spec_network.specs.Hosts.{Idle, turn_of};
+ghost use Rattle.spec_network.specs.Tables.{lane};
+ghost use Rattle.spec_tcp.specs.Machine.{aim};
+ghost use Rattle.spec_merge.specs.Books.{Aims};
 ghost use Rattle.stack_core.specs.Cores.{IsAfter, IsCallWithin, IsRecorded, opened, world};
 ghost use Rattle.stack_core.specs.CallEvents.{begun};
 ghost use Rattle.stack_core.specs.CoreWorlds.{Leaves};
 ghost use Rattle.stack_core.specs.CoreWorlds.CoreCall.{Begin};
 
-use crate::agenda::Touch;
+use crate::deadline_queue::Touch;
 use crate::host_core::HostCore;
 use crate::tick::Tick;
 use case_forms::{Call, OutOfMemory, TakenLine};
 use spec_step::Label;
 
 impl HostCore {
-    /// A thread of this host, which is in no call, begins one that means this host or a socket number of its own: the line of
+    /// A thread of this host, which is in no call, begins one that means this host or a socket number of its own: the
+    /// line of
     /// the call. The error is that memory ran out; then the tick has passed, and nothing is added.
     pub fn begin(&mut self, thread: u32, call: &Call, tick: Tick) -> Result<(), OutOfMemory>
         requires tick { IsAfter self.old.last tick }

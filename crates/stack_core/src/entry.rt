@@ -18,7 +18,7 @@ pub struct Entry {
 }
 
 impl Model for Entry {
-    ghost use Rattle.recordings.specs.Recordings.{TcpEntry};
+    ghost use Rattle.spec_merge.specs.Recordings.{TcpEntry};
     ghost use Rattle.stack_core.specs.Entries.{entry_at, item_shown};
 
     ghost Value = { TcpEntry };

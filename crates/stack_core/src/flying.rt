@@ -5,10 +5,11 @@ ghost use Rattle.stack_core.specs.Keys.{key_shown};
 
 use crate::tick::{Key, Tick};
 use case_forms::{Host, OutOfMemory, Wire};
-use machine::Emission;
+use spec_tcp::Emission;
 use std::marker::Model;
 
-/// A segment on its way, with the key and the line with which it went out. `HostCore::pump` alone makes one, and `copy` another
+/// A segment on its way, with the key and the line with which it went out. `HostCore::pump` alone makes one, and `copy`
+/// another
 /// like it.
 #[derive(Drop)]
 pub struct Flying {
@@ -21,8 +22,8 @@ pub struct Flying {
 }
 
 impl Model for Flying {
-    ghost use Rattle.recordings.specs.Books.{Flying};
-    ghost use Rattle.machine.specs.Machine.{tcp_shape};
+    ghost use Rattle.spec_merge.specs.Books.{Flying};
+    ghost use Rattle.spec_tcp.specs.Machine.{tcp_shape};
     ghost use Rattle.stack_core.specs.Keys.{key_of};
     ghost use Rattle.stack_core.specs.Flights.{IsFlying};
 

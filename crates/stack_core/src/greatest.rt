@@ -1,14 +1,15 @@
-//! The greatest congestion values that steps allow, in bytes (RFC 5681; RFC 6928). A core takes them where the machine permits.
+//! The greatest congestion values that steps allow, in bytes (RFC 5681; RFC 6928). A core takes them where the machine
+//! permits.
 
-use case_forms::{Growth, Header};
+use case_forms::{Header, RtoChoice};
 use endpoint::{greatest_at_syn, greatest_values, greatest_window};
 use endpoint_state::Endpoint;
-use machine::{Arrived, Emission};
+use spec_tcp::{Arrived, Emission};
 use window_rules::on_fast;
 
 /// The greatest congestion window once an endpoint took a segment; 0 where the endpoint is further than positions go.
 pub(crate) fn cwnd_at_arrival(header: &Header, endpoint: &Endpoint, m: &Emission) -> u32 {
-    if 1 << 63 <= endpoint.stream.una {
+    if 1 << 63 <= endpoint.stream.snd_una {
         return 0;
     }
     let m = Arrived::read(header.version, endpoint, m);
@@ -20,17 +21,17 @@ pub(crate) fn cwnd_at_arrival(header: &Header, endpoint: &Endpoint, m: &Emission
 }
 
 /// The greatest congestion window and slow start threshold once fast recovery began (RFC 5681, 3.2).
-pub(crate) fn at_recovery(endpoint: &Endpoint) -> Growth {
+pub(crate) fn at_recovery(endpoint: &Endpoint) -> RtoChoice {
     growth_to(on_fast(&endpoint.congestion, endpoint.flight()))
 }
 
 /// The same once the retransmission timer expired (RFC 5681, 3.1).
-pub(crate) fn at_timeout(endpoint: &Endpoint) -> Growth {
+pub(crate) fn at_timeout(endpoint: &Endpoint) -> RtoChoice {
     growth_to(greatest_values(endpoint))
 }
 
-fn growth_to(greatest: (u64, u64)) -> Growth {
-    Growth {
+fn growth_to(greatest: (u64, u64)) -> RtoChoice {
+    RtoChoice {
         cwnd: narrowed(greatest.0),
         ssthresh: narrowed(greatest.1),
     }

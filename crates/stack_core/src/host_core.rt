@@ -2,22 +2,22 @@
 
 ghost use Rattle.std.specs.Prelude.{◌≡◌, ◌≤◌, ◌<◌, ◌+◌, ◌*◌, suc, OnOk, OnErr};
 ghost use Rattle.case_forms.specs.Witnesses.{IsWithinLimits};
-ghost use Rattle.hosts.specs.HostSteps.{after};
-ghost use Rattle.machine.specs.Machine.{tcp};
-ghost use Rattle.machine.specs.Steps.{step_of};
-ghost use Rattle.recordings.specs.Books.{Bring};
-ghost use Rattle.recordings.specs.Keys.{EachEntry};
+ghost use Rattle.spec_network.specs.HostSteps.{after};
+ghost use Rattle.spec_tcp.specs.Machine.{tcp};
+ghost use Rattle.spec_tcp.specs.Steps.{step_of};
+ghost use Rattle.spec_merge.specs.Books.{Bring};
+ghost use Rattle.spec_merge.specs.Keys.{EachEntry};
 ghost use Rattle.stack_core.specs.Cores.{Fits, IsAfter, IsBelow, IsNextLine, IsOrderly, IsOwn, IsRecorded, line_to_come, lines_taken};
 ghost use Rattle.stack_core.specs.Cores.{new_core, opened, with_item, with_step, world};
 ghost use Rattle.stack_core.specs.Entries.{steps_in};
 ghost use Rattle.stack_core.specs.Told.{AllTold, IsToldStep};
 ghost use Rattle.stack_core.specs.Touches.{touched};
 
-use crate::agenda::{Agenda, Touch};
-use crate::duties::Duties;
+use crate::deadline_queue::{DeadlineQueue, Touch};
 use crate::flying::Flying;
 use crate::recording::Recording;
 use crate::resets::await_reset;
+use crate::send_states::SendStates;
 use crate::tick::Tick;
 use case_forms::{Header, Host, OutOfMemory};
 use spec_step::Label;
@@ -34,7 +34,8 @@ pub struct CoreConfig {
     pub ring: u16,
     /// The initial send sequence number of its first endpoint. Each later one's is 65,536 more.
     pub first_iss: u32,
-    /// By how many bits its endpoints shift the windows that they offer, where the header's version scales windows; above 14 as
+    /// By how many bits its endpoints shift the windows that they offer, where the header's version scales windows;
+    /// above 14 as
     /// 14 (RFC 7323, 2.3). None: they tell no shift.
     pub shift: Option<u8>,
 }
@@ -52,11 +53,11 @@ pub struct HostCore {
     pub(crate) iss: u32,
     // The resets that answer segments and wait to go out, by their numbers; there may be others among them.
     pub(crate) resets: VecDeque<u32>,
-    pub(crate) duties: Duties,
+    pub(crate) send_states: SendStates,
     // Endpoints at which something may be made that takes new positions.
-    pub(crate) ready: Agenda,
+    pub(crate) ready: DeadlineQueue,
     // Endpoints with timers, and when these may expire.
-    pub(crate) wakes: Agenda,
+    pub(crate) wakes: DeadlineQueue,
 }
 
 impl Model for HostCore {
@@ -77,8 +78,8 @@ impl HostCore {
     pub fn new(alloc: Global, host: Host, header: Header, config: CoreConfig) -> HostCore
         ensures { result ≡ new_core header host config.ring }
     {
-        let ready = Agenda::new(alloc);
-        let wakes = Agenda::new(alloc);
+        let ready = DeadlineQueue::new(alloc);
+        let wakes = DeadlineQueue::new(alloc);
         HostCore {
             recording: Recording::start(alloc, host, &header),
             config,
@@ -90,7 +91,7 @@ impl HostCore {
             events: 0,
             iss: config.first_iss,
             resets: VecDeque::new(alloc),
-            duties: Duties::new(alloc),
+            send_states: SendStates::new(alloc),
             ready,
             wakes,
         }
@@ -110,8 +111,10 @@ impl HostCore {
         self.recording.is_recording();
     }
 
-    /// A text can tell what it recorded: each segment is made at a position that a text names, with a payload that fits into one,
-    /// and with a shift only beside an initial number, where the version scales windows; and nothing stands behind the last tick.
+    /// A text can tell what it recorded: each segment is made at a position that a text names, with a payload that fits
+    /// into one,
+    /// and with a shift only beside an initial number, where the version scales windows; and nothing stands behind the
+    /// last tick.
     /// A call that does nothing, whose contract says it.
     pub fn can_be_told(&self)
         ensures told { AllTold self.now.recorded.header.version self.now.recorded.entries }
@@ -175,7 +178,8 @@ impl HostCore {
         self.events += 1;
     }
 
-    // The same of an event that may leave a new endpoint, for whose duties there is room then. The error is that memory ran out;
+    // The same of an event that may leave a new endpoint, for whose duties there is room then. The error is that memory
+    // ran out;
     // the event began all the same.
     pub(crate) fn open_with_room(&mut self, tick: Tick) -> Result<(), OutOfMemory>
         requires tick { IsAfter self.old.last tick }
@@ -185,7 +189,7 @@ impl HostCore {
         ensures events { self.new.events ≤ 10000000 }
     {
         self.open(tick);
-        self.duties.make_room()?;
+        self.send_states.make_room()?;
         Ok(())
     }
 
@@ -196,7 +200,8 @@ impl HostCore {
         self.recording.count()
     }
 
-    // A step joins, at the moment of the last tick; these endpoints it may change, beside one that it creates. The error is that
+    // A step joins, at the moment of the last tick; these endpoints it may change, beside one that it creates. The
+    // error is that
     // memory ran out, and then nothing is changed.
     pub(crate) fn add(&mut self, label: Label, touch: Touch) -> Result<(), OutOfMemory>
         requires room { steps_in self.old.recorded.entries < 4 * self.old.events }
@@ -222,7 +227,8 @@ impl HostCore {
         Ok(())
     }
 
-    // A segment of the other host is brought, at the last tick. The error is that memory ran out, and then nothing is changed.
+    // A segment of the other host is brought, at the last tick. The error is that memory ran out, and then nothing is
+    // changed.
     pub(crate) fn bring(&mut self, flying: Flying) -> Result<(), OutOfMemory>
         ensures ok { OnOk result (self.new ≡ with_item self.old (Bring flying)) }
         ensures err { OnErr result (self.new ≡ self.old) }

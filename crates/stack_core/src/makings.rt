@@ -3,37 +3,38 @@
 ghost use Rattle.std.specs.Prelude.{◌≡◌, ◌<◌, ◌≤◌, ◌^◌, true, false, length, slice_get, IfNone, None, Some};
 ghost use Rattle.std.specs.List.{All};
 ghost use Rattle.std.specs.Option.{IfSome};
-ghost use Rattle.hosts.specs.Tables.{pick};
+ghost use Rattle.spec_network.specs.Tables.{pick};
 ghost use Rattle.streams.specs.Sent.{end_of};
-ghost use Rattle.machine.specs.Bounds.{greatest_position, most_steps};
-ghost use Rattle.machine.specs.Endpoints.{max_made};
+ghost use Rattle.spec_tcp.specs.Bounds.{greatest_position, most_steps};
+ghost use Rattle.spec_tcp.specs.Endpoints.{snd_max};
 ghost use Rattle.stack_core.specs.Outgoing.{greatest_payload};
 ghost use Rattle.verdict.specs.Rules.{first_broken};
-ghost use Rattle.machine.specs.declared.endpoint.Endpoint.{Endpoint};
-ghost use Rattle.machine.specs.Makes.{making_rules};
+ghost use Rattle.spec_tcp.specs.declared.endpoint.Endpoint.{Endpoint};
+ghost use Rattle.spec_tcp.specs.Makes.{making_rules};
 ghost use Rattle.endpoint_state.specs.Kept.{AreReadable};
 ghost use Rattle.stack_core.specs.Makings.{IsMakeable, IsSynRefused, IsTried, NothingToMake, Refuses, fin_of, syn_of};
 ghost use Rattle.stack_core.specs.Tended.{AreQuiet, IsQuiet};
 ghost use Rattle.stack_core.specs.Told.{MayOpen, TellsWell};
 
-use crate::agenda::Agenda;
-use crate::duties::Duties;
+use crate::deadline_queue::DeadlineQueue;
 use crate::plans::{
-    GREATEST_PAYLOAD, GREATEST_POSITION, GREATEST_SHIFT, Offer, Opening, byte_of, fin_of, offer_of,
-    syn_of, wishes,
+    AdvertisedWindow, GREATEST_PAYLOAD, GREATEST_POSITION, GREATEST_SHIFT, SynOptions, byte_of,
+    candidate_segments, fin_of, offer_of, syn_of,
 };
+use crate::send_states::SendStates;
 use case_forms::{Host, SegmentPlan, Version};
 use endpoint::admits_making;
 use endpoint_state::{Body, Endpoint, World};
 
-/// A segment that may be made: at an endpoint whose duties are listed, or else at any where one may be made that takes new
+/// A segment that may be made: at an endpoint whose duties are listed, or else at any where one may be made that takes
+/// new
 /// positions. None: no segment without RST may be made that does.
 pub(crate) fn find_plan(
     world: &World,
     me: Host,
-    duties: &mut Duties,
-    ready: &mut Agenda,
-    opening: Opening,
+    send_states: &mut SendStates,
+    ready: &mut DeadlineQueue,
+    opening: SynOptions,
     ring: u16,
 ) -> Option<SegmentPlan>
     requires steps { world.now.steps < most_steps }
@@ -42,20 +43,21 @@ pub(crate) fn find_plan(
     ensures none { IfNone result (NothingToMake world.now.header me world.now.world) }
     ensures quiet { AreQuiet ready.new.looked ready.new.entries.keys (pick world.now.world.hosts me).body.endpoints }
 {
-    match find_listed(world, me, duties, opening, ring) {
+    match find_listed(world, me, send_states, opening, ring) {
         Some(plan) => Some(plan),
-        None => find_ready(world, me, duties, ready, opening, ring),
+        None => find_ready(world, me, send_states, ready, opening, ring),
     }
 }
 
-// A segment that may be made, at an endpoint that is to be looked at; the others make nothing that takes new positions. None:
+// A segment that may be made, at an endpoint that is to be looked at; the others make nothing that takes new positions.
+// None:
 // no segment without RST may be made that takes new positions.
 fn find_ready(
     world: &World,
     me: Host,
-    duties: &Duties,
-    ready: &mut Agenda,
-    opening: Opening,
+    send_states: &SendStates,
+    ready: &mut DeadlineQueue,
+    opening: SynOptions,
     ring: u16,
 ) -> Option<SegmentPlan>
     requires steps { world.now.steps < most_steps }
@@ -66,18 +68,18 @@ fn find_ready(
 {
     world.is_kept();
     if ready.list_new(world.body(me)) {
-        return find_among(world, me, duties, ready, opening, ring);
+        return find_among(world, me, send_states, ready, opening, ring);
     }
-    find_making(world, me, duties, opening, ring)
+    find_making(world, me, send_states, opening, ring)
 }
 
 // The same, where each endpoint was looked at or is to be. Those that make nothing are left.
 fn find_among(
     world: &World,
     me: Host,
-    duties: &Duties,
-    ready: &mut Agenda,
-    opening: Opening,
+    send_states: &SendStates,
+    ready: &mut DeadlineQueue,
+    opening: SynOptions,
     ring: u16,
 ) -> Option<SegmentPlan>
     requires steps { world.now.steps < most_steps }
@@ -93,28 +95,29 @@ fn find_among(
         if is_quiet_at(body, wake.place, opening) {
             ready.leave();
         } else {
-            return make_at(world, me, duties, wake.place, opening, ring);
+            return make_at(world, me, send_states, wake.place, opening, ring);
         }
     }
     None
 }
 
-// A segment that may be made, at the endpoint at this place if it may be there: none may where a newer endpoint has its ports.
+// A segment that may be made, at the endpoint at this place if it may be there: none may where a newer endpoint has its
+// ports.
 // None: no segment without RST may be made that takes new positions.
 #[tactic(auto, using(crate::proofs::MakingLemmas::short_host))]
 fn make_at(
     world: &World,
     me: Host,
-    duties: &Duties,
+    send_states: &SendStates,
     place: u32,
-    opening: Opening,
+    opening: SynOptions,
     ring: u16,
 ) -> Option<SegmentPlan>
     requires steps { world.now.steps < most_steps }
     ensures some { IfSome result (λ m. IsMakeable world.now.header me world.now.world m) }
     ensures none { IfNone result (NothingToMake world.now.header me world.now.world) }
 {
-    if let Some(plan) = wish_at(world, me, duties, place, opening, ring) {
+    if let Some(plan) = wish_at(world, me, send_states, place, opening, ring) {
         return Some(plan);
     }
     world.is_kept();
@@ -122,7 +125,7 @@ fn make_at(
         let offer = offer_of(
             world.header().version,
             endpoint,
-            duties.of(place),
+            send_states.of(place),
             opening,
             ring,
         );
@@ -130,11 +133,11 @@ fn make_at(
             return Some(plan);
         }
     }
-    find_making(world, me, duties, opening, ring)
+    find_making(world, me, send_states, opening, ring)
 }
 
 // Whether the endpoint at a place makes nothing without RST that takes new positions.
-fn is_quiet_at(body: &Body, place: u32, opening: Opening) -> bool
+fn is_quiet_at(body: &Body, place: u32, opening: SynOptions) -> bool
     requires { AreReadable body.now.endpoints }
     ensures { result ≡ true → (e : Endpoint) → slice_get body.now.endpoints place ≡ Some e → IsQuiet e }
 {
@@ -144,13 +147,14 @@ fn is_quiet_at(body: &Body, place: u32, opening: Opening) -> bool
     }
 }
 
-// Whether an endpoint makes nothing without RST that takes new positions: neither its SYN, nor a new byte, nor its FIN. Beyond
+// Whether an endpoint makes nothing without RST that takes new positions: neither its SYN, nor a new byte, nor its FIN.
+// Beyond
 // the greatest position it may be false of one that makes nothing.
-fn is_quiet(endpoint: &Endpoint, opening: Opening) -> bool
-    requires { endpoint.now.stream.una < 2 ^ 63 }
+fn is_quiet(endpoint: &Endpoint, opening: SynOptions) -> bool
+    requires { endpoint.now.stream.snd_una < 2 ^ 63 }
     ensures { result ≡ true → IsQuiet endpoint.now }
 {
-    if GREATEST_POSITION < endpoint.max_made() {
+    if GREATEST_POSITION < endpoint.snd_max() {
         return false;
     }
     if may_begin(endpoint, opening) {
@@ -166,18 +170,18 @@ fn is_quiet(endpoint: &Endpoint, opening: Opening) -> bool
 }
 
 // Whether it may make its SYN where nothing was made before.
-fn may_begin(endpoint: &Endpoint, opening: Opening) -> bool
-    requires { endpoint.now.stream.una < 2 ^ 63 }
-    ensures { result ≡ false → max_made endpoint.now ≤ 0 → first_broken (making_rules endpoint.now (syn_of endpoint.now opening 0)) ≡ None → ⊥ }
+fn may_begin(endpoint: &Endpoint, opening: SynOptions) -> bool
+    requires { endpoint.now.stream.snd_una < 2 ^ 63 }
+    ensures { result ≡ false → snd_max endpoint.now ≤ 0 → first_broken (making_rules endpoint.now (syn_of endpoint.now opening 0)) ≡ None → ⊥ }
 {
-    if 0 < endpoint.max_made() {
+    if 0 < endpoint.snd_max() {
         return false;
     }
     may_make(endpoint, syn_of(endpoint, opening, 0))
 }
 
 fn may_make(endpoint: &Endpoint, plan: SegmentPlan) -> bool
-    requires readable { endpoint.now.stream.una < 2 ^ 63 }
+    requires readable { endpoint.now.stream.snd_una < 2 ^ 63 }
     requires small { plan.pos ≤ greatest_position }
     ensures { result ≡ false → first_broken (making_rules endpoint.now plan) ≡ None → ⊥ }
 {
@@ -188,19 +192,19 @@ fn may_make(endpoint: &Endpoint, plan: SegmentPlan) -> bool
 fn find_listed(
     world: &World,
     me: Host,
-    duties: &mut Duties,
-    opening: Opening,
+    send_states: &mut SendStates,
+    opening: SynOptions,
     ring: u16,
 ) -> Option<SegmentPlan>
     requires steps { world.now.steps < most_steps }
     ensures { IfSome result (λ m. IsMakeable world.now.header me world.now.world m) }
 {
-    for _ in 0..duties.count() {
-        let place = duties.first()?;
-        if let Some(plan) = wish_at(world, me, duties, place, opening, ring) {
+    for _ in 0..send_states.count() {
+        let place = send_states.first()?;
+        if let Some(plan) = wish_at(world, me, send_states, place, opening, ring) {
             return Some(plan);
         }
-        duties.leave();
+        send_states.leave();
     }
     None
 }
@@ -209,9 +213,9 @@ fn find_listed(
 fn wish_at(
     world: &World,
     me: Host,
-    duties: &Duties,
+    send_states: &SendStates,
     place: u32,
-    opening: Opening,
+    opening: SynOptions,
     ring: u16,
 ) -> Option<SegmentPlan>
     requires steps { world.now.steps < most_steps }
@@ -222,9 +226,9 @@ fn wish_at(
     if body.place_of(endpoint.lport, endpoint.rport) != Some(place) {
         return None;
     }
-    let duty = duties.of(place);
-    let offer = offer_of(world.header().version, endpoint, duty, opening, ring);
-    try_wishes(world, me, &wishes(endpoint, duty, offer))
+    let send_state = send_states.of(place);
+    let offer = offer_of(world.header().version, endpoint, send_state, opening, ring);
+    try_candidates(world, me, &candidate_segments(endpoint, send_state, offer))
 }
 
 // Whether a text can tell that this is made: its position, its payload, and its shift.
@@ -241,11 +245,15 @@ fn can_be_told(version: Version, plan: &SegmentPlan) -> bool
 }
 
 // The first of these that may be made.
-fn try_wishes(world: &World, me: Host, wishes: &[Option<SegmentPlan>]) -> Option<SegmentPlan>
+fn try_candidates(
+    world: &World,
+    me: Host,
+    candidate_segments: &[Option<SegmentPlan>],
+) -> Option<SegmentPlan>
     requires steps { world.now.steps < most_steps }
     ensures { IfSome result (λ m. IsMakeable world.now.header me world.now.world m) }
 {
-    for wish in wishes {
+    for wish in candidate_segments {
         if let Some(plan) = wish {
             if can_be_told(world.header().version, plan) {
                 if let Some(plan) = ask(world, me, *plan) {
@@ -257,14 +265,15 @@ fn try_wishes(world: &World, me: Host, wishes: &[Option<SegmentPlan>]) -> Option
     None
 }
 
-// A segment that may be made, at any endpoint: this goes over all of them, where memory is refused for a list of those that are
+// A segment that may be made, at any endpoint: this goes over all of them, where memory is refused for a list of those
+// that are
 // to be looked at. None: no segment without RST may be made that takes new positions.
 #[tactic(auto, using(crate::proofs::MakingLemmas::short_host))]
 fn find_making(
     world: &World,
     me: Host,
-    duties: &Duties,
-    opening: Opening,
+    send_states: &SendStates,
+    opening: SynOptions,
     ring: u16,
 ) -> Option<SegmentPlan>
     requires steps { world.now.steps < most_steps }
@@ -275,13 +284,13 @@ fn find_making(
     let body = world.body(me);
     let mut place = 0u32;
     while let Some(endpoint) = body.endpoint_at(place) {
-        if let Some(plan) = wish_at(world, me, duties, place, opening, ring) {
+        if let Some(plan) = wish_at(world, me, send_states, place, opening, ring) {
             return Some(plan);
         }
         let offer = offer_of(
             world.header().version,
             endpoint,
-            duties.of(place),
+            send_states.of(place),
             opening,
             ring,
         );
@@ -295,7 +304,12 @@ fn find_making(
 
 // One of the three that may be made for an endpoint.
 #[tactic(auto, using(crate::proofs::MakingLemmas::tried_far))]
-fn try_endpoint(world: &World, me: Host, endpoint: &Endpoint, offer: Offer) -> Option<SegmentPlan>
+fn try_endpoint(
+    world: &World,
+    me: Host,
+    endpoint: &Endpoint,
+    offer: AdvertisedWindow,
+) -> Option<SegmentPlan>
     requires steps { world.now.steps < most_steps }
     requires short { All (λ e. end_of e.stream.accepted ≤ greatest_position) (pick world.now.world.hosts me).body.endpoints }
     requires opening { MayOpen world.now.header.version offer.opening }
@@ -306,7 +320,7 @@ fn try_endpoint(world: &World, me: Host, endpoint: &Endpoint, offer: Offer) -> O
         return Some(plan);
     }
     // Above the greatest position stands no byte that was accepted, nor an end behind one.
-    if GREATEST_POSITION < endpoint.max_made() {
+    if GREATEST_POSITION < endpoint.snd_max() {
         return None;
     }
     if let Some(plan) = ask(world, me, byte_of(endpoint, offer.window)) {
@@ -317,13 +331,18 @@ fn try_endpoint(world: &World, me: Host, endpoint: &Endpoint, offer: Offer) -> O
 
 // The SYN, if nothing was made before and it may be made.
 #[tactic(auto, using(crate::proofs::MakingLemmas::syn_tells))]
-fn try_syn(world: &World, me: Host, endpoint: &Endpoint, offer: Offer) -> Option<SegmentPlan>
+fn try_syn(
+    world: &World,
+    me: Host,
+    endpoint: &Endpoint,
+    offer: AdvertisedWindow,
+) -> Option<SegmentPlan>
     requires steps { world.now.steps < most_steps }
     requires opening { MayOpen world.now.header.version offer.opening }
     ensures some { IfSome result (λ m. IsMakeable world.now.header me world.now.world m) }
     ensures none { IfNone result (IsSynRefused world.now.header me world.now.world endpoint.now offer.opening offer.at_syn) }
 {
-    if 0 < endpoint.max_made() {
+    if 0 < endpoint.snd_max() {
         return None;
     }
     ask(world, me, syn_of(endpoint, offer.opening, offer.at_syn))

@@ -3,13 +3,13 @@
 ghost use Rattle.std.specs.Prelude.{◌≡◌, ◌≤◌, IfOk, true, length};
 ghost use Rattle.case_forms.specs.declared.trace.Header.{Header};
 ghost use Rattle.segment.specs.Layout.{IsSegment};
-ghost use Rattle.machine.specs.Wire.{is_shown};
+ghost use Rattle.spec_tcp.specs.Wire.{matches_sent};
 ghost use Rattle.stack_core.specs.Outgoing.{flag_bits, greatest_payload, segment_of};
 
 use crate::flying::Flying;
 use case_forms::{Flags, OutOfMemory, Wire};
-use machine::Emission;
 use segment::{Bytes, EncFault, SegFault, Segment, decode, encode};
+use spec_tcp::Emission;
 use std::alloc::{AllocError, Global};
 
 /// How a made segment goes out, and what flies then.
@@ -19,11 +19,12 @@ pub(crate) struct Outgoing {
     pub(crate) flying: Flying,
 }
 
-/// A made segment as it goes out, with this MSS option if there is one, and with its shift if it is a SYN that gives one. The
+/// A made segment as it goes out, with this MSS option if there is one, and with its shift if it is a SYN that gives
+/// one. The
 /// error is that memory ran out.
 pub(crate) fn wire_of(alloc: Global, m: &Emission, mss: Option<u16>) -> Result<Wire, OutOfMemory>
     requires short { length m.now.payload ≤ greatest_payload }
-    ensures shows { IfOk result (λ w. (h : Header) → is_shown h w m.now ≡ true) }
+    ensures shows { IfOk result (λ w. (h : Header) → matches_sent h w m.now ≡ true) }
     ensures reads { IfOk result (λ w. IsSegment w.bytes w.seg) }
 {
     let segment = written(alloc, m, mss)?;

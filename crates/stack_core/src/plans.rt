@@ -4,7 +4,7 @@ ghost use Rattle.std.specs.Prelude.{◌≡◌};
 ghost use Rattle.stack_core.specs.Makings.{bytes_of, fin_of, syn_of};
 ghost use Rattle.stack_core.specs.Told.{MayOpen};
 
-use crate::duties::{Again, Duty};
+use crate::send_states::{Again, SendState};
 use case_forms::{Flags, SegmentPlan, Version};
 use endpoint_state::Endpoint;
 use seqno::Word;
@@ -21,7 +21,7 @@ pub(crate) const GREATEST_SHIFT: u8 = 14;
 
 /// What an endpoint is given with its first SYN.
 #[derive(Clone, Copy, Debug, PartialEq, Eq)]
-pub(crate) struct Opening {
+pub(crate) struct SynOptions {
     /// Its initial send sequence number (RFC 9293, 3.4.1).
     pub(crate) iss: Word,
     /// By how many bits it shifts the windows that it offers, if it tells that (RFC 7323, 2.2).
@@ -30,31 +30,32 @@ pub(crate) struct Opening {
 
 /// What an endpoint offers with its segments: the window field of a SYN, and that of others.
 #[derive(Clone, Copy, Debug, PartialEq, Eq)]
-pub(crate) struct Offer {
-    pub(crate) opening: Opening,
+pub(crate) struct AdvertisedWindow {
+    pub(crate) opening: SynOptions,
     pub(crate) at_syn: u16,
     pub(crate) window: u16,
 }
 
-/// What an endpoint offers, where its host has a ring of so many bytes for what it takes. No shift is told where this version
+/// What an endpoint offers, where its host has a ring of so many bytes for what it takes. No shift is told where this
+/// version
 /// scales no windows, nor once the peer's SYN told none (RFC 7323, 2.2); above 14 it is 14 (RFC 7323, 2.3).
 pub(crate) fn offer_of(
     version: Version,
     endpoint: &Endpoint,
-    duty: Duty,
-    opening: Opening,
+    send_state: SendState,
+    opening: SynOptions,
     ring: u16,
-) -> Offer
+) -> AdvertisedWindow
     ensures { MayOpen version result.opening }
 {
-    let room = duty.room(endpoint, ring);
+    let room = send_state.room(endpoint, ring);
     let shift = match endpoint.shift {
         Some(shift) if endpoint.is_scaling() => u64::from(shift.min(14)),
         _ => 0,
     };
-    let tells = endpoint.next() == 0 || endpoint.peer_shift.is_some();
-    Offer {
-        opening: Opening {
+    let tells = endpoint.rcv_nxt() == 0 || endpoint.peer_shift.is_some();
+    AdvertisedWindow {
+        opening: SynOptions {
             iss: opening.iss,
             shift: match opening.shift {
                 Some(told) if tells && version.scales() => Some(told.min(GREATEST_SHIFT)),
@@ -66,15 +67,21 @@ pub(crate) fn offer_of(
     }
 }
 
-/// What a core would make at an endpoint, in this order, where it may: a reset that is due; what seems lost; its SYN; new bytes,
+/// What a core would make at an endpoint, in this order, where it may: a reset that is due; what seems lost; its SYN;
+/// new bytes,
 /// as many as fit, with the FIN behind the last; these without it; an acknowledgment that it owes.
-pub(crate) fn wishes(endpoint: &Endpoint, duty: Duty, offer: Offer) -> [Option<SegmentPlan>; 6] {
-    let fresh = endpoint.max_made() == 0;
+pub(crate) fn candidate_segments(
+    endpoint: &Endpoint,
+    send_state: SendState,
+    offer: AdvertisedWindow,
+) -> [Option<SegmentPlan>; 6] {
+    let fresh = endpoint.snd_max() == 0;
     let bytes = new_bytes(endpoint, offer);
     [
         endpoint.reset_due.then_some(reset_of(endpoint, offer)),
-        duty.again
-            .and_then(|again| made_again(endpoint, again, offer)),
+        send_state
+            .again
+            .and_then(|again| retransmitted(endpoint, again, offer)),
         fresh.then_some(syn_of(endpoint, offer.opening, offer.at_syn)),
         if fresh {
             None
@@ -82,21 +89,27 @@ pub(crate) fn wishes(endpoint: &Endpoint, duty: Duty, offer: Offer) -> [Option<S
             with_fin(endpoint, bytes)
         },
         (bytes.len != 0).then_some(bytes),
-        duty.acknowledges
-            .then_some(plain(endpoint, endpoint.max_made(), 0, offer.window)),
+        send_state
+            .acknowledges
+            .then_some(plain(endpoint, endpoint.snd_max(), 0, offer.window)),
     ]
 }
 
 // New bytes: as many as are there and fit into both windows and a segment (RFC 9293, 3.8.6; RFC 5681, 3.1).
-fn new_bytes(endpoint: &Endpoint, offer: Offer) -> SegmentPlan {
-    bytes_from(endpoint, endpoint.max_made(), edge_of(endpoint), offer)
+fn new_bytes(endpoint: &Endpoint, offer: AdvertisedWindow) -> SegmentPlan {
+    bytes_from(endpoint, endpoint.snd_max(), edge_of(endpoint), offer)
 }
 
-// What seems lost, from the first of it on: the SYN, or bytes with the FIN behind the last. A segment goes out again also where
+// What seems lost, from the first of it on: the SYN, or bytes with the FIN behind the last. A segment goes out again
+// also where
 // the congestion window is less than one (RFC 5681, 3.1).
-fn made_again(endpoint: &Endpoint, again: Again, offer: Offer) -> Option<SegmentPlan> {
-    let from = again.next.max(endpoint.stream.una);
-    let end = again.end.min(endpoint.max_made());
+fn retransmitted(
+    endpoint: &Endpoint,
+    again: Again,
+    offer: AdvertisedWindow,
+) -> Option<SegmentPlan> {
+    let from = again.next.max(endpoint.stream.snd_una);
+    let end = again.end.min(endpoint.snd_max());
     if end <= from {
         return None;
     }
@@ -116,13 +129,13 @@ fn made_again(endpoint: &Endpoint, again: Again, offer: Offer) -> Option<Segment
 
 // The position at which bytes end at most by both windows.
 fn edge_of(endpoint: &Endpoint) -> u64 {
-    let una = endpoint.stream.una.min(GREATEST_POSITION);
-    let offered = offered_edge(una, endpoint.window.wnd, endpoint.probe_due);
-    offered.min(congestion_edge(una, &endpoint.congestion))
+    let snd_una = endpoint.stream.snd_una.min(GREATEST_POSITION);
+    let offered = offered_edge(snd_una, endpoint.window.snd_wnd, endpoint.probe_due);
+    offered.min(congestion_edge(snd_una, &endpoint.congestion))
 }
 
 // Bytes from a position on, up to that one at most.
-fn bytes_from(endpoint: &Endpoint, from: u64, edge: u64, offer: Offer) -> SegmentPlan {
+fn bytes_from(endpoint: &Endpoint, from: u64, edge: u64, offer: AdvertisedWindow) -> SegmentPlan {
     let end = edge.min(endpoint.stream.accepted.end());
     let most = u64::from(endpoint.congestion.smss).min(u64::from(GREATEST_PAYLOAD));
     let len = end.saturating_sub(from).min(most).min(65_535) as u16;
@@ -150,7 +163,7 @@ fn plain(endpoint: &Endpoint, pos: u64, len: u16, window: u16) -> SegmentPlan
         pos,
         len,
         flags: Flags {
-            ack: 1 <= endpoint.next(),
+            ack: 1 <= endpoint.rcv_nxt(),
             rst: false,
             syn: false,
             fin: false,
@@ -162,14 +175,14 @@ fn plain(endpoint: &Endpoint, pos: u64, len: u16, window: u16) -> SegmentPlan
 }
 
 // A reset behind all that was made (RFC 9293, 3.10.4 and 3.10.5).
-fn reset_of(endpoint: &Endpoint, offer: Offer) -> SegmentPlan {
-    let mut plan = plain(endpoint, endpoint.max_made(), 0, offer.window);
+fn reset_of(endpoint: &Endpoint, offer: AdvertisedWindow) -> SegmentPlan {
+    let mut plan = plain(endpoint, endpoint.snd_max(), 0, offer.window);
     plan.flags.rst = true;
     plan
 }
 
 /// Its SYN.
-pub(crate) fn syn_of(endpoint: &Endpoint, opening: Opening, window: u16) -> SegmentPlan
+pub(crate) fn syn_of(endpoint: &Endpoint, opening: SynOptions, window: u16) -> SegmentPlan
     ensures { result ≡ syn_of endpoint.now opening window }
 {
     SegmentPlan {
@@ -178,7 +191,7 @@ pub(crate) fn syn_of(endpoint: &Endpoint, opening: Opening, window: u16) -> Segm
         pos: 0,
         len: 0,
         flags: Flags {
-            ack: 1 <= endpoint.next(),
+            ack: 1 <= endpoint.rcv_nxt(),
             rst: false,
             syn: true,
             fin: false,
@@ -201,14 +214,14 @@ pub(crate) fn syn_of(endpoint: &Endpoint, opening: Opening, window: u16) -> Segm
 pub(crate) fn byte_of(endpoint: &Endpoint, window: u16) -> SegmentPlan
     ensures { result ≡ bytes_of endpoint.now 1 window }
 {
-    plain(endpoint, endpoint.max_made(), 1, window)
+    plain(endpoint, endpoint.snd_max(), 1, window)
 }
 
 /// Its FIN alone.
 pub(crate) fn fin_of(endpoint: &Endpoint, window: u16) -> SegmentPlan
     ensures { result ≡ fin_of endpoint.now window }
 {
-    let mut plan = plain(endpoint, endpoint.max_made(), 0, window);
+    let mut plan = plain(endpoint, endpoint.snd_max(), 0, window);
     plan.flags.fin = true;
     plan
 }

@@ -2,10 +2,10 @@
 
 ghost use Rattle.std.specs.Prelude.{◌≡◌, ◌<◌, ◌≤◌, ◌*◌, suc, IfNone, IfOk, OnOk, OnErr};
 ghost use Rattle.std.specs.Option.{IfSome};
-ghost use Rattle.hosts.specs.Hosts.{At, Makes};
-ghost use Rattle.hosts.specs.HostRules.{Permitted};
-ghost use Rattle.machine.specs.Bounds.{greatest_position, most_steps};
-ghost use Rattle.machine.specs.Machine.{tcp};
+ghost use Rattle.spec_network.specs.Hosts.{At, Makes};
+ghost use Rattle.spec_network.specs.HostRules.{Permitted};
+ghost use Rattle.spec_tcp.specs.Bounds.{greatest_position, most_steps};
+ghost use Rattle.spec_tcp.specs.Machine.{tcp};
 ghost use Rattle.stack_core.specs.CoreWorlds.{Leaves};
 ghost use Rattle.stack_core.specs.CoreWorlds.CoreCall.{Pump};
 ghost use Rattle.stack_core.specs.Cores.{IsAfter, IsRecorded, with_step, world};
@@ -17,24 +17,27 @@ ghost use Rattle.stack_core.specs.Told.{TellsWell};
 ghost use Rattle.stack_core.specs.Flown.{HasFlown};
 ghost use Rattle.stack_core.specs.Outgoing.{GoesOut, MayGo, WaitsToGo, greatest_payload};
 
-use crate::agenda::Touch;
+use crate::deadline_queue::Touch;
 use crate::flying::Flying;
 use crate::host_core::HostCore;
 use crate::makings::find_plan;
 use crate::outgoing::{Outgoing, wire_of};
-use crate::plans::Opening;
+use crate::plans::SynOptions;
 use crate::resets::next_reset;
 use crate::tick::Tick;
 use case_forms::{OutOfMemory, SegmentPlan, TakenLine};
 use endpoint::sent;
-use machine_laws::forgetting_is_free;
 use seqno::Word;
 use spec_step::Label;
+use spec_tcp_laws::forgetting_is_free;
 
 impl HostCore {
-    /// A segment goes out, and flies: its line. First a reset that waits and answers a segment; else a segment is made: a reset
-    /// that is due, what seems lost, new bytes, or an acknowledgment that is owed. None, and nothing is changed: no reset waits,
-    /// and no segment without RST may be made that takes new positions. The error is that memory ran out; then the tick has
+    /// A segment goes out, and flies: its line. First a reset that waits and answers a segment; else a segment is made:
+    /// a reset
+    /// that is due, what seems lost, new bytes, or an acknowledgment that is owed. None, and nothing is changed: no
+    /// reset waits,
+    /// and no segment without RST may be made that takes new positions. The error is that memory ran out; then the tick
+    /// has
     /// passed, and the segment may be made and not gone out.
     pub fn pump(&mut self, tick: Tick) -> Result<Option<Flying>, OutOfMemory>
         requires tick { IsAfter self.old.last tick }
@@ -98,7 +101,7 @@ impl HostCore {
         find_plan(
             self.recording.world(),
             self.recording.me(),
-            &mut self.duties,
+            &mut self.send_states,
             &mut self.ready,
             opening,
             self.config.ring,
@@ -106,8 +109,8 @@ impl HostCore {
     }
 
     // What the next endpoint is given with its first SYN, where its version tells a shift.
-    fn opening(&self) -> Opening {
-        Opening {
+    fn opening(&self) -> SynOptions {
+        SynOptions {
             iss: Word(self.iss),
             shift: self.config.shift,
         }
@@ -146,8 +149,8 @@ impl HostCore {
         ensures { self.new ≡ self.old }
     {
         if let Some(place) = self.recording.body().place_of(plan.lport, plan.rport) {
-            let duty = self.duties.of(place).after_making(&plan);
-            self.duties.note(place, duty);
+            let send_state = self.send_states.of(place).after_making(&plan);
+            self.send_states.set(place, send_state);
         }
     }
 

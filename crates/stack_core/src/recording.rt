@@ -7,15 +7,15 @@ ghost use Rattle.std.specs.Result.{result_err};
 ghost use Rattle.case_forms.specs.Witnesses.{IsWithinLimits};
 ghost use Rattle.case_forms.specs.Traces.{first_event_line};
 ghost use Rattle.verdict.specs.Rules.{first_broken};
-ghost use Rattle.hosts.specs.Tables.{other, pick};
-ghost use Rattle.hosts.specs.Hosts.{Idle, turn_of};
-ghost use Rattle.hosts.specs.HostRules.{step_rules};
-ghost use Rattle.machine.specs.Bounds.{IsSmallEmission, most_steps};
-ghost use Rattle.machine.specs.Forgetting.{forget, forget_body};
-ghost use Rattle.machine.specs.Machine.{tcp};
-ghost use Rattle.machine.specs.Steps.{step_of};
-ghost use Rattle.recordings.specs.Books.{Bring, Do};
-ghost use Rattle.recordings.specs.Recordings.{IsKept};
+ghost use Rattle.spec_network.specs.Tables.{other, pick};
+ghost use Rattle.spec_network.specs.Hosts.{Idle, turn_of};
+ghost use Rattle.spec_network.specs.HostRules.{step_rules};
+ghost use Rattle.spec_tcp.specs.Bounds.{IsSmallEmission, most_steps};
+ghost use Rattle.spec_tcp.specs.Forgetting.{forget, forget_body};
+ghost use Rattle.spec_tcp.specs.Machine.{tcp};
+ghost use Rattle.spec_tcp.specs.Steps.{step_of};
+ghost use Rattle.spec_merge.specs.Books.{Bring, Do};
+ghost use Rattle.spec_merge.specs.Recordings.{IsKept};
 ghost use Rattle.endpoint_state.specs.Turns.{pending_call};
 ghost use Rattle.stack_core.specs.Entries.{entry_at, steps_in};
 ghost use Rattle.stack_core.specs.Recordings.{Joins, with_entry, world_left};
@@ -26,10 +26,10 @@ use crate::item::Item;
 use crate::tick::Tick;
 use case_forms::{Call, Header, Host, OutOfMemory};
 use endpoint_state::{Body, Made, World};
-use machine::Emission;
-use machine_laws::{forgetting_is_free, runs_forget};
-use recordings::books_grow;
+use spec_merge::books_grow;
 use spec_step::{Label, StepFault, admits, apply, bring};
+use spec_tcp::Emission;
+use spec_tcp_laws::{forgetting_is_free, runs_forget};
 use std::alloc::{AllocError, Global};
 use std::marker::Model;
 use verdict::Rule;
@@ -195,7 +195,8 @@ impl Recording {
         Ok(())
     }
 
-    /// A segment of the other host is brought, at a tick. The error is that memory ran out, and then nothing is changed.
+    /// A segment of the other host is brought, at a tick. The error is that memory ran out, and then nothing is
+    /// changed.
     pub fn bring(&mut self, tick: Tick, flying: Flying) -> Result<(), OutOfMemory>
         requires joins { Joins self.old (entry_at self.old.me tick (Bring flying)) }
         ensures ok { OnOk result (self.new ≡ with_entry self.old (entry_at self.old.me tick (Bring flying))) }

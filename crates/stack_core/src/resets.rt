@@ -2,8 +2,8 @@
 
 ghost use Rattle.std.specs.Prelude.{◌≡◌, ◌<◌, ◌+◌, ◌^◌, true, false, suc, slice_get, OnOk, OnErr, IfNone};
 ghost use Rattle.std.specs.Option.{IfSome};
-ghost use Rattle.machine.specs.declared.endpoint.Emission.{Emission};
-ghost use Rattle.machine.specs.Steps.{step_of};
+ghost use Rattle.spec_tcp.specs.declared.endpoint.Emission.{Emission};
+ghost use Rattle.spec_tcp.specs.Steps.{step_of};
 ghost use Rattle.stack_core.specs.Resets.{AreAwaited, IsResetToGo, IsWaitingReset, NoResetWaits, awaited, made_of};
 
 use crate::recording::Recording;
@@ -11,7 +11,8 @@ use case_forms::OutOfMemory;
 use spec_step::Label;
 use std::collections::VecDeque;
 
-/// A step is about to make a segment under the number behind this count: where it is a reset that answers, it is awaited. The
+/// A step is about to make a segment under the number behind this count: where it is a reset that answers, it is
+/// awaited. The
 /// error is that memory ran out, and then nothing is changed.
 pub(crate) fn await_reset(
     resets: &mut VecDeque<u32>,
@@ -57,7 +58,7 @@ fn is_waiting(recording: &Recording, number: u32) -> bool
     ensures no { result ≡ false → (e : Emission) → IsWaitingReset (made_of recording.now) number e → ⊥ }
 {
     match recording.made(number) {
-        Some(made) => !made.is_sent() && made.emission().answers,
+        Some(made) => !made.is_sent() && made.emission().is_reset_reply,
         None => false,
     }
 }

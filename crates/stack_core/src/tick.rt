@@ -11,7 +11,8 @@ pub struct Tick {
     pub counter: u64,
 }
 
-/// Where an event stands among those of both hosts: by its moment in microseconds, then by its counter, then by its host.
+/// Where an event stands among those of both hosts: by its moment in microseconds, then by its counter, then by its
+/// host.
 #[derive(Clone, Copy, Debug, PartialEq, Eq)]
 pub struct Key {
     pub moment: u64,

@@ -3,8 +3,8 @@
 ghost use Rattle.std.specs.Prelude.{◌≡◌, ◌<◌, ◌≤◌, true, length, slice_get, IfNone, IfOk, OnErr, Some};
 ghost use Rattle.case_forms.specs.declared.timer.Timer.TheVariants.{Msl2, Persist, Rto};
 ghost use Rattle.std.specs.Option.{IfSome};
-ghost use Rattle.machine.specs.Bounds.{most_steps};
-ghost use Rattle.machine.specs.declared.endpoint.Endpoint.{Endpoint};
+ghost use Rattle.spec_tcp.specs.Bounds.{most_steps};
+ghost use Rattle.spec_tcp.specs.declared.endpoint.Endpoint.{Endpoint};
 ghost use Rattle.stack_core.specs.CoreWorlds.{Leaves};
 ghost use Rattle.stack_core.specs.CoreWorlds.CoreCall.{Timers};
 ghost use Rattle.stack_core.specs.Cores.{IsAfter, IsRecorded, opened};
@@ -12,12 +12,12 @@ ghost use Rattle.stack_core.specs.Entries.{steps_in};
 ghost use Rattle.stack_core.specs.TimerEvents.{HasTried, IfGivesUp, IsDueAt, IsNotDueAt, IsRefused, IsTimed, NoneDue, NoneDueAt};
 ghost use Rattle.stack_core.specs.Tended.{AreTimed, IsDueSince, IsSlow, IsStill, IsStillBefore, kept_ends, least};
 
-use crate::agenda::{Agenda, Touch, Wake};
+use crate::deadline_queue::{Deadline, DeadlineQueue, Touch};
 use crate::greatest::at_timeout;
 use crate::host_core::HostCore;
 use crate::recording::Recording;
 use crate::tick::Tick;
-use case_forms::{Expired, Growth, Header, OutOfMemory, Ports, TakenLine};
+use case_forms::{Expired, Header, OutOfMemory, Ports, RtoChoice, TakenLine};
 use endpoint::has_more;
 use endpoint_state::{Body, Endpoint};
 use spec_step::Label;
@@ -33,8 +33,10 @@ pub(crate) struct Due {
 }
 
 impl HostCore {
-    /// A timer that is due expires: its line. False, and nothing is changed: no line of a retransmission timer, a persist timer
-    /// or a wait in TIME-WAIT is permitted. The error is that memory ran out; then the tick has passed, and nothing is added.
+    /// A timer that is due expires: its line. False, and nothing is changed: no line of a retransmission timer, a
+    /// persist timer
+    /// or a wait in TIME-WAIT is permitted. The error is that memory ran out; then the tick has passed, and nothing is
+    /// added.
     pub fn timers(&mut self, tick: Tick) -> Result<bool, OutOfMemory>
         requires tick { IsAfter self.old.last tick }
         requires events { self.old.events < 10000000 }
@@ -81,8 +83,11 @@ impl HostCore {
             return;
         };
         if let Some(endpoint) = body.endpoint_at(place) {
-            let duty = self.duties.of(place).after_expiry(endpoint, due.expired);
-            self.duties.note(place, duty);
+            let send_state = self
+                .send_states
+                .of(place)
+                .after_expiry(endpoint, due.expired);
+            self.send_states.set(place, send_state);
         }
     }
 
@@ -98,9 +103,10 @@ impl HostCore {
     }
 }
 
-// A timer that may expire at a moment, at an endpoint that is to be looked at by then. None: no retransmission timer, persist
+// A timer that may expire at a moment, at an endpoint that is to be looked at by then. None: no retransmission timer,
+// persist
 // timer or wait in TIME-WAIT may.
-fn find_due(wakes: &mut Agenda, recording: &Recording, moment: u64) -> Option<Due>
+fn find_due(wakes: &mut DeadlineQueue, recording: &Recording, moment: u64) -> Option<Due>
     requires steps { steps_in recording.now.entries < most_steps }
     requires timed { AreTimed recording.now.header wakes.old.looked wakes.old.entries.keys (kept_ends recording.now) }
     ensures some { IfSome result (λ due. IsDueAt recording.now moment due.ports due.expired) }
@@ -116,7 +122,7 @@ fn find_due(wakes: &mut Agenda, recording: &Recording, moment: u64) -> Option<Du
 }
 
 // The same, where each endpoint was looked at or is to be.
-fn find_among(wakes: &mut Agenda, recording: &Recording, moment: u64) -> Option<Due>
+fn find_among(wakes: &mut DeadlineQueue, recording: &Recording, moment: u64) -> Option<Due>
     requires steps { steps_in recording.now.entries < most_steps }
     requires all { length (kept_ends recording.now) ≤ wakes.old.looked }
     requires timed { AreTimed recording.now.header wakes.old.looked wakes.old.entries.keys (kept_ends recording.now) }
@@ -147,14 +153,14 @@ fn find_among(wakes: &mut Agenda, recording: &Recording, moment: u64) -> Option<
 }
 
 // The endpoint of the first entry is to be looked at when its next timer may expire. False: memory refused that.
-fn look_later(wakes: &mut Agenda, wake: Wake, header: &Header, body: &Body) -> bool
+fn look_later(wakes: &mut DeadlineQueue, wake: Deadline, header: &Header, body: &Body) -> bool
     requires first { slice_get wakes.old.entries.keys 0 ≡ Some wake }
     requires timed { AreTimed header.now wakes.old.looked wakes.old.entries.keys body.now.endpoints }
     ensures timed { AreTimed header.now wakes.new.looked wakes.new.entries.keys body.now.endpoints }
     ensures looked { result ≡ true → wakes.new.looked ≡ wakes.old.looked }
 {
     match next_due(header, body, wake.place) {
-        Some(moment) => wakes.renew(Wake {
+        Some(moment) => wakes.renew(Deadline {
             moment,
             place: wake.place,
         }),
@@ -241,7 +247,8 @@ fn least(one: Option<u64>, other: Option<u64>) -> Option<u64>
     }
 }
 
-// A timer that may expire at a moment, at any endpoint: this goes over all of them, where memory is refused for a list of those
+// A timer that may expire at a moment, at any endpoint: this goes over all of them, where memory is refused for a list
+// of those
 // that are to be looked at. None: no retransmission timer, persist timer or wait in TIME-WAIT may.
 fn find_any_due(recording: &Recording, moment: u64) -> Option<Due>
     requires steps { steps_in recording.now.entries < most_steps }
@@ -277,7 +284,7 @@ fn due_at(recording: &Recording, moment: u64, endpoint: &Endpoint) -> Option<Due
             return Some(due);
         }
     }
-    let least = Expired::Rto(Growth {
+    let least = Expired::Rto(RtoChoice {
         cwnd: 0,
         ssthresh: 0,
     });
@@ -298,7 +305,7 @@ fn has_tried(recording: &Recording, ports: Ports) -> bool
     ensures { result ≡ true → HasTried recording.now ports }
 {
     match recording.body().endpoint_of(ports.lport, ports.rport) {
-        Some(endpoint) => TRIES <= endpoint.tries && !endpoint.state.is_fin_wait_2(),
+        Some(endpoint) => TRIES <= endpoint.unanswered_expiries && !endpoint.state.is_fin_wait_2(),
         None => false,
     }
 }

@@ -2,16 +2,16 @@
 
 ghost use Rattle.std.specs.Prelude.{◌≡◌};
 ghost use Rattle.std.specs.Option.{option_copied, option_map_or};
-ghost use Rattle.machine.specs.Bodies.{place_of, queue_of};
-ghost use Rattle.stack_core.specs.declared.agenda.Touch.TheVariants.{Nobody};
+ghost use Rattle.spec_tcp.specs.Bodies.{place_of, queue_of};
+ghost use Rattle.stack_core.specs.declared.deadline_queue.Touch.TheVariants.{Nobody};
 ghost use Rattle.stack_core.specs.Cores.{own_body, world};
 ghost use Rattle.stack_core.specs.Touches.{call_touch, effect_touch, gone_touch, queue_touch, thing_touch, touch_at};
 
-use crate::agenda::Touch;
+use crate::deadline_queue::Touch;
 use crate::host_core::HostCore;
 use case_forms::Call;
 use endpoint_state::Body;
-use machine::Thing;
+use spec_tcp::SocketTarget;
 
 impl HostCore {
     // The endpoint of these ports, its own and the peer's.
@@ -48,14 +48,15 @@ fn effect_touch(body: &Body, call: Option<&Call>) -> Touch
     }
 }
 
-// What the effect of a call may change: the endpoint of its socket number, the child that is accepted, or what goes with a listener.
+// What the effect of a call may change: the endpoint of its socket number, the child that is accepted, or what goes
+// with a listener.
 fn call_touch(body: &Body, call: &Call) -> Touch
     ensures { result ≡ call_touch body.now call.now }
 {
     match call {
         Call::Accept(number) => match body.thing(*number) {
-            Some(Thing::Listens(place)) => queue_touch(body, place),
-            Some(Thing::Ends(_)) | None => Touch::Nobody,
+            Some(SocketTarget::ListenerAt(place)) => queue_touch(body, place),
+            Some(SocketTarget::EndpointAt(_)) | None => Touch::Nobody,
         },
         Call::Send(number, _) | Call::Recv(number, _) | Call::Shut(number) => {
             thing_touch(body.thing(*number))
@@ -79,21 +80,21 @@ fn queue_touch(body: &Body, place: u32) -> Touch
     }
 }
 
-fn thing_touch(thing: Option<Thing>) -> Touch
+fn thing_touch(thing: Option<SocketTarget>) -> Touch
     ensures { result ≡ option_map_or thing_touch thing Nobody }
 {
     match thing {
-        Some(Thing::Ends(place)) => Touch::Place(place),
-        Some(Thing::Listens(_)) | None => Touch::Nobody,
+        Some(SocketTarget::EndpointAt(place)) => Touch::Place(place),
+        Some(SocketTarget::ListenerAt(_)) | None => Touch::Nobody,
     }
 }
 
-fn gone_touch(thing: Option<Thing>) -> Touch
+fn gone_touch(thing: Option<SocketTarget>) -> Touch
     ensures { result ≡ option_map_or gone_touch thing Nobody }
 {
     match thing {
-        Some(Thing::Ends(place)) => Touch::Place(place),
-        Some(Thing::Listens(_)) => Touch::All,
+        Some(SocketTarget::EndpointAt(place)) => Touch::Place(place),
+        Some(SocketTarget::ListenerAt(_)) => Touch::All,
         None => Touch::Nobody,
     }
 }

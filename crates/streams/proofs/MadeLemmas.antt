@@ -6,7 +6,7 @@ use Rattle.streams.specs.declared.making.Made.{Made}
 use Rattle.streams.specs.declared.marks.Marks.{Marks}
 use Rattle.streams.specs.declared.runs.Run.{Run}
 use Rattle.streams.specs.Lists.{covered}
-use Rattle.streams.specs.Makings.{any_again, made, made_again, made_moment, mark, once, remade}
+use Rattle.streams.specs.Transmissions.{any_again, made, retransmitted, made_moment, mark, once, remade}
 use Rattle.streams.specs.Marks.{IsBelow, is_marked, marked}
 use Rattle.streams.specs.Views.{expand}
 use Rattle.streams.proofs.MarkLemmas.{unmarked}
@@ -64,13 +64,13 @@ drop-marked f at zero all = let same : at + 0 ≡ at = omega arith in rw same re
 drop-marked f at (suc k) [] = refl
 drop-marked f at (suc k) (x ∷ all) = let same : at + suc k ≡ suc at + k = omega arith in rw same (drop-marked f (suc at) k all)
 
-covered-marked : (f g : ℕ → Bool) (at n una : ℕ) (all : List Made) → una ≡ at + n → ((p : ℕ) → g p ≡ (nat_le una p && f p)) → covered (once 0) n (marked f at all) ≡ marked g at (covered (once 0) n all)
-covered-marked f g at zero una all is h = marked-cong f g at all (λ p low high. let from : nat_le una p ≡ true = grind (arith, nat_tests, is, low) in sym (h p ∙ ap (λ (b : Bool). b && f p) from))
-covered-marked f g at (suc n) una [] is h = refl
-covered-marked f g at (suc n) una (x ∷ all) is h =
-    let below : nat_le una at ≡ false = grind (arith, nat_tests, is) in
+covered-marked : (f g : ℕ → Bool) (at n snd_una : ℕ) (all : List Made) → snd_una ≡ at + n → ((p : ℕ) → g p ≡ (nat_le snd_una p && f p)) → covered (once 0) n (marked f at all) ≡ marked g at (covered (once 0) n all)
+covered-marked f g at zero snd_una all is h = marked-cong f g at all (λ p low high. let from : nat_le snd_una p ≡ true = grind (arith, nat_tests, is, low) in sym (h p ∙ ap (λ (b : Bool). b && f p) from))
+covered-marked f g at (suc n) snd_una [] is h = refl
+covered-marked f g at (suc n) snd_una (x ∷ all) is h =
+    let below : nat_le snd_una at ≡ false = grind (arith, nat_tests, is) in
     let none : g at ≡ false = h at ∙ ap (λ (b : Bool). b && f at) below in
-    rw none (ap (λ (ys : List Made). once 0 ∷ ys) (covered-marked f g (suc at) n una all (omega arith) h))
+    rw none (ap (λ (ys : List Made). once 0 ∷ ys) (covered-marked f g (suc at) n snd_una all (omega arith) h))
 
 moment_is : (b : Bool) (x : Made) → (if b then remade x else x).moment ≡ x.moment
 moment_is true x = refl
@@ -129,12 +129,12 @@ fresh_drop (suc k) [] h = refl
 fresh_drop (suc k) (x ∷ all) h = fresh_drop k all (first_false x.again (any_again all) h).1
 
 -- a range is asked for, one of whose positions is marked, or none
-pub asked_some : (f : ℕ → Bool) (from upto p : ℕ) (all : List Made) → from ≤ p → p < upto → p < length all → f p ≡ true → true ≡ made_again (marked f 0 all) from upto
+pub asked_some : (f : ℕ → Bool) (from upto p : ℕ) (all : List Made) → from ≤ p → p < upto → p < length all → f p ≡ true → true ≡ retransmitted (marked f 0 all) from upto
 asked_some f from upto p all low high end is =
     let long : length (drop from all) ≡ length all - from = length-drop from all in
     rw (drop-marked f 0 from all) (sym (again_some f (0 + from) (upto - from) p (drop from all) (omega arith) (omega arith) (omega arith) is))
 
-pub asked_none : (f : ℕ → Bool) (from upto : ℕ) (all : List Made) → ((p : ℕ) → from ≤ p → p < upto → f p ≡ false) → any_again all ≡ false → false ≡ made_again (marked f 0 all) from upto
+pub asked_none : (f : ℕ → Bool) (from upto : ℕ) (all : List Made) → ((p : ℕ) → from ≤ p → p < upto → f p ≡ false) → any_again all ≡ false → false ≡ retransmitted (marked f 0 all) from upto
 asked_none f from upto all h fresh = rw (drop-marked f 0 from all) (sym (again_none f (0 + from) (upto - from) (drop from all) (λ p low high. h p (omega arith) (omega arith)) (fresh_drop from all fresh)))
 
 -- a segment is made
@@ -157,8 +157,8 @@ made_marked m n position count moment fresh end all grown long below new more is
     beyond p outside = let apart : (nat_le position p && nat_lt p (min end (position + count))) ≡ false = grind (arith, nat_tests, outside) in rw (unmarked m end p below outside, apart) refl
 
 -- those below a position are discarded
-pub forgot_marked : (m n : Marks) (una : ℕ) (all kept : List Made) → kept ≡ covered (once 0) una all → ((p : ℕ) → is_marked n p ≡ (nat_le una p && is_marked m p)) → marked (is_marked n) 0 kept ≡ covered (once 0) una (marked (is_marked m) 0 all)
-forgot_marked m n una all kept is less = ap (λ (ys : List Made). marked (is_marked n) 0 ys) is ∙ sym (covered-marked (is_marked m) (is_marked n) 0 una una all (omega arith) less)
+pub forgot_marked : (m n : Marks) (snd_una : ℕ) (all kept : List Made) → kept ≡ covered (once 0) snd_una all → ((p : ℕ) → is_marked n p ≡ (nat_le snd_una p && is_marked m p)) → marked (is_marked n) 0 kept ≡ covered (once 0) snd_una (marked (is_marked m) 0 all)
+forgot_marked m n snd_una all kept is less = ap (λ (ys : List Made). marked (is_marked n) 0 ys) is ∙ sym (covered-marked (is_marked m) (is_marked n) 0 snd_una snd_una all (omega arith) less)
 
 -- what holds in any case holds of an error
 pub on_err : {A E : Type 0} {P : Type 0} (r : Result A E) → P → OnErr r P

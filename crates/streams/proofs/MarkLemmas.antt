@@ -117,16 +117,16 @@ pub ranges_more : (es : List (ℕ × ℕ)) (floor end from upto far : ℕ) → f
 ranges_more es floor end from upto far some low high is h = let old = old_below es floor end from h in ranges_with es floor end from far low (omega arith) (omega arith) h
 
 -- ranges that begin no lower
-pub ranges_from : (es : List (ℕ × ℕ)) (floor start una end : ℕ) → una ≤ start → All (IsLeBy nat_cmp start) (keys_of es) → AreRanges floor end es → AreRanges una end es
-ranges_from es floor start una end low all h = go es (recursion_from_All (IsLeBy nat_cmp start) (keys_of es) all) h
+pub ranges_from : (es : List (ℕ × ℕ)) (floor start snd_una end : ℕ) → snd_una ≤ start → All (IsLeBy nat_cmp start) (keys_of es) → AreRanges floor end es → AreRanges snd_una end es
+ranges_from es floor start snd_una end low all h = go es (recursion_from_All (IsLeBy nat_cmp start) (keys_of es) all) h
   where
-    go : (es : List (ℕ × ℕ)) → AllByRecursion (IsLeBy nat_cmp start) (keys_of es) → AreRanges floor end es → AreRanges una end es
+    go : (es : List (ℕ × ℕ)) → AllByRecursion (IsLeBy nat_cmp start) (keys_of es) → AreRanges floor end es → AreRanges snd_una end es
     go [] k h = tt
     go (e ∷ es) k h = let under : start ≤ e.0 = grind (arith, nat_tests, k.0) in ((omega arith, h.0.1, h.0.2), go es k.1 h.1)
 
 -- the first range goes, and what it covers from a position on is kept by its end
-pub dropped : (old new : List (ℕ × ℕ)) (start end far una p : ℕ) → old ≡ (start, end) ∷ new → start < una → una ≤ p → (in_ranges new p || nat_lt p (max far end)) ≡ (in_ranges old p || nat_lt p far)
-dropped old new start end far una p is low from =
+pub dropped : (old new : List (ℕ × ℕ)) (start end far snd_una p : ℕ) → old ≡ (start, end) ∷ new → start < snd_una → snd_una ≤ p → (in_ranges new p || nat_lt p (max far end)) ≡ (in_ranges old p || nat_lt p far)
+dropped old new start end far snd_una p is low from =
     let reached : nat_lt p (max far end) ≡ (nat_lt p end || nat_lt p far) = grind (arith, nat_tests) in
     let begun : nat_le start p ≡ true = grind (arith, nat_tests, low, from) in
     rw (is, reached, begun) (or_first (in_ranges new p) (nat_lt p end) (nat_lt p far))
@@ -214,10 +214,10 @@ met_marked m from upto end is some h =
     (found.0, found.1, found.2, found.3, rw found.4 refl)
 
 -- where nothing is marked below the floor, nothing is discarded below it
-pub none_lower : (m : Marks) (una end p : ℕ) → una ≤ m.floor → IsBelow end m → is_marked m p ≡ (nat_le una p && is_marked m p)
-none_lower m una end p low h = by (nat_le una p) refl
+pub none_lower : (m : Marks) (snd_una end p : ℕ) → snd_una ≤ m.floor → IsBelow end m → is_marked m p ≡ (nat_le snd_una p && is_marked m p)
+none_lower m snd_una end p low h = by (nat_le snd_una p) refl
   where
-    by : (b : Bool) → nat_le una p ≡ b → is_marked m p ≡ (nat_le una p && is_marked m p)
+    by : (b : Bool) → nat_le snd_una p ≡ b → is_marked m p ≡ (nat_le snd_una p && is_marked m p)
     by true is = rw is refl
     by false is =
         let under : p < m.floor = grind (arith, nat_tests, is, low) in
@@ -225,19 +225,19 @@ none_lower m una end p low h = by (nat_le una p) refl
         rw is (both_false (in_ranges m.ranges.entries p) (nat_le m.floor p && nat_lt p m.reached) (none_below m.ranges.entries m.floor end p under h.0) front)
 
 -- what is marked from a position on, once the ranges below it gave way to their end
-pub still_marked : (old new : List (ℕ × ℕ)) (floor reached far una end p : ℕ) → floor < una → AreRanges una end new
-    → (una ≤ p → (in_ranges new p || nat_lt p far) ≡ (in_ranges old p || nat_lt p reached))
-    → (in_ranges new p || (nat_le una p && nat_lt p far)) ≡ (nat_le una p && (in_ranges old p || (nat_le floor p && nat_lt p reached)))
-still_marked old new floor reached far una end p low h same = by (nat_le una p) refl
+pub still_marked : (old new : List (ℕ × ℕ)) (floor reached far snd_una end p : ℕ) → floor < snd_una → AreRanges snd_una end new
+    → (snd_una ≤ p → (in_ranges new p || nat_lt p far) ≡ (in_ranges old p || nat_lt p reached))
+    → (in_ranges new p || (nat_le snd_una p && nat_lt p far)) ≡ (nat_le snd_una p && (in_ranges old p || (nat_le floor p && nat_lt p reached)))
+still_marked old new floor reached far snd_una end p low h same = by (nat_le snd_una p) refl
   where
-    by : (b : Bool) → nat_le una p ≡ b → (in_ranges new p || (nat_le una p && nat_lt p far)) ≡ (nat_le una p && (in_ranges old p || (nat_le floor p && nat_lt p reached)))
+    by : (b : Bool) → nat_le snd_una p ≡ b → (in_ranges new p || (nat_le snd_una p && nat_lt p far)) ≡ (nat_le snd_una p && (in_ranges old p || (nat_le floor p && nat_lt p reached)))
     by true is =
-        let from : una ≤ p = grind (arith, nat_tests, is) in
+        let from : snd_una ≤ p = grind (arith, nat_tests, is) in
         let begun : nat_le floor p ≡ true = grind (arith, nat_tests, from, low) in
         rw (is, begun) (same from)
     by false is =
-        let under : p < una = grind (arith, nat_tests, is) in
-        rw is (both_false (in_ranges new p) false (none_below new una end p under h) refl)
+        let under : p < snd_una = grind (arith, nat_tests, is) in
+        rw is (both_false (in_ranges new p) false (none_below new snd_una end p under h) refl)
 
 -- nothing is marked from the end on
 pub unmarked : (m : Marks) (end p : ℕ) → IsBelow end m → end ≤ p → is_marked m p ≡ false

@@ -4,7 +4,7 @@ use Rattle.std.proofs.lemmas.List.{drop_more, drop_all, append-nil, length-repli
 use Rattle.streams.specs.declared.making.Made.{Made}
 use Rattle.streams.specs.declared.runs.Run.{Run}
 use Rattle.std.specs.Prelude.{slice_get}
-use Rattle.streams.specs.Makings.{made_moment, once}
+use Rattle.streams.specs.Transmissions.{made_moment, once}
 use Rattle.streams.specs.Views.{expand}
 
 pub expand-append : (rs ss : List Run) → expand (rs ++ ss) ≡ expand rs ++ expand ss

@@ -1,4 +1,5 @@
--- What may be discarded: bytes that were delivered, and bytes and makings below the oldest position that is not acknowledged (RFC 9293,
+-- What may be discarded: bytes that were delivered, and bytes and transmissions below the oldest position that is not
+-- acknowledged (RFC 9293,
 -- 3.3.1: SND.UNA). Something fixed stands in their places.
 use Rattle.std.specs.Prelude.{◌≡◌, ℕ, zero, suc, ◌-◌, ◌≤◌, Bool, List, [], ◌∷◌, ◌++◌, length, Option, None, Some}
 use Rattle.streams.specs.declared.cell.Cell.{Cell}
@@ -7,7 +8,7 @@ use Rattle.streams.specs.declared.making.Made.{Made}
 use Rattle.streams.specs.Lists.{covered}
 use Rattle.streams.specs.Received.{Receiving, is_ended, kept, next, told, waiting}
 use Rattle.streams.specs.Sent.{end_of, piece}
-use Rattle.streams.specs.Makings.{made, made_again, made_moment, once}
+use Rattle.streams.specs.Transmissions.{made, retransmitted, made_moment, once}
 
 -- a byte becomes 0; the rest stays
 abbrev pub faded : Option Cell → Option Cell
@@ -32,11 +33,11 @@ blank count bytes = covered 0 count bytes
 
 -- of the bytes that were accepted those below this position are discarded
 abbrev pub below : ℕ → List ℕ → List ℕ
-below una accepted = blank (una - 1) accepted
+below snd_una accepted = blank (snd_una - 1) accepted
 
--- the makings below this position are discarded: as if they had been made once, at the moment 0
+-- the transmissions below this position are discarded: as if they had been made once, at the moment 0
 abbrev pub made_below : ℕ → List Made → List Made
-made_below una all = covered (once 0) una all
+made_below snd_una all = covered (once 0) snd_una all
 
 -- nothing that an endpoint does with its streams reads what was discarded, and discarding sooner or later is the same
 pub record ForgettingStreams : Type 0 where
@@ -46,16 +47,16 @@ pub record ForgettingStreams : Type 0 where
   pub takes : (r : Receiving) (position : ℕ) (bytes : List ℕ) (fin : Bool) → forgotten (kept (forgotten r) position bytes fin)
       ≡ forgotten (kept r position bytes fin)
   pub tells : (r : Receiving) (count : ℕ) → forgotten (told (forgotten r) count) ≡ forgotten (told r count)
-  pub measures : (una : ℕ) (accepted : List ℕ) → end_of (below una accepted) ≡ end_of accepted
-  pub sends : (una : ℕ) (accepted bytes : List ℕ) → below una (below una accepted ++ bytes) ≡ below una (accepted ++ bytes)
-  pub makes : (una : ℕ) (accepted : List ℕ) (position count : ℕ) → una ≤ position → piece (below una accepted) position count ≡ piece accepted position count
-  pub acks : (una higher : ℕ) (accepted : List ℕ) → una ≤ higher → below higher (below una accepted) ≡ below higher accepted
+  pub measures : (snd_una : ℕ) (accepted : List ℕ) → end_of (below snd_una accepted) ≡ end_of accepted
+  pub sends : (snd_una : ℕ) (accepted bytes : List ℕ) → below snd_una (below snd_una accepted ++ bytes) ≡ below snd_una (accepted ++ bytes)
+  pub makes : (snd_una : ℕ) (accepted : List ℕ) (position count : ℕ) → snd_una ≤ position → piece (below snd_una accepted) position count ≡ piece accepted position count
+  pub acks : (snd_una higher : ℕ) (accepted : List ℕ) → snd_una ≤ higher → below higher (below snd_una accepted) ≡ below higher accepted
 
--- the same of makings
+-- the same of transmissions
 pub record ForgettingMakings : Type 0 where
-  pub measures : (una : ℕ) (all : List Made) → length (made_below una all) ≡ length all
-  pub makes : (una : ℕ) (all : List Made) (position count moment : ℕ) →
-      made_below una (made (made_below una all) position count moment) ≡ made_below una (made all position count moment)
-  pub asks : (una : ℕ) (all : List Made) (from upto : ℕ) → una ≤ from → made_again (made_below una all) from upto ≡ made_again all from upto
-  pub times : (una : ℕ) (all : List Made) (position : ℕ) → una ≤ position → made_moment (made_below una all) position ≡ made_moment all position
-  pub acks : (una higher : ℕ) (all : List Made) → una ≤ higher → made_below higher (made_below una all) ≡ made_below higher all
+  pub measures : (snd_una : ℕ) (all : List Made) → length (made_below snd_una all) ≡ length all
+  pub makes : (snd_una : ℕ) (all : List Made) (position count moment : ℕ) →
+      made_below snd_una (made (made_below snd_una all) position count moment) ≡ made_below snd_una (made all position count moment)
+  pub asks : (snd_una : ℕ) (all : List Made) (from upto : ℕ) → snd_una ≤ from → retransmitted (made_below snd_una all) from upto ≡ retransmitted all from upto
+  pub times : (snd_una : ℕ) (all : List Made) (position : ℕ) → snd_una ≤ position → made_moment (made_below snd_una all) position ≡ made_moment all position
+  pub acks : (snd_una higher : ℕ) (all : List Made) → snd_una ≤ higher → made_below higher (made_below snd_una all) ≡ made_below higher all

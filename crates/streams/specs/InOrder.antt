@@ -1,4 +1,5 @@
--- What reads are given, where what was taken is what the peer sends: TCP delivers in order, and all of it (RFC 9293, 3.8).
+-- What reads are given, where what was taken is what the peer sends: TCP delivers in order, and all of it (RFC 9293,
+-- 3.8).
 use Rattle.std.specs.Prelude.{◌≡◌, ℕ, ◌+◌, ◌<◌, ◌≤◌, ◌↔◌, Bool, true, false, List, ◌++◌, length, Some, slice_get}
 use Rattle.streams.specs.declared.cell.Cell.{Cell}
 use Rattle.streams.specs.Lists.{IsPrefixOf, Within}

@@ -2,7 +2,7 @@ pub mod Lists
 pub mod Cells
 pub mod Received
 pub mod Sent
-pub mod Makings
+pub mod Transmissions
 pub mod Marks
 pub mod Forgetting
 pub mod InOrder

@@ -3,7 +3,7 @@ use Rattle.std.specs.Prelude.{ℕ, suc, ◌<◌, ◌≤◌, Bool, ◌&&◌, ◌|
 use Rattle.std.specs.List.{AllByRecursion, list_any}
 use Rattle.streams.specs.declared.making.Made.{Made}
 use Rattle.streams.specs.declared.marks.Marks.{Marks}
-use Rattle.streams.specs.Makings.{remade}
+use Rattle.streams.specs.Transmissions.{remade}
 
 -- the position lies in one of the ranges, each of which has its first position and the one behind its last
 abbrev pub in_ranges : List (ℕ × ℕ) → ℕ → Bool

@@ -1,4 +1,5 @@
--- What an endpoint took of its peer, by position, and what of it was delivered to reads (RFC 9293, 3.10.7.4 and 3.10.4).
+-- What an endpoint took of its peer, by position, and what of it was delivered to reads (RFC 9293, 3.10.7.4 and
+-- 3.10.4).
 use Rattle.std.specs.Prelude.{ℕ, ◌+◌, ◌-◌, ◌==◌, nat_le, suc, Bool, true, false, not, ◌&&◌, if◌then◌else◌, List, [], ◌∷◌}
 use Rattle.std.specs.Prelude.{Option, Some, length, take, drop, slice_get}
 use Rattle.streams.specs.declared.cell.Cell.{Cell}

@@ -4,7 +4,7 @@ use Rattle.streams.specs.declared.cell.Cell.{Cell}
 use Rattle.streams.specs.declared.cell.Cell.TheVariants.{Syn, Byte, Fin}
 use Rattle.streams.specs.declared.making.Made.{Made}
 use Rattle.streams.specs.declared.runs.Run.{Run}
-use Rattle.streams.specs.Makings.{once}
+use Rattle.streams.specs.Transmissions.{once}
 
 -- so many positions that were taken, from the SYN on
 abbrev pub gone_cells : ℕ → List (Option Cell)

@@ -59,7 +59,8 @@ impl ByteQueue {
         self.bytes.extend_from_slice(bytes)
     }
 
-    /// The first so many bytes leave. What is there is moved to the beginning once no more bytes are there than left, so at most one
+    /// The first so many bytes leave. What is there is moved to the beginning once no more bytes are there than left,
+    /// so at most one
     /// byte is moved for each that leaves.
     pub(crate) fn drop_front(&mut self, count: usize)
         requires { count ≤ length self.old }

@@ -18,7 +18,8 @@ use std::marker::Model;
 #[derive(Drop)]
 pub(crate) struct CellQueue {
     bytes: ByteQueue,
-    /// What was taken behind the bytes, a cell for each place up to the furthest that was taken; a missing one has `None`.
+    /// What was taken behind the bytes, a cell for each place up to the furthest that was taken; a missing one has
+    /// `None`.
     rest: VecDeque<Option<Cell>>,
     /// How many of `rest` stand in front of the first gap.
     ready: usize,
@@ -96,8 +97,10 @@ impl CellQueue {
         Ok(bytes)
     }
 
-    /// Takes these bytes from this place on, which is not in front of the first gap, and a FIN behind them where there is one. What
-    /// was taken at a place before stays; nothing is taken at or behind a FIN that was taken, and no FIN at or below a place that was.
+    /// Takes these bytes from this place on, which is not in front of the first gap, and a FIN behind them where there
+    /// is one. What
+    /// was taken at a place before stays; nothing is taken at or behind a FIN that was taken, and no FIN at or below a
+    /// place that was.
     pub(crate) fn keep(&mut self, at: usize, bytes: &[u8], fin: bool) -> Result<(), AllocError>
         requires at { length (front self.old) ≤ at }
         requires small { at + length bytes.now + 1 < 2 ^ 63 }

@@ -1,4 +1,5 @@
-//! What follows from the definitions, for callers that prove more: each law is the contract of a call that does nothing.
+//! What follows from the definitions, for callers that prove more: each law is the contract of a call that does
+//! nothing.
 
 ghost use Rattle.streams.specs.Forgetting.{ForgettingMakings, ForgettingStreams};
 ghost use Rattle.streams.specs.InOrder.{StartsArePrefixes, StreamsInOrder};
@@ -8,8 +9,8 @@ pub fn forgetting_streams()
     ensures { ForgettingStreams }
 {}
 
-/// Nothing that is asked of makings reads those that were discarded.
-pub fn forgetting_makings()
+/// Nothing that is asked of transmissions reads those that were discarded.
+pub fn forgetting_transmissions()
     ensures { ForgettingMakings }
 {}
 

@@ -6,16 +6,20 @@
 //!
 //! - `byte_queue`: bytes that join at the end and leave in front
 //! - `cell`: what stands at one position
-//! - `receive`: what was taken of the peer, until it is delivered; `cell_queue` holds it, `placing` writes cells, and `leading` reads
+//! - `receive`: what was taken of the peer, until it is delivered; `cell_queue` holds it, `placing` writes cells, and
+//!   `leading` reads
 //!   the bytes in front
 //! - `send`: what sends accepted, until it is acknowledged
 //! - `front`: drops what stands in front of a queue
-//! - `making`, `makings`: when a position was made, and whether it was made again; `runs` keeps the first by segments, `marks`
+//! - `making`, `transmissions`: when a position was made, and whether it was made again; `runs` keeps the first by
+//!   segments, `marks`
 //!   the second by ranges
 //! - `laws`: that nothing reads what is forgotten, and that reads are given what the peer sent, in order
 //!
-//! Each buffer shows the whole list from position 0 on, with something fixed in the places of what it discarded. What must
-//! hold stands in specs/: `Cells` first, then `Received` and `Sent`, then `Makings`, in `InOrder` what follows, and in
+//! Each buffer shows the whole list from position 0 on, with something fixed in the places of what it discarded. What
+//! must
+//! hold stands in specs/: `Cells` first, then `Received` and `Sent`, then `Transmissions`, in `InOrder` what follows,
+//! and in
 //! `Forgetting` what may be discarded. Which bytes may be kept, read or made is for the rules above to say.
 #![tactic(auto)]
 
@@ -26,16 +30,18 @@ mod front;
 mod laws;
 mod leading;
 mod making;
-mod makings;
 mod marks;
 mod placing;
 mod receive;
 mod runs;
 mod send;
+mod transmissions;
 
 pub use cell::Cell;
-pub use laws::{forgetting_makings, forgetting_streams, starts_are_prefixes, streams_in_order};
+pub use laws::{
+    forgetting_streams, forgetting_transmissions, starts_are_prefixes, streams_in_order,
+};
 pub use making::Made;
-pub use makings::Makings;
 pub use receive::ReceiveBuffer;
 pub use send::SendBuffer;
+pub use transmissions::Transmissions;

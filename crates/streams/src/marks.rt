@@ -1,7 +1,9 @@
 //! Which positions were made again.
 //!
-//! A segment that is made again marks one range, however long it is and whatever stands before it. Ranges may overlap. They
-//! are found in order, and one that lies below all that may still be asked for is discarded, so each costs the logarithm of
+//! A segment that is made again marks one range, however long it is and whatever stands before it. Ranges may overlap.
+//! They
+//! are found in order, and one that lies below all that may still be asked for is discarded, so each costs the
+//! logarithm of
 //! how many there are.
 
 ghost use Rattle.std.specs.List.{list_any};
@@ -71,15 +73,15 @@ impl Marks {
     }
 
     /// Those below a position are as if they had not been made again.
-    pub(crate) fn forget_below(&mut self, una: u64)
+    pub(crate) fn forget_below(&mut self, snd_una: u64)
         ensures { (end : ℕ) → IsBelow end self.old → IsBelow end self.new ×
-            ((position : ℕ) → is_marked self.new position ≡ (nat_le una position && is_marked self.old position)) }
+            ((position : ℕ) → is_marked self.new position ≡ (nat_le snd_una position && is_marked self.old position)) }
     {
-        if una <= self.floor {
+        if snd_una <= self.floor {
             return;
         }
-        self.reached = drop_below(&mut self.ranges, una, self.reached);
-        self.floor = una;
+        self.reached = drop_below(&mut self.ranges, snd_una, self.reached);
+        self.floor = snd_una;
     }
 }
 
@@ -111,26 +113,26 @@ fn meet(ranges: &BTreeMap<u64, u64>, from: u64, upto: u64) -> bool
 }
 
 // The ranges that begin below a position are discarded. Answers how far they reach, and at least `reached`.
-fn drop_below(ranges: &mut BTreeMap<u64, u64>, una: u64, reached: u64) -> u64
-    ensures same { (position : ℕ) → una ≤ position → (in_ranges ranges.new.entries position || nat_lt position result)
+fn drop_below(ranges: &mut BTreeMap<u64, u64>, snd_una: u64, reached: u64) -> u64
+    ensures same { (position : ℕ) → snd_una ≤ position → (in_ranges ranges.new.entries position || nat_lt position result)
         ≡ (in_ranges ranges.old.entries position || nat_lt position reached) }
-    ensures below { (floor end : ℕ) → AreRanges floor end ranges.old.entries → reached ≤ end → AreRanges una end ranges.new.entries × (result ≤ end) }
+    ensures below { (floor end : ℕ) → AreRanges floor end ranges.old.entries → reached ≤ end → AreRanges snd_una end ranges.new.entries × (result ≤ end) }
 {
     let mut far = reached;
-    while let Some(end) = pop_below(ranges, una) {
+    while let Some(end) = pop_below(ranges, snd_una) {
         far = far.max(end);
     }
     far
 }
 
 // The first range is discarded, if it begins below a position. Answers its end.
-fn pop_below(ranges: &mut BTreeMap<u64, u64>, una: u64) -> Option<u64>
-    ensures popped { IfSome result (λ end. (start : ℕ) × (ranges.old.entries ≡ (start, end) ∷ ranges.new.entries) × (start < una)) }
-    ensures none { IfNone result ((floor end : ℕ) → AreRanges floor end ranges.old.entries → AreRanges una end ranges.old.entries) }
+fn pop_below(ranges: &mut BTreeMap<u64, u64>, snd_una: u64) -> Option<u64>
+    ensures popped { IfSome result (λ end. (start : ℕ) × (ranges.old.entries ≡ (start, end) ∷ ranges.new.entries) × (start < snd_una)) }
+    ensures none { IfNone result ((floor end : ℕ) → AreRanges floor end ranges.old.entries → AreRanges snd_una end ranges.old.entries) }
     ensures same { IfNone result (ranges.new.entries ≡ ranges.old.entries) }
 {
     let (start, _) = ranges.first_key_value()?;
-    if una <= *start {
+    if snd_una <= *start {
         return None;
     }
     match ranges.pop_first() {

@@ -1,7 +1,9 @@
 //! What an endpoint took of its peer (RFC 9293, 3.10.7.4): bytes may come out of order, and wait for those before them.
 //!
-//! The buffer keeps what was taken from the first byte on that was not delivered, up to the furthest position that was taken. So
-//! memory grows with what waits and with the gaps in it, not with the stream. A delivered byte is discarded, and shows as 0.
+//! The buffer keeps what was taken from the first byte on that was not delivered, up to the furthest position that was
+//! taken. So
+//! memory grows with what waits and with the gaps in it, not with the stream. A delivered byte is discarded, and shows
+//! as 0.
 //! `specs/Received` says what each call does.
 
 ghost use Rattle.std.specs.Prelude.{◌≡◌, ◌+◌, ◌≤◌, ◌<◌, ◌^◌, nat_lt, OnOk, OnErr, IfOk, length, take};

@@ -5,7 +5,7 @@
 ghost use Rattle.std.specs.Prelude.{◌≡◌, ◌+◌, ◌-◌, ◌<◌, ◌≤◌, ◌++◌, ◌∷◌, drop, length, replicate, slice_get, take};
 ghost use Rattle.std.specs.Option.{option_map};
 ghost use Rattle.std.specs.VecDeque.{deque_capacity, deque_len};
-ghost use Rattle.streams.specs.Makings.{any_again, made_moment, mark, once, remade};
+ghost use Rattle.streams.specs.Transmissions.{any_again, made_moment, mark, once, remade};
 ghost use Rattle.streams.specs.Views.{expand};
 
 use std::collections::VecDeque;

@@ -73,10 +73,10 @@ impl SendBuffer {
     }
 
     /// Lets go of the bytes below this position, all of which were acknowledged.
-    pub fn forget_below(&mut self, una: u64)
-        ensures { self.new ≡ below una self.old }
+    pub fn forget_below(&mut self, snd_una: u64)
+        ensures { self.new ≡ below snd_una self.old }
     {
-        let count = una.saturating_sub(1).saturating_sub(self.gone);
+        let count = snd_una.saturating_sub(1).saturating_sub(self.gone);
         let count = count.min(self.bytes.len() as u64);
         self.bytes.drop_front(count as usize);
         self.gone += count;

@@ -92,7 +92,8 @@ impl<V: Drop> Table<V> {
         Ok(())
     }
 
-    /// The value of a number becomes this one: an entry that is there keeps its place, and a new one goes last. Where memory
+    /// The value of a number becomes this one: an entry that is there keeps its place, and a new one goes last. Where
+    /// memory
     /// runs out nothing is changed; it doesn't where there is an entry of the number, or room for it.
     #[inline(always)]
     pub fn insert(&mut self, number: u64, value: V) -> Result<(), AllocError>
@@ -172,7 +173,8 @@ fn place_in(
     }
 }
 
-// A number that is above all has room in the list then, another one has its place in the map. No number is led elsewhere.
+// A number that is above all has room in the list then, another one has its place in the map. No number is led
+// elsewhere.
 fn make_room(
     top: Option<u64>,
     risen: &mut Vec<(u64, usize)>,

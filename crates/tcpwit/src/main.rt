@@ -1,4 +1,5 @@
-//! The program `tcpwit`: `cli::run_all` on the process's words, its standard input and its standard output; or, where the
+//! The program `tcpwit`: `cli::run_all` on the process's words, its standard input and its standard output; or, where
+//! the
 //! words name two files, `cli::run_files` on these.
 #![tactic(auto)]
 

@@ -4,11 +4,12 @@ ghost use Rattle.std.specs.Prelude.{◌<◌, ◌^◌};
 ghost use Rattle.counted.specs.Counting.{failures_of};
 
 use counted::{Counted, ReadFault};
-use explaining::{Range, draw, explain, fault_line, show};
-use lab::find;
+use drawing::{Range, draw, show};
 use line_fields::{FaultKind, TextFault};
 use std::alloc::Global;
 use std::io::{BufRead, Write};
+use why::{explain, fault_line};
+use witness_search::find;
 
 // Done.
 const DONE: u8 = 0;
@@ -21,7 +22,8 @@ const MEMORY: u8 = 4;
 // A read or a write failed.
 const DEVICE: u8 = 5;
 
-/// Does what the words behind the program's name ask for, and answers the status: 0 where it is done, 2 where the text is
+/// Does what the words behind the program's name ask for, and answers the status: 0 where it is done, 2 where the text
+/// is
 /// refused, 3 where the words are none of the program's, 4 where memory ran out, and 5 where a read or a write failed.
 pub(crate) fn run<R: BufRead, W: Write>(
     alloc: Global,
@@ -36,7 +38,7 @@ pub(crate) fn run<R: BufRead, W: Write>(
     };
     let mut text = Vec::new(alloc);
     match r.append_all(&mut text) {
-        Ok(()) => answer(alloc, asked, text.as_slice(), w),
+        Ok(()) => write_answer(alloc, asked, text.as_slice(), w),
         Err(ReadFault::Read) => say(w, b"bad device\n", DEVICE),
         Err(ReadFault::OutOfMemory) => say(w, b"bad memory\n", MEMORY),
     }
@@ -65,7 +67,8 @@ fn asked_by(words: &[&str]) -> Option<Asked> {
     }
 }
 
-// The lines that `--from N`, `--to M` or both ask for, in either order. None: other words, an option twice, a number that is
+// The lines that `--from N`, `--to M` or both ask for, in either order. None: other words, an option twice, a number
+// that is
 // badly written, or M below N.
 fn range_of(options: &[&str]) -> Option<Range> {
     let range = match options {
@@ -106,7 +109,7 @@ fn line_number(value: &str) -> Option<u64> {
 }
 
 // Does what is asked for with a text.
-fn answer<W: Write>(alloc: Global, asked: Asked, text: &[u8], w: &mut Counted<W>) -> u8 {
+fn write_answer<W: Write>(alloc: Global, asked: Asked, text: &[u8], w: &mut Counted<W>) -> u8 {
     match asked {
         Asked::Find => tell(alloc, find(alloc, text), w),
         Asked::Show => tell(alloc, show(alloc, text), w),

@@ -82,6 +82,6 @@ fn push_endpoint(alloc: Global, endpoint: &Endpoint, text: &mut String) -> Resul
     text.push_str(ends.as_str())?;
     let rules = format!(in alloc; " {window:?} {congestion:?} {timers:?}")?;
     text.push_str(rules.as_str())?;
-    let (made, next) = (endpoint.max_made(), endpoint.next());
+    let (made, next) = (endpoint.snd_max(), endpoint.rcv_nxt());
     text.push_str(format!(in alloc; " {made} {next}")?.as_str())
 }

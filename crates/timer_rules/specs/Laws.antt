@@ -56,7 +56,8 @@ pub record BackOffIsExponential : Type 0 where
   pub grows : (rto : ℕ) → rto ≤ longest_rto → rto ≤ doubled rto
   pub doubles : (n rto : ℕ) → rto ≤ longest_rto → doubled_times n rto ≡ min longest_rto (2 ^ n * rto)
 
--- a timer may expire: it is armed since a moment that is not later, and ran out but for a clock tick (RFC 6298, 4 and 5.1)
+-- a timer may expire: it is armed since a moment that is not later, and ran out but for a clock tick (RFC 6298, 4 and
+-- 5.1)
 pub record MayExpire (t : Timers) (timer : Timer) (moment : ℕ) (h : Header) : Type 0 where
   pub since : ℕ
   pub armed : armed_since t timer ≡ Some since
@@ -68,7 +69,8 @@ pub record ExpiryIsExact : Type 0 where
   pub allowed : (t : Timers) (timer : Timer) (moment : ℕ) (h : Header) → (refusal t timer moment h ≡ None) ↔ MayExpire t timer moment h
   pub off : (t : Timers) (timer : Timer) (moment : ℕ) (h : Header) → (refusal t timer moment h ≡ Some Off) ↔ (armed_since t timer ≡ None)
 
--- between two expiries of the retransmission timer in a row lies twice the timeout of the first, at most a minute, but for a clock tick (RFC 6298, 5.5 and 5.6)
+-- between two expiries of the retransmission timer in a row lies twice the timeout of the first, at most a minute, but
+-- for a clock tick (RFC 6298, 5.5 and 5.6)
 abbrev pub ExpiriesAreApart : Type 0
 ExpiriesAreApart =
     (t : Timers) (moment next : ℕ) (h : Header) → refusal (expired t Rto moment) Rto next h ≡ None →

@@ -18,12 +18,14 @@ lost_syn_rto = 3000000
 abbrev pub distance : ℕ → ℕ → ℕ
 distance a b = (a - b) + (b - a)
 
--- SRTT after a sample: the sample, then seven eighths of the old one and an eighth of the sample (RFC 6298, 2.2 and 2.3)
+-- SRTT after a sample: the sample, then seven eighths of the old one and an eighth of the sample (RFC 6298, 2.2 and
+-- 2.3)
 abbrev pub srtt_after : Option ℕ → ℕ → ℕ
 srtt_after None r = r
 srtt_after (Some srtt) r = (7 * srtt + r) / 8
 
--- RTTVAR after a sample: half of it, then three quarters of the old one and a quarter of how far the sample is from the old SRTT (RFC 6298, 2.2 and 2.3)
+-- RTTVAR after a sample: half of it, then three quarters of the old one and a quarter of how far the sample is from the
+-- old SRTT (RFC 6298, 2.2 and 2.3)
 abbrev pub rttvar_after : Option ℕ → ℕ → ℕ → ℕ
 rttvar_after None rttvar r = r / 2
 rttvar_after (Some srtt) rttvar r = (3 * rttvar + distance srtt r) / 4

@@ -1,4 +1,5 @@
--- The timers of an endpoint: which are armed, since when, when they may expire, and what samples and expiries do. Times are microseconds.
+-- The timers of an endpoint: which are armed, since when, when they may expire, and what samples and expiries do. Times
+-- are microseconds.
 use Rattle.std.specs.Prelude.{ℕ, ◌+◌, ◌-◌, ◌*◌, Bool, false, not, nat_lt, max, Option, None, Some, is_some, if◌then◌else◌}
 use Rattle.std.specs.Option.{option_map_or}
 use Rattle.case_forms.specs.declared.trace.Header.{Header}
@@ -55,7 +56,8 @@ stopped t timer = with_timer t timer None
 abbrev pub all_stopped : Timers → Timers
 all_stopped t = record t { rto_armed = None; persist_armed = None; msl_armed = None }
 
--- how long a timer runs: the timeout, or twice the maximum segment lifetime (RFC 6298, 5.1; RFC 9293, 3.8.6.1 and 3.6.1)
+-- how long a timer runs: the timeout, or twice the maximum segment lifetime (RFC 6298, 5.1; RFC 9293, 3.8.6.1 and
+-- 3.6.1)
 abbrev pub run_time : Timers → Timer → Header → ℕ
 run_time t Rto h = t.rto
 run_time t Persist h = t.rto
@@ -78,7 +80,8 @@ is_early t timer moment h = option_map_or (λ since. nat_lt moment (earliest sin
 abbrev pub refusal : Timers → Timer → ℕ → Header → Option TimerFault
 refusal t timer moment h = if not (is_armed t timer) then Some Off else (if is_early t timer moment h then Some Early else None)
 
--- after an expiry: the retransmission timer runs anew with twice the timeout (RFC 6298, 5.5 and 5.6), the persist timer with
+-- after an expiry: the retransmission timer runs anew with twice the timeout (RFC 6298, 5.5 and 5.6), the persist timer
+-- with
 -- the same one, the wait in TIME-WAIT is over
 abbrev pub expired : Timers → Timer → ℕ → Timers
 expired t Rto moment = armed (backed_off t) Rto moment

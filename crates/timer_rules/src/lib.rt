@@ -6,7 +6,7 @@
 //! - `laws`: what all of this means in the words of RFC 6298
 //!
 //! The formulas stand in specs/Timeouts and specs/Timers. Which event arms or stops which timer, and which round
-//! trips may be sampled, stands in `machine/specs`; `endpoint` does it.
+//! trips may be sampled, stands in `spec_tcp/specs`; `endpoint` does it.
 #![tactic(auto)]
 
 mod fault;

@@ -15,7 +15,8 @@ pub const LONGEST_RTO: u64 = 60_000_000;
 
 /// The timers of an endpoint. All times and moments are microseconds.
 ///
-/// These are the retransmission timer, the persist timer and the wait in TIME-WAIT. `Timer::Giveup` is no timer that is armed,
+/// These are the retransmission timer, the persist timer and the wait in TIME-WAIT. `Timer::Giveup` is no timer that is
+/// armed,
 /// so the calls that name a timer take each but that one.
 #[derive(Clone, Copy, Debug, PartialEq, Eq)]
 pub struct Timers {
@@ -101,8 +102,10 @@ impl Timers {
         self.rto = self.rto.max(3_000_000);
     }
 
-    /// Lets a timer, any but `Giveup`, expire at a moment in microseconds. An expiry of the retransmission timer doubles the
-    /// timeout and arms the timer anew (RFC 6298, 5.5 and 5.6), one of the persist timer arms it anew, and the wait in TIME-WAIT
+    /// Lets a timer, any but `Giveup`, expire at a moment in microseconds. An expiry of the retransmission timer
+    /// doubles the
+    /// timeout and arms the timer anew (RFC 6298, 5.5 and 5.6), one of the persist timer arms it anew, and the wait in
+    /// TIME-WAIT
     /// is then over.
     /// `Off` where the timer is not armed, else `Early` where the moment is before the earliest.
     pub fn expire(&mut self, timer: Timer, moment: u64, header: &Header) -> Result<(), TimerFault>
@@ -124,7 +127,8 @@ impl Timers {
         Ok(())
     }
 
-    /// Whether a timer, any but `Giveup`, may expire at a moment in microseconds: the refusals of `expire`, with nothing changed.
+    /// Whether a timer, any but `Giveup`, may expire at a moment in microseconds: the refusals of `expire`, with
+    /// nothing changed.
     pub fn may_expire(&self, timer: Timer, moment: u64, header: &Header) -> Result<(), TimerFault>
         requires { timer ≢ Giveup }
         ensures { result_err result ≡ refusal self.now timer moment header.now }

@@ -54,7 +54,8 @@ AreNamed r words value more = (name : Word) × (words ≡ name ∷ value ∷ mor
 abbrev pub Fits : Row → List Word → Type 0
 Fits r words = (value : Word) × AreNamed r words value [] × (r.value value ≡ None)
 
--- the first fault of the fields: another name, or no value behind it, which is Header; or a bad value; or a field too many, which is Header
+-- the first fault of the fields: another name, or no value behind it, which is Header; or a bad value; or a field too
+-- many, which is Header
 pub data Breaks (r : Row) (header : TextFault) (words : List Word) (e : TextFault) : Type 0 where
   Other : ((value : Word) (more : List Word) → AreNamed r words value more → ⊥) → e ≡ header → Breaks r header words e
   Bad : (value : Word) (more : List Word) (kind : FaultKind) → AreNamed r words value more → r.value value ≡ Some kind → e ≡ fault_at kind value
@@ -76,7 +77,8 @@ AreRows number [] (raw ∷ raws) = ⊥
 AreRows number (r ∷ rows) [] = ⊥
 AreRows number (r ∷ rows) (raw ∷ raws) = IsRow r number raw × AreRows (number + 1) rows raws
 
--- the first fault of lines that have to have these forms, from the line of that number on: those before have theirs, and the next one is
+-- the first fault of lines that have to have these forms, from the line of that number on: those before have theirs,
+-- and the next one is
 -- missing or has this fault
 pub record IsRowsFault (number : ℕ) (rows : List Row) (raws : List (List ℕ)) (e : TextFault) : Type 0 where
   pub done : List Row
@@ -89,7 +91,8 @@ pub record IsRowsFault (number : ℕ) (rows : List Row) (raws : List (List ℕ))
   pub good : AreRows number done front
   pub fault : IsNextFault (IsRowFault next) (number + length done) rest e
 
--- the first fault of the header with which these lines begin: of the first line; or that names a version, and it is that of the others
+-- the first fault of the header with which these lines begin: of the first line; or that names a version, and it is
+-- that of the others
 pub data IsHeaderFault (raws : List (List ℕ)) (e : TextFault) : Type 0 where
   First : IsNextFault (IsTextFaultOf IsFirstText) 1 raws e → IsHeaderFault raws e
   Rows : (v : Version) (first : List ℕ) (others : List (List ℕ)) → raws ≡ first ∷ others → IsLine 1 (joined (first_words v)) first

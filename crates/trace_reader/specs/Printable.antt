@@ -15,7 +15,8 @@ use Rattle.trace_reader.specs.EventLines.{line_pieces}
 abbrev pub HasBytes : Line → Type 0
 HasBytes l = AllByRecursion IsBytePiece (event_pieces l.event)
 
--- the numbers and the event of a line are within the limits of this version (that of a half case names host 0 alone), and its
+-- the numbers and the event of a line are within the limits of this version (that of a half case names host 0 alone),
+-- and its
 -- bytes are bytes
 pub record IsPrintableLine (v : Version) (l : Line) : Type 0 where
   pub moment : l.moment ≤ 1000000000000000000
@@ -23,7 +24,8 @@ pub record IsPrintableLine (v : Version) (l : Line) : Type 0 where
   pub event : IsEvent v l.event
   pub bytes : HasBytes l
 
--- header and lines are within their limits, the lines are numbered on, no moment falls, and the last line is one that a text may have
+-- header and lines are within their limits, the lines are numbered on, no moment falls, and the last line is one that a
+-- text may have
 pub record IsPrintableTrace (t : Trace) : Type 0 where
   pub header : IsHeader t.header
   pub recorded : IsTrace t

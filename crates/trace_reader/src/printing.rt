@@ -33,7 +33,8 @@ fn push_number_line(out: &mut Vec<u8>, name: &str, number: u64) -> Result<(), Ou
     push_end(out)
 }
 
-// Writes the lines that version 1 doesn't have: the RFC of the first congestion window, and the one host that is recorded.
+// Writes the lines that version 1 doesn't have: the RFC of the first congestion window, and the one host that is
+// recorded.
 fn push_late(out: &mut Vec<u8>, version: Version, initial: Initial) -> Result<(), OutOfMemory>
     ensures { OnOk result (out.new.items ≡ out.old.items ++ concat (map printed (late_words version initial))) }
 {

@@ -9,7 +9,8 @@ use line_fields::{FaultKind, Fields, TextFault};
 use segment::{SegFault, decode};
 use std::alloc::Global;
 
-/// The next field, which is a segment in hex. Bad digits are Hex; bytes that are no segment are Segment, with the reason.
+/// The next field, which is a segment in hex. Bad digits are Hex; bytes that are no segment are Segment, with the
+/// reason.
 #[tactic(auto, unfolding(crate::specs::Wires::wire_field, crate::specs::Wires::wire_value))]
 pub(crate) fn wire(alloc: Global, fields: &mut Fields) -> Result<Wire, TextFault>
     ensures { Gives (λ wire. (wire, fields.new)) result (wire_field fields.old) }

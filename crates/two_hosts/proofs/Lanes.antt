@@ -2,7 +2,7 @@
 use Rattle.std.proofs.Common.{◌≡◌, ◌%◌, ◌∙◌, ℕ, zero, suc, refl, ap, sym, arith}
 use Rattle.case_forms.specs.declared.calls.Host.{Host}
 use Rattle.case_forms.specs.declared.calls.Host.TheVariants.{Zero, One}
-use Rattle.hosts.specs.Tables.{lane, other}
+use Rattle.spec_network.specs.Tables.{lane, other}
 
 twice : (h : Host) → other (other h) ≡ h
 twice Zero = refl

@@ -14,7 +14,8 @@ initial_of One = Rfc5681
 initial_of Two = Rfc6928
 initial_of Three = Rfc6928
 
--- times in microseconds: no skew, a segment lives an hour at most, timers may be a millisecond early, and RTO is 200 milliseconds at least
+-- times in microseconds: no skew, a segment lives an hour at most, timers may be a millisecond early, and RTO is 200
+-- milliseconds at least
 abbrev pub header_of : Version → Header
 header_of version =
     record {

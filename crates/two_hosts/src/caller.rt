@@ -1,9 +1,9 @@
 //! An application thread.
 
 ghost use Rattle.std.specs.Prelude.{◌≡◌, IfOk};
-ghost use Rattle.hosts.specs.Tables.{lane};
-ghost use Rattle.machine.specs.Machine.{aim};
-ghost use Rattle.recordings.specs.Books.{Aims};
+ghost use Rattle.spec_network.specs.Tables.{lane};
+ghost use Rattle.spec_tcp.specs.Machine.{aim};
+ghost use Rattle.spec_merge.specs.Books.{Aims};
 ghost use Rattle.stack_core.specs.Cores.{IsCallWithin};
 
 use case_forms::{Answer, Call, OutOfMemory};

@@ -58,7 +58,8 @@ fn adds_up(measure: Measure, thread: u32, lines: &[Line], total: u64) -> bool
     left == 0
 }
 
-/// Whether the lines tell that host 1 received all bytes of so many rounds and read the end, and that both applications closed.
+/// Whether the lines tell that host 1 received all bytes of so many rounds and read the end, and that both applications
+/// closed.
 pub(crate) fn has_ended(lines: &[Line], rounds: u16) -> bool
     ensures { result ≡ has_ended rounds lines.now }
 {

@@ -5,7 +5,8 @@ ghost use Rattle.case_forms.specs.declared.trace.Line.{Line};
 ghost use Rattle.two_hosts.specs.Ends.{has_ended};
 ghost use Rattle.two_hosts.specs.Rounds.{HaveEnded};
 
-/// A recording is said to have come to its end exactly where all bytes of all rounds were received, the end of the stream was read,
+/// A recording is said to have come to its end exactly where all bytes of all rounds were received, the end of the
+/// stream was read,
 /// and both applications closed.
 pub fn rounds_have_ended()
     ensures { (rounds : ℕ) (lines : List Line) → (has_ended rounds lines ≡ true) ↔ HaveEnded rounds lines }

@@ -1,7 +1,9 @@
 //! A recording of two hosts that talk over one connection: host 0 opens it and sends, host 1 listens and receives.
 //!
-//! Each host has a recorder of its own, an application thread, and three threads for its segments and its timers. What both
-//! recorders have in the end is merged into a trace and a witness, and that witness explains that trace: the contract of `record`
+//! Each host has a recorder of its own, an application thread, and three threads for its segments and its timers. What
+//! both
+//! recorders have in the end is merged into a trace and a witness, and that witness explains that trace: the contract
+//! of `record`
 //! says so.
 //!
 //! - `plan`: what is asked of a recording, and what both hosts begin with (`specs/Plans`)

@@ -26,7 +26,8 @@ use std::thread::Threads;
 #[derive(Drop)]
 pub struct Recording {
     pub recorded: Recorded,
-    /// Whether the trace tells that host 1 received the bytes of all rounds, and that both applications came to their end.
+    /// Whether the trace tells that host 1 received the bytes of all rounds, and that both applications came to their
+    /// end.
     pub ended: bool,
     /// The receipts of host 0's thread, and behind them those of host 1's.
     pub receipts: Vec<Receipt>,
@@ -117,7 +118,8 @@ fn let_talk<
     })
 }
 
-// The book of host 0, and that of a recorder of which one seat was given. What isn't handed on is dropped by a call, which the proof meets
+// The book of host 0, and that of a recorder of which one seat was given. What isn't handed on is dropped by a call,
+// which the proof meets
 // once, and not at the end of its scope.
 fn finish_one<M: Site, R: Wait>(
     rt: &R,

@@ -2,7 +2,7 @@
 
 ghost use Rattle.std.specs.Prelude.{◌≡◌, ◌<◌, ◌+◌, IfOk, IfSome, length};
 ghost use Rattle.case_forms.specs.declared.calls.Host.TheVariants.{Zero, One};
-ghost use Rattle.hosts.specs.Tables.{lane};
+ghost use Rattle.spec_network.specs.Tables.{lane};
 
 use crate::caller::{Caller, Halt};
 use crate::plan::{CLIENT_PORT, ROUND_BYTES, SERVER_PORT};

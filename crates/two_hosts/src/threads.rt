@@ -2,7 +2,7 @@
 
 ghost use Rattle.std.specs.Prelude.{◌≡◌, IfSome};
 ghost use Rattle.case_forms.specs.declared.calls.Host.TheVariants.{Zero, One};
-ghost use Rattle.hosts.specs.Tables.{lane};
+ghost use Rattle.spec_network.specs.Tables.{lane};
 
 use crate::caller::Caller;
 use crate::fault::RecordFault;
@@ -42,7 +42,8 @@ impl<F: Drop> Way<F> {
     }
 }
 
-// A host's side of both ways: where its segments go out and what becomes of them, and where those of the other host come in.
+// A host's side of both ways: where its segments go out and what becomes of them, and where those of the other host
+// come in.
 #[derive(Drop)]
 struct Link<F: Drop> {
     out: Sender<Flying, Global>,
@@ -75,7 +76,8 @@ pub(crate) struct Place<'a, L: Site> {
     pub(crate) seat: Seat<L>,
 }
 
-/// Runs both applications and all loops until they end. Where a thread can't be started: out of memory where memory is refused at
+/// Runs both applications and all loops until they end. Where a thread can't be started: out of memory where memory is
+/// refused at
 /// that time, else a fault of the device.
 pub(crate) fn run_threads<
     L: Site + Send + Sync,
@@ -191,7 +193,8 @@ fn end_both<L: Site, M: Site, R: Threads + Wait>(
     }
 }
 
-// How many blocks of memory are asked for, and how large the first is: that of a thread's stack, where nothing else is said.
+// How many blocks of memory are asked for, and how large the first is: that of a thread's stack, where nothing else is
+// said.
 const ASKED_BLOCKS: usize = 32;
 
 const STACK_BYTES: usize = 8_388_608;
@@ -210,7 +213,8 @@ fn ask_room(alloc: Global) -> Result<usize, OutOfMemory> {
     Ok(blocks.len())
 }
 
-// Why not all threads started, asked while those that did hold their memory. A refused thread comes back with no cause, so memory is
+// Why not all threads started, asked while those that did hold their memory. A refused thread comes back with no cause,
+// so memory is
 // asked for: where it is refused, memory is the cause.
 fn why_not(alloc: Global, all: bool) -> Option<RecordFault> {
     if all {
@@ -222,7 +226,8 @@ fn why_not(alloc: Global, all: bool) -> Option<RecordFault> {
     }
 }
 
-// A thread of the scope. Where it is refused it is asked for once more: a refusal of memory may be the only one. None: it is refused
+// A thread of the scope. Where it is refused it is asked for once more: a refusal of memory may be the only one. None:
+// it is refused
 // again.
 fn start<'s, E, F: FnOnce() -> T + Send + Drop + 's, T: Send + Drop + 's>(
     scope: &Scope<'s, E>,

@@ -4,8 +4,8 @@ ghost use Rattle.std.specs.Prelude.{◌≡◌, ◌++◌, ◌+◌, ◌≤◌, ◌
 ghost use Rattle.verdict.specs.VerdictText.{two_numbers, verdict_text};
 
 use crate::rule::Rule;
-use case_forms::OutOfMemory;
 use itoa::Buffer;
+use std::alloc::AllocError;
 use std::fmt;
 
 /// Whether the steps of a witness explain a trace.
@@ -32,7 +32,7 @@ pub enum Verdict {
 
 /// Appends the verdict's text, `yes <lines> <hidden>` or `no <witness line> <trace line> <rule>`, without an end of
 /// line. Memory is taken only where `out` has not the room, and where there is none `out` stays as it was.
-pub fn print_verdict(verdict: &Verdict, out: &mut Vec<u8>) -> Result<(), OutOfMemory>
+pub fn print_verdict(verdict: &Verdict, out: &mut Vec<u8>) -> Result<(), AllocError>
     ensures ok { OnOk result (out.new.items ≡ out.old.items ++ verdict_text verdict.now) }
     ensures err { OnErr result (out.new.items ≡ out.old.items) }
     ensures room { vec_len out.old + length (verdict_text verdict.now) ≤ vec_capacity out.old → IsOk result }
@@ -55,7 +55,7 @@ fn append_words(
     second: u64,
     gap: &str,
     tail: &str,
-) -> Result<(), OutOfMemory>
+) -> Result<(), AllocError>
     requires { (length head.now ≤ 4) × (length gap.now ≤ 1) × (length tail.now ≤ 14) }
     ensures ok { OnOk result (out.new.items ≡ out.old.items ++ (head.now ++ two_numbers first second ++ gap.now ++ tail.now)) }
     ensures err { OnErr result (out.new.items ≡ out.old.items) }

@@ -1,4 +1,5 @@
--- What an acknowledgment does to the congestion window. `acked` is how many positions it acknowledges first, the SYN not counted.
+-- What an acknowledgment does to the congestion window. `acked` is how many positions it acknowledges first, the SYN
+-- not counted.
 use Rattle.std.specs.Prelude.{ℕ, ◌+◌, ◌-◌, ◌*◌, ◌/◌, Bool, not, ◌&&◌, nat_lt, nat_le, min, max, if◌then◌else◌}
 use Rattle.window_rules.specs.declared.congestion.Congestion.{Congestion}
 use Rattle.window_rules.specs.Windows.{capped}
@@ -19,7 +20,8 @@ increment c = max 1 (c.smss * c.smss / max c.cwnd 1)
 abbrev pub avoidance : Congestion → ℕ → ℕ
 avoidance c acked = c.cwnd + (if fills_window c acked then c.smss else increment c)
 
--- outside fast recovery: slow start below ssthresh, congestion avoidance above, at equality the greater of both (RFC 5681, 3.1)
+-- outside fast recovery: slow start below ssthresh, congestion avoidance above, at equality the greater of both (RFC
+-- 5681, 3.1)
 abbrev pub growth : Congestion → ℕ → ℕ
 growth c acked =
     if nat_lt c.cwnd c.ssthresh then slow_start c acked
@@ -33,7 +35,8 @@ may_grow c acked = capped (if c.fast then c.ssthresh else growth c acked)
 abbrev pub is_avoiding : Congestion → Bool
 is_avoiding c = not c.fast && nat_le c.ssthresh c.cwnd
 
--- counted after a new acknowledgment: it grows by what is acknowledged, and falls by cwnd where that makes a whole window (RFC 5681, 3.1)
+-- counted after a new acknowledgment: it grows by what is acknowledged, and falls by cwnd where that makes a whole
+-- window (RFC 5681, 3.1)
 abbrev pub counted_after : Congestion → ℕ → ℕ
 counted_after c acked = if is_avoiding c then (if fills_window c acked then c.counted + acked - c.cwnd else c.counted + acked) else c.counted
 

@@ -1,4 +1,5 @@
--- What a loss does to the congestion window and the slow start threshold. `flight` is what was sent and is not acknowledged.
+-- What a loss does to the congestion window and the slow start threshold. `flight` is what was sent and is not
+-- acknowledged.
 use Rattle.std.specs.Prelude.{ℕ, ◌+◌, ◌*◌, ◌/◌, Bool, ◌||◌, max, if◌then◌else◌}
 use Rattle.window_rules.specs.declared.congestion.Congestion.{Congestion}
 use Rattle.window_rules.specs.Windows.{capped}
@@ -7,7 +8,8 @@ use Rattle.window_rules.specs.Windows.{capped}
 abbrev pub halved : Congestion → ℕ → ℕ
 halved c flight = capped (max (flight / 2) (2 * c.smss))
 
--- the greatest ssthresh after a timeout: the old one where the same data, or the SYN, was sent again before (RFC 5681, 3.1)
+-- the greatest ssthresh after a timeout: the old one where the same data, or the SYN, was sent again before (RFC 5681,
+-- 3.1)
 abbrev pub threshold : Congestion → ℕ → Bool → Bool → ℕ
 threshold c flight syn_pending again = if syn_pending || again then capped c.ssthresh else halved c flight
 
@@ -15,7 +17,8 @@ threshold c flight syn_pending again = if syn_pending || again then capped c.sst
 abbrev pub on_timeout : Congestion → ℕ → Bool → Bool → ℕ × ℕ
 on_timeout c flight syn_pending again = (capped c.smss, threshold c flight syn_pending again)
 
--- the greatest cwnd where fast recovery begins with this ssthresh: a segment more for each duplicate acknowledgment (RFC 5681, 3.2, steps 3 and 4)
+-- the greatest cwnd where fast recovery begins with this ssthresh: a segment more for each duplicate acknowledgment
+-- (RFC 5681, 3.2, steps 3 and 4)
 abbrev pub recovery_window : Congestion → ℕ → ℕ
 recovery_window c ssthresh = capped (ssthresh + c.dup * c.smss)
 

@@ -19,7 +19,8 @@ pub fn offered_edge(una: u64, wnd: u32, probe: bool) -> u64
     una + wnd as u64 + probed
 }
 
-/// The position at which new data ends at most by the congestion window from position `una` on, which is below 2^63; two
+/// The position at which new data ends at most by the congestion window from position `una` on, which is below 2^63;
+/// two
 /// segments later at the first and the second duplicate acknowledgment, outside fast recovery (RFC 5681, 3.1 and 3.2).
 pub fn congestion_edge(una: u64, congestion: &Congestion) -> u64
     requires { una < 2 ^ 63 }

@@ -66,7 +66,8 @@ IsStepFault v number raw e = IsFaultOf (step_form v) number raw e
 abbrev pub IsStepsFault : Version → ℕ → List (List ℕ) → TextFault → Type 0
 IsStepsFault v number raws e = IsFaultAmong (IsStepText v) (IsStepFault v) number_after number raws e
 
--- the first fault of a witness: of its first line, which has to name the version; or that line is there, and it is that of the steps
+-- the first fault of a witness: of its first line, which has to name the version; or that line is there, and it is that
+-- of the steps
 pub data IsWitnessFault (v : Version) (text : List ℕ) (e : TextFault) : Type 0 where
   First : IsNextFault (IsTextFaultOf (λ line. line ≡ first_text v)) 1 (lines_of text) e → IsWitnessFault v text e
   Steps : (first : List ℕ) (raws : List (List ℕ)) → lines_of text ≡ first ∷ raws → IsLine 1 (first_text v) first → IsStepsFault v 2 raws e

@@ -16,7 +16,8 @@ use Rattle.witness.specs.LabelFields.{label_field}
 abbrev pub step_pieces : Step → List Piece
 step_pieces s = number s.moment ∷ label_pieces s.label
 
--- the bytes, with their end, are the line of that number that spells the step in this version; its span is the whole line
+-- the bytes, with their end, are the line of that number that spells the step in this version; its span is the whole
+-- line
 pub record IsStepText (v : Version) (number : ℕ) (s : Step) (raw : List ℕ) : Type 0 where
   pub texts : List (List ℕ)
   pub written : AreWritten (step_pieces s) texts

@@ -37,7 +37,8 @@ witness_in v raws = do
 unfoldable pub witness_for : Version → List ℕ → Result Witness TextFault
 witness_for v text = witness_in v (lines_of text)
 
--- the version that the first of these lines names; where it names none, the text is read for version 1, and its first line is the fault
+-- the version that the first of these lines names; where it names none, the text is read for version 1, and its first
+-- line is the fault
 abbrev pub version_named : List (List ℕ) → Version
 version_named [] = One
 version_named (raw ∷ raws) = if begins_witness Two raw then Two else if begins_witness Three raw then Three else One

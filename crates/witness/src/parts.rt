@@ -56,7 +56,8 @@ pub(crate) fn extras(fields: &mut Fields) -> Result<Extras, TextFault>
     Ok(Extras::Two(first, second))
 }
 
-// The initial send sequence number behind a segment's window, where there is a further field, and where windows may be scaled
+// The initial send sequence number behind a segment's window, where there is a further field, and where windows may be
+// scaled
 // the shift, where there is one more. These fields are always numbers.
 #[tactic(auto, unfolding(crate::specs::Parts::start_field))]
 pub(crate) fn start(

@@ -158,13 +158,15 @@ pub fn print_witness(alloc: Global, witness: &Witness) -> Result<Vec<u8>, OutOfM
     Ok(out)
 }
 
-/// A witness of the same version that says what some text says, wherever its spans are, is printed as a text that stands for
+/// A witness of the same version that says what some text says, wherever its spans are, is printed as a text that
+/// stands for
 /// the same.
 pub fn print_law()
     ensures { (v w : Witness) (text : List ℕ) → IsWitnessText v text → without_spans v ≡ without_spans w → IsWitnessText v (witness_text w) }
 {}
 
-/// A witness is printed as a text that stands for it, with the spans of that text, exactly where it is within the limits.
+/// A witness is printed as a text that stands for it, with the spans of that text, exactly where it is within the
+/// limits.
 pub fn printable_law()
     ensures printed { (w : Witness) → IsPrintableWitness w → IsWitnessText (with_columns w) (witness_text w) }
     ensures read { (w : Witness) → IsPrintableWitness w → witness_of (witness_text w) ≡ Ok (with_columns w) }

@@ -20,7 +20,8 @@ use std::alloc::Global;
 // The greatest moment, in microseconds.
 const MAX_MOMENT: u64 = 1_000_000_000_000_000_000;
 
-/// The step of the line of that number in this version, whose bytes are given with the line's end. Its span is the whole
+/// The step of the line of that number in this version, whose bytes are given with the line's end. Its span is the
+/// whole
 /// line.
 #[tactic(auto, unfolding(crate::specs::Steps::step_of))]
 #[inline(always)]
@@ -72,7 +73,8 @@ fn version_named(text: &[u8]) -> Version
     }
 }
 
-/// The witness that a text stands for, whichever version it is of, or the text's first fault. A first line that names no
+/// The witness that a text stands for, whichever version it is of, or the text's first fault. A first line that names
+/// no
 /// version is Header. No fault says that moments fall.
 pub fn read_witness(alloc: Global, text: &[u8]) -> Result<Witness, TextFault>
     // What is read is spelled so.
@@ -87,7 +89,8 @@ pub fn read_witness(alloc: Global, text: &[u8]) -> Result<Witness, TextFault>
     read(alloc, version_named(text), text)
 }
 
-/// The witness that a text stands for to a trace of this version, or the text's first fault. A witness of another version
+/// The witness that a text stands for to a trace of this version, or the text's first fault. A witness of another
+/// version
 /// has the fault of its first line, Header.
 pub fn read_witness_for(alloc: Global, version: Version, text: &[u8]) -> Result<Witness, TextFault>
     // What is read is spelled so, and of this version.

@@ -20,7 +20,8 @@ use std::io::BufRead;
 // The number of the line of the first step.
 const FIRST_STEP: u64 = 2;
 
-/// A witness of some version, whose steps are read as they are asked for. Of the text one line is kept in memory. After a
+/// A witness of some version, whose steps are read as they are asked for. Of the text one line is kept in memory. After
+/// a
 /// fault each later call answers that fault.
 #[derive(Drop)]
 pub struct StepReader<B> {
@@ -50,7 +51,8 @@ fn first_line<B: BufRead>(
 }
 
 impl<B> StepReader<B> {
-    /// A reader of a whole text for a trace of this version, of which nothing is read yet. A witness of another version has
+    /// A reader of a whole text for a trace of this version, of which nothing is read yet. A witness of another version
+    /// has
     /// the fault of its first line, Header.
     pub fn new(alloc: Global, version: Version, source: Counted<B>) -> StepReader<B>
         ensures source { source_of result ≡ source }

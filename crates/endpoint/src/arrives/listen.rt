@@ -1,14 +1,14 @@
 //! A segment arrives in LISTEN (RFC 9293, 3.10.7.2).
 
-ghost use Rattle.machine.specs.Arrives.Listen.{child, listener_rules};
+ghost use Rattle.spec_tcp.specs.Arrives.Listen.{child, listener_rules};
 ghost use Rattle.std.specs.Prelude.{◌≡◌};
 ghost use Rattle.std.specs.Result.{result_err};
 ghost use Rattle.verdict.specs.Rules.{first_broken};
 
-use crate::arrives::otherwise::window::persist_taken;
+use crate::arrives::other_states::window::persist_taken;
 use crate::arrives::syn_sent::told_smss;
 use case_forms::{State, TakeChoice};
-use machine::{Emission, Endpoint};
+use spec_tcp::{Emission, Endpoint};
 use std::alloc::Global;
 use verdict::Rule;
 
@@ -36,10 +36,10 @@ pub fn child(alloc: Global, listener: u32, how: TakeChoice, m: &Emission, moment
     let mut child = Endpoint::new(alloc, m.rport, m.lport, Some(listener), State::SynReceived);
     child.irs = Some(m.seq);
     child.peer_shift = m.scale;
-    child.stream.peer = Some(m.maker);
+    child.stream.peer = Some(m.sender);
     child.stream.receive.meet();
-    child.window.wnd = u32::from(m.window);
-    child.window.wl1 = m.pos;
+    child.window.snd_wnd = u32::from(m.window);
+    child.window.snd_wl1 = m.pos;
     child.congestion.cwnd = how.cwnd;
     child.congestion.smss = told_smss(m.mss);
     child.timers = persist_taken(child.timers, m.window, moment);

@@ -2,25 +2,25 @@
 
 ghost use Rattle.case_forms.specs.declared.calls.State.TheVariants as states;
 ghost use Rattle.streams.specs.Received as received;
-ghost use Rattle.machine.specs.Forgetting.{forget_endpoint};
+ghost use Rattle.spec_tcp.specs.Forgetting.{forget_endpoint};
 ghost use Rattle.case_forms.specs.States.{is_syn_received};
-ghost use Rattle.machine.specs.Same.{same_word};
-ghost use Rattle.machine.specs.Arrives.SynSent.{met_peer, una_met, timers_met, syn_sent_rules, answers_syn, told_smss, greatest_at_syn};
-ghost use Rattle.machine.specs.Arrives.Otherwise.Ack.{acknowledges_syn};
+ghost use Rattle.spec_tcp.specs.Same.{same_word};
+ghost use Rattle.spec_tcp.specs.Arrives.SynSent.{on_syn, snd_una_met, timers_met, syn_sent_rules, answers_syn, told_smss, greatest_at_syn};
+ghost use Rattle.spec_tcp.specs.Arrives.OtherStates.Ack.{acknowledges_syn};
 ghost use Rattle.seqno.specs.Numbers.{number_of};
 ghost use Rattle.std.specs.Option.{option_map_or};
 ghost use Rattle.std.specs.Prelude.{◌≡◌, false, ◌&&◌, if◌then◌else◌};
 ghost use Rattle.std.specs.Result.{result_err};
 ghost use Rattle.verdict.specs.Rules.{first_broken};
 
-use crate::arrives::otherwise::ack::{acknowledges_syn, is_no_sample};
-use crate::arrives::otherwise::congestion::first_window;
-use crate::arrives::otherwise::timers::{rto_taken, timeout_taken};
-use crate::arrives::otherwise::window::{is_unread, persist_taken};
+use crate::arrives::other_states::ack::{acknowledges_syn, is_no_sample};
+use crate::arrives::other_states::congestion::first_window;
+use crate::arrives::other_states::timers::{rto_taken, timeout_taken};
+use crate::arrives::other_states::window::{is_unread, persist_taken};
 use crate::same::same_word;
 use case_forms::{Header, Initial, State, TakeChoice};
-use machine::{Arrived, Endpoint, Window};
 use seqno::number;
+use spec_tcp::{Arrived, Endpoint, SendWindow};
 use timer_rules::Timers;
 use verdict::Rule;
 use window_rules::Congestion;
@@ -57,7 +57,7 @@ pub fn admits_syn_sent(
 fn answers_syn(endpoint: &Endpoint, m: &Arrived<'_>) -> bool
     ensures { result ≡ answers_syn endpoint.now m.now }
 {
-    m.flags().ack && endpoint.max_made() == 1 && has_syn_number(endpoint, m)
+    m.flags().ack && endpoint.snd_max() == 1 && has_syn_number(endpoint, m)
 }
 
 fn has_syn_number(endpoint: &Endpoint, m: &Arrived<'_>) -> bool
@@ -79,7 +79,8 @@ pub(crate) fn told_smss(told: Option<u16>) -> u32
     }
 }
 
-/// The greatest congestion window in bytes that an endpoint in SYN-SENT may have once it took the segment, with the segment
+/// The greatest congestion window in bytes that an endpoint in SYN-SENT may have once it took the segment, with the
+/// segment
 /// size that the SYN brings.
 pub fn greatest_at_syn(initial: Initial, endpoint: &Endpoint, m: &Arrived<'_>) -> u64
     ensures { result ≡ greatest_at_syn initial endpoint.now m.now }
@@ -93,14 +94,14 @@ pub fn greatest_at_syn(initial: Initial, endpoint: &Endpoint, m: &Arrived<'_>) -
 
 /// Whether the segment acknowledges the own SYN of a child in SYN-RECEIVED, so that the child joins its listener's
 /// queue.
-pub fn joins(endpoint: &Endpoint, m: &Arrived<'_>) -> bool
+pub fn completes_handshake(endpoint: &Endpoint, m: &Arrived<'_>) -> bool
     ensures { result ≡ is_syn_received endpoint.now.state && acknowledges_syn endpoint.now m.now }
 {
     endpoint.state.is_syn_received() && acknowledges_syn(endpoint, m)
 }
 
 /// In SYN-SENT the peer's SYN is taken: ESTABLISHED with an acknowledgment, else SYN-RECEIVED.
-pub(crate) fn met_peer(
+pub(crate) fn on_syn(
     header: &Header,
     endpoint: &mut Endpoint,
     how: TakeChoice,
@@ -108,25 +109,25 @@ pub(crate) fn met_peer(
     moment: u64,
 )
     requires { endpoint.old.stream.receive ≡ received.empty }
-    ensures { endpoint.new ≡ forget_endpoint (met_peer header.now endpoint.old how m.now moment) }
+    ensures { endpoint.new ≡ forget_endpoint (on_syn header.now endpoint.old how m.now moment) }
 {
-    let una = una_met(endpoint, m);
+    let snd_una = snd_una_met(endpoint, m);
     let congestion = congestion_met(endpoint, how, m);
     let window = window_met(endpoint, m);
-    let backs = if m.flags().ack { 0 } else { endpoint.backs };
-    endpoint.timers = timers_met(header, endpoint, how, m, moment, una);
+    let backoffs = if m.flags().ack { 0 } else { endpoint.backoffs };
+    endpoint.timers = timers_met(header, endpoint, how, m, moment, snd_una);
     endpoint.state = state_met(m);
     endpoint.irs = Some(m.seq());
     endpoint.peer_shift = m.scale();
-    endpoint.stream.peer = Some(m.maker());
+    endpoint.stream.peer = Some(m.sender());
     endpoint.stream.receive.meet();
-    endpoint.stream.una = una;
+    endpoint.stream.snd_una = snd_una;
     endpoint.window = window;
     endpoint.congestion = congestion;
-    endpoint.tries = 0;
-    endpoint.backs = backs;
-    endpoint.stream.accepted.forget_below(una);
-    endpoint.makings.forget_below(una);
+    endpoint.unanswered_expiries = 0;
+    endpoint.backoffs = backoffs;
+    endpoint.stream.accepted.forget_below(snd_una);
+    endpoint.transmissions.forget_below(snd_una);
 }
 
 fn state_met(m: &Arrived<'_>) -> State
@@ -139,20 +140,24 @@ fn state_met(m: &Arrived<'_>) -> State
     }
 }
 
-fn una_met(endpoint: &Endpoint, m: &Arrived<'_>) -> u64
-    ensures { result ≡ una_met endpoint.now m.now }
+fn snd_una_met(endpoint: &Endpoint, m: &Arrived<'_>) -> u64
+    ensures { result ≡ snd_una_met endpoint.now m.now }
 {
-    let una = endpoint.stream.una;
-    if m.flags().ack { una.max(1) } else { una }
+    let snd_una = endpoint.stream.snd_una;
+    if m.flags().ack {
+        snd_una.max(1)
+    } else {
+        snd_una
+    }
 }
 
-fn window_met(endpoint: &Endpoint, m: &Arrived<'_>) -> Window
-    ensures { result ≡ record endpoint.now.window { wnd = m.now.window; wl1 = m.now.pos; wl2 = if m.now.flags.ack then 1 else 0 } }
+fn window_met(endpoint: &Endpoint, m: &Arrived<'_>) -> SendWindow
+    ensures { result ≡ record endpoint.now.window { snd_wnd = m.now.window; snd_wl1 = m.now.pos; snd_wl2 = if m.now.flags.ack then 1 else 0 } }
 {
     let mut window = endpoint.window;
-    window.wnd = u32::from(m.window());
-    window.wl1 = m.pos();
-    window.wl2 = if m.flags().ack { 1 } else { 0 };
+    window.snd_wnd = u32::from(m.window());
+    window.snd_wl1 = m.pos();
+    window.snd_wl2 = if m.flags().ack { 1 } else { 0 };
     window
 }
 
@@ -178,13 +183,13 @@ fn timers_met(
     how: TakeChoice,
     m: &Arrived<'_>,
     moment: u64,
-    una: u64,
+    snd_una: u64,
 ) -> Timers
-    requires { una ≡ una_met endpoint.now m.now }
+    requires { snd_una ≡ snd_una_met endpoint.now m.now }
     ensures { result ≡ timers_met header.now endpoint.now how m.now moment }
 {
-    let sample = how.sample && m.flags().ack && endpoint.stream.una == 0;
+    let sample = how.sample && m.flags().ack && endpoint.stream.snd_una == 0;
     let measured = timeout_taken(header, endpoint, sample, 1, m.flags().ack, moment);
-    let running = rto_taken(measured, una == endpoint.max_made(), false, moment);
+    let running = rto_taken(measured, snd_una == endpoint.snd_max(), false, moment);
     persist_taken(running, m.window(), moment)
 }

@@ -1,13 +1,13 @@
 //! What may be answered at a listener, and an endpoint that is accepted.
 
-ghost use Rattle.machine.specs.Bounds.{HasRoom};
-ghost use Rattle.machine.specs.Calls.Accept.{listener_allows};
-ghost use Rattle.machine.specs.Forgetting.{forget_endpoint};
+ghost use Rattle.spec_tcp.specs.Bounds.{HasRoom};
+ghost use Rattle.spec_tcp.specs.Calls.Accept.{listener_allows};
+ghost use Rattle.spec_tcp.specs.Forgetting.{forget_endpoint};
 ghost use Rattle.std.specs.Prelude.{◌≡◌, None};
 
 use crate::calls::is_not_connected;
 use case_forms::{Answer, Call, State};
-use machine::{Endpoint, Queue};
+use spec_tcp::{Endpoint, Queue};
 
 /// Whether a call on a live socket number of a listener may have this answer now, by the listener's queue.
 pub fn listener_allows(queue: &Queue, call: &Call, answer: &Answer) -> bool

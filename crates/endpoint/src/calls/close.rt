@@ -1,13 +1,13 @@
 //! CLOSE and ABORT: what they may be answered, and the endpoint then.
 
-ghost use Rattle.machine.specs.Bounds.{HasRoom};
-ghost use Rattle.machine.specs.Calls.Close.{after_shut, after_close, shut_down, after_abort, orphaned, ended_state, resets_at_abort, shut_allows};
-ghost use Rattle.machine.specs.Forgetting.{forget_endpoint};
+ghost use Rattle.spec_tcp.specs.Bounds.{HasRoom};
+ghost use Rattle.spec_tcp.specs.Calls.Close.{after_shut, after_close, shut_down, after_abort, orphaned, ended_state, resets_at_abort, shut_allows};
+ghost use Rattle.spec_tcp.specs.Forgetting.{forget_endpoint};
 ghost use Rattle.std.specs.Prelude.{◌≡◌};
 
 use crate::calls::tells_fault;
 use case_forms::{Answer, State};
-use machine::Endpoint;
+use spec_tcp::Endpoint;
 
 pub(crate) fn shut_allows(endpoint: &Endpoint, answer: &Answer) -> bool
     ensures { result ≡ shut_allows endpoint.now answer.now }

@@ -1,14 +1,14 @@
 //! RECEIVE: what it may be answered, and the endpoint then.
 
-ghost use Rattle.machine.specs.Bounds.{HasRoom};
-ghost use Rattle.machine.specs.Calls.Receive.{after_recv, is_read_out, recv_allows};
-ghost use Rattle.machine.specs.Forgetting.{forget_endpoint};
+ghost use Rattle.spec_tcp.specs.Bounds.{HasRoom};
+ghost use Rattle.spec_tcp.specs.Calls.Receive.{after_recv, is_read_out, recv_allows};
+ghost use Rattle.spec_tcp.specs.Forgetting.{forget_endpoint};
 ghost use Rattle.std.specs.Prelude.{◌≡◌, ◌≤◌, length};
 ghost use Rattle.streams.specs.Received.{waiting};
 
 use crate::calls::tells_fault;
 use case_forms::Answer;
-use machine::Endpoint;
+use spec_tcp::Endpoint;
 
 fn is_read_out(endpoint: &Endpoint) -> bool
     ensures { result ≡ is_read_out endpoint.now }

@@ -1,14 +1,14 @@
 //! SEND: what it may be answered, and the endpoint then.
 
-ghost use Rattle.machine.specs.Bounds.{HasRoom};
-ghost use Rattle.machine.specs.Calls.Send.{after_send, sends_some, open_send_allows, send_allows};
-ghost use Rattle.machine.specs.Forgetting.{forget_endpoint};
+ghost use Rattle.spec_tcp.specs.Bounds.{HasRoom};
+ghost use Rattle.spec_tcp.specs.Calls.Send.{after_send, sends_some, open_send_allows, send_allows};
+ghost use Rattle.spec_tcp.specs.Forgetting.{forget_endpoint};
 ghost use Rattle.std.specs.Prelude.{◌≡◌, OnOk, OnErr, take};
 
 use crate::calls::{is_closed_answer, is_not_connected, tells_fault};
 use case_forms::{Answer, State};
-use machine::Endpoint;
 use segment::OutOfMemory;
+use spec_tcp::Endpoint;
 
 fn sends_some(bytes: &[u8], answer: &Answer) -> bool
     ensures { result ≡ sends_some bytes.now answer.now }
@@ -67,9 +67,9 @@ pub fn send(endpoint: &mut Endpoint, bytes: &[u8], count: u32) -> Result<(), Out
     ensures ok { OnOk result (endpoint.new ≡ forget_endpoint (after_send bytes.now count endpoint.old)) }
     ensures err { OnErr result (endpoint.new ≡ endpoint.old) }
 {
-    let una = endpoint.stream.una;
+    let snd_una = endpoint.stream.snd_una;
     endpoint.stream.accepted.accept(first_bytes(bytes, count))?;
-    endpoint.stream.accepted.forget_below(una);
+    endpoint.stream.accepted.forget_below(snd_una);
     Ok(())
 }
 

@@ -1,15 +1,15 @@
 //! Which kinds of segments a state makes.
 
 ghost use Rattle.case_forms.specs.States.{is_syn_sent, is_syn_received};
-ghost use Rattle.machine.specs.Calls.Close.{shut_down};
-ghost use Rattle.machine.specs.Makes.Kind.{may_carry, may_finish, may_not_send, may_make_syn, may_make_reset, may_make_other, may_make};
-ghost use Rattle.machine.specs.Makes.Kind.{makes_nothing, is_bad_iss, given_shift, numbered};
+ghost use Rattle.spec_tcp.specs.Calls.Close.{shut_down};
+ghost use Rattle.spec_tcp.specs.Makes.Kind.{may_carry, may_finish, may_not_send, may_make_syn, may_make_reset, may_make_other, may_make};
+ghost use Rattle.spec_tcp.specs.Makes.Kind.{makes_nothing, is_bad_iss, given_shift, seq_of};
 ghost use Rattle.std.specs.Prelude.{◌≡◌, if◌then◌else◌, false};
 
 use crate::calls::close::shut_down;
 use case_forms::{SegmentPlan, State};
-use machine::Endpoint;
 use seqno::{Word, number};
+use spec_tcp::Endpoint;
 
 fn may_carry(state: State) -> bool
     ensures { result ≡ may_carry state }
@@ -46,7 +46,7 @@ fn may_make_syn(endpoint: &Endpoint, making: &SegmentPlan) -> bool
     ensures { result ≡ may_make_syn endpoint.now making.now }
 {
     is_syn_state(endpoint.state, making.flags.ack)
-        && endpoint.stream.una == 0
+        && endpoint.stream.snd_una == 0
         && !making.flags.fin
         && !making.flags.rst
 }
@@ -54,7 +54,8 @@ fn may_make_syn(endpoint: &Endpoint, making: &SegmentPlan) -> bool
 fn may_make_reset(endpoint: &Endpoint, making: &SegmentPlan) -> bool
     ensures { result ≡ may_make_reset endpoint.now making.now }
 {
-    (endpoint.reset_due || endpoint.closed && !endpoint.state.is_closed() && 1 <= endpoint.next())
+    (endpoint.reset_due
+        || endpoint.closed && !endpoint.state.is_closed() && 1 <= endpoint.rcv_nxt())
         && !making.flags.fin
 }
 
@@ -113,8 +114,8 @@ pub(crate) fn close_after_reset(endpoint: &mut Endpoint)
     endpoint.reset_due = false;
 }
 
-pub(crate) fn numbered(base: Option<Word>, pos: u64) -> Word
-    ensures { result ≡ numbered base pos }
+pub(crate) fn seq_of(base: Option<Word>, pos: u64) -> Word
+    ensures { result ≡ seq_of base pos }
 {
     match base {
         Some(base) => number(base, pos),

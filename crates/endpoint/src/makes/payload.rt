@@ -1,11 +1,11 @@
 //! The bytes of a segment, and where they begin.
 
-ghost use Rattle.machine.specs.Bounds.{greatest_position};
-ghost use Rattle.machine.specs.Makes.Payload.{making_length, has_new_bytes, is_bad_payload, old_end, is_bad_empty_place, is_bad_place};
+ghost use Rattle.spec_tcp.specs.Bounds.{greatest_position};
+ghost use Rattle.spec_tcp.specs.Makes.Payload.{making_length, has_new_bytes, is_bad_payload, old_end, is_bad_empty_place, is_bad_place};
 ghost use Rattle.std.specs.Prelude.{◌≡◌, ◌≤◌};
 
 use case_forms::SegmentPlan;
-use machine::Endpoint;
+use spec_tcp::Endpoint;
 
 /// How many positions a segment takes: its bytes, its SYN and its FIN.
 pub(crate) fn making_length(making: &SegmentPlan) -> u64
@@ -20,7 +20,7 @@ pub(crate) fn has_new_bytes(endpoint: &Endpoint, making: &SegmentPlan) -> bool
     requires { making.now.pos ≤ greatest_position }
     ensures { result ≡ has_new_bytes endpoint.now making.now }
 {
-    0 < making.len && endpoint.max_made() < making.pos + making.len as u64
+    0 < making.len && endpoint.snd_max() < making.pos + making.len as u64
 }
 
 pub(crate) fn is_bad_payload(endpoint: &Endpoint, making: &SegmentPlan) -> bool
@@ -43,22 +43,22 @@ fn old_end(endpoint: &Endpoint, making: &SegmentPlan) -> u64
     requires { making.now.pos ≤ greatest_position }
     ensures { result ≡ old_end endpoint.now making.now }
 {
-    (making.pos + making_length(making)).min(endpoint.max_made())
+    (making.pos + making_length(making)).min(endpoint.snd_max())
 }
 
 fn is_bad_empty_place(endpoint: &Endpoint, making: &SegmentPlan) -> bool
     requires { making.now.pos ≤ greatest_position }
     ensures { result ≡ is_bad_empty_place endpoint.now making.now }
 {
-    making.pos + 1 < endpoint.stream.una || endpoint.max_made() < making.pos
+    making.pos + 1 < endpoint.stream.snd_una || endpoint.snd_max() < making.pos
 }
 
 pub(crate) fn is_bad_place(endpoint: &Endpoint, making: &SegmentPlan) -> bool
     requires { making.now.pos ≤ greatest_position }
     ensures { result ≡ is_bad_place endpoint.now making.now }
 {
-    let end = endpoint.max_made();
-    let is_outside = making.pos < endpoint.stream.una || end < making.pos;
+    let end = endpoint.snd_max();
+    let is_outside = making.pos < endpoint.stream.snd_una || end < making.pos;
     if making.flags.rst {
         return is_outside;
     }

@@ -6,12 +6,12 @@ ghost use Rattle.std.specs.List.{All};
 ghost use Rattle.std.specs.Option.{IfSome};
 ghost use Rattle.std.specs.Result.{result_err};
 ghost use Rattle.verdict.specs.Rules.{first_broken};
-ghost use Rattle.machine.specs.Arrives.Listen.{child};
-ghost use Rattle.machine.specs.Arrives.Otherwise.{is_queue_full, joins_full_queue};
-ghost use Rattle.machine.specs.Arrives.{after_taking, endpoint_taken, endpoint_taker, listener_taker, taker, taker_rules};
-ghost use Rattle.machine.specs.Bounds.{HasRoom, IsSmallEmission};
-ghost use Rattle.machine.specs.Forgetting.{forget_body};
-ghost use Rattle.machine.specs.Reset.{finds_nothing, is_stray_ack, reset_rules};
+ghost use Rattle.spec_tcp.specs.Arrives.Listen.{child};
+ghost use Rattle.spec_tcp.specs.Arrives.OtherStates.{is_queue_full, joins_full_queue};
+ghost use Rattle.spec_tcp.specs.Arrives.{after_taking, endpoint_taken, endpoint_taker, listener_taker, taker, taker_rules};
+ghost use Rattle.spec_tcp.specs.Bounds.{HasRoom, IsSmallEmission};
+ghost use Rattle.spec_tcp.specs.Forgetting.{forget_body};
+ghost use Rattle.spec_tcp.specs.Reset.{finds_nothing, is_stray_ack, reset_rules};
 ghost use Rattle.streams.specs.Lists.{modify};
 ghost use Rattle.endpoint_state.specs.declared.body.arrives.Found.TheVariants as found;
 ghost use Rattle.endpoint_state.specs.Changes.{changed};
@@ -22,14 +22,15 @@ ghost use Rattle.endpoint_state.specs.Takers.{IsOpen, joins_by, taker_found};
 use crate::body::Body;
 use crate::fault::StepFault;
 use case_forms::{Header, Host, TakeChoice};
-use endpoint::joins;
-use machine::{Arrived, Emission, Endpoint, Name};
+use endpoint::completes_handshake;
 use segment::OutOfMemory;
 use seqno::number;
+use spec_tcp::{Arrived, Emission, Endpoint, EndpointId};
 use std::alloc::Global;
 use verdict::Rule;
 
-/// Whom a segment finds (RFC 9293, 3.10.7): the endpoint of its ports that is not CLOSED, or else the open listener on its
+/// Whom a segment finds (RFC 9293, 3.10.7): the endpoint of its ports that is not CLOSED, or else the open listener on
+/// its
 /// destination port.
 #[derive(Clone, Copy, Debug, PartialEq, Eq)]
 pub(crate) enum Found {
@@ -135,7 +136,7 @@ impl Body {
             return endpoint::admits_syn_sent(header.initial, endpoint, how, &m);
         }
         let full = self.joins_full_queue(header, endpoint, &m);
-        let me = Name {
+        let me = EndpointId {
             host,
             number: place,
         };
@@ -166,7 +167,8 @@ impl Body {
         }
     }
 
-    /// This host takes a segment that came in, at a moment in microseconds (RFC 9293, 3.10.7). An error is the first rule that
+    /// This host takes a segment that came in, at a moment in microseconds (RFC 9293, 3.10.7). An error is the first
+    /// rule that
     /// is broken, or that memory ran out; nothing is changed then.
     #[tactic(auto, using(crate::proofs::BodyLemmas::body_same, crate::proofs::Readable::room_reads))]
     pub(crate) fn take(
@@ -301,7 +303,7 @@ impl Body {
 fn joins_by(endpoint: &Endpoint, m: &Arrived<'_>) -> Option<u32>
     ensures { result ≡ joins_by endpoint.now m.now }
 {
-    if joins(endpoint, m) {
+    if completes_handshake(endpoint, m) {
         endpoint.listener
     } else {
         None

@@ -6,23 +6,23 @@ ghost use Rattle.std.specs.Option.{option_map_or, IfSome};
 ghost use Rattle.indexmap.specs.IndexMap.{insert_entry};
 ghost use Rattle.case_forms.specs.declared.calls.Answer.TheVariants.{Done};
 ghost use Rattle.case_forms.specs.declared.calls.State.TheVariants as states;
-ghost use Rattle.machine.specs.declared.endpoint.Thing.TheVariants.{Listens, Ends};
-ghost use Rattle.machine.specs.Bounds.{HasRoom};
-ghost use Rattle.machine.specs.Bodies.{dead, with_socket, is_listening, queue_of, thing_of};
-ghost use Rattle.machine.specs.Calls.Send.{after_send};
-ghost use Rattle.machine.specs.Calls.Receive.{after_recv};
-ghost use Rattle.machine.specs.Calls.Close.{after_abort, after_close, after_gone, after_shut, without_listener};
-ghost use Rattle.machine.specs.Calls.Accept.{accepted_from, after_accept, listener_allows};
-ghost use Rattle.machine.specs.Calls.{after_call, call_allows, change, gives_or_in_use, socket_allows, thing_allows};
-ghost use Rattle.machine.specs.Endpoints.{new_endpoint};
-ghost use Rattle.machine.specs.Forgetting.{forget_body};
+ghost use Rattle.spec_tcp.specs.declared.endpoint.SocketTarget.TheVariants.{ListenerAt, EndpointAt};
+ghost use Rattle.spec_tcp.specs.Bounds.{HasRoom};
+ghost use Rattle.spec_tcp.specs.Bodies.{dead, with_socket, is_listening, queue_of, thing_of};
+ghost use Rattle.spec_tcp.specs.Calls.Send.{after_send};
+ghost use Rattle.spec_tcp.specs.Calls.Receive.{after_recv};
+ghost use Rattle.spec_tcp.specs.Calls.Close.{after_abort, after_close, after_gone, after_shut, without_listener};
+ghost use Rattle.spec_tcp.specs.Calls.Accept.{accepted_from, after_accept, listener_allows};
+ghost use Rattle.spec_tcp.specs.Calls.{after_call, call_allows, change, gives_or_in_use, socket_allows, thing_allows};
+ghost use Rattle.spec_tcp.specs.Endpoints.{new_endpoint};
+ghost use Rattle.spec_tcp.specs.Forgetting.{forget_body};
 ghost use Rattle.endpoint_state.specs.Waiting.{AreWaiting};
 
 use crate::body::Body;
 use case_forms::{Answer, Call, State};
 use endpoint::{endpoint_allows, listener_allows};
-use machine::{Endpoint, Listener, Queue, Socket, Thing};
 use segment::OutOfMemory;
+use spec_tcp::{Endpoint, Listener, Queue, Socket, SocketTarget};
 use std::alloc::Global;
 use tables::Table;
 
@@ -56,15 +56,15 @@ impl Body {
         }
     }
 
-    fn thing_allows(&self, call: &Call, answer: &Answer, thing: Thing) -> bool
+    fn thing_allows(&self, call: &Call, answer: &Answer, thing: SocketTarget) -> bool
         ensures { result ≡ thing_allows self.now call.now answer.now thing }
     {
         match thing {
-            Thing::Listens(place) => match self.listener_at(place) {
+            SocketTarget::ListenerAt(place) => match self.listener_at(place) {
                 Some(listener) => listener_allows(&listener.queue, call, answer),
                 None => childless_allows(call, answer),
             },
-            Thing::Ends(place) => match self.endpoint_at(place) {
+            SocketTarget::EndpointAt(place) => match self.endpoint_at(place) {
                 Some(endpoint) => endpoint_allows(endpoint, call, answer),
                 None => false,
             },
@@ -83,7 +83,7 @@ impl Body {
         requires free { is_listening self.old port ≡ false }
         ensures ok { OnOk result (self.new ≡ with_socket (record self.old {
           listeners = self.old.listeners ++ record { port = port; backlog = backlog; is_open = true; queue = [] } ∷ [];
-        }) number (Listens (length self.old.listeners))) }
+        }) number (ListenerAt (length self.old.listeners))) }
         ensures err { OnErr result (self.new ≡ self.old) }
     {
         let place = self.listeners.len() as u32;
@@ -96,7 +96,7 @@ impl Body {
         self.sockets.reserve(u64::from(number))?;
         self.listeners.add(listener)?;
         self.sockets
-            .insert(u64::from(number), live(Thing::Listens(place)))?;
+            .insert(u64::from(number), live(SocketTarget::ListenerAt(place)))?;
         Ok(())
     }
 
@@ -111,7 +111,7 @@ impl Body {
         requires room { length self.old.endpoints + 1 < 2 ^ 32 }
         ensures ok { OnOk result (self.new ≡ with_socket (record self.old {
           endpoints = self.old.endpoints ++ new_endpoint lport rport None states.SynSent ∷ [];
-        }) number (Ends (length self.old.endpoints))) }
+        }) number (EndpointAt (length self.old.endpoints))) }
         ensures err { OnErr result (self.new ≡ self.old) }
     {
         let place = self.endpoints.len() as u32;
@@ -119,7 +119,7 @@ impl Body {
         self.sockets.reserve(u64::from(number))?;
         self.endpoints.add(alloc, endpoint)?;
         self.sockets
-            .insert(u64::from(number), live(Thing::Ends(place)))?;
+            .insert(u64::from(number), live(SocketTarget::EndpointAt(place)))?;
         Ok(())
     }
 
@@ -131,8 +131,8 @@ impl Body {
         ensures err { OnErr result (self.new ≡ self.old) }
     {
         match self.thing(number) {
-            Some(Thing::Ends(place)) => self.endpoints.send(place, bytes, count),
-            Some(Thing::Listens(_)) | None => Ok(()),
+            Some(SocketTarget::EndpointAt(place)) => self.endpoints.send(place, bytes, count),
+            Some(SocketTarget::ListenerAt(_)) | None => Ok(()),
         }
     }
 
@@ -142,7 +142,7 @@ impl Body {
         requires { All HasRoom self.old.endpoints }
         ensures { self.new ≡ forget_body (change self.old number after_shut) }
     {
-        if let Some(Thing::Ends(place)) = self.thing(number) {
+        if let Some(SocketTarget::EndpointAt(place)) = self.thing(number) {
             self.endpoints.shut(place);
         }
     }
@@ -154,7 +154,7 @@ impl Body {
         requires waiting { AreWaiting self.old number bytes.now }
         ensures { self.new ≡ forget_body (change self.old number (after_recv bytes.now)) }
     {
-        if let Some(Thing::Ends(place)) = self.thing(number) {
+        if let Some(SocketTarget::EndpointAt(place)) = self.thing(number) {
             self.endpoints.deliver(place, bytes);
         }
     }
@@ -166,11 +166,11 @@ impl Body {
         ensures { self.new ≡ forget_body (after_gone self.old number after_close) }
     {
         match self.thing(number) {
-            Some(Thing::Ends(place)) => {
+            Some(SocketTarget::EndpointAt(place)) => {
                 self.endpoints.close(place);
                 retire(&mut self.sockets, number);
             }
-            Some(Thing::Listens(place)) => self.end_listener(place, number),
+            Some(SocketTarget::ListenerAt(place)) => self.end_listener(place, number),
             None => {}
         }
     }
@@ -182,11 +182,11 @@ impl Body {
         ensures { self.new ≡ forget_body (after_gone self.old number after_abort) }
     {
         match self.thing(number) {
-            Some(Thing::Ends(place)) => {
+            Some(SocketTarget::EndpointAt(place)) => {
                 self.endpoints.abort(place);
                 retire(&mut self.sockets, number);
             }
-            Some(Thing::Listens(place)) => self.end_listener(place, number),
+            Some(SocketTarget::ListenerAt(place)) => self.end_listener(place, number),
             None => {}
         }
     }
@@ -209,8 +209,8 @@ impl Body {
         ensures err { OnErr result (self.new ≡ self.old) }
     {
         match self.thing(number) {
-            Some(Thing::Listens(place)) => self.accept_from(place, child_number),
-            Some(Thing::Ends(_)) | None => Ok(()),
+            Some(SocketTarget::ListenerAt(place)) => self.accept_from(place, child_number),
+            Some(SocketTarget::EndpointAt(_)) | None => Ok(()),
         }
     }
 
@@ -222,8 +222,10 @@ impl Body {
         let Some(child) = self.first_child(place) else {
             return Ok(());
         };
-        self.sockets
-            .insert(u64::from(child_number), live(Thing::Ends(child)))?;
+        self.sockets.insert(
+            u64::from(child_number),
+            live(SocketTarget::EndpointAt(child)),
+        )?;
         self.endpoints.accept(child);
         self.listeners.leave(place);
         Ok(())
@@ -239,7 +241,8 @@ impl Body {
         }
     }
 
-    // What ends, once a call was answered `done`: with `shut` the sending, with `close` and `abort` what the socket number names.
+    // What ends, once a call was answered `done`: with `shut` the sending, with `close` and `abort` what the socket
+    // number names.
     #[tactic(auto, using(crate::proofs::BodyLemmas::body_same))]
     fn end(&mut self, call: &Call)
         requires { All HasRoom self.old.endpoints }
@@ -346,7 +349,7 @@ fn childless_allows(call: &Call, answer: &Answer) -> bool
     }
 }
 
-fn live(thing: Thing) -> Socket
+fn live(thing: SocketTarget) -> Socket
     ensures { result ≡ record { thing = thing; live = true } }
 {
     Socket { thing, live: true }

@@ -5,22 +5,23 @@ ghost use Rattle.std.specs.List.{All};
 ghost use Rattle.std.specs.Option.{option_map};
 ghost use Rattle.std.specs.Result.{result_err};
 ghost use Rattle.verdict.specs.Rules.{first_broken};
-ghost use Rattle.machine.specs.Bodies.{place_of, with_endpoint};
-ghost use Rattle.machine.specs.Bounds.{greatest_position, HasRoom, IsSmallEmission};
-ghost use Rattle.machine.specs.Forgetting.{forget_body};
-ghost use Rattle.machine.specs.Machine.{rules_at};
-ghost use Rattle.machine.specs.Makes.{after_making, emission_of, making_rules};
+ghost use Rattle.spec_tcp.specs.Bodies.{place_of, with_endpoint};
+ghost use Rattle.spec_tcp.specs.Bounds.{greatest_position, HasRoom, IsSmallEmission};
+ghost use Rattle.spec_tcp.specs.Forgetting.{forget_body};
+ghost use Rattle.spec_tcp.specs.Machine.{rules_at};
+ghost use Rattle.spec_tcp.specs.Makes.{after_making, emission_of, making_rules};
 
 use crate::body::Body;
 use case_forms::SegmentPlan;
 use endpoint::admits_making;
-use machine::{Emission, Name};
 use segment::OutOfMemory;
+use spec_tcp::{Emission, EndpointId};
 use std::alloc::Global;
 use verdict::Rule;
 
 impl Body {
-    /// The place of the endpoint that may make this segment (RFC 9293, 3.8 and 3.10). An error is the first rule that is
+    /// The place of the endpoint that may make this segment (RFC 9293, 3.8 and 3.10). An error is the first rule that
+    /// is
     /// broken.
     pub(crate) fn admitted_making(&self, plan: &SegmentPlan) -> Result<u32, Rule>
         requires kept { All HasRoom self.now.endpoints }
@@ -34,12 +35,13 @@ impl Body {
         Ok(place)
     }
 
-    /// The endpoint of this name makes a segment, at a moment in microseconds. Where memory runs out nothing is changed.
+    /// The endpoint of this name makes a segment, at a moment in microseconds. Where memory runs out nothing is
+    /// changed.
     #[tactic(auto, using(crate::proofs::BodyLemmas::body_same))]
     pub(crate) fn make_at(
         &mut self,
         alloc: Global,
-        me: Name,
+        me: EndpointId,
         plan: &SegmentPlan,
         moment: u64,
     ) -> Result<Emission, OutOfMemory>

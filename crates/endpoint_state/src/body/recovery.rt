@@ -4,9 +4,9 @@ ghost use Rattle.std.specs.Prelude.{◌≡◌, Some, IfOk, OnOk, OnErr};
 ghost use Rattle.std.specs.List.{All};
 ghost use Rattle.std.specs.Result.{result_err};
 ghost use Rattle.verdict.specs.Rules.{first_broken};
-ghost use Rattle.machine.specs.Bodies.{place_of};
-ghost use Rattle.machine.specs.Bounds.{HasRoom};
-ghost use Rattle.machine.specs.Forgetting.{forget_body};
+ghost use Rattle.spec_tcp.specs.Bodies.{place_of};
+ghost use Rattle.spec_tcp.specs.Bounds.{HasRoom};
+ghost use Rattle.spec_tcp.specs.Forgetting.{forget_body};
 ghost use Rattle.endpoint_state.specs.Kinds.{recovered_body, recovering_rules};
 
 use crate::body::Body;

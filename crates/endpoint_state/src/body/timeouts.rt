@@ -4,9 +4,9 @@ ghost use Rattle.std.specs.Prelude.{◌≡◌, Some, IfOk, OnOk, OnErr};
 ghost use Rattle.std.specs.List.{All};
 ghost use Rattle.std.specs.Result.{result_err};
 ghost use Rattle.verdict.specs.Rules.{first_broken};
-ghost use Rattle.machine.specs.Bodies.{place_of};
-ghost use Rattle.machine.specs.Bounds.{HasRoom};
-ghost use Rattle.machine.specs.Forgetting.{forget_body};
+ghost use Rattle.spec_tcp.specs.Bodies.{place_of};
+ghost use Rattle.spec_tcp.specs.Bounds.{HasRoom};
+ghost use Rattle.spec_tcp.specs.Forgetting.{forget_body};
 ghost use Rattle.endpoint_state.specs.Kinds.{expired_body, expiring_rules};
 
 use crate::body::Body;
@@ -15,7 +15,8 @@ use endpoint::admits_expiry;
 use verdict::Rule;
 
 impl Body {
-    /// The place of the endpoint of these ports whose timer may expire at this moment, in microseconds. An error is the first
+    /// The place of the endpoint of these ports whose timer may expire at this moment, in microseconds. An error is the
+    /// first
     /// rule that is broken.
     pub(crate) fn admitted_expiry(
         &self,
@@ -32,7 +33,8 @@ impl Body {
         Ok(place)
     }
 
-    /// The timer of the endpoint of these ports expires, at a moment in microseconds. An error is the first rule that is
+    /// The timer of the endpoint of these ports expires, at a moment in microseconds. An error is the first rule that
+    /// is
     /// broken; nothing is changed then.
     #[tactic(auto, using(crate::proofs::BodyLemmas::body_same))]
     pub(crate) fn expire(

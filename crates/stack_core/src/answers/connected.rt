@@ -3,20 +3,20 @@
 ghost use Rattle.std.specs.Prelude.{◌≡◌, ◌≤◌, ℕ, nat_lt, true, false, length, Some, IfNone, IfOk};
 ghost use Rattle.std.specs.Option.{IfSome};
 ghost use Rattle.case_forms.specs.declared.calls.Answer.TheVariants as answers;
-ghost use Rattle.machine.specs.Calls.{endpoint_allows};
-ghost use Rattle.machine.specs.Calls.Await.{await_allows, tells};
-ghost use Rattle.machine.specs.Calls.Close.{shut_allows};
-ghost use Rattle.machine.specs.Calls.Receive.{recv_allows};
-ghost use Rattle.machine.specs.Calls.Send.{send_allows, sends_some};
-ghost use Rattle.machine.specs.Machine.{gives};
+ghost use Rattle.spec_tcp.specs.Calls.{endpoint_allows};
+ghost use Rattle.spec_tcp.specs.Calls.Await.{await_allows, tells};
+ghost use Rattle.spec_tcp.specs.Calls.Close.{shut_allows};
+ghost use Rattle.spec_tcp.specs.Calls.Receive.{recv_allows};
+ghost use Rattle.spec_tcp.specs.Calls.Send.{send_allows, sends_some};
+ghost use Rattle.spec_tcp.specs.Machine.{gives};
 ghost use Rattle.streams.specs.Received.{waiting};
 ghost use Rattle.stack_core.specs.Answers.{IfSendWaits, IsOnSocket, SendWaits, is_again, unacknowledged};
 ghost use Rattle.stack_core.specs.Cores.{IsCallWithin};
 
 use case_forms::{Answer, Call, OutOfMemory, State};
 use endpoint_state::Endpoint;
-use machine::Fault;
 use segment::Bytes;
+use spec_tcp::Fault;
 use std::alloc::Global;
 
 /// The answer of a call on a socket number of this endpoint. None: the call waits. The error is that memory ran out.
@@ -133,7 +133,7 @@ fn unacknowledged(endpoint: &Endpoint) -> u64
         .stream
         .accepted
         .end()
-        .saturating_sub(endpoint.stream.una.max(1))
+        .saturating_sub(endpoint.stream.snd_una.max(1))
 }
 
 fn recv_answer(alloc: Global, endpoint: &Endpoint, most: u16) -> Result<Option<Answer>, OutOfMemory>

@@ -1,9 +1,9 @@
 use Rattle.std.proofs.Common.{subst, take}
-use Rattle.hosts.specs.Hosts.{Step}
-use Rattle.hosts.specs.HostRules.{Permitted}
-use Rattle.hosts.specs.HostSteps.{start}
-use Rattle.machine.specs.Machine.{tcp, tcp_shape}
-use Rattle.machine_laws.specs.Runs.{world_at_end}
+use Rattle.spec_network.specs.Hosts.{Step}
+use Rattle.spec_network.specs.HostRules.{Permitted}
+use Rattle.spec_network.specs.HostSteps.{start}
+use Rattle.spec_tcp.specs.Machine.{tcp, tcp_shape}
+use Rattle.spec_tcp_laws.specs.Runs.{world_at_end}
 use Rattle.checker.specs.Consequences.{steps_of}
 use Rattle.checker.proofs.ConsequenceLemmas.{run_at}
 use Rattle.checker.proofs.laws.explained_follows.Goals as goal

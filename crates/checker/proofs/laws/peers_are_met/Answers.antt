@@ -1,6 +1,6 @@
 use Rattle.std.proofs.Common.{take}
-use Rattle.hosts.specs.HostSteps.{start}
-use Rattle.machine.specs.Machine.{tcp}
+use Rattle.spec_network.specs.HostSteps.{start}
+use Rattle.spec_tcp.specs.Machine.{tcp}
 use Rattle.checker.specs.Consequences.{steps_of}
 use Rattle.checker.proofs.ConsequenceLemmas.{run_at}
 use Rattle.checker.proofs.PeerLemmas.{peers_met, peers_were_met}

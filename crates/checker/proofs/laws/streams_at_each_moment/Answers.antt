@@ -1,6 +1,6 @@
 use Rattle.std.proofs.Common.{take}
-use Rattle.hosts.specs.HostSteps.{start}
-use Rattle.machine.specs.Machine.{tcp}
+use Rattle.spec_network.specs.HostSteps.{start}
+use Rattle.spec_tcp.specs.Machine.{tcp}
 use Rattle.checker.specs.Consequences.{steps_of}
 use Rattle.checker.proofs.ConsequenceLemmas.{run_until}
 use Rattle.checker.proofs.laws.streams_at_each_moment.Goals as goal

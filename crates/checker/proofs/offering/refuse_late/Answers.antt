@@ -31,6 +31,6 @@ loop-threads-preserved g c =
     let next = subst (λ (item : Option Line). Yields (left_ahead g.A.Read.remaining c.loop-threads.lines) (left_ahead g.A.Read.remaining c.next.new.self) item) c.in-Some.is c.in_ok-line.ensures.next in
     record {
       ahead = c.in_ok-line.ensures.ahead;
-      so_far = (so_far.0 ++ c.in-Some.line ∷ [], between_more c.args.window.now _ _ _ c.in-Some.line (line_ahead c.next.new.self) (λ t. contains nat_cmp c.loop-threads.threads t) _ c.args.number c.args.moment so_far.0 so_far_here next (rw c.in-Some.is at c.in_ok-line.ensures.follows) c.if-line-number.false c.in_ok-note.ensures);
+      so_far = (so_far.0 ++ c.in-Some.line ∷ [], between_more c.args.window.now _ _ _ c.in-Some.line (line_ahead c.next.new.self) (λ t. contains nat_cmp c.loop-threads.threads t) _ c.args.number c.args.moment so_far.0 so_far_here next (rw c.in-Some.is at c.in_ok-line.ensures.follows) c.if-line-number.false c.in_ok-add_thread.ensures);
       counts = search rules;
     }

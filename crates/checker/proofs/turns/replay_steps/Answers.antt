@@ -3,7 +3,7 @@ use Rattle.std.proofs.lemmas.Result.{err_from_is_err_and}
 use Rattle.verdict.specs.declared.report.Verdict.TheVariants.{No}
 use Rattle.witness.specs.StepsLeft.{steps_left}
 use Rattle.checker.specs.declared.case.CaseFault.{CaseFault}
-use Rattle.checker.specs.declared.turns.Tally.{Tally}
+use Rattle.checker.specs.declared.turns.StepCounts.{StepCounts}
 use Rattle.checker.specs.Verdicts.{takes_line}
 use Rattle.checker.specs.Streaming.{CaseFails, Tallied}
 use Rattle.checker.specs.Turns.{IsMore, IsOnward, counted_with}
@@ -46,7 +46,7 @@ loop-takes_line-preserved g c =
             so_far.0 ++ after.0,
             so_far.1 ++ after.1 ∷ [],
             after.2,
-            subst (λ (x : Tally). Tallied (so_far.1 ++ after.1 ∷ []) x.lines x.hidden) (sym told) (tally_more so_far.1 after.1 c.loop-takes_line.tally so_far.3),
+            subst (λ (x : StepCounts). Tallied (so_far.1 ++ after.1 ∷ []) x.lines x.hidden) (sym told) (tally_more so_far.1 after.1 c.loop-takes_line.tally so_far.3),
             omega (arith, len, long, sum),
           );
     }

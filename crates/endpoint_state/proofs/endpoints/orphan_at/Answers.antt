@@ -1,8 +1,8 @@
 use Rattle.std.proofs.Common.{List, arith, sym, subst}
 use Rattle.std.specs.List.{All}
-use Rattle.machine.specs.declared.endpoint.Endpoint.{Endpoint}
-use Rattle.machine.specs.Bounds.{HasRoom}
-use Rattle.machine.specs.Calls.Close.{orphaned}
+use Rattle.spec_tcp.specs.declared.endpoint.Endpoint.{Endpoint}
+use Rattle.spec_tcp.specs.Bounds.{HasRoom}
+use Rattle.spec_tcp.specs.Calls.Close.{orphaned}
 use Rattle.endpoint_state.proofs.PlaceLemmas.{modified_past}
 use Rattle.endpoint_state.proofs.OrphanLemmas.{orphaned_at, room_orphaned, all_modified}
 use Rattle.endpoint_state.proofs.endpoints.orphan_at.Goals as goal

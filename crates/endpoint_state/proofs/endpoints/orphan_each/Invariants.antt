@@ -1,6 +1,6 @@
 use Rattle.std.proofs.Common.{◌≡◌, drop}
 use Rattle.std.specs.List.{All}
-use Rattle.machine.specs.Bounds.{HasRoom}
+use Rattle.spec_tcp.specs.Bounds.{HasRoom}
 use Rattle.endpoint_state.specs.Changes.{orphan_each}
 use Rattle.endpoint_state.proofs.endpoints.orphan_each.Given as goal
 

@@ -1,7 +1,7 @@
 use Rattle.std.proofs.Common.{ap, ◌∙◌, sym, Option, Bor}
 use Rattle.std.specs.Option.{option_copied}
-use Rattle.machine.specs.declared.endpoint.Emission.{Emission}
-use Rattle.hosts.specs.Tables.{waiting}
+use Rattle.spec_tcp.specs.declared.endpoint.Emission.{Emission}
+use Rattle.spec_network.specs.Tables.{waiting}
 use Rattle.endpoint_state.proofs.Still.{waiting_small}
 use Rattle.endpoint_state.proofs.Deeds.{Host_}
 use Rattle.endpoint_state.proofs.host.take.Goals as goal

@@ -1,5 +1,5 @@
 use Rattle.std.proofs.Common.{false, refl, sym, arith}
-use Rattle.machine.specs.declared.endpoint.Listener.{Listener}
+use Rattle.spec_tcp.specs.declared.endpoint.Listener.{Listener}
 use Rattle.endpoint_state.proofs.PlaceLemmas.{modified_at, modified_past}
 use Rattle.endpoint_state.proofs.listeners.close_at.Goals as goal
 

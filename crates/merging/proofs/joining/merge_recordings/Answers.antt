@@ -2,9 +2,9 @@ use Rattle.std.proofs.Common.{List, sym, subst}
 use Rattle.case_forms.specs.declared.trace.Header.{Header}
 use Rattle.case_forms.specs.declared.trace.Line.{Line}
 use Rattle.case_forms.specs.Traces.{first_event_line}
-use Rattle.machine.specs.Machine.{tcp}
-use Rattle.recordings.specs.Keys.{Books}
-use Rattle.recordings.specs.Recordings.{merged}
+use Rattle.spec_tcp.specs.Machine.{tcp}
+use Rattle.spec_merge.specs.Keys.{Books}
+use Rattle.spec_merge.specs.Recordings.{merged}
 use Rattle.merging.specs.Saying.{both_renumbered}
 use Rattle.merging.specs.Told.{AllOwnThreads, Tells}
 use Rattle.merging.proofs.HonestLemmas.{one_is_named, zero_is_named}

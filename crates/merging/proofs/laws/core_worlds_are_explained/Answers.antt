@@ -2,9 +2,9 @@ use Rattle.std.proofs.Common.{sym, subst, ap, ◌∙◌}
 use Rattle.case_forms.specs.Traces.{first_event_line}
 use Rattle.case_forms.specs.declared.calls.Host.TheVariants.{Zero, One}
 use Rattle.case_forms.specs.declared.trace.Header.{Header}
-use Rattle.machine.specs.Machine.{tcp}
-use Rattle.recordings.specs.Keys.{Books}
-use Rattle.recordings.specs.Recordings.{merged}
+use Rattle.spec_tcp.specs.Machine.{tcp}
+use Rattle.spec_merge.specs.Keys.{Books}
+use Rattle.spec_merge.specs.Recordings.{merged}
 use Rattle.stack_core.specs.CoreWorlds.{entries_of}
 use Rattle.stack_core.specs.Recordings.{Recorded}
 use Rattle.merging.specs.Told.{Tells}

@@ -1,5 +1,5 @@
 use Rattle.case_forms.specs.Traces.{first_event_line}
-use Rattle.recordings.specs.Recordings.{merged}
+use Rattle.spec_merge.specs.Recordings.{merged}
 use Rattle.merging.proofs.ToldLemmas.{told_explains}
 use Rattle.merging.proofs.laws.what_is_told_explains.Goals as goal
 

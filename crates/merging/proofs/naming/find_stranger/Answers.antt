@@ -1,6 +1,6 @@
 use Rattle.std.proofs.Common.{rules, ◌≡◌, ◌∷◌, List, length, map, refl, ap, arith}
 use Rattle.case_forms.specs.Traces.{first_event_line}
-use Rattle.recordings.specs.Recordings.{TcpEntry}
+use Rattle.spec_merge.specs.Recordings.{TcpEntry}
 use Rattle.stack_core.specs.Keys.{key_shown}
 use Rattle.merging.specs.Naming.{wire_of}
 use Rattle.merging.proofs.Strangers.{named_more, stranger_here, stranger_hidden, stranger_taken}

@@ -1,11 +1,11 @@
 use Rattle.std.proofs.Common.{Some, ap, sym, ◌∙◌}
 use Rattle.std.specs.Prelude.{slice_get}
-use Rattle.machine.specs.declared.endpoint.Thing.{Thing}
+use Rattle.spec_tcp.specs.declared.endpoint.SocketTarget.{SocketTarget}
 use Rattle.stack_core.proofs.AnswerLemmas.{no_gap}
 use Rattle.stack_core.proofs.answers.on_socket.Goals as goal
 
 pub unreachable-requires : goal.unreachable-requires
 unreachable-requires c =
     no_gap (slice_get c.args.body.now.endpoints c.in-Some-Ends.place)
-    (c.requires.named c.args.number c.in-Some-Ends.place (sym c.thing.ensures ∙ c.in-Some-Ends.is ∙ ap (λ (thing : Thing). Some thing) c.in-Some-Ends.field-0-is))
+    (c.requires.named c.args.number c.in-Some-Ends.place (sym c.thing.ensures ∙ c.in-Some-Ends.is ∙ ap (λ (thing : SocketTarget). Some thing) c.in-Some-Ends.field-0-is))
     (sym c.in-None-endpoint_at.ensures)

@@ -1,5 +1,5 @@
 use Rattle.std.proofs.Common.{subst, sym}
-use Rattle.machine.specs.Bodies.{Body}
+use Rattle.spec_tcp.specs.Bodies.{Body}
 use Rattle.endpoint_state.specs.Kept.{AreReadable}
 use Rattle.stack_core.proofs.TendedLemmas.{left_quiet, nothing_ready, readable_host}
 use Rattle.stack_core.proofs.makings.find_among.Goals as goal

@@ -1,5 +1,5 @@
 use Rattle.std.proofs.Common.{◌≤◌, length}
-use Rattle.hosts.specs.Tables.{pick}
+use Rattle.spec_network.specs.Tables.{pick}
 use Rattle.stack_core.specs.Tended.{AreQuiet}
 use Rattle.stack_core.proofs.makings.find_among.Given as goal
 

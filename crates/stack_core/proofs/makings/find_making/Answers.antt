@@ -1,7 +1,7 @@
 use Rattle.std.proofs.Common.{◌≡◌, Some, sym, ap, ◌∙◌}
 use Rattle.std.specs.Prelude.{slice_get}
-use Rattle.machine.specs.Bodies.{Body}
-use Rattle.machine.specs.declared.endpoint.Endpoint.{Endpoint}
+use Rattle.spec_tcp.specs.Bodies.{Body}
+use Rattle.spec_tcp.specs.declared.endpoint.Endpoint.{Endpoint}
 use Rattle.stack_core.specs.Makings.{IsTried}
 use Rattle.stack_core.proofs.MakingLemmas.{inside, nothing, one_more}
 use Rattle.stack_core.proofs.makings.find_making.Goals as goal

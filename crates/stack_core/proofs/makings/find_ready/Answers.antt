@@ -1,9 +1,9 @@
 use Rattle.std.proofs.Common.{◌<◌, ◌≤◌, ◌^◌, length, subst, sym, arith}
-use Rattle.hosts.specs.Tables.{pick}
-use Rattle.machine.specs.Bodies.{Body}
-use Rattle.stack_core.specs.Agendas.{IsGrown}
+use Rattle.spec_network.specs.Tables.{pick}
+use Rattle.spec_tcp.specs.Bodies.{Body}
+use Rattle.stack_core.specs.DeadlineQueues.{IsGrown}
 use Rattle.stack_core.specs.Tended.{IsQuiet}
-use Rattle.stack_core.proofs.AgendaLemmas.{grown_covered}
+use Rattle.stack_core.proofs.DeadlineQueueLemmas.{grown_covered}
 use Rattle.stack_core.proofs.TendedLemmas.{few_host}
 use Rattle.stack_core.proofs.makings.find_ready.Goals as goal
 

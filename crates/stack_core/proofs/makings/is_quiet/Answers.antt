@@ -1,7 +1,7 @@
 use Rattle.std.proofs.Common.{◌≡◌, None, subst}
 use Rattle.case_forms.specs.declared.steps.SegmentPlan.{SegmentPlan}
 use Rattle.verdict.specs.Rules.{first_broken}
-use Rattle.machine.specs.Makes.{making_rules}
+use Rattle.spec_tcp.specs.Makes.{making_rules}
 use Rattle.stack_core.proofs.TendedLemmas.{quiet}
 use Rattle.stack_core.proofs.makings.is_quiet.Goals as goal
 

@@ -1,15 +1,15 @@
 use Rattle.std.proofs.Common.{◌<◌, arith}
-use Rattle.machine.specs.Bounds.{greatest_position}
-use Rattle.machine.specs.Endpoints.{max_made}
+use Rattle.spec_tcp.specs.Bounds.{greatest_position}
+use Rattle.spec_tcp.specs.Endpoints.{snd_max}
 use Rattle.stack_core.proofs.MakingLemmas.{all_tried, tried_far}
 use Rattle.stack_core.proofs.makings.try_endpoint.Goals as goal
 
-pub returns-then-max_made-gt-GREATEST_POSITION-clause-none :
-    goal.returns-then-max_made-gt-GREATEST_POSITION-clause-none
-returns-then-max_made-gt-GREATEST_POSITION-clause-none c =
-    let over = c.if-max_made-gt-GREATEST_POSITION.true in
-    let end = c.max_made.ensures in
-    let far : greatest_position < max_made c.args.endpoint.now = omega arith in
+pub returns-then-snd_max-gt-GREATEST_POSITION-clause-none :
+    goal.returns-then-snd_max-gt-GREATEST_POSITION-clause-none
+returns-then-snd_max-gt-GREATEST_POSITION-clause-none c =
+    let over = c.if-snd_max-gt-GREATEST_POSITION.true in
+    let end = c.snd_max.ensures in
+    let far : greatest_position < snd_max c.args.endpoint.now = omega arith in
     tried_far c.args.world.now.header c.args.me c.args.world.now.world c.args.offer.opening c.args.offer.window c.args.endpoint.now c.requires.short far
 
 pub returns-clause-none : goal.returns-clause-none

@@ -1,5 +1,5 @@
 use Rattle.std.proofs.Common.{sym}
-use Rattle.machine.specs.declared.endpoint.Endpoint.{Endpoint}
+use Rattle.spec_tcp.specs.declared.endpoint.Endpoint.{Endpoint}
 use Rattle.stack_core.specs.TimerEvents.{IsRefused}
 use Rattle.stack_core.proofs.MakingLemmas.{inside, one_more}
 use Rattle.stack_core.proofs.TimerLemmas.{none_due}

@@ -1,6 +1,6 @@
 use Rattle.std.proofs.Common.{◌≡◌, ◌<◌, ◌-◌, ℕ, Some, length}
 use Rattle.std.specs.Prelude.{slice_get}
-use Rattle.machine.specs.declared.endpoint.Endpoint.{Endpoint}
+use Rattle.spec_tcp.specs.declared.endpoint.Endpoint.{Endpoint}
 use Rattle.stack_core.specs.TimerEvents.{IsRefused}
 use Rattle.stack_core.proofs.timers.find_any_due.Given as goal
 

@@ -1,8 +1,8 @@
 use Rattle.std.proofs.Common.{◌<◌, ◌≤◌, ◌^◌, length, subst, sym, arith}
-use Rattle.machine.specs.Bodies.{Body}
-use Rattle.stack_core.specs.Agendas.{IsGrown}
+use Rattle.spec_tcp.specs.Bodies.{Body}
+use Rattle.stack_core.specs.DeadlineQueues.{IsGrown}
 use Rattle.stack_core.specs.Tended.{IsStill, IsStillBefore, kept_ends}
-use Rattle.stack_core.proofs.AgendaLemmas.{grown_covered}
+use Rattle.stack_core.proofs.DeadlineQueueLemmas.{grown_covered}
 use Rattle.stack_core.proofs.TendedLemmas.{never_before}
 use Rattle.stack_core.proofs.timers.find_due.Goals as goal
 

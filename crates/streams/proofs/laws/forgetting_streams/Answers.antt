@@ -18,8 +18,8 @@ returns c = record {
   reads = λ r. ap leading (drop-fade (suc r.delivered) r.taken);
   takes = kept_forgotten;
   tells = λ r count. ap (with (r.delivered + count)) (fade-fade (suc r.delivered) (suc (r.delivered + count)) r.taken (omega arith));
-  measures = λ una accepted. ap (λ n. 1 + n) (length-covered 0 (una - 1) accepted);
-  sends = λ una accepted bytes. covered-append 0 (una - 1) accepted bytes;
-  makes = λ una accepted position count h. ap (take count) (drop-covered 0 (una - 1) (position - 1) accepted (omega arith));
-  acks = λ una higher accepted h. covered-covered 0 (una - 1) (higher - 1) accepted (omega arith);
+  measures = λ snd_una accepted. ap (λ n. 1 + n) (length-covered 0 (snd_una - 1) accepted);
+  sends = λ snd_una accepted bytes. covered-append 0 (snd_una - 1) accepted bytes;
+  makes = λ snd_una accepted position count h. ap (take count) (drop-covered 0 (snd_una - 1) (position - 1) accepted (omega arith));
+  acks = λ snd_una higher accepted h. covered-covered 0 (snd_una - 1) (higher - 1) accepted (omega arith);
 }

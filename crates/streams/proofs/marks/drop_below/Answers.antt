@@ -10,7 +10,7 @@ loop-end-preserved c =
     record {
       same = λ position from.
           ap (λ (n : ℕ). in_ranges c.pop_below.new.ranges.entries position || nat_lt position n) far
-          ∙ dropped c.loop-end.ranges.entries c.pop_below.new.ranges.entries first.0 c.in-Some.end c.loop-end.far c.args.una position first.1 first.2 from
+          ∙ dropped c.loop-end.ranges.entries c.pop_below.new.ranges.entries first.0 c.in-Some.end c.loop-end.far c.args.snd_una position first.1 first.2 from
           ∙ c.loop-end.invariant.same position from;
       below = λ floor end h low.
           let both = c.loop-end.invariant.below floor end h low in

@@ -1,6 +1,6 @@
 use Rattle.std.proofs.Common.{◌≡◌, ◌-◌, drop}
 use Rattle.std.specs.VecDeque.{deque_len}
-use Rattle.streams.specs.Makings.{made_moment}
+use Rattle.streams.specs.Transmissions.{made_moment}
 use Rattle.streams.specs.Views.{expand}
 use Rattle.streams.proofs.runs.moment_at.Given as goal
 

@@ -1,15 +1,15 @@
 use Rattle.std.proofs.Common.{◌∙◌, ℕ, true, drop, None, nat_eq, sym, subst, ap}
 use Rattle.std.specs.List.{All}
-use Rattle.machine.specs.declared.endpoint.Endpoint.{Endpoint}
-use Rattle.machine.specs.declared.endpoint.Listener.{Listener}
-use Rattle.machine.specs.declared.endpoint.Socket.{Socket}
-use Rattle.machine.specs.declared.endpoint.Thing.TheVariants.{Ends}
+use Rattle.spec_tcp.specs.declared.endpoint.Endpoint.{Endpoint}
+use Rattle.spec_tcp.specs.declared.endpoint.Listener.{Listener}
+use Rattle.spec_tcp.specs.declared.endpoint.Socket.{Socket}
+use Rattle.spec_tcp.specs.declared.endpoint.SocketTarget.TheVariants.{EndpointAt}
 use Rattle.indexmap.specs.IndexMap.{insert_entry}
 use Rattle.streams.specs.Lists.{modify}
 use Rattle.endpoint_state.specs.Changes.{changed}
-use Rattle.machine.specs.Bodies.{Body, queue_of}
-use Rattle.machine.specs.Bounds.{HasRoom}
-use Rattle.machine.specs.Forgetting.{forget_body}
+use Rattle.spec_tcp.specs.Bodies.{Body, queue_of}
+use Rattle.spec_tcp.specs.Bounds.{HasRoom}
+use Rattle.spec_tcp.specs.Forgetting.{forget_body}
 use Rattle.endpoint_state.proofs.BodyLemmas.{body_same}
 use Rattle.endpoint_state.proofs.SocketLemmas.{accepted_none, accepted_first}
 use Rattle.endpoint_state.proofs.body.Body.accept_from.Goals as goal
@@ -26,4 +26,4 @@ returns-clause-ok c =
     (c.accept.ensures ∙ ap (λ (b : Body). changed b.endpoints c.in-Some.child (λ (e : Endpoint). let accepted : Endpoint = record e { listener = None } in accepted)) c.self.view_is)
     (c.leave.ensures ∙ ap (λ (b : Body). modify b.listeners c.args.place (λ (x : Listener). let y : Listener = record x { queue = drop 1 x.queue } in y)) c.self.view_is)
     (c.in_ok-insert.ensures.ok ∙ (ap (λ (n : ℕ). insert_entry nat_eq c.self.inside.sockets.entries n c.live.result) c.from.ensures
-    ∙ ap (λ (s : Socket). insert_entry nat_eq c.self.inside.sockets.entries c.args.child_number s) c.live.ensures ∙ ap (λ (b : Body). insert_entry nat_eq b.sockets c.args.child_number (record { thing = Ends c.in-Some.child; live = true })) c.self.view_is))
+    ∙ ap (λ (s : Socket). insert_entry nat_eq c.self.inside.sockets.entries c.args.child_number s) c.live.ensures ∙ ap (λ (b : Body). insert_entry nat_eq b.sockets c.args.child_number (record { thing = EndpointAt c.in-Some.child; live = true })) c.self.view_is))

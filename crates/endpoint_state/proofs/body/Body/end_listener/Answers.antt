@@ -1,11 +1,11 @@
 use Rattle.std.proofs.Common.{◌∙◌, false, List, map, sym, ap, subst}
 use Rattle.std.specs.List.{All}
 use Rattle.streams.specs.Lists.{modify}
-use Rattle.machine.specs.declared.endpoint.Endpoint.{Endpoint}
-use Rattle.machine.specs.declared.endpoint.Listener.{Listener}
-use Rattle.machine.specs.Bounds.{HasRoom}
-use Rattle.machine.specs.Bodies.{Body, dead}
-use Rattle.machine.specs.Calls.Close.{orphaned}
+use Rattle.spec_tcp.specs.declared.endpoint.Endpoint.{Endpoint}
+use Rattle.spec_tcp.specs.declared.endpoint.Listener.{Listener}
+use Rattle.spec_tcp.specs.Bounds.{HasRoom}
+use Rattle.spec_tcp.specs.Bodies.{Body, dead}
+use Rattle.spec_tcp.specs.Calls.Close.{orphaned}
 use Rattle.endpoint_state.proofs.BodyLemmas.{body_is}
 use Rattle.endpoint_state.proofs.OrphanLemmas.{orphans_forgotten}
 use Rattle.endpoint_state.proofs.body.Body.end_listener.Goals as goal

@@ -1,7 +1,7 @@
 use Rattle.std.proofs.Common.{◌≡◌, ◌∙◌, [], ◌∷◌, ◌++◌, refl, ap}
-use Rattle.machine.specs.declared.endpoint.Endpoint.{Endpoint}
-use Rattle.machine.specs.Bodies.{Body}
-use Rattle.machine.specs.Arrives.Listen.{child}
+use Rattle.spec_tcp.specs.declared.endpoint.Endpoint.{Endpoint}
+use Rattle.spec_tcp.specs.Bodies.{Body}
+use Rattle.spec_tcp.specs.Arrives.Listen.{child}
 use Rattle.endpoint_state.proofs.PlaceLemmas.{on_ok}
 use Rattle.endpoint_state.proofs.BodyLemmas.{forgot_push, body_is}
 use Rattle.endpoint_state.proofs.body.Body.meet.Goals as goal

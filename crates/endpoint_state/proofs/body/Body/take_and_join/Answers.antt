@@ -1,6 +1,6 @@
 use Rattle.std.proofs.Common.{◌∙◌, ◌-◌, List, length, take, refl, ap}
 use Rattle.streams.specs.Lists.{modify}
-use Rattle.machine.specs.declared.endpoint.Listener.{Listener}
+use Rattle.spec_tcp.specs.declared.endpoint.Listener.{Listener}
 use Rattle.endpoint_state.proofs.PlaceLemmas.{left_again}
 use Rattle.endpoint_state.proofs.BodyLemmas.{body_is}
 use Rattle.endpoint_state.proofs.body.Body.take_and_join.Goals as goal

@@ -1,6 +1,6 @@
 use Rattle.std.proofs.Common.{ap, sym, ◌∙◌, Option, Bor}
 use Rattle.std.specs.Option.{option_copied}
-use Rattle.machine.specs.declared.endpoint.Endpoint.{Endpoint}
+use Rattle.spec_tcp.specs.declared.endpoint.Endpoint.{Endpoint}
 use Rattle.endpoint_state.proofs.Readable.{took_alone, took_joined}
 use Rattle.endpoint_state.proofs.body.Body.take_at.Goals as goal
 

@@ -1,5 +1,5 @@
 use Rattle.std.proofs.Common.{arith, None}
-use Rattle.machine.specs.declared.endpoint.Endpoint.{Endpoint}
+use Rattle.spec_tcp.specs.declared.endpoint.Endpoint.{Endpoint}
 use Rattle.endpoint_state.specs.Indexes.{find_ports, is_child_in}
 use Rattle.endpoint_state.proofs.Forgotten.{changed_at, changed_past}
 use Rattle.endpoint_state.proofs.Keeps.{indexed_at, keeps_accepted}

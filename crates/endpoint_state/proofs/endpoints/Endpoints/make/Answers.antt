@@ -1,7 +1,7 @@
 use Rattle.std.proofs.Common.{arith, Some, ap, sym, ◌∙◌}
 use Rattle.std.specs.Option.{option_map}
-use Rattle.machine.specs.declared.endpoint.Endpoint.{Endpoint}
-use Rattle.machine.specs.Makes.{after_making, emission_of}
+use Rattle.spec_tcp.specs.declared.endpoint.Endpoint.{Endpoint}
+use Rattle.spec_tcp.specs.Makes.{after_making, emission_of}
 use Rattle.endpoint_state.specs.Indexes.{find_ports, is_child_in}
 use Rattle.endpoint_state.proofs.Forgotten.{changed_at, nobody_past, found_at}
 use Rattle.endpoint_state.proofs.Keeps.{indexed_at, keeps_made}

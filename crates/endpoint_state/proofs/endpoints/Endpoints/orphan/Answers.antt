@@ -1,5 +1,5 @@
 use Rattle.std.proofs.Common.{◌≡◌, ◌∙◌, ℕ, true, List, [], map, ap, sym, subst}
-use Rattle.machine.specs.Calls.Close.{orphaned}
+use Rattle.spec_tcp.specs.Calls.Close.{orphaned}
 use Rattle.endpoint_state.specs.Indexes.{find_ports, is_child_in, stands_in}
 use Rattle.endpoint_state.proofs.OrphanLemmas.{orphans_all, indexed_orphans, child_known, no_child}
 use Rattle.endpoint_state.proofs.endpoints.Endpoints.orphan.Goals as goal

@@ -1,5 +1,5 @@
 use Rattle.std.proofs.Common.{arith}
-use Rattle.machine.specs.Recovery.{after_recovery}
+use Rattle.spec_tcp.specs.Recovery.{after_recovery}
 use Rattle.endpoint_state.specs.Indexes.{find_ports, is_child_in}
 use Rattle.endpoint_state.proofs.Forgotten.{changed_at, changed_past}
 use Rattle.endpoint_state.proofs.Keeps.{indexed_at, keeps_recovered}

@@ -1,6 +1,6 @@
 use Rattle.std.proofs.Common.{nat_eq, refl, ◌-◌, length, take}
 use Rattle.std.specs.Map.{lookup}
-use Rattle.machine.specs.declared.endpoint.Listener.{Listener}
+use Rattle.spec_tcp.specs.declared.endpoint.Listener.{Listener}
 use Rattle.endpoint_state.proofs.ListenLemmas.{listening_modify}
 use Rattle.endpoint_state.proofs.listeners.Listeners.leave_last.Goals as goal
 

@@ -1,9 +1,9 @@
 use Rattle.std.proofs.Common.{◌≡◌, None, Some, refl, sym, ap, subst, ◌+◌, ◌∙◌, nat_eq}
 use Rattle.indexmap.specs.IndexMap.{insert_entry}
 use Rattle.verdict.specs.Rules.{first_broken}
-use Rattle.hosts.specs.Tables.{with_host}
-use Rattle.hosts.specs.Hosts.{At, Hears}
-use Rattle.machine.specs.declared.endpoint.Emission.{Emission}
+use Rattle.spec_network.specs.Tables.{with_host}
+use Rattle.spec_network.specs.Hosts.{At, Hears}
+use Rattle.spec_tcp.specs.declared.endpoint.Emission.{Emission}
 use Rattle.endpoint_state.specs.Kinds.{heard_one, hearing_rules}
 use Rattle.endpoint_state.specs.Sides.{AreReady}
 use Rattle.endpoint_state.specs.Worlds.{Progress}

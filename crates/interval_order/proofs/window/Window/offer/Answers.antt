@@ -11,13 +11,13 @@ use Rattle.interval_order.proofs.window.Window.offer.Goals as goal
 pub invariant_of-self-2 : goal.invariant_of-self-2
 invariant_of-self-2 c =
     let number : c.args.line.number ≡ c.self.inside.waiting.next = c.requires.number ∙ ap (λ (o : Order). o.next) (sym c.self.view_is) in
-    subst (λ (q : Queue Waiting). IsSound q.next q.entries (latest_in c.note.new.latest.entries)) (sym c.in_ok-push.ensures.ok)
-    (sound_with c.self.inside.waiting.entries c.self.inside.waiting.next (latest_in c.self.inside.latest.entries) (latest_in c.note.new.latest.entries)
+    subst (λ (q : Queue Waiting). IsSound q.next q.entries (latest_in c.remember_last_line.new.latest.entries)) (sym c.in_ok-push.ensures.ok)
+    (sound_with c.self.inside.waiting.entries c.self.inside.waiting.next (latest_in c.self.inside.latest.entries) (latest_in c.remember_last_line.new.latest.entries)
     (record { line = c.args.line; previous = c.in_ok-previous.previous })
     c.self.invariant
     c.in_ok-previous.ensures.previous
     (subst (λ (o : Order). All (λ (e : ℕ × Line). e.1.moment ≤ c.args.line.moment) o.held) (sym c.self.view_is) c.requires.moment)
-    (λ t. c.note.ensures t
+    (λ t. c.remember_last_line.ensures t
     ∙ ap (λ (es : List (ℕ × ℕ)). cond (nat_eq c.args.line.thread t) (Some c.args.line.number) (latest_in es t)) c.latest_with_room.ensures.same
     ∙ ap (λ (n : ℕ). cond (nat_eq c.args.line.thread t) (Some n) (latest_in c.self.inside.latest.entries t)) number))
 

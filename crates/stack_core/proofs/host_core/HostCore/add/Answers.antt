@@ -1,5 +1,5 @@
 use Rattle.std.proofs.Common.{◌≡◌, ◌<◌, ◌*◌, sym, suc, subst}
-use Rattle.machine.specs.Steps.{step_of}
+use Rattle.spec_tcp.specs.Steps.{step_of}
 use Rattle.stack_core.specs.Cores.{Core, Fits, IsCore, IsNextLine, IsOrderly, world}
 use Rattle.stack_core.specs.Entries.{steps_in}
 use Rattle.stack_core.specs.Recordings.{Recorded}

@@ -1,10 +1,10 @@
 use Rattle.std.proofs.Common.{ap, sym, subst, ◌∙◌, ℕ}
 use Rattle.std.specs.Prelude.{IfOk}
 use Rattle.std.specs.Option.{IfSome}
-use Rattle.hosts.specs.Hosts.{Effect}
-use Rattle.hosts.specs.HostRules.{Permitted}
-use Rattle.machine.specs.Bodies.{Body}
-use Rattle.machine.specs.Machine.{tcp}
+use Rattle.spec_network.specs.Hosts.{Effect}
+use Rattle.spec_network.specs.HostRules.{Permitted}
+use Rattle.spec_tcp.specs.Bodies.{Body}
+use Rattle.spec_tcp.specs.Machine.{tcp}
 use Rattle.stack_core.specs.Answers.{IsNamed}
 use Rattle.stack_core.specs.Cores.{Core, world}
 use Rattle.stack_core.proofs.AnswerLemmas.{answers_permitted, named_left}

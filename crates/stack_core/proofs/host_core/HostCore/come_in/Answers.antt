@@ -1,6 +1,6 @@
 use Rattle.std.proofs.Common.{ℕ, suc, ap, sym, subst, ◌∙◌}
 use Rattle.case_forms.specs.declared.trace.Wire.{Wire}
-use Rattle.hosts.specs.Hosts.{At, Gets}
+use Rattle.spec_network.specs.Hosts.{At, Gets}
 use Rattle.stack_core.specs.Cores.{Fits, with_step}
 use Rattle.stack_core.proofs.ArriveLemmas.{brought_steps, came_fits, came_held, came_in, came_waits, room_kept}
 use Rattle.stack_core.proofs.host_core.HostCore.come_in.Goals as goal

@@ -1,7 +1,7 @@
 use Rattle.std.proofs.Common.{subst, ℕ}
 use Rattle.std.specs.Option.{IfSome}
-use Rattle.hosts.specs.HostRules.{Permitted}
-use Rattle.machine.specs.Machine.{tcp}
+use Rattle.spec_network.specs.HostRules.{Permitted}
+use Rattle.spec_tcp.specs.Machine.{tcp}
 use Rattle.stack_core.specs.Cores.{Core, world}
 use Rattle.stack_core.specs.TimerEvents.{expiry_step}
 use Rattle.stack_core.proofs.host_core.HostCore.due.Goals as goal

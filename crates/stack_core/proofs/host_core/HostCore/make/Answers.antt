@@ -1,6 +1,6 @@
 use Rattle.std.proofs.Common.{ap, ◌∙◌}
 use Rattle.case_forms.specs.declared.calls.Host.{Host}
-use Rattle.hosts.specs.Hosts.{At, Makes}
+use Rattle.spec_network.specs.Hosts.{At, Makes}
 use Rattle.stack_core.specs.Cores.{with_step}
 use Rattle.stack_core.proofs.OutgoingLemmas.{made_waits}
 use Rattle.stack_core.proofs.host_core.HostCore.make.Goals as goal

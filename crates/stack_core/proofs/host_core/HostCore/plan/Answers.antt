@@ -1,6 +1,6 @@
 use Rattle.std.proofs.Common.{ap, ◌∙◌, subst, sym, List}
-use Rattle.machine.specs.declared.endpoint.Endpoint.{Endpoint}
-use Rattle.machine.specs.Forgetting.{forget}
+use Rattle.spec_tcp.specs.declared.endpoint.Endpoint.{Endpoint}
+use Rattle.spec_tcp.specs.Forgetting.{forget}
 use Rattle.stack_core.specs.Tended.{AreQuiet}
 use Rattle.stack_core.proofs.TendedLemmas.{kept_ends_there}
 use Rattle.stack_core.specs.Cores.{Core, world}

@@ -1,9 +1,9 @@
 use Rattle.std.proofs.Common.{◌∙◌, refl, subst, ℕ, Option}
 use Rattle.std.specs.Option.{IfSome}
 use Rattle.case_forms.specs.declared.calls.Answer.{Answer}
-use Rattle.hosts.specs.Hosts.{Effect, turn_of}
-use Rattle.hosts.specs.HostRules.{Permitted}
-use Rattle.machine.specs.Machine.{tcp}
+use Rattle.spec_network.specs.Hosts.{Effect, turn_of}
+use Rattle.spec_network.specs.HostRules.{Permitted}
+use Rattle.spec_tcp.specs.Machine.{tcp}
 use Rattle.stack_core.specs.Cores.{Core, GivesNext, own_body, world}
 use Rattle.stack_core.proofs.AnswerLemmas.{effect_fits, ended_call, finish_fits}
 use Rattle.std.specs.Prelude.{IfNone}

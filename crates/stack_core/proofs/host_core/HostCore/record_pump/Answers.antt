@@ -1,5 +1,5 @@
 use Rattle.std.proofs.Common.{◌≡◌, ℕ, ap, subst, ◌∙◌}
-use Rattle.hosts.specs.Hosts.{At, Makes}
+use Rattle.spec_network.specs.Hosts.{At, Makes}
 use Rattle.stack_core.specs.Cores.{Core, opened, with_step, world}
 use Rattle.stack_core.specs.Outgoing.{GoesOut}
 use Rattle.stack_core.specs.PumpEvents.{made}

@@ -1,7 +1,7 @@
 use Rattle.std.proofs.Common.{ap, ◌∙◌}
-use Rattle.hosts.specs.Tables.{pick}
-use Rattle.machine.specs.Bodies.{Body, place_of}
-use Rattle.machine_laws.proofs.ForgetBodies.{place-forget}
+use Rattle.spec_network.specs.Tables.{pick}
+use Rattle.spec_tcp.specs.Bodies.{Body, place_of}
+use Rattle.spec_tcp_laws.proofs.ForgetBodies.{place-forget}
 use Rattle.stack_core.specs.Cores.{Core, own_body}
 use Rattle.stack_core.specs.Recordings.{world_left}
 use Rattle.stack_core.specs.Touches.{touch_at}

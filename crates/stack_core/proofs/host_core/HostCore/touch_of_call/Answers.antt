@@ -1,9 +1,9 @@
 use Rattle.std.proofs.Common.{ap, ◌∙◌, Option}
 use Rattle.std.specs.Option.{option_copied, option_map_or}
 use Rattle.case_forms.specs.declared.calls.Call.{Call}
-use Rattle.hosts.specs.Tables.{pick}
-use Rattle.machine.specs.Bodies.{Body}
-use Rattle.stack_core.specs.declared.agenda.Touch.TheVariants.{Nobody}
+use Rattle.spec_network.specs.Tables.{pick}
+use Rattle.spec_tcp.specs.Bodies.{Body}
+use Rattle.stack_core.specs.declared.deadline_queue.Touch.TheVariants.{Nobody}
 use Rattle.stack_core.specs.Cores.{Core, world}
 use Rattle.stack_core.specs.Recordings.{world_left}
 use Rattle.stack_core.specs.Touches.{call_touch, effect_touch}

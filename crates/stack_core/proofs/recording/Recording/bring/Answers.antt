@@ -1,9 +1,9 @@
 use Rattle.std.proofs.Common.{◌≡◌, subst, sym, ap, ◌∙◌}
 use Rattle.case_forms.specs.declared.calls.Host.{Host}
-use Rattle.hosts.specs.Tables.{other}
-use Rattle.machine.specs.Machine.{tcp_shape}
+use Rattle.spec_network.specs.Tables.{other}
+use Rattle.spec_tcp.specs.Machine.{tcp_shape}
 use Rattle.endpoint_state.specs.Worlds.{brought}
-use Rattle.recordings.specs.Books.{Bring, Flying}
+use Rattle.spec_merge.specs.Books.{Bring, Flying}
 use Rattle.stack_core.specs.Entries.{entry_at}
 use Rattle.stack_core.specs.Keys.{key_of}
 use Rattle.stack_core.specs.Recordings.{Joins, Recorded}

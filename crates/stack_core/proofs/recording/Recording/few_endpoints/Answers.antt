@@ -1,6 +1,6 @@
 use Rattle.std.proofs.Common.{◌≤◌, length, subst}
-use Rattle.hosts.specs.Tables.{pick}
-use Rattle.machine.specs.Forgetting.{forget_body}
+use Rattle.spec_network.specs.Tables.{pick}
+use Rattle.spec_tcp.specs.Forgetting.{forget_body}
 use Rattle.stack_core.specs.Entries.{steps_in}
 use Rattle.stack_core.specs.Recordings.{Recorded, world_left}
 use Rattle.stack_core.proofs.MadeLemmas.{few_kept}

@@ -1,6 +1,6 @@
 use Rattle.std.proofs.Common.{refl, subst, sym}
-use Rattle.machine.specs.Steps.{step_of}
-use Rattle.recordings.specs.Books.{Do}
+use Rattle.spec_tcp.specs.Steps.{step_of}
+use Rattle.spec_merge.specs.Books.{Do}
 use Rattle.stack_core.specs.Entries.{entry_at}
 use Rattle.stack_core.specs.Keys.{key_of}
 use Rattle.stack_core.specs.Recordings.{Joins, Recorded}

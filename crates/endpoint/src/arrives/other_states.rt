@@ -1,0 +1,116 @@
+//! A segment arrives in any other state (RFC 9293, 3.10.7.4).
+//!
+//! In the order of the RFC: `sequence` (first), `reset` (second), `ack` (fifth), `text` (seventh), `fin` (eighth).
+//! Beside them
+//! `peer`: whose segment it is; `congestion`, `timers`, `window`: what these are then.
+
+ghost use Rattle.spec_tcp.specs.Arrives.OtherStates.{taken, rules_with_queue};
+ghost use Rattle.spec_tcp.specs.Bounds.{HasRoom, IsSmallEmission};
+ghost use Rattle.spec_tcp.specs.Endpoints.{rcv_nxt};
+ghost use Rattle.spec_tcp.specs.Forgetting.{forget_endpoint};
+ghost use Rattle.std.specs.Prelude.{◌≡◌, ◌≤◌, OnOk, OnErr};
+ghost use Rattle.std.specs.Result.{result_err};
+ghost use Rattle.verdict.specs.Rules.{first_broken};
+
+pub(crate) mod ack;
+pub(crate) mod congestion;
+pub(crate) mod fin;
+pub(crate) mod peer;
+pub(crate) mod reset;
+pub(crate) mod sequence;
+pub(crate) mod text;
+pub(crate) mod timers;
+pub(crate) mod window;
+
+use crate::arrives::other_states::ack::{
+    acknowledged, backoffs_taken, is_bad_ack_range, may_sample, recover_taken, snd_una_taken,
+};
+use crate::arrives::other_states::congestion::{congestion_taken, greatest_window};
+use crate::arrives::other_states::fin::finished;
+use crate::arrives::other_states::peer::is_from_peer;
+use crate::arrives::other_states::sequence::{is_acceptable, is_bad_number};
+use crate::arrives::other_states::text::receive;
+use crate::arrives::other_states::timers::{state_timers, timers_before};
+use crate::arrives::other_states::window::{is_unread, probe_due_taken, window_taken};
+use case_forms::{Header, TakeChoice};
+use segment::OutOfMemory;
+use spec_tcp::{Arrived, Endpoint, EndpointId};
+use verdict::Rule;
+
+/// Whether an endpoint in any other state but CLOSED may take the segment (RFC 9293, 3.10.7.4). `full`: it is a child
+/// that would join a full queue. An error is the first rule that is broken.
+pub fn admits_connected(
+    header: &Header,
+    full: bool,
+    me: EndpointId,
+    endpoint: &Endpoint,
+    how: TakeChoice,
+    m: &Arrived<'_>,
+) -> Result<(), Rule>
+    ensures { result_err result ≡ first_broken (rules_with_queue header.now full me endpoint.now how m.now) }
+{
+    if !header.version.is_half() && !is_from_peer(me, endpoint, m) {
+        return Err(Rule::NotPeer);
+    }
+    if is_bad_number(endpoint, m) {
+        return Err(Rule::Number);
+    }
+    if !is_acceptable(endpoint, m) {
+        return Err(Rule::Unacceptable);
+    }
+    if is_bad_ack_range(endpoint, m) {
+        return Err(Rule::AckRange);
+    }
+    if full {
+        return Err(Rule::QueueFull);
+    }
+    if greatest_window(header.initial, endpoint, m) < how.cwnd as u64 {
+        return Err(Rule::Growth);
+    }
+    if how.sample && !may_sample(endpoint, m) {
+        return Err(Rule::Sample);
+    }
+    if is_unread(endpoint, m) {
+        return Err(Rule::ScaleUnread);
+    }
+    Ok(())
+}
+
+/// What the endpoint has then, at a moment in microseconds. Where memory runs out, it stays as it was.
+pub(crate) fn taken(
+    header: &Header,
+    endpoint: &mut Endpoint,
+    how: TakeChoice,
+    m: &Arrived<'_>,
+    moment: u64,
+) -> Result<(), OutOfMemory>
+    requires room { HasRoom endpoint.old }
+    requires small { IsSmallEmission m.now }
+    requires met { 1 ≤ rcv_nxt endpoint.old }
+    ensures ok { OnOk result (endpoint.new ≡ forget_endpoint (taken header.now endpoint.old how m.now moment)) }
+    ensures err { OnErr result (endpoint.new ≡ endpoint.old) }
+{
+    let snd_una = snd_una_taken(endpoint, m);
+    let old = endpoint.state;
+    let state = acknowledged(endpoint, m);
+    let window = window_taken(endpoint, m);
+    let congestion = congestion_taken(endpoint, how, m);
+    let recover = recover_taken(endpoint, m);
+    let probe_due = probe_due_taken(endpoint, m);
+    let timers = timers_before(header, endpoint, how, m, moment);
+    let backoffs = backoffs_taken(endpoint, m);
+    let ended = receive(endpoint, how, m)?;
+    let state = finished(state, ended);
+    endpoint.state = state;
+    endpoint.stream.snd_una = snd_una;
+    endpoint.window = window;
+    endpoint.congestion = congestion;
+    endpoint.recover = recover;
+    endpoint.probe_due = probe_due;
+    endpoint.timers = state_timers(timers, old, state, moment);
+    endpoint.unanswered_expiries = 0;
+    endpoint.backoffs = backoffs;
+    endpoint.stream.accepted.forget_below(snd_una);
+    endpoint.transmissions.forget_below(snd_una);
+    Ok(())
+}

@@ -1,0 +1,169 @@
+//! Fifth, the ACK field.
+
+ghost use Rattle.case_forms.specs.declared.calls.State.TheVariants as states;
+ghost use Rattle.spec_tcp.specs.Arrives.OtherStates.Ack.{acknowledged, snd_una_taken, fin_acknowledged, is_bad_ack_range, is_new_ack, acknowledges_syn};
+ghost use Rattle.spec_tcp.specs.Arrives.OtherStates.Ack.{acked, is_duplicate, may_sample};
+ghost use Rattle.spec_tcp.specs.Arrives.OtherStates.Window.{opens_window};
+ghost use Rattle.spec_tcp.specs.Endpoints.{snd_max};
+ghost use Rattle.std.specs.Prelude.{◌≡◌, ◌||◌, not, ◌<◌, ◌+◌, ◌^◌, if◌then◌else◌, ◌&&◌, is_some};
+ghost use Rattle.streams.specs.Transmissions.{retransmitted};
+
+use crate::arrives::other_states::window::takes_window;
+use case_forms::{State, TakeChoice};
+use spec_tcp::{Arrived, Endpoint};
+
+/// Whether the segment acknowledges nothing, or what was not made. In SYN-RECEIVED it has to acknowledge the SYN.
+pub(crate) fn is_bad_ack_range(endpoint: &Endpoint, m: &Arrived<'_>) -> bool
+    ensures { result ≡ is_bad_ack_range endpoint.now m.now }
+{
+    !m.flags().rst
+        && (!m.flags().ack
+            || endpoint.snd_max() < m.ack()
+            || (endpoint.state.is_syn_received() && m.ack() <= endpoint.stream.snd_una))
+}
+
+/// Whether the segment acknowledges what was not acknowledged before.
+pub(crate) fn is_new_ack(endpoint: &Endpoint, m: &Arrived<'_>) -> bool
+    ensures { result ≡ is_new_ack endpoint.now m.now }
+{
+    m.flags().ack && !m.flags().rst && endpoint.stream.snd_una < m.ack()
+}
+
+/// Whether it acknowledges the endpoint's own SYN for the first time.
+pub(crate) fn acknowledges_syn(endpoint: &Endpoint, m: &Arrived<'_>) -> bool
+    ensures { result ≡ acknowledges_syn endpoint.now m.now }
+{
+    is_new_ack(endpoint, m) && endpoint.stream.snd_una == 0
+}
+
+/// How many positions it acknowledges for the first time: 0 where it acknowledges none.
+pub(crate) fn acked(endpoint: &Endpoint, m: &Arrived<'_>) -> u64
+    ensures { result ≡ acked endpoint.now m.now }
+{
+    m.ack().saturating_sub(endpoint.stream.snd_una)
+}
+
+/// Whether it is a duplicate acknowledgment: something is not acknowledged, and the segment takes no position and
+/// tells of nothing new.
+pub(crate) fn is_duplicate(endpoint: &Endpoint, m: &Arrived<'_>) -> bool
+    ensures { result ≡ is_duplicate endpoint.now m.now }
+{
+    endpoint.stream.snd_una < endpoint.snd_max()
+        && m.length() == 0
+        && !m.flags().rst
+        && m.ack() == endpoint.stream.snd_una
+        && endpoint.peer_window(m) == endpoint.window.snd_wnd
+}
+
+/// Whether a round trip may be measured by it: it acknowledges what was not acknowledged before, and all of that was
+/// made once (RFC 6298, 3).
+pub(crate) fn may_sample(endpoint: &Endpoint, m: &Arrived<'_>) -> bool
+    ensures { result ≡ may_sample endpoint.now m.now }
+{
+    is_new_ack(endpoint, m)
+        && !endpoint
+            .transmissions
+            .is_retransmitted(endpoint.stream.snd_una, m.ack())
+}
+
+// In SYN-SENT the SYN is measured by its acknowledgment alone.
+pub(crate) fn is_no_sample(endpoint: &Endpoint, m: &Arrived<'_>) -> bool
+    ensures { result ≡ (m.now.flags.rst || not m.now.flags.ack || retransmitted endpoint.now.transmissions endpoint.now.stream.snd_una 1) }
+{
+    m.flags().rst
+        || !m.flags().ack
+        || endpoint
+            .transmissions
+            .is_retransmitted(endpoint.stream.snd_una, 1)
+}
+
+/// The oldest position that is not acknowledged, then.
+pub(crate) fn snd_una_taken(endpoint: &Endpoint, m: &Arrived<'_>) -> u64
+    ensures { result ≡ snd_una_taken endpoint.now m.now }
+{
+    endpoint.stream.snd_una.max(m.ack())
+}
+
+/// The state once the acknowledgment is looked at, and not yet a FIN (RFC 9293, 3.10.7.4, fifth).
+pub(crate) fn acknowledged(endpoint: &Endpoint, m: &Arrived<'_>) -> State
+    ensures { result ≡ acknowledged endpoint.now.state endpoint.now m.now }
+{
+    match endpoint.state {
+        State::SynReceived => syn_acknowledged(endpoint, m),
+        State::FinWait1 if fin_acknowledged(endpoint, m) => State::FinWait2,
+        State::Closing if fin_acknowledged(endpoint, m) => State::TimeWait,
+        State::LastAck if fin_acknowledged(endpoint, m) => State::Closed,
+        State::Listen
+        | State::SynSent
+        | State::Established
+        | State::FinWait1
+        | State::FinWait2
+        | State::CloseWait
+        | State::Closing
+        | State::LastAck
+        | State::TimeWait
+        | State::Closed => endpoint.state,
+    }
+}
+
+pub(crate) fn dup_taken(endpoint: &Endpoint, m: &Arrived<'_>) -> u32
+    requires { endpoint.now.congestion.dup + 1 < 2 ^ 32 }
+    ensures { result ≡ (if is_new_ack endpoint.now m.now then 0
+        else if is_duplicate endpoint.now m.now then endpoint.now.congestion.dup + 1 else endpoint.now.congestion.dup) }
+{
+    let dup = endpoint.congestion.dup;
+    if is_new_ack(endpoint, m) {
+        0
+    } else if is_duplicate(endpoint, m) {
+        dup + 1
+    } else {
+        dup
+    }
+}
+
+/// Up to which position what was made may be made again: all of it, where a window above 0 ends the waiting for one.
+pub(crate) fn recover_taken(endpoint: &Endpoint, m: &Arrived<'_>) -> u64
+    ensures { result ≡ (if opens_window endpoint.now m.now && is_some endpoint.now.timers.persist_armed then snd_max endpoint.now else endpoint.now.recover) }
+{
+    if opens_window(endpoint, m) && endpoint.timers.persist_armed.is_some() {
+        endpoint.snd_max()
+    } else {
+        endpoint.recover
+    }
+}
+
+/// How often the retransmission timer expired since a new acknowledgment.
+pub(crate) fn backoffs_taken(endpoint: &Endpoint, m: &Arrived<'_>) -> u32
+    ensures { result ≡ (if is_new_ack endpoint.now m.now then 0 else endpoint.now.backoffs) }
+{
+    if is_new_ack(endpoint, m) {
+        0
+    } else {
+        endpoint.backoffs
+    }
+}
+
+fn syn_acknowledged(endpoint: &Endpoint, m: &Arrived<'_>) -> State
+    ensures { result ≡ acknowledged states.SynReceived endpoint.now m.now }
+{
+    if !acknowledges_syn(endpoint, m) {
+        return State::SynReceived;
+    }
+    if endpoint.stream.ended {
+        State::FinWait1
+    } else {
+        State::Established
+    }
+}
+
+fn fin_acknowledged(endpoint: &Endpoint, m: &Arrived<'_>) -> bool
+    ensures { result ≡ fin_acknowledged endpoint.now m.now }
+{
+    endpoint.stream.ended && endpoint.stream.accepted.end() < snd_una_taken(endpoint, m)
+}
+
+pub(crate) fn opens_window(endpoint: &Endpoint, m: &Arrived<'_>) -> bool
+    ensures { result ≡ opens_window endpoint.now m.now }
+{
+    takes_window(endpoint, m) && 0 < m.window()
+}

@@ -1,0 +1,43 @@
+//! Second, the RST bit.
+
+ghost use Rattle.spec_tcp.specs.Arrives.OtherStates.Reset.{reset_fault, was_reset};
+ghost use Rattle.spec_tcp.specs.Bounds.{IsForgotten};
+ghost use Rattle.spec_tcp.specs.Forgetting.{forget_endpoint};
+ghost use Rattle.std.specs.Prelude.{◌≡◌};
+
+use case_forms::{State, TakeChoice};
+use spec_tcp::{Endpoint, Fault};
+
+/// The endpoint is CLOSED, and failed where a connection was wanted or stood.
+pub(crate) fn was_reset(endpoint: &mut Endpoint, how: TakeChoice)
+    requires { IsForgotten endpoint.old }
+    ensures { endpoint.new ≡ forget_endpoint (was_reset endpoint.old how) }
+{
+    endpoint.fault = reset_fault(endpoint);
+    endpoint.state = State::Closed;
+    endpoint.timers.stop_all();
+    endpoint.congestion.cwnd = how.cwnd;
+    endpoint.unanswered_expiries = 0;
+}
+
+// A child that no connection stands for yet goes without a fault: nobody was told of it.
+fn reset_fault(endpoint: &Endpoint) -> Option<Fault>
+    ensures { result ≡ reset_fault endpoint.now.state endpoint.now }
+{
+    match endpoint.state {
+        State::SynSent => Some(Fault::Refused),
+        State::SynReceived => {
+            if endpoint.listener.is_some() {
+                endpoint.fault
+            } else {
+                Some(Fault::Refused)
+            }
+        }
+        State::Established | State::FinWait1 | State::FinWait2 | State::CloseWait => {
+            Some(Fault::Reset)
+        }
+        State::Listen | State::Closing | State::LastAck | State::TimeWait | State::Closed => {
+            endpoint.fault
+        }
+    }
+}

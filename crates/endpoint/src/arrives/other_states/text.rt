@@ -1,0 +1,59 @@
+//! Seventh, the segment text.
+
+ghost use Rattle.spec_tcp.specs.Arrives.OtherStates.Text.{kept_bytes, kept_start, receive_after};
+ghost use Rattle.spec_tcp.specs.Bounds.{IsSmallEmission, greatest_position};
+ghost use Rattle.spec_tcp.specs.Endpoints.{rcv_nxt};
+ghost use Rattle.std.specs.Prelude.{◌≡◌, ◌≤◌, IfOk, OnOk, OnErr};
+ghost use Rattle.streams.specs.Forgetting.{forgotten};
+ghost use Rattle.streams.specs.Received.{is_ended};
+
+use crate::arrives::other_states::fin::{fin_place, first_byte, keeps_fin};
+use case_forms::TakeChoice;
+use segment::OutOfMemory;
+use spec_tcp::{Arrived, Endpoint};
+
+/// Keeps what is kept of a segment. The answer is whether the peer's FIN was taken then, with all before it.
+pub(crate) fn receive(
+    endpoint: &mut Endpoint,
+    how: TakeChoice,
+    m: &Arrived<'_>,
+) -> Result<bool, OutOfMemory>
+    requires small { IsSmallEmission m.now }
+    requires met { 1 ≤ rcv_nxt endpoint.old }
+    requires forgets { forgotten endpoint.old.stream.receive ≡ endpoint.old.stream.receive }
+    ensures ended { IfOk result (λ ended. ended ≡ is_ended (receive_after endpoint.old how m.now)) }
+    ensures ok { OnOk result (endpoint.new
+        ≡ record endpoint.old { stream = record endpoint.old.stream { receive = forgotten (receive_after endpoint.old how m.now) } }) }
+    ensures err { OnErr result (endpoint.new ≡ endpoint.old) }
+{
+    let start = kept_start(endpoint, m);
+    let fin = keeps_fin(endpoint, how, m);
+    let bytes = kept_bytes(endpoint, how, m);
+    if bytes.is_empty() && !fin {
+        return Ok(endpoint.stream.receive.is_ended());
+    }
+    endpoint.stream.receive.keep(start, bytes, fin)?;
+    Ok(endpoint.stream.receive.is_ended())
+}
+
+fn kept_bytes<'a>(endpoint: &Endpoint, how: TakeChoice, m: &'a Arrived<'_>) -> &'a [u8]
+    requires { IsSmallEmission m.now }
+    ensures { result.now ≡ kept_bytes endpoint.now how m.now }
+{
+    let first = first_byte(m);
+    let start = kept_start(endpoint, m) - first;
+    let end = fin_place(m)
+        .min(endpoint.window.rcv_adv)
+        .saturating_sub(first);
+    if !how.keep || end <= start {
+        return &[];
+    }
+    &m.payload()[start as usize..end as usize]
+}
+
+fn kept_start(endpoint: &Endpoint, m: &Arrived<'_>) -> u64
+    requires { m.now.pos ≤ greatest_position }
+    ensures { result ≡ kept_start endpoint.now m.now }
+{
+    endpoint.rcv_nxt().max(first_byte(m))
+}

@@ -1,5 +1,0 @@
-use Rattle.machine_laws.proofs.Old.{old_is_bad}
-use Rattle.machine_laws.proofs.laws.old_copies_are_refused.Goals as goal
-
-pub returns : goal.returns
-returns c e m own old = old_is_bad e m own old

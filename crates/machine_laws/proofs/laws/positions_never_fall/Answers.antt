@@ -1,5 +1,0 @@
-use Rattle.machine_laws.proofs.Transitions.{none_falls}
-use Rattle.machine_laws.proofs.laws.positions_never_fall.Goals as goal
-
-pub returns : goal.returns
-returns c h steps x run may = none_falls h steps x run may

@@ -1,5 +1,0 @@
-use Rattle.machine_laws.proofs.Carried.{were_carried}
-use Rattle.machine_laws.proofs.laws.reads_were_carried.Goals as goal
-
-pub returns : goal.returns
-returns c h steps may = were_carried h steps may

@@ -1,5 +1,0 @@
-use Rattle.machine_laws.proofs.Ascending.{rules_ascend}
-use Rattle.machine_laws.proofs.laws.rules_ascend.Goals as goal
-
-pub returns : goal.returns
-returns c = rules_ascend

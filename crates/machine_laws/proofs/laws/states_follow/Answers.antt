@@ -1,5 +1,0 @@
-use Rattle.machine_laws.proofs.Transitions.{states_lead}
-use Rattle.machine_laws.proofs.laws.states_follow.Goals as goal
-
-pub returns : goal.returns
-returns c h moment w step = states_lead h moment w step

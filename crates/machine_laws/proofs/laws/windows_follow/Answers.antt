@@ -1,5 +1,0 @@
-use Rattle.machine_laws.proofs.Windows.{follow}
-use Rattle.machine_laws.proofs.laws.windows_follow.Goals as goal
-
-pub returns : goal.returns
-returns c h moment w step may = follow h moment w step may

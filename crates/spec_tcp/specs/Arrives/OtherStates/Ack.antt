@@ -1,0 +1,48 @@
+-- Fifth, the ACK field (RFC 9293, 3.10.7.4).
+use Rattle.std.specs.Prelude.{ℕ, ◌-◌, ◌==◌, nat_le, nat_lt, max, Bool, not, ◌&&◌, ◌||◌, if◌then◌else◌}
+use Rattle.case_forms.specs.States.{is_syn_received}
+use Rattle.case_forms.specs.declared.calls.State.{State}
+use Rattle.case_forms.specs.declared.calls.State.TheVariants as states
+use Rattle.streams.specs.Transmissions.{retransmitted}
+use Rattle.streams.specs.Sent.{end_of}
+use Rattle.spec_tcp.specs.Endpoints.{Endpoint, Emission, snd_max, peer_window, segment_length}
+
+-- it acknowledges nothing, or what was not made; in SYN-RECEIVED the SYN has to be acknowledged (RFC 9293, 3.10.7.4)
+abbrev pub is_bad_ack_range : Endpoint → Emission → Bool
+is_bad_ack_range e m = not m.flags.rst && (not m.flags.ack || nat_lt (snd_max e) m.ack || is_syn_received e.state && nat_le m.ack e.stream.snd_una)
+
+-- the segment acknowledges what was not acknowledged before (RFC 5681, 2)
+abbrev pub is_new_ack : Endpoint → Emission → Bool
+is_new_ack e m = m.flags.ack && not m.flags.rst && nat_lt e.stream.snd_una m.ack
+
+-- it acknowledges the own SYN
+abbrev pub acknowledges_syn : Endpoint → Emission → Bool
+acknowledges_syn e m = is_new_ack e m && e.stream.snd_una == 0
+
+-- how many positions it acknowledges first, the own SYN's among them; asked only where that was acknowledged before
+abbrev pub acked : Endpoint → Emission → ℕ
+acked e m = m.ack - e.stream.snd_una
+
+-- a duplicate acknowledgment (RFC 5681, 2)
+abbrev pub is_duplicate : Endpoint → Emission → Bool
+is_duplicate e m = nat_lt e.stream.snd_una (snd_max e) && segment_length m == 0 && not m.flags.rst && m.ack == e.stream.snd_una && peer_window e m == e.window.snd_wnd
+
+-- a round trip is measured by a new acknowledgment of positions that were made once (RFC 6298, 3)
+abbrev pub may_sample : Endpoint → Emission → Bool
+may_sample e m = is_new_ack e m && not (retransmitted e.transmissions e.stream.snd_una m.ack)
+
+-- the oldest position that is not acknowledged, then
+abbrev pub snd_una_taken : Endpoint → Emission → ℕ
+snd_una_taken e m = max e.stream.snd_una m.ack
+
+-- the own FIN is acknowledged
+abbrev pub fin_acknowledged : Endpoint → Emission → Bool
+fin_acknowledged e m = e.stream.ended && nat_lt (end_of e.stream.accepted) (snd_una_taken e m)
+
+-- the state once the acknowledgment is looked at (RFC 9293, 3.10.7.4, fifth)
+abbrev pub acknowledged : State → Endpoint → Emission → State
+acknowledged states.SynReceived e m = if acknowledges_syn e m then (if e.stream.ended then states.FinWait1 else states.Established) else states.SynReceived
+acknowledged states.FinWait1 e m = if fin_acknowledged e m then states.FinWait2 else states.FinWait1
+acknowledged states.Closing e m = if fin_acknowledged e m then states.TimeWait else states.Closing
+acknowledged states.LastAck e m = if fin_acknowledged e m then states.Closed else states.LastAck
+acknowledged state e m = state

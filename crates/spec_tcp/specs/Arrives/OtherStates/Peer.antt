@@ -1,0 +1,11 @@
+-- Whose segment it is that arrives, asked before RFC 9293, 3.10.7.4, asks anything (this profile's own).
+use Rattle.std.specs.Prelude.{Bool, true, false, ◌&&◌, if◌then◌else◌}
+use Rattle.std.specs.Option.{option_map_or}
+use Rattle.spec_tcp.specs.Endpoints.{EndpointId, Endpoint, Emission}
+use Rattle.spec_tcp.specs.Same.{same_name}
+
+-- the peer made it for this endpoint, or before it knew whom; a reset that answers answers this endpoint
+abbrev pub is_from_peer : EndpointId → Endpoint → Emission → Bool
+is_from_peer me e m =
+    if m.is_reset_reply then same_name m.sender me
+    else option_map_or (λ peer. same_name peer m.sender) e.stream.peer false && option_map_or (λ peer_at_send. same_name peer_at_send me) m.peer_at_send true

@@ -1,0 +1,24 @@
+-- Seventh, the segment text, and the stream and the state then (RFC 9293, 3.10.7.4).
+use Rattle.std.specs.Prelude.{ℕ, ◌-◌, min, max, if◌then◌else◌, List, [], slice_range}
+use Rattle.case_forms.specs.declared.calls.State.{State}
+use Rattle.case_forms.specs.declared.steps.TakeChoice.{TakeChoice}
+use Rattle.streams.specs.Received.{Receiving, is_ended, kept}
+use Rattle.spec_tcp.specs.Endpoints.{Stream, Endpoint, Emission, rcv_nxt}
+use Rattle.spec_tcp.specs.Arrives.OtherStates.Ack.{snd_una_taken, acknowledged}
+use Rattle.spec_tcp.specs.Arrives.OtherStates.Fin.{first_byte, fin_place, keeps_fin, finished}
+
+-- the bytes that are kept: from the next position expected on, below the edge
+abbrev pub kept_start : Endpoint → Emission → ℕ
+kept_start e m = max (rcv_nxt e) (first_byte m)
+
+abbrev pub kept_bytes : Endpoint → TakeChoice → Emission → List ℕ
+kept_bytes e how m = if how.keep then slice_range m.payload (kept_start e m - first_byte m) (min (fin_place m) e.window.rcv_adv - first_byte m) else []
+
+abbrev pub receive_after : Endpoint → TakeChoice → Emission → Receiving
+receive_after e how m = kept e.stream.receive (kept_start e m) (kept_bytes e how m) (keeps_fin e how m)
+
+abbrev pub stream_taken : Endpoint → TakeChoice → Emission → Stream
+stream_taken e how m = record e.stream { receive = receive_after e how m; snd_una = snd_una_taken e m }
+
+abbrev pub state_taken : Endpoint → TakeChoice → Emission → State
+state_taken e how m = finished (acknowledged e.state e m) (is_ended (receive_after e how m))

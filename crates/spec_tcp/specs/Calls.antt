@@ -1,0 +1,92 @@
+-- Which answers a call may have at a host, and what the host has then (RFC 9293, 3.9.1 and 3.10.1 to 3.10.6).
+pub mod Await
+pub mod Send
+pub mod Receive
+pub mod Close
+pub mod Accept
+use Rattle.std.specs.Prelude.{ℕ, Bool, true, false, not, [], ◌∷◌, ◌++◌, length, slice_get, None}
+use Rattle.std.specs.Option.{option_map_or}
+use Rattle.case_forms.specs.declared.calls.Answer.{Answer}
+use Rattle.case_forms.specs.declared.calls.Answer.TheVariants as answers
+use Rattle.case_forms.specs.declared.calls.Call.{Call}
+use Rattle.case_forms.specs.declared.calls.Call.TheVariants as calls
+use Rattle.case_forms.specs.declared.calls.State.TheVariants as states
+use Rattle.spec_tcp.specs.Endpoints.{Endpoint, SocketTarget, ListenerAt, EndpointAt, new_endpoint}
+use Rattle.spec_tcp.specs.Bodies.{Body, is_connected, with_endpoint, is_listening, queue_of, thing_of, with_socket}
+use Rattle.spec_tcp.specs.Same.{same_state}
+use Rattle.spec_tcp.specs.Calls.Await.{is_not_connected, await_allows}
+use Rattle.spec_tcp.specs.Calls.Send.{send_allows, after_send}
+use Rattle.spec_tcp.specs.Calls.Receive.{recv_allows, after_recv}
+use Rattle.spec_tcp.specs.Calls.Close.{shut_allows, after_shut, after_close, after_abort, after_gone}
+use Rattle.spec_tcp.specs.Calls.Accept.{listener_allows, after_accept}
+
+-- a call on a live socket number of an endpoint
+abbrev pub endpoint_allows : Endpoint → Call → Answer → Bool
+endpoint_allows e (calls.Await n) answer = await_allows e answer
+endpoint_allows e (calls.Accept n) answer = is_not_connected answer
+endpoint_allows e (calls.Send n bytes) answer = send_allows e bytes answer
+endpoint_allows e (calls.Recv n most) answer = recv_allows e most answer
+endpoint_allows e (calls.Shut n) answer = shut_allows e answer
+endpoint_allows e (calls.Close n) answers.Done = true
+endpoint_allows e (calls.Abort n) answers.Done = true
+endpoint_allows e (calls.Status n) (answers.State s) = same_state s e.state
+endpoint_allows e _ _ = false
+
+abbrev pub thing_allows : Body → Call → Answer → SocketTarget → Bool
+thing_allows b call answer (ListenerAt l) = listener_allows (queue_of b l) call answer
+thing_allows b call answer (EndpointAt i) = option_map_or (λ e. endpoint_allows e call answer) (slice_get b.endpoints i) false
+
+-- the answer to a call on a socket number that is not live, and to no other
+abbrev pub is_bad_socket : Answer → Bool
+is_bad_socket answers.BadSocket = true
+is_bad_socket _ = false
+
+abbrev pub socket_allows : Body → ℕ → Call → Answer → Bool
+socket_allows b n call answer = option_map_or (thing_allows b call answer) (thing_of b n) (is_bad_socket answer)
+
+-- a number is given, or the port or the pair of ports is in use
+abbrev pub gives_or_in_use : Bool → Answer → Bool
+gives_or_in_use used (answers.Given n) = not used
+gives_or_in_use used answers.InUse = used
+gives_or_in_use used _ = false
+
+-- the call may have this answer
+abbrev pub call_allows : Body → Call → Answer → Bool
+call_allows b (calls.Listen host port backlog) answer = gives_or_in_use (is_listening b port) answer
+call_allows b (calls.Connect host lport rport) answer = gives_or_in_use (is_connected b lport rport) answer
+call_allows b (calls.Await n) answer = socket_allows b n (calls.Await n) answer
+call_allows b (calls.Accept n) answer = socket_allows b n (calls.Accept n) answer
+call_allows b (calls.Send n bytes) answer = socket_allows b n (calls.Send n bytes) answer
+call_allows b (calls.Recv n most) answer = socket_allows b n (calls.Recv n most) answer
+call_allows b (calls.Shut n) answer = socket_allows b n (calls.Shut n) answer
+call_allows b (calls.Close n) answer = socket_allows b n (calls.Close n) answer
+call_allows b (calls.Abort n) answer = socket_allows b n (calls.Abort n) answer
+call_allows b (calls.Status n) answer = socket_allows b n (calls.Status n) answer
+
+-- the endpoint of a live socket number changes
+abbrev pub change_thing : Body → (Endpoint → Endpoint) → SocketTarget → Body
+change_thing b f (ListenerAt l) = b
+change_thing b f (EndpointAt i) = with_endpoint b i f
+
+abbrev pub change : Body → ℕ → (Endpoint → Endpoint) → Body
+change b n f = option_map_or (change_thing b f) (thing_of b n) b
+
+-- what the host has then; every other answer changes nothing
+abbrev pub after_call : Body → Call → Answer → Body
+after_call b (calls.Listen host port backlog) (answers.Given n) =
+    with_socket (record b {
+      listeners = b.listeners ++ record { port = port; backlog = backlog; is_open = true; queue = [] }
+          ∷ [];
+    }) n (ListenerAt (length b.listeners))
+after_call b (calls.Connect host lport rport) (answers.Given n) =
+    with_socket (record b {
+      endpoints = b.endpoints ++ new_endpoint lport rport None states.SynSent
+          ∷ [];
+    }) n (EndpointAt (length b.endpoints))
+after_call b (calls.Accept h) (answers.Given n) = option_map_or (after_accept b n) (thing_of b h) b
+after_call b (calls.Send h bytes) (answers.Given n) = change b h (after_send bytes n)
+after_call b (calls.Recv h most) (answers.Bytes bytes) = change b h (after_recv bytes)
+after_call b (calls.Shut h) answers.Done = change b h after_shut
+after_call b (calls.Close h) answers.Done = after_gone b h after_close
+after_call b (calls.Abort h) answers.Done = after_gone b h after_abort
+after_call b _ _ = b

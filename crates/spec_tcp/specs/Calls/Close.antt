@@ -1,0 +1,66 @@
+-- CLOSE and ABORT: what they may be answered, and what is there then (RFC 9293, 3.10.4 and 3.10.5).
+use Rattle.std.specs.Prelude.{ℕ, ◌==◌, Bool, true, false, not, ◌&&◌, ◌||◌, if◌then◌else◌, map, is_some}
+use Rattle.std.specs.Option.{option_map_or}
+use Rattle.case_forms.specs.States.{is_syn_sent}
+use Rattle.case_forms.specs.declared.calls.Answer.{Answer}
+use Rattle.case_forms.specs.declared.calls.Answer.TheVariants as answers
+use Rattle.case_forms.specs.declared.calls.State.{State}
+use Rattle.case_forms.specs.declared.calls.State.TheVariants as states
+use Rattle.streams.specs.Lists.{modify}
+use Rattle.timer_rules.specs.Timers.{all_stopped}
+use Rattle.spec_tcp.specs.Endpoints.{Endpoint, SocketTarget, ListenerAt, EndpointAt}
+use Rattle.spec_tcp.specs.Bodies.{Body, with_endpoint, thing_of, dead}
+use Rattle.spec_tcp.specs.Calls.Await.{tells_fault}
+
+-- `shut` (RFC 9293, 3.10.4)
+abbrev pub shut_allows : Endpoint → Answer → Bool
+shut_allows e answers.Done = not (is_some e.fault) && not (is_syn_sent e.state)
+shut_allows e answers.NotConn = is_some e.fault || is_syn_sent e.state
+shut_allows e answer = tells_fault e answer
+
+-- the endpoint is CLOSED: its timers are off
+abbrev pub shut_down : Endpoint → Endpoint
+shut_down e = record e { state = states.Closed; timers = all_stopped e.timers }
+
+-- the state once sending is ended: a FIN is to be made (RFC 9293, 3.10.4)
+abbrev pub ended_state : State → State
+ended_state states.Established = states.FinWait1
+ended_state states.CloseWait = states.LastAck
+ended_state state = state
+
+-- `shut`: sending is ended
+abbrev pub after_shut : Endpoint → Endpoint
+after_shut e = record e { stream = record e.stream { ended = true }; state = ended_state e.state }
+
+-- `close`: as `shut`, and an endpoint in SYN-SENT is gone
+abbrev pub after_close : Endpoint → Endpoint
+after_close e = record (if is_syn_sent e.state then shut_down (record e { stream = record e.stream { ended = true } }) else after_shut e) { closed = true }
+
+-- an abort in these states makes a reset due (RFC 9293, 3.10.5)
+abbrev pub resets_at_abort : State → Bool
+resets_at_abort states.SynReceived = true
+resets_at_abort states.Established = true
+resets_at_abort states.FinWait1 = true
+resets_at_abort states.FinWait2 = true
+resets_at_abort states.CloseWait = true
+resets_at_abort _ = false
+
+-- `abort`: CLOSED at once
+abbrev pub after_abort : Endpoint → Endpoint
+after_abort e = record (shut_down e) { reset_due = e.reset_due || resets_at_abort e.state }
+
+-- a child of that listener that was not accepted is aborted
+abbrev pub orphaned : ℕ → Endpoint → Endpoint
+orphaned l e = if option_map_or (λ holder. holder == l) e.listener false then after_abort e else e
+
+-- a listener is gone, and with it its children that were not accepted
+abbrev pub without_listener : Body → ℕ → Body
+without_listener b l = record b { endpoints = map (orphaned l) b.endpoints; listeners = modify b.listeners l (λ x. record x { is_open = false }) }
+
+-- `close` and `abort` of what a socket number names
+abbrev pub thing_gone : Body → SocketTarget → (Endpoint → Endpoint) → Body
+thing_gone b (ListenerAt l) f = without_listener b l
+thing_gone b (EndpointAt i) f = with_endpoint b i f
+
+abbrev pub after_gone : Body → ℕ → (Endpoint → Endpoint) → Body
+after_gone b n f = option_map_or (λ thing. record (thing_gone b thing f) { sockets = dead b.sockets n }) (thing_of b n) b

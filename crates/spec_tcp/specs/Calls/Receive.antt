@@ -1,0 +1,23 @@
+-- RECEIVE: what it may be answered, and the endpoint then (RFC 9293, 3.10.3).
+use Rattle.std.specs.Prelude.{ℕ, ◌==◌, nat_le, Bool, not, ◌&&◌, List, length, is_some}
+use Rattle.case_forms.specs.declared.calls.Answer.{Answer}
+use Rattle.case_forms.specs.declared.calls.Answer.TheVariants as answers
+use Rattle.streams.specs.Received.{is_ended, starts, told, waiting}
+use Rattle.spec_tcp.specs.Endpoints.{Endpoint, is_up}
+use Rattle.spec_tcp.specs.Calls.Await.{tells_fault}
+
+-- all up to the peer's FIN was delivered
+abbrev pub is_read_out : Endpoint → Bool
+is_read_out e = is_ended e.stream.receive && length (waiting e.stream.receive) == 0
+
+-- `recv`: the next bytes in order; the end behind the last; a fault; nothing yet (RFC 9293, 3.10.3)
+abbrev pub recv_allows : Endpoint → ℕ → Answer → Bool
+recv_allows e most (answers.Bytes bytes) = nat_le 1 (length bytes) && nat_le (length bytes) most && starts bytes (waiting e.stream.receive)
+recv_allows e most answers.Eof = is_read_out e
+recv_allows e most answers.Again = not (is_some e.fault) && length (waiting e.stream.receive) == 0 && not (is_read_out e)
+recv_allows e most answers.NotConn = not (is_some e.fault) && not (is_up e)
+recv_allows e most answer = tells_fault e answer
+
+-- the bytes of a `recv` are delivered
+abbrev pub after_recv : List ℕ → Endpoint → Endpoint
+after_recv bytes e = record e { stream = record e.stream { receive = told e.stream.receive (length bytes) } }

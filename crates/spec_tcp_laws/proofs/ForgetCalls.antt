@@ -1,0 +1,104 @@
+-- Calls: what was discarded matters neither to their answers nor to what the host has then.
+use Rattle.std.proofs.Common.{◌≡◌, ℕ, Bool, false, not, List, [], ◌∷◌, Option, None, Some, refl, ap}
+use Rattle.std.specs.Prelude.{slice_get}
+use Rattle.std.specs.Option.{option_map_or}
+use Rattle.std.proofs.lemmas.List.{length-map}
+use Rattle.std.proofs.lemmas.Option.{slice_get-map}
+use Rattle.case_forms.specs.declared.calls.Call.{Call}
+use Rattle.case_forms.specs.declared.calls.Call.TheVariants as calls
+use Rattle.case_forms.specs.declared.calls.Answer.{Answer}
+use Rattle.case_forms.specs.declared.calls.Answer.TheVariants as answers
+use Rattle.case_forms.specs.declared.calls.State.TheVariants as states
+use Rattle.spec_tcp.specs.declared.endpoint.Endpoint.{Endpoint}
+use Rattle.spec_tcp.specs.declared.endpoint.SocketTarget.{SocketTarget}
+use Rattle.spec_tcp.specs.declared.endpoint.SocketTarget.TheVariants.{ListenerAt, EndpointAt}
+use Rattle.spec_tcp.specs.Endpoints.{new_endpoint}
+use Rattle.spec_tcp.specs.Bodies.{Body, endpoint_of, is_connected, queue_of, thing_of, dead}
+use Rattle.case_forms.specs.States.{is_closed}
+use Rattle.spec_tcp.specs.Calls.Close.{shut_allows, orphaned, thing_gone, after_gone, after_shut, after_close, after_abort}
+use Rattle.spec_tcp.specs.Calls.{endpoint_allows, thing_allows, socket_allows, gives_or_in_use, is_bad_socket, call_allows, change_thing, change, after_call}
+use Rattle.spec_tcp.specs.Calls.Send.{after_send}
+use Rattle.spec_tcp.specs.Calls.Receive.{after_recv}
+use Rattle.spec_tcp.specs.Calls.Accept.{accepted_from, after_accept}
+use Rattle.spec_tcp.specs.Forgetting.{forget_endpoint, forget_body}
+use Rattle.spec_tcp_laws.proofs.ForgetRules.{await-forget, recv-forget}
+use Rattle.spec_tcp_laws.proofs.ForgetEffects.{Forgets, abort-forgets, adopted-forgets, close-forgets, orphaned-forgets, recv-forgets, send-forgets, shut-forgets}
+use Rattle.spec_tcp_laws.proofs.ForgetBodies.{append-forgets, all-forget, body-forget, each-forget, endpoint-forget, map-forgets, modify-forgets, place-forgets}
+
+shut-forget : (e : Endpoint) (answer : Answer) → shut_allows (forget_endpoint e) answer ≡ shut_allows e answer
+shut-forget e answers.Done = refl
+shut-forget e answers.NotConn = refl
+shut-forget e _ = refl
+
+endpoint_allows-forget : (call : Call) (answer : Answer) (e : Endpoint) → endpoint_allows (forget_endpoint e) call answer ≡ endpoint_allows e call answer
+endpoint_allows-forget (calls.Await n) answer e = await-forget e answer
+endpoint_allows-forget (calls.Recv n most) answer e = recv-forget e most answer
+endpoint_allows-forget (calls.Shut n) answer e = shut-forget e answer
+endpoint_allows-forget (calls.Status n) (answers.State s) e = refl
+endpoint_allows-forget (calls.Close n) answers.Done e = refl
+endpoint_allows-forget (calls.Abort n) answers.Done e = refl
+endpoint_allows-forget _ _ e = refl
+
+thing-forget : (b : Body) (call : Call) (answer : Answer) (thing : SocketTarget) → thing_allows (forget_body b) call answer thing ≡ thing_allows b call answer thing
+thing-forget b call answer (ListenerAt l) = refl
+thing-forget b call answer (EndpointAt i) =
+    rw (slice_get-map forget_endpoint b.endpoints i) (each-forget (λ e. endpoint_allows e call answer) (λ e. endpoint_allows e call answer) (slice_get b.endpoints i) false (endpoint_allows-forget call answer))
+
+socket-forget : (b : Body) (n : ℕ) (call : Call) (answer : Answer) → socket_allows (forget_body b) n call answer ≡ socket_allows b n call answer
+socket-forget b n call answer = by (thing_of b n)
+  where
+    by : (o : Option SocketTarget) → option_map_or (thing_allows (forget_body b) call answer) o (is_bad_socket answer) ≡ option_map_or (thing_allows b call answer) o (is_bad_socket answer)
+    by None = refl
+    by (Some thing) = thing-forget b call answer thing
+
+connected-forget : (b : Body) (lport rport : ℕ) → is_connected (forget_body b) lport rport ≡ is_connected b lport rport
+connected-forget b lport rport = rw (endpoint-forget b lport rport) (each-forget (λ e. not (is_closed e.state)) (λ e. not (is_closed e.state)) (endpoint_of b lport rport) false (λ e. refl))
+
+pub call_allows-forget : (b : Body) (call : Call) (answer : Answer) → call_allows (forget_body b) call answer ≡ call_allows b call answer
+call_allows-forget b (calls.Listen host port backlog) answer = refl
+call_allows-forget b (calls.Connect host lport rport) answer = ap (λ (used : Bool). gives_or_in_use used answer) (connected-forget b lport rport)
+call_allows-forget b (calls.Await n) answer = socket-forget b n (calls.Await n) answer
+call_allows-forget b (calls.Accept n) answer = socket-forget b n (calls.Accept n) answer
+call_allows-forget b (calls.Send n bytes) answer = socket-forget b n (calls.Send n bytes) answer
+call_allows-forget b (calls.Recv n most) answer = socket-forget b n (calls.Recv n most) answer
+call_allows-forget b (calls.Shut n) answer = socket-forget b n (calls.Shut n) answer
+call_allows-forget b (calls.Close n) answer = socket-forget b n (calls.Close n) answer
+call_allows-forget b (calls.Abort n) answer = socket-forget b n (calls.Abort n) answer
+call_allows-forget b (calls.Status n) answer = socket-forget b n (calls.Status n) answer
+
+change-forgets : (b : Body) (n : ℕ) (f : Endpoint → Endpoint) → Forgets f → forget_body (change (forget_body b) n f) ≡ forget_body (change b n f)
+change-forgets b n f same = by (thing_of b n)
+  where
+    by : (o : Option SocketTarget) → forget_body (option_map_or (change_thing (forget_body b) f) o (forget_body b)) ≡ forget_body (option_map_or (change_thing b f) o b)
+    by None = body-forget b
+    by (Some (ListenerAt l)) = body-forget b
+    by (Some (EndpointAt i)) = place-forgets b i f same
+
+gone-forgets : (b : Body) (n : ℕ) (f : Endpoint → Endpoint) → Forgets f → forget_body (after_gone (forget_body b) n f) ≡ forget_body (after_gone b n f)
+gone-forgets b n f same = by (thing_of b n)
+  where
+    by : (o : Option SocketTarget) → forget_body (option_map_or (λ thing. record (thing_gone (forget_body b) thing f) { sockets = dead b.sockets n }) o (forget_body b))
+        ≡ forget_body (option_map_or (λ thing. record (thing_gone b thing f) { sockets = dead b.sockets n }) o b)
+    by None = body-forget b
+    by (Some (ListenerAt l)) = rw (map-forgets b.endpoints (orphaned l) (orphaned-forgets l)) refl
+    by (Some (EndpointAt i)) = rw (modify-forgets b.endpoints i f same) refl
+
+accepted-forgets : (b : Body) (l n : ℕ) (queue : List ℕ) → forget_body (accepted_from (forget_body b) l n queue) ≡ forget_body (accepted_from b l n queue)
+accepted-forgets b l n [] = body-forget b
+accepted-forgets b l n (child ∷ queue) = rw (modify-forgets b.endpoints child (λ e. record e { listener = None }) adopted-forgets) refl
+
+accept-forgets : (b : Body) (n : ℕ) (o : Option SocketTarget) → forget_body (option_map_or (after_accept (forget_body b) n) o (forget_body b)) ≡ forget_body (option_map_or (after_accept b n) o b)
+accept-forgets b n None = body-forget b
+accept-forgets b n (Some (ListenerAt l)) = accepted-forgets b l n (queue_of b l)
+accept-forgets b n (Some (EndpointAt i)) = body-forget b
+
+pub call-forgets : (b : Body) (call : Call) (answer : Answer) → forget_body (after_call (forget_body b) call answer) ≡ forget_body (after_call b call answer)
+call-forgets b (calls.Listen host port backlog) (answers.Given n) = rw (all-forget b.endpoints) refl
+call-forgets b (calls.Connect host lport rport) (answers.Given n) = rw (length-map b.endpoints forget_endpoint, append-forgets b.endpoints (new_endpoint lport rport None states.SynSent ∷ [])) refl
+call-forgets b (calls.Accept h) (answers.Given n) = accept-forgets b n (thing_of b h)
+call-forgets b (calls.Send h bytes) (answers.Given n) = change-forgets b h (after_send bytes n) (send-forgets bytes n)
+call-forgets b (calls.Recv h most) (answers.Bytes bytes) = change-forgets b h (after_recv bytes) (recv-forgets bytes)
+call-forgets b (calls.Shut h) answers.Done = change-forgets b h after_shut shut-forgets
+call-forgets b (calls.Close h) answers.Done = gone-forgets b h after_close close-forgets
+call-forgets b (calls.Abort h) answers.Done = gone-forgets b h after_abort abort-forgets
+call-forgets b _ _ = body-forget b

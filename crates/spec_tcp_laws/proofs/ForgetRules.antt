@@ -1,0 +1,65 @@
+-- The rules at an endpoint read nothing that was discarded.
+use Rattle.std.proofs.Common.{◌≡◌, ℕ, false, Option, None, Some, refl}
+use Rattle.std.specs.Option.{option_map_or}
+use Rattle.case_forms.specs.declared.trace.Header.{Header}
+use Rattle.case_forms.specs.declared.taken_line.Expired.{Expired}
+use Rattle.case_forms.specs.declared.taken_line.Expired.TheVariants.{Giveup, Msl2, Persist, Rto}
+use Rattle.case_forms.specs.declared.calls.Answer.{Answer}
+use Rattle.case_forms.specs.declared.calls.Answer.TheVariants as answers
+use Rattle.spec_tcp.specs.declared.endpoint.Endpoint.{Endpoint}
+use Rattle.spec_tcp.specs.declared.endpoint.Emission.{Emission}
+use Rattle.spec_tcp.specs.declared.endpoint.EndpointId.{EndpointId}
+use Rattle.spec_tcp.specs.Bodies.{Body}
+use Rattle.spec_tcp.specs.Calls.Await.{await_allows}
+use Rattle.spec_tcp.specs.Calls.Receive.{recv_allows}
+use Rattle.case_forms.specs.declared.steps.SegmentPlan.{SegmentPlan}
+use Rattle.spec_tcp.specs.Makes.{making_rules}
+use Rattle.case_forms.specs.declared.steps.TakeChoice.{TakeChoice}
+use Rattle.spec_tcp.specs.Arrives.OtherStates.Sequence.{is_acceptable_at, place_taken}
+use Rattle.spec_tcp.specs.Arrives.OtherStates.{connected_rules}
+use Rattle.spec_tcp.specs.Arrives.SynSent.{syn_sent_rules}
+use Rattle.case_forms.specs.declared.version.Initial.{Initial}
+use Rattle.spec_tcp.specs.Timeouts.{expiry_rules}
+use Rattle.spec_tcp.specs.Recovery.{recovery_rules}
+use Rattle.spec_tcp.specs.Forgetting.{forget_endpoint}
+use Rattle.spec_tcp_laws.proofs.ForgetReads.{rcv_nxt-forget, snd_max-forget, end_of-forget, ended-forget, waiting-forget, again-forget}
+
+pub making_rules-forget : (e : Endpoint) (m : SegmentPlan) → making_rules (forget_endpoint e) m ≡ making_rules e m
+making_rules-forget e m = rw (rcv_nxt-forget e, snd_max-forget e, end_of-forget e) refl
+
+pub await-forget : (e : Endpoint) (answer : Answer) → await_allows (forget_endpoint e) answer ≡ await_allows e answer
+await-forget e answers.Done = rw (rcv_nxt-forget e) refl
+await-forget e answers.Again = rw (rcv_nxt-forget e) refl
+await-forget e _ = refl
+
+pub recv-forget : (e : Endpoint) (most : ℕ) (answer : Answer) → recv_allows (forget_endpoint e) most answer ≡ recv_allows e most answer
+recv-forget e most (answers.Bytes bytes) = rw (waiting-forget e) refl
+recv-forget e most answers.Eof = rw (ended-forget e, waiting-forget e) refl
+recv-forget e most answers.Again = rw (ended-forget e, waiting-forget e) refl
+recv-forget e most answers.NotConn = rw (rcv_nxt-forget e) refl
+recv-forget e most _ = refl
+
+pub syn_sent_rules-forget : (initial : Initial) (e : Endpoint) (how : TakeChoice) (m : Emission) → syn_sent_rules initial (forget_endpoint e) how m ≡ syn_sent_rules initial e how m
+syn_sent_rules-forget initial e how m = rw (snd_max-forget e, again-forget e 1) refl
+
+place_taken-forget : (e : Endpoint) (m : Emission) → place_taken (forget_endpoint e) m ≡ place_taken e m
+place_taken-forget e m = rw (rcv_nxt-forget e) refl
+
+acceptable-forget : (e : Endpoint) (m : Emission) → option_map_or (is_acceptable_at (forget_endpoint e) m) (place_taken (forget_endpoint e) m) false ≡ option_map_or (is_acceptable_at e m) (place_taken e m) false
+acceptable-forget e m = rw (place_taken-forget e m) (by (place_taken e m))
+  where
+    by : (place : Option ℕ) → option_map_or (is_acceptable_at (forget_endpoint e) m) place false ≡ option_map_or (is_acceptable_at e m) place false
+    by None = refl
+    by (Some pos) = rw (rcv_nxt-forget e) refl
+
+pub connected_rules-forget : (h : Header) (b : Body) (me : EndpointId) (e : Endpoint) (how : TakeChoice) (m : Emission) → connected_rules h b me (forget_endpoint e) how m ≡ connected_rules h b me e how m
+connected_rules-forget h b me e how m = rw (acceptable-forget e m, rcv_nxt-forget e, snd_max-forget e, again-forget e m.ack) refl
+
+pub expiry_rules-forget : (h : Header) (moment : ℕ) (e : Endpoint) (x : Expired) → expiry_rules h moment (forget_endpoint e) x ≡ expiry_rules h moment e x
+expiry_rules-forget h moment e (Rto growth) = rw (snd_max-forget e) refl
+expiry_rules-forget h moment e Persist = rw (rcv_nxt-forget e, end_of-forget e) refl
+expiry_rules-forget h moment e Msl2 = refl
+expiry_rules-forget h moment e Giveup = rw (snd_max-forget e) refl
+
+pub recovery_rules-forget : (e : Endpoint) (cwnd ssthresh : ℕ) → recovery_rules (forget_endpoint e) cwnd ssthresh ≡ recovery_rules e cwnd ssthresh
+recovery_rules-forget e cwnd ssthresh = rw (rcv_nxt-forget e, snd_max-forget e) refl

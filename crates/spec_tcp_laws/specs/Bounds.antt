@@ -1,0 +1,89 @@
+-- What follows of windows from each step of the machine: how far new data reaches, and what cwnd and ssthresh become
+-- (RFC 9293, 3.8.6; RFC 5681, 3.1 and 3.2).
+use Rattle.std.specs.Prelude.{◌≡◌, ◌<◌, ◌≤◌, ℕ, ◌+◌, if◌then◌else◌, length, None, Some}
+use Rattle.case_forms.specs.declared.trace.Header.{Header}
+use Rattle.case_forms.specs.declared.calls.Host.{Host}
+use Rattle.window_rules.specs.declared.congestion.Congestion.{Congestion}
+use Rattle.window_rules.specs.Windows.{greatest_window as greatest_value, offered_edge, congestion_edge}
+use Rattle.window_rules.specs.Losses.{halved, recovery_window}
+use Rattle.spec_network.specs.Tables.{pick, waiting}
+use Rattle.spec_network.specs.Hosts.{World, Step, At, Does, Expires, Takes}
+use Rattle.spec_network.specs.HostSteps.{after}
+use Rattle.spec_tcp.specs.declared.endpoint.EndpointId.{EndpointId}
+use Rattle.spec_tcp.specs.declared.endpoint.Endpoint.{Endpoint}
+use Rattle.spec_tcp.specs.declared.endpoint.Emission.{Emission}
+use Rattle.spec_tcp.specs.Endpoints.{snd_max, flight}
+use Rattle.case_forms.specs.States.{is_syn_sent}
+use Rattle.spec_tcp.specs.Bodies.{place_of, endpoint_of}
+use Rattle.case_forms.specs.declared.steps.SegmentPlan.{SegmentPlan}
+use Rattle.case_forms.specs.declared.steps.TakeChoice.{TakeChoice}
+use Rattle.spec_tcp.specs.Arrives.OtherStates.Congestion.{greatest_window}
+use Rattle.spec_tcp.specs.Heard.{as_read}
+use Rattle.spec_tcp.specs.Arrives.SynSent.{greatest_at_syn}
+use Rattle.spec_tcp.specs.Arrives.{taker, AtEndpoint}
+use Rattle.case_forms.specs.declared.taken_line.Expired.TheVariants.{Rto}
+use Rattle.case_forms.specs.declared.timer.RtoChoice.{RtoChoice}
+use Rattle.case_forms.specs.declared.timer.Recovery.{Recovery}
+use Rattle.case_forms.specs.declared.version.Initial.{Initial}
+use Rattle.spec_tcp.specs.Timeouts.{greatest_values}
+use Rattle.spec_tcp.specs.Machine as acts
+use Rattle.spec_tcp.specs.Machine.{Expiring, act_makes, tcp, tcp_shape}
+use Rattle.spec_tcp_laws.specs.Consequences.{find}
+
+-- bytes that end here are in both windows of the endpoint: the one that the peer offers and the congestion window
+pub record InBothWindows (e : Endpoint) (end : ℕ) : Type 0 where
+  pub offered : end ≤ offered_edge e.stream.snd_una e.window.snd_wnd e.probe_due
+  pub congestion : end ≤ congestion_edge e.stream.snd_una e.congestion
+
+-- the endpoint of the ports is there, and where bytes of the segment stand at or above all that it made before, they
+-- end in both windows
+abbrev pub NewDataFits : World tcp_shape → Host → SegmentPlan → Type 0
+NewDataFits w host m = (e : Endpoint) × (endpoint_of (pick w.hosts host).body m.lport m.rport ≡ Some e)
+    × ((x : Emission) → act_makes host (pick w.hosts host).body (acts.Makes m) ≡ Some x → 0 < length x.payload →
+    snd_max e < x.pos + length x.payload → InBothWindows e (x.pos + length x.payload))
+
+-- the greatest congestion window that a segment allows, as the endpoint has read it
+abbrev pub greatest_reading : Initial → Endpoint → Emission → ℕ
+greatest_reading initial e m = if is_syn_sent e.state then greatest_at_syn initial e m else greatest_window initial e m
+
+-- the greatest congestion window that taking a segment allows
+abbrev pub greatest_taking : Header → Endpoint → Emission → ℕ
+greatest_taking h e m = greatest_reading h.initial e (as_read h.version e m)
+
+-- the step takes this segment, which waits for it, at the endpoint
+abbrev pub TakesThere : World tcp_shape → Step tcp_shape → EndpointId → Endpoint → Emission → Type 0
+TakesThere w step me e m = (line : ℕ) × (how : TakeChoice) × (step ≡ At me.host (Takes line how))
+    × (waiting line (pick w.hosts me.host).inbox ≡ Some m) × (taker (pick w.hosts me.host).body m ≡ AtEndpoint me.number e)
+
+-- the step is an expiry of the retransmission timer of the endpoint's ports
+abbrev pub TimesOut : World tcp_shape → Step tcp_shape → EndpointId → Type 0
+TimesOut w step me = (line : ℕ) × (x : Expiring) × (growth : RtoChoice) × (step ≡ At me.host (Expires line x)) × (x.expired ≡ Rto growth)
+    × (place_of (pick w.hosts me.host).body x.lport x.rport ≡ Some me.number)
+
+-- the step begins fast recovery at the endpoint of these ports
+abbrev pub Recovers : World tcp_shape → Step tcp_shape → EndpointId → Type 0
+Recovers w step me = (x : Recovery) × (step ≡ At me.host (Does x)) × (place_of (pick w.hosts me.host).body x.lport x.rport ≡ Some me.number)
+
+-- after the step the endpoint is there, and this holds of its congestion window and slow start threshold
+abbrev pub Leaves : Header → ℕ → World tcp_shape → Step tcp_shape → EndpointId → (Congestion → Type 0) → Type 0
+Leaves h moment w step me P = (f : Endpoint) × (find (after (tcp h) moment w step).hosts me ≡ Some f) × P f.congestion
+
+-- what a step makes of the windows of the endpoints that are there, and with which windows a new one begins
+pub record WindowsFollow (h : Header) (moment : ℕ) (w : World tcp_shape) (step : Step tcp_shape) : Type 0 where
+  -- where a segment is taken, cwnd is at most the greatest that this allows, and ssthresh stays
+  pub takes : (me : EndpointId) (e : Endpoint) (m : Emission) → find w.hosts me ≡ Some e → TakesThere w step me e m
+      → Leaves h moment w step me (λ c. (c.cwnd ≤ greatest_taking h e m) × (c.ssthresh ≡ e.congestion.ssthresh))
+  -- where the retransmission timer expires, both are at most the greatest that a timeout allows
+  pub times_out : (me : EndpointId) (e : Endpoint) → find w.hosts me ≡ Some e → TimesOut w step me
+      → Leaves h moment w step me (λ c. (c.cwnd ≤ (greatest_values e).0) × (c.ssthresh ≤ (greatest_values e).1))
+  -- where fast recovery begins, ssthresh is at most half the flight, or two segments, and cwnd at most that with a
+  -- segment more for each duplicate
+  pub recovers : (me : EndpointId) (e : Endpoint) → find w.hosts me ≡ Some e → Recovers w step me
+      → Leaves h moment w step me (λ c. (c.ssthresh ≤ halved e.congestion (flight e)) × (c.cwnd ≤ recovery_window e.congestion c.ssthresh))
+  -- every other step leaves both as they are
+  pub stays : (me : EndpointId) (e : Endpoint) → find w.hosts me ≡ Some e
+      → ((m : Emission) → TakesThere w step me e m → ⊥) → (TimesOut w step me → ⊥) → (Recovers w step me → ⊥)
+      → Leaves h moment w step me (λ c. (c.cwnd ≡ e.congestion.cwnd) × (c.ssthresh ≡ e.congestion.ssthresh))
+  -- a new endpoint begins with no congestion window and the greatest threshold
+  pub begins : (me : EndpointId) (f : Endpoint) → find w.hosts me ≡ None → find (after (tcp h) moment w step).hosts me ≡ Some f
+      → (f.congestion.cwnd ≡ 0) × (f.congestion.ssthresh ≡ greatest_value)

@@ -1,0 +1,144 @@
+//! Which endpoints of a host are to be looked at, and when. Moments are microseconds.
+//!
+//! An agenda has a place up to which all endpoints were looked at once, and entries of those among them that are to be
+//! looked at
+//! again. So an endpoint below that place with no entry stays as it was found: nothing is to be done there.
+
+ghost use Rattle.std.specs.Prelude.{◌≡◌, ◌+◌, ◌<◌, ◌≤◌, ◌^◌, true, false, [], drop, length, slice_get};
+ghost use Rattle.std.specs.Option.{IfSome};
+ghost use Rattle.stack_core.specs.declared.deadline_queue.Touch.TheVariants.{Place};
+ghost use Rattle.stack_core.specs.DeadlineQueues.{AreFrom, AreStill, IsGrown, IsListed, IsRenewed, IsTouched};
+
+use endpoint_state::Body;
+use std::alloc::Global;
+use std::collections::BTreeSet;
+
+/// The endpoint at a place is to be looked at from a moment on. The earliest come first.
+#[derive(Clone, Copy, Debug, PartialEq, Eq, PartialOrd, Ord, Drop)]
+pub(crate) struct Deadline {
+    pub(crate) moment: u64,
+    pub(crate) place: u32,
+}
+
+/// Which endpoints of a host a step may change, beside one that it creates.
+#[derive(Clone, Copy, Debug, PartialEq, Eq)]
+pub(crate) enum Touch {
+    Nobody,
+    Place(u32),
+    All,
+}
+
+/// The endpoints that are to be looked at.
+#[derive(Drop)]
+pub(crate) struct DeadlineQueue {
+    /// Endpoints from this place on were not looked at.
+    pub(crate) looked: u32,
+    /// Those below it that are to be looked at again.
+    pub(crate) entries: BTreeSet<Deadline>,
+}
+
+impl DeadlineQueue {
+    /// No endpoint was looked at.
+    pub(crate) fn new(alloc: Global) -> DeadlineQueue
+        ensures looked { result.looked ≡ 0 }
+        ensures entries { result.entries.keys ≡ [] }
+    {
+        DeadlineQueue {
+            looked: 0,
+            entries: BTreeSet::new(alloc),
+        }
+    }
+
+    /// How many entries there are.
+    pub(crate) fn len(&self) -> usize {
+        self.entries.len()
+    }
+
+    /// The earliest entry.
+    pub(crate) fn first(&self) -> Option<Deadline>
+        ensures first { result ≡ slice_get self.now.entries.keys 0 }
+        ensures earliest { IfSome result (λ w. AreFrom w.moment self.now.entries.keys) }
+    {
+        match self.entries.first() {
+            Some(wake) => Some(*wake),
+            None => None,
+        }
+    }
+
+    /// A step may change these endpoints: they are to be looked at, at once. Where memory refuses that, all are.
+    pub(crate) fn touch(&mut self, touch: Touch)
+        ensures { IsTouched touch self.old.looked self.old.entries.keys self.new.looked self.new.entries.keys }
+    {
+        match touch {
+            Touch::Nobody => {}
+            Touch::Place(place) => self.touch_place(place),
+            Touch::All => self.looked = 0,
+        }
+    }
+
+    // The same of one endpoint.
+    fn touch_place(&mut self, place: u32)
+        ensures { IsTouched (Place place) self.old.looked self.old.entries.keys self.new.looked self.new.entries.keys }
+    {
+        if self.looked <= place {
+            return;
+        }
+        if self.list(Deadline { moment: 0, place }) {
+            return;
+        }
+        self.looked = 0;
+    }
+
+    /// Endpoints that were not looked at get their entries. False: memory ran out before all had theirs.
+    pub(crate) fn list_new(&mut self, body: &Body) -> bool
+        requires { length body.now.endpoints < 2 ^ 32 }
+        ensures grown { IsGrown (length body.now.endpoints) self.old.looked self.old.entries.keys self.new.looked self.new.entries.keys }
+        ensures all { result ≡ true → length body.now.endpoints ≤ self.new.looked }
+    {
+        while let Some(endpoint) = body.endpoint_at(self.looked) {
+            let wake = Deadline {
+                moment: 0,
+                place: self.looked,
+            };
+            if self.list(wake) {
+                self.looked += 1;
+            } else {
+                return false;
+            }
+        }
+        true
+    }
+
+    /// The earliest entry leaves.
+    pub(crate) fn leave(&mut self)
+        ensures looked { self.new.looked ≡ self.old.looked }
+        ensures rest { self.new.entries.keys ≡ drop 1 self.old.entries.keys }
+    {
+        self.entries.pop_first();
+    }
+
+    /// The earliest entry gives way to this one. False: memory refused that, and no endpoint counts as looked at.
+    pub(crate) fn renew(&mut self, wake: Deadline) -> bool
+        ensures renewed { IsRenewed wake self.old.looked self.old.entries.keys self.new.looked self.new.entries.keys }
+        ensures looked { result ≡ true → self.new.looked ≡ self.old.looked }
+    {
+        self.leave();
+        if self.list(wake) {
+            return true;
+        }
+        self.looked = 0;
+        false
+    }
+
+    // An entry joins. False: memory ran out, and nothing is changed.
+    fn list(&mut self, wake: Deadline) -> bool
+        ensures looked { self.new.looked ≡ self.old.looked }
+        ensures yes { result ≡ true → AreStill self.old.entries.keys self.new.entries.keys × IsListed wake self.new.entries.keys }
+        ensures no { result ≡ false → self.new.entries.keys ≡ self.old.entries.keys }
+    {
+        match self.entries.insert(wake) {
+            Ok(_) => true,
+            Err(_) => false,
+        }
+    }
+}

@@ -1,0 +1,266 @@
+//! The ways in which a case is asked for.
+
+ghost use Rattle.std.specs.Prelude.{◌≤◌, length};
+
+use crate::table::Case;
+use bstr::ByteSlice;
+use checker::{CaseFault, check_case};
+use cli::{run, run_all, run_files};
+use counted::Counted;
+use line_fields::TextFault;
+use std::alloc::{AllocError, Global};
+use std::io::BufReader;
+use std::sync::Wait;
+use std::thread::Threads;
+use trace_reader::version_named;
+use verdict::Verdict;
+use witness::begins_witness;
+
+// How many threads check the cases of one input.
+const WORKERS: &str = "4";
+
+// How many threads check the cases of the input that is asked for with several numbers of them.
+const CREWS: [&str; 3] = ["1", "2", "64"];
+
+/// How many bytes of each of two texts are read at once.
+pub const PIECES: [usize; 3] = [1, 7, 4096];
+
+// Inputs with lines that end a case and lines that don't, and for each what is printed and the status.
+const ENDS: [(&str, &str); 10] = [
+    ("", "0"),
+    ("end\n", "bad trace 1 0 0 header\n2"),
+    (
+        "end\nend\n",
+        "bad trace 1 0 0 header\nbad trace 1 0 0 header\n2",
+    ),
+    (
+        "end\r\nend\n",
+        "bad trace 1 0 0 header\nbad trace 1 0 0 header\n2",
+    ),
+    ("end\nend", "bad trace 1 0 0 header\nbad trace 1 0 3 cut\n2"),
+    ("end", "bad trace 1 0 3 cut\n2"),
+    ("end\r", "bad trace 1 0 4 cut\n2"),
+    ("end\r\r\n", "bad trace 1 0 4 header\n2"),
+    ("end \n", "bad trace 1 0 4 header\n2"),
+    ("END\n", "bad trace 1 0 3 header\n2"),
+];
+
+/// Asks for each case by itself: by `check_case`, by the word `check`, and by its two texts in pieces of several sizes.
+pub fn ask_each(
+    alloc: Global,
+    cases: &[Case],
+    differing: &mut Vec<String>,
+) -> Result<(), AllocError> {
+    for case in cases {
+        let found = by_check_case(alloc, case.text.as_slice())?;
+        compare(alloc, case, "check_case", found.as_str(), differing)?;
+        let found = by_check(alloc, case.text.as_slice())?;
+        compare(alloc, case, "check", found.as_str(), differing)?;
+        for size in PIECES {
+            let found = by_two_texts(alloc, case.text.as_slice(), size)?;
+            compare(alloc, case, "two texts", found.as_str(), differing)?;
+        }
+    }
+    Ok(())
+}
+
+/// Asks for all cases in one input of `many`, but for those whose text is cut: behind them no line `end` can stand, so
+/// each is asked for as the only case of an input.
+pub fn ask_many<H: Threads + Wait + Sync>(
+    rt: &H,
+    alloc: Global,
+    cases: &[Case],
+    differing: &mut Vec<String>,
+) -> Result<(), AllocError> {
+    ask_together(rt, alloc, cases, differing)?;
+    for case in cases.iter().filter(|case| !case.is_ended()) {
+        let found = by_many(rt, alloc, WORKERS, case.text.as_slice())?;
+        compare(alloc, case, "many, alone", found.as_str(), differing)?;
+    }
+    Ok(())
+}
+
+/// Asks for inputs of `many` that are all ends.
+pub fn ask_ends<H: Threads + Wait + Sync>(
+    rt: &H,
+    alloc: Global,
+    differing: &mut Vec<String>,
+) -> Result<(), AllocError> {
+    for (input, wanted) in &ENDS {
+        let found = by_many(rt, alloc, WORKERS, input.as_bytes())?;
+        if found.as_str() != *wanted {
+            differing.push(format!(in alloc;
+                "many of {input:?}: wanted {wanted:?}, found {found:?}"
+            )?)?;
+        }
+    }
+    Ok(())
+}
+
+/// Asks for an input of `many` with each of several numbers of threads. The same is wanted of each, as it is printed,
+/// then the status.
+pub fn ask_crews<H: Threads + Wait + Sync>(
+    rt: &H,
+    alloc: Global,
+    input: &[u8],
+    wanted: &str,
+    differing: &mut Vec<String>,
+) -> Result<(), AllocError> {
+    for workers in CREWS {
+        let found = by_many(rt, alloc, workers, input)?;
+        if found.as_str() != wanted {
+            differing.push(format!(in alloc;
+                "many by {workers} threads: wanted {wanted:?}, found {found:?}"
+            )?)?;
+        }
+    }
+    Ok(())
+}
+
+// Asks for all cases that a line `end` can follow, in one input. The status is the greatest of theirs.
+fn ask_together<H: Threads + Wait + Sync>(
+    rt: &H,
+    alloc: Global,
+    cases: &[Case],
+    differing: &mut Vec<String>,
+) -> Result<(), AllocError> {
+    let input = join(alloc, cases)?;
+    let answer = by_many(rt, alloc, WORKERS, input.as_slice())?;
+    let mut lines = answer.as_str().lines();
+    let mut greatest = 0;
+    for case in cases.iter().filter(|case| case.is_ended()) {
+        let line = lines.next().unwrap_or("");
+        let status = case.status();
+        let found = format!(in alloc; "{line}\n{status}")?;
+        compare(alloc, case, "many", found.as_str(), differing)?;
+        greatest = status.max(greatest);
+    }
+    let wanted = format!(in alloc; "{greatest}")?;
+    let found = lines.next().unwrap_or("");
+    if found != wanted.as_str() {
+        differing.push(format!(in alloc; "many ends with {found:?}, not with status {wanted}")?)?;
+    }
+    Ok(())
+}
+
+// One input with these cases, each before a line `end`.
+fn join(alloc: Global, cases: &[Case]) -> Result<Vec<u8>, AllocError> {
+    let mut input = Vec::new(alloc);
+    for case in cases.iter().filter(|case| case.is_ended()) {
+        input.extend_from_slice(case.text.as_slice())?;
+        input.extend_from_slice(b"end\n")?;
+    }
+    Ok(input)
+}
+
+// Adds a line where a case is not answered as wanted. Both answers are what is printed, then the status.
+fn compare(
+    alloc: Global,
+    case: &Case,
+    way: &str,
+    found: &str,
+    differing: &mut Vec<String>,
+) -> Result<(), AllocError> {
+    let wanted = format!(in alloc; "{}\n{}", case.wanted, case.status())?;
+    if found != wanted.as_str() {
+        let name = &case.name;
+        differing.push(format!(in alloc;
+            "{name}, asked for by {way}: wanted {wanted:?}, found {found:?}"
+        )?)?;
+    }
+    Ok(())
+}
+
+// What the checker answers, as it would be printed, then the status that belongs to it.
+fn by_check_case(alloc: Global, text: &[u8]) -> Result<String, AllocError> {
+    match check_case(alloc, text) {
+        Ok(verdict @ Verdict::Yes { .. }) => format!(in alloc; "{verdict}\n0"),
+        Ok(verdict @ Verdict::No { .. }) => format!(in alloc; "{verdict}\n1"),
+        Err(CaseFault::Trace(fault)) => shown(alloc, "trace", &fault),
+        Err(CaseFault::Witness(fault)) => shown(alloc, "witness", &fault),
+        Err(CaseFault::Read) => format!(in alloc; "bad device\n5"),
+        Err(CaseFault::OutOfMemory) => format!(in alloc; "bad memory\n4"),
+    }
+}
+
+// A fault of a text, as it would be printed, then its status.
+fn shown(alloc: Global, text: &str, fault: &TextFault) -> Result<String, AllocError> {
+    let span = fault.span;
+    let kind = fault.kind.name();
+    format!(in alloc;
+        "bad {text} {} {} {} {kind}\n2",
+        span.line, span.start, span.stop
+    )
+}
+
+// What the word `check` prints, then the status.
+fn by_check(alloc: Global, text: &[u8]) -> Result<String, AllocError> {
+    let mut output = Vec::new(alloc);
+    let mut reader = Counted::new(text);
+    let mut writer = Counted::new(&mut output);
+    let status = run(alloc, &["check"], &mut reader, &mut writer);
+    let printed = String::from_utf8_lossy(alloc, output.as_slice())?;
+    format!(in alloc; "{printed}{status}")
+}
+
+// What is printed for the trace and the witness of a case as two texts, which are read in pieces, then the status.
+fn by_two_texts(alloc: Global, text: &[u8], size: usize) -> Result<String, AllocError> {
+    let (trace, witness) = text.split_at(witness_begins(text));
+    by_pair(alloc, trace, witness, size)
+}
+
+/// What is printed for a trace and a witness as two texts, which are read in pieces, then the status.
+pub fn by_pair(
+    alloc: Global,
+    trace: &[u8],
+    witness: &[u8],
+    size: usize,
+) -> Result<String, AllocError> {
+    let (Ok(trace), Ok(witness)) = (
+        BufReader::with_capacity(alloc, size, trace),
+        BufReader::with_capacity(alloc, size, witness),
+    ) else {
+        return Err(AllocError);
+    };
+    let mut output = Vec::new(alloc);
+    let mut writer = Counted::new(&mut output);
+    let (status, _, _) = run_files(
+        alloc,
+        Counted::new(trace),
+        Counted::new(witness),
+        &mut writer,
+    );
+    let printed = String::from_utf8_lossy(alloc, output.as_slice())?;
+    format!(in alloc; "{printed}{status}")
+}
+
+/// How many bytes of a case stand before its witness.
+pub fn witness_begins(text: &[u8]) -> usize
+    ensures { result ≤ length text.now }
+{
+    let version = version_named(text);
+    let mut at = 0usize;
+    for raw in text.lines_with_terminator() {
+        if begins_witness(version, raw) {
+            break;
+        }
+        at = at.saturating_add(raw.len());
+    }
+    at.min(text.len())
+}
+
+// What the words of `many` with so many threads print for an input, then the status.
+fn by_many<H: Threads + Wait + Sync>(
+    rt: &H,
+    alloc: Global,
+    workers: &str,
+    input: &[u8],
+) -> Result<String, AllocError> {
+    let mut output = Vec::new(alloc);
+    let mut reader = Counted::new(input);
+    let mut writer = Counted::new(&mut output);
+    let words = ["many", "--workers", workers];
+    let status = run_all(rt, alloc, &words, &mut reader, &mut writer);
+    let printed = String::from_utf8_lossy(alloc, output.as_slice())?;
+    format!(in alloc; "{printed}{status}")
+}

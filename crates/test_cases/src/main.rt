@@ -1,0 +1,71 @@
+//! Asks for the answer to every case file, in several ways, and holds each answer to the line that is wanted.
+//!
+//! The case of each name is `data/NAME.case`, and `data/expected.txt` has the line that `tcpwit check` must print for
+//! it
+//! (`data/README.md`). Beside the files, each beginning of two of them is asked for, lines of the greatest length,
+//! inputs of
+//! several cases, pairs of texts that no case would be cut into, the command lines of `data/command_lines.txt`, and
+//! what
+//! `tcpwit_lab` says of some cases (`data/told.txt`).
+//! Where all is answered as wanted, one line with the counts is printed. Else each answer that differs has a line on
+//! standard error, with the name of the case, how it was asked, what was wanted and what was found, and the program
+//! ends
+//! with status 1.
+//!
+//! - `table`: cases, and those of the files
+//! - `beginnings`: each beginning of a case
+//! - `long_lines`: lines of the greatest length, and one byte longer
+//! - `pairs`: a trace and a witness as two texts, into which no case would be cut
+//! - `asking`: by `check_case`, by the word `check`, as two texts in pieces, and by the words of `many`
+//! - `command_lines`: by words, as the program is given them
+//! - `told`: what `tcpwit_lab` says of a case
+#![tactic(auto)]
+
+mod asking;
+mod beginnings;
+mod command_lines;
+mod long_lines;
+mod pairs;
+mod table;
+mod told;
+
+use std::process::ExitCode;
+use std::{fs, io};
+
+// What is printed for the three cases of `three_cases.txt`, and the status.
+const THREE: &str = "yes 4 2\nno 3 0 no-call\nbad witness 7 0 7 cut\n2";
+
+fn main(rt: HostRuntime) -> io::Result<ExitCode> {
+    let alloc = rt.alloc();
+    let mut differing = Vec::new(alloc);
+    let mut cases = table::read_table(&rt)?;
+    table::push_untold(&rt, cases.as_slice(), &mut differing)?;
+    let files = cases.len();
+    for name in ["two_threads", "handshake_and_five_bytes"] {
+        beginnings::push_beginnings(&rt, name, &mut cases)?;
+    }
+    let others = cases.len().saturating_sub(files);
+    long_lines::push_long_lines(alloc, &mut cases)?;
+    asking::ask_each(alloc, cases.as_slice(), &mut differing)?;
+    asking::ask_many(&rt, alloc, cases.as_slice(), &mut differing)?;
+    asking::ask_ends(&rt, alloc, &mut differing)?;
+    let three = fs::read(&rt, "three_cases.txt")?;
+    asking::ask_crews(&rt, alloc, three.as_slice(), THREE, &mut differing)?;
+    let pairs = pairs::ask_pairs(&rt, "handshake_and_five_bytes", &mut differing)?;
+    let table = fs::read_to_string(&rt, "command_lines.txt")?;
+    let rows = command_lines::ask_rows(&rt, alloc, table.as_str(), &mut differing)?;
+    let table = fs::read_to_string(&rt, "told.txt")?;
+    let told = told::ask_told(&rt, alloc, table.as_str(), &mut differing)?;
+    for line in &differing {
+        eprintln!(rt; "{line}")?;
+    }
+    if !differing.is_empty() {
+        return Ok(ExitCode::FAILURE);
+    }
+    let long = cases.len().saturating_sub(files).saturating_sub(others);
+    println!(rt;
+        "{files} case files, {others} beginnings of two of them, {long} long lines, {pairs} pairs of texts and {rows} command lines are \
+            answered as wanted, and {told} cases explained, shown or drawn as wanted"
+    )?;
+    Ok(ExitCode::SUCCESS)
+}

@@ -1,0 +1,96 @@
+//! Traces and witnesses as two texts into which no case would be cut, as two files may be.
+
+use crate::asking::{PIECES, by_pair, witness_begins};
+use std::alloc::{AllocError, Global};
+use std::{fs, io};
+
+// A trace without events.
+const EMPTY: &str = "trace 1\nskew 0\nmsl 1\ngrain 0\nminrto 0\nextra 0\n";
+
+const EMPTY_OF_VERSION_2: &str =
+    "trace 2\nskew 0\nmsl 1\ngrain 0\nminrto 0\nextra 0\ninitial 5681\n";
+
+const WITH_A_WITNESS_LINE: &str = "trace 1\nskew 0\nmsl 1\ngrain 0\nminrto 0\nextra 0\nwitness 1\n";
+
+const WITH_A_CUT_WITNESS_LINE: &str =
+    "trace 1\nskew 0\nmsl 1\ngrain 0\nminrto 0\nextra 0\nwitness 1";
+
+// A trace, a witness, and what is printed with the status.
+const PAIRS: [(&str, &str, &str); 12] = [
+    ("", "", "bad trace 1 0 0 header\n2"),
+    ("", "witness 1\n", "bad trace 1 0 0 header\n2"),
+    ("witness 1\n", "witness 1\n", "bad trace 1 0 9 header\n2"),
+    (EMPTY, EMPTY, "bad witness 1 0 7 header\n2"),
+    (EMPTY, "witness 1\n", "yes 0 0\n0"),
+    (EMPTY, "witness 1\r\n", "yes 0 0\n0"),
+    (EMPTY, "witness 1\r", "bad witness 1 0 10 cut\n2"),
+    (EMPTY, "witness 2\n", "bad witness 1 0 9 header\n2"),
+    (
+        EMPTY_OF_VERSION_2,
+        "witness 1\n",
+        "bad witness 1 0 9 header\n2",
+    ),
+    (EMPTY_OF_VERSION_2, "witness 2\n", "yes 0 0\n0"),
+    (
+        WITH_A_WITNESS_LINE,
+        "witness 1\n",
+        "bad trace 7 0 7 number\n2",
+    ),
+    (
+        WITH_A_CUT_WITNESS_LINE,
+        "witness 1\n",
+        "bad trace 7 0 9 cut\n2",
+    ),
+];
+
+/// Asks for each pair, and for the trace of a whole case with each beginning of its witness's first line. Answers how
+/// many
+/// pairs there are.
+pub fn ask_pairs(rt: &HostRuntime, name: &str, differing: &mut Vec<String>) -> io::Result<usize> {
+    let alloc = rt.alloc();
+    for (trace, witness, wanted) in &PAIRS {
+        ask(
+            alloc,
+            trace.as_bytes(),
+            witness.as_bytes(),
+            wanted,
+            differing,
+        )?;
+    }
+    let case = fs::read(rt, format!(in alloc; "examples/{name}.case")?.as_str())?;
+    let (trace, witness) = case.as_slice().split_at(witness_begins(case.as_slice()));
+    let line = witness.split(|byte| *byte == b'\n').next().unwrap_or(&[]);
+    for length in 0..=line.len() {
+        let kind = if length == 0 { "header" } else { "cut" };
+        let wanted = format!(in alloc; "bad witness 1 0 {length} {kind}\n2")?;
+        ask(
+            alloc,
+            trace,
+            line.get(..length).unwrap_or(&[]),
+            wanted.as_str(),
+            differing,
+        )?;
+    }
+    Ok(PAIRS.len().saturating_add(line.len()).saturating_add(1))
+}
+
+// Asks for two texts, in pieces of several sizes.
+fn ask(
+    alloc: Global,
+    trace: &[u8],
+    witness: &[u8],
+    wanted: &str,
+    differing: &mut Vec<String>,
+) -> Result<(), AllocError> {
+    for size in PIECES {
+        let found = by_pair(alloc, trace, witness, size)?;
+        if found.as_str() != wanted {
+            let text = String::from_utf8_lossy(alloc, witness)?;
+            differing.push(format!(in alloc;
+                "{} bytes of a trace, and the witness {text:?}: wanted {wanted:?}, found {found:?}",
+                trace.len()
+            )?)?;
+        }
+    }
+    Ok(())
+}

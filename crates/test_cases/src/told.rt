@@ -1,0 +1,51 @@
+//! What `explain`, `show` and `draw` of `tcpwit_lab` say of a case, and the text that is wanted.
+
+use drawing::{Range, draw, show};
+use std::alloc::{AllocError, Global};
+use std::{fs, io};
+use why::explain;
+
+/// Asks for each text of a table: a line `== WORD NAME` with the word of `tcpwit_lab` and the name of a case, and
+/// behind it the
+/// text that is wanted. Answers how many texts there are.
+pub fn ask_told(
+    rt: &HostRuntime,
+    alloc: Global,
+    table: &str,
+    differing: &mut Vec<String>,
+) -> io::Result<u64> {
+    let mut count: u64 = 0;
+    for block in table.split("== ") {
+        let Some((head, wanted)) = block.split_once('\n') else {
+            continue;
+        };
+        let Some((word, name)) = head.split_once(' ') else {
+            continue;
+        };
+        let case = fs::read(rt, format!(in alloc; "{name}.case")?.as_str())?;
+        let told = told(alloc, word, case.as_slice())?;
+        if told.as_slice() != wanted.as_bytes() {
+            differing.push(format!(in alloc; "{name}: {word} says something else")?)?;
+        }
+        count = count.saturating_add(1);
+    }
+    Ok(count)
+}
+
+// What a word says of a case; nothing where the word is another one, or the trace can't be read.
+fn told(alloc: Global, word: &str, case: &[u8]) -> Result<Vec<u8>, AllocError> {
+    let range = Range {
+        from: None,
+        to: None,
+    };
+    let told = match word {
+        "explain" => return Ok(explain(alloc, case)?.text),
+        "show" => show(alloc, case),
+        "draw" => draw(alloc, case, range),
+        _ => return Ok(Vec::new(alloc)),
+    };
+    match told {
+        Ok(text) => Ok(text),
+        Err(_) => Ok(Vec::new(alloc)),
+    }
+}

@@ -1,0 +1,258 @@
+//! A case in two texts: judged in pieces, up to the call that fails, and with no more of the trace read than a step
+//! needs.
+
+use crate::tests::ends::Source;
+use checker::{CaseFault, check_streams};
+use counted::Counted;
+use memchr::memchr;
+use std::alloc::{AllocError, Global};
+use std::cell::Cell;
+use std::io;
+use std::io::{BufRead, Read};
+use std::test::Fail;
+use verdict::Verdict;
+
+// The handshake of two hosts, and five bytes that one sends to the other.
+const TRACE: &str = "trace 1\n\
+skew 0\n\
+msl 120000000\n\
+grain 1000\n\
+minrto 1000000\n\
+extra 0\n\
+10 1 B listen 1 80 4\n\
+11 1 E ok 5\n\
+20 2 B open 0 4000 80\n\
+21 2 E ok 6\n\
+30 3 O 0 0fa00050fffffffe000000005002ffff00000000\n\
+40 4 I 1 0fa00050fffffffe000000005002ffff00000000\n\
+50 4 O 1 00500fa000000064ffffffff5012ffff00000000\n\
+60 3 I 0 00500fa000000064ffffffff5012ffff00000000\n\
+70 3 O 0 0fa00050ffffffff000000655010ffff00000000\n\
+80 4 I 1 0fa00050ffffffff000000655010ffff00000000\n\
+90 1 B accept 5\n\
+91 1 E ok 7\n\
+100 2 B send 6 68656c6c6f\n\
+101 2 E ok 5\n\
+110 3 O 0 0fa00050ffffffff000000655018ffff0000000068656c6c6f\n\
+120 4 I 1 0fa00050ffffffff000000655018ffff0000000068656c6c6f\n\
+130 1 B recv 7 100\n\
+131 1 E data 68656c6c6f\n";
+
+const WITNESS: &str = "witness 1\n\
+10 L 7\n\
+10 D 1 ok 5\n\
+11 L 8\n\
+20 L 9\n\
+20 D 2 ok 6\n\
+21 L 10\n\
+30 M 0 4000 80 0 0 S 65535 4294967294\n\
+30 L 11 1\n\
+40 L 12 11\n\
+41 T 1 12 0 0 0\n\
+50 M 1 80 4000 0 0 AS 65535 100\n\
+50 L 13 2\n\
+60 L 14 13\n\
+61 T 0 14 2144 0 1\n\
+70 M 0 4000 80 1 0 A 65535\n\
+70 L 15 3\n\
+80 L 16 15\n\
+81 T 1 16 2144 0 1\n\
+90 L 17\n\
+90 D 1 ok 7\n\
+91 L 18\n\
+100 L 19\n\
+100 D 2 ok 5\n\
+101 L 20\n\
+110 M 0 4000 80 1 5 A 65535\n\
+110 L 21 4\n\
+120 L 22 21\n\
+121 T 1 22 2144 1 0\n\
+130 L 23\n\
+130 D 1 data 68656c6c6f\n\
+131 L 24\n";
+
+// What a case in two texts is answered, then how many calls of each reader failed.
+fn told(
+    alloc: Global,
+    answer: &Result<Verdict, CaseFault>,
+    failures: (u64, u64),
+) -> Result<String, AllocError> {
+    let (trace, witness) = failures;
+    match answer {
+        Ok(Verdict::Yes { lines, hidden }) => {
+            format!(in alloc; "yes {lines} {hidden} {trace} {witness}")
+        }
+        Ok(Verdict::No { .. }) => format!(in alloc; "no {trace} {witness}"),
+        Err(CaseFault::Trace(_)) => format!(in alloc; "trace {trace} {witness}"),
+        Err(CaseFault::Witness(_)) => format!(in alloc; "witness {trace} {witness}"),
+        Err(CaseFault::Read) => format!(in alloc; "x {trace} {witness}"),
+        Err(CaseFault::OutOfMemory) => format!(in alloc; "memory {trace} {witness}"),
+    }
+}
+
+// The answer to these two texts, of which so many bytes are read a call, and one call fails or none.
+fn judged(
+    alloc: Global,
+    texts: (&str, &str),
+    size: usize,
+    fails: (u32, u32),
+) -> Result<String, AllocError> {
+    let trace = Counted::new(Source::new(texts.0.as_bytes(), size, fails.0));
+    let witness = Counted::new(Source::new(texts.1.as_bytes(), size, fails.1));
+    let (answer, trace, witness) = check_streams(alloc, trace, witness);
+    told(alloc, &answer, (trace.failures(), witness.failures()))
+}
+
+// Each line of a text takes one call, and its end one more: 25 of the trace and 33 of the witness. Whichever fails,
+// there
+// is no verdict.
+#[test]
+fn a_read_that_fails_is_no_verdict(rt: HostRuntime) -> Result<(), Fail> {
+    for (from, upto, wanted) in [(1, 25, "x 1 0"), (26, 27, "yes 18 13 0 0")] {
+        for call in from..=upto {
+            let told = judged(rt.alloc(), (TRACE, WITNESS), 4096, (call, 0))?;
+            assert_eq!(rt; told.as_str(), wanted);
+        }
+    }
+    for (from, upto, wanted) in [(1, 33, "x 0 1"), (34, 35, "yes 18 13 0 0")] {
+        for call in from..=upto {
+            let told = judged(rt.alloc(), (TRACE, WITNESS), 4096, (0, call))?;
+            assert_eq!(rt; told.as_str(), wanted);
+        }
+    }
+    Ok(())
+}
+
+// The first step takes a line of a moment that is not reached, and behind its line the trace ends in one that can't be
+// read.
+#[test]
+fn a_fault_of_the_trace_behind_a_broken_step_is_told(rt: HostRuntime) -> Result<(), Fail> {
+    let trace =
+        "trace 1\nskew 0\nmsl 1\ngrain 1\nminrto 1\nextra 0\n10 1 B close 5\n11 1 E badsocket\n";
+    let cut = "trace 1\nskew 0\nmsl 1\ngrain 1\nminrto 1\nextra 0\n10 1 B close 5\n11 1 E\n";
+    let broken = "witness 1\n9 L 7\n";
+    let told = judged(rt.alloc(), (trace, broken), 7, (0, 0))?;
+    assert_eq!(rt; told.as_str(), "no 0 0");
+    let told = judged(rt.alloc(), (cut, broken), 7, (0, 0))?;
+    assert_eq!(rt; told.as_str(), "trace 0 0");
+    Ok(())
+}
+
+// What two readers handed out, one line a call.
+#[derive(Drop)]
+struct Handed {
+    /// Lines of the trace.
+    trace: Cell<u64>,
+    /// Lines of the witness.
+    witness: Cell<u64>,
+    /// How many lines of the trace behind its header were at most handed out, beyond those that are placed, as the
+    /// witness
+    /// was asked for a line.
+    ahead: Cell<u64>,
+}
+
+impl Handed {
+    // Of each three steps the first and the last take a line.
+    fn note_step(&self) {
+        let done = self.witness.get().saturating_sub(1);
+        let placed = (done / 3 * 2).saturating_add(u64::from(done % 3 != 0));
+        let ahead = self.trace.get().saturating_sub(6).saturating_sub(placed);
+        self.ahead.set(self.ahead.get().max(ahead));
+        self.witness.set(self.witness.get().saturating_add(1));
+    }
+
+    fn note_line(&self) {
+        self.trace.set(self.trace.get().saturating_add(1));
+    }
+}
+
+// A reader that hands out one line a call, and notes it.
+#[derive(Drop)]
+struct ByLines<'a, 'h> {
+    left: &'a [u8],
+    handed: &'h Handed,
+    is_witness: bool,
+}
+
+impl Read for ByLines<'_, '_> {
+    fn read(&mut self, _buf: &mut [u8]) -> io::Result<usize> {
+        Ok(0)
+    }
+}
+
+impl BufRead for ByLines<'_, '_> {
+    fn fill_buf(&mut self) -> io::Result<&[u8]> {
+        let count = match memchr(b'\n', self.left) {
+            Some(place) => place + 1,
+            None => self.left.len(),
+        };
+        if 0 < count {
+            if self.is_witness {
+                self.handed.note_step();
+            } else {
+                self.handed.note_line();
+            }
+        }
+        Ok(&self.left[..count])
+    }
+
+    fn consume(&mut self, amount: usize) {
+        let count = self.left.len().min(amount);
+        self.left = &self.left[count..];
+    }
+}
+
+// A trace of so many `status` calls of a thread, each line at a moment of its own, and a witness that explains it.
+fn many_calls(alloc: Global, calls: u32) -> Result<(String, String), AllocError> {
+    let mut trace = String::new(alloc);
+    let mut witness = String::new(alloc);
+    trace.push_str("trace 1\nskew 0\nmsl 1\ngrain 1\nminrto 1\nextra 0\n")?;
+    witness.push_str("witness 1\n")?;
+    for call in 0..calls {
+        let moment = 2 * u64::from(call);
+        let (next, line) = (moment + 1, moment + 7);
+        let lines = format!(in alloc; "{moment} 1 B status 5\n{next} 1 E badsocket\n")?;
+        trace.push_str(lines.as_str())?;
+        let after = line + 1;
+        let steps = format!(in alloc;
+            "{moment} L {line}\n{moment} D 1 badsocket\n{next} L {after}\n"
+        )?;
+        witness.push_str(steps.as_str())?;
+    }
+    Ok((trace, witness))
+}
+
+// The answer to so many calls, then how many lines of the trace were handed out, and whether at most two ahead of the
+// steps.
+fn judged_by_lines(alloc: Global, calls: u32) -> Result<String, AllocError> {
+    let (trace, witness) = many_calls(alloc, calls)?;
+    let handed = Handed {
+        trace: Cell::new(0),
+        witness: Cell::new(0),
+        ahead: Cell::new(0),
+    };
+    let (answer, trace, witness) = check_streams(
+        alloc,
+        Counted::new(ByLines {
+            left: trace.as_bytes(),
+            handed: &handed,
+            is_witness: false,
+        }),
+        Counted::new(ByLines {
+            left: witness.as_bytes(),
+            handed: &handed,
+            is_witness: true,
+        }),
+    );
+    let told = told(alloc, &answer, (trace.failures(), witness.failures()))?;
+    let (lines, is_bounded) = (handed.trace.get(), handed.ahead.get() <= 2);
+    format!(in alloc; "{told} {lines} {is_bounded}")
+}
+
+// At each step the header, the lines that are placed, and at most two more were handed out.
+#[test]
+fn no_more_of_a_trace_is_read_than_steps_need(rt: HostRuntime) -> Result<(), Fail> {
+    let told = judged_by_lines(rt.alloc(), 100_000)?;
+    assert_eq!(rt; told.as_str(), "yes 200000 100000 0 0 200006 true");
+    Ok(())
+}

@@ -1,0 +1,143 @@
+//! What two hosts of a recording tell at first, and in which threads.
+
+ghost use Rattle.std.specs.Prelude.{◌≡◌, false};
+ghost use Rattle.case_forms.specs.Versions.{is_half};
+
+use crate::tests::talks::TRIES;
+use case_forms::{Event, Host, Line, Version};
+use segment::{Flag, Segment};
+use std::alloc::Global;
+use std::sync::Wait;
+use std::test::Fail;
+use std::thread::Threads;
+use two_hosts::{Plan, record};
+
+// What a host's first segment is to tell.
+#[derive(Clone, Copy)]
+struct Opening {
+    host: Host,
+    ports: (u16, u16),
+    number: u32,
+    // Whether it answers the other host's.
+    answers: bool,
+    // The shift of windows.
+    shift: Option<u8>,
+}
+
+// What is said of a host that sent nothing: host 0 gave up before host 1 had its turn.
+const UNANSWERED: &str = "no segment";
+
+// The first segment that a host let out.
+fn first_sent(lines: &[Line], sender: Host) -> Option<&Segment> {
+    for line in lines {
+        match &line.event {
+            Event::Sent(host, wire) if *host == sender => return Some(&wire.seg),
+            _ => {}
+        }
+    }
+    None
+}
+
+// What is wrong with the first segment of a host; `yes` where nothing is.
+fn opened(lines: &[Line], opening: Opening) -> &'static str {
+    let Some(seg) = first_sent(lines, opening.host) else {
+        return UNANSWERED;
+    };
+    if !seg.has(Flag::Syn) || seg.has(Flag::Ack) != opening.answers {
+        return "other flags";
+    }
+    if (seg.src, seg.dst) != opening.ports {
+        return "other ports";
+    }
+    if seg.seq.0 != opening.number {
+        return "another initial number";
+    }
+    if seg.mss != Some(536) {
+        return "another MSS";
+    }
+    if seg.scale != opening.shift {
+        return "another shift";
+    }
+    if seg.window != 4_096 {
+        return "another room";
+    }
+    "yes"
+}
+
+// Whether a line of a segment or of a timer has the thread of its host for such lines.
+fn has_own_thread(line: &Line) -> bool {
+    match &line.event {
+        Event::Sent(Host::Zero, _) => line.thread == 8,
+        Event::Sent(Host::One, _) => line.thread == 9,
+        Event::Came(Host::Zero, _) => line.thread == 4,
+        Event::Came(Host::One, _) => line.thread == 5,
+        Event::Expired(Host::Zero, _, _, _) => line.thread == 6,
+        Event::Expired(Host::One, _, _, _) => line.thread == 7,
+        Event::CallBegin(_) | Event::CallEnd(_) => true,
+    }
+}
+
+// What is wrong with these lines, where both hosts tell this shift; `yes` where nothing is.
+fn judge(lines: &[Line], shift: Option<u8>) -> &'static str {
+    if !lines.iter().all(has_own_thread) {
+        return "another thread";
+    }
+    let zero = opened(
+        lines,
+        Opening {
+            host: Host::Zero,
+            ports: (4_000, 80),
+            number: 4_294_967_294,
+            answers: false,
+            shift,
+        },
+    );
+    if zero != "yes" {
+        return zero;
+    }
+    opened(
+        lines,
+        Opening {
+            host: Host::One,
+            ports: (80, 4_000),
+            number: 100,
+            answers: true,
+            shift,
+        },
+    )
+}
+
+// What is wrong with a recording of one round, where each second segment of a host is lost, but not the first; `yes`
+// where nothing is.
+fn told<R: Threads + Wait + Sync>(
+    rt: &R,
+    alloc: Global,
+    version: Version,
+    shift: Option<u8>,
+) -> &'static str
+    requires { is_half version ≡ false }
+{
+    for _ in 0..TRIES {
+        let plan = Plan {
+            rounds: 1,
+            lose: 2,
+            version,
+        };
+        let said = match record(rt, alloc, plan) {
+            Ok(recording) => judge(recording.recorded.trace.lines.as_slice(), shift),
+            Err(_) => "no recording",
+        };
+        if said != UNANSWERED {
+            return said;
+        }
+    }
+    UNANSWERED
+}
+
+#[test]
+fn hosts_tell_their_numbers_and_options(rt: HostRuntime) -> Result<(), Fail> {
+    let first = told(&rt, rt.alloc(), Version::One, None);
+    let second = told(&rt, rt.alloc(), Version::Two, Some(2));
+    assert_eq!(rt; (first, second), ("yes", "yes"));
+    Ok(())
+}

@@ -1,0 +1,248 @@
+//! Whole recordings.
+
+use crate::tests::fates::Drawn;
+use crate::tests::verdicts::answer;
+use case_forms::{Answer, Event, Line, Version};
+use recorder::{Fate, LoseEach, WireFate, merge, receipt_stands};
+use std::alloc::{AllocError, Global};
+use std::ops::Range;
+use std::sync::Wait;
+use std::test::Fail;
+use std::thread::Threads;
+use two_hosts::{Plan, RecordFault, Recording, Talk, Wire, record, record_books};
+
+// How many segments a host takes at most.
+const MOST: u64 = 2_000_000;
+
+// The bytes that a thread was told, joined.
+fn bytes_told(alloc: Global, lines: &[Line], thread: u32) -> Result<Vec<u8>, AllocError> {
+    let mut told = Vec::new(alloc);
+    for line in lines {
+        if line.thread == thread {
+            if let Event::CallEnd(Answer::Bytes(bytes)) = &line.event {
+                told.extend_from_slice(bytes.as_slice())?;
+            }
+        }
+    }
+    Ok(told)
+}
+
+// Whether they are the bytes of so many rounds.
+fn are_rounds(told: &[u8], rounds: u16) -> bool {
+    told.len() == usize::from(rounds) * 64
+        && told
+            .iter()
+            .enumerate()
+            .all(|(place, byte)| usize::from(*byte) == place / 64 % 256)
+}
+
+// What is said of a recording whose rounds did not end, and which the checker explains.
+const UNENDED: &str = "a limit was met";
+
+// What is wrong with a recording of so many rounds; `yes` where nothing is.
+fn judge(alloc: Global, recording: &Recording, rounds: u16) -> Result<&'static str, AllocError> {
+    let recorded = &recording.recorded;
+    let said = answer(alloc, recorded)?;
+    if said != "yes" {
+        return Ok(said);
+    }
+    if !recording
+        .receipts
+        .iter()
+        .all(|receipt| receipt_stands(recorded, receipt))
+    {
+        return Ok("a receipt does not stand");
+    }
+    if !recording.ended {
+        return Ok(UNENDED);
+    }
+    let told = bytes_told(alloc, recorded.trace.lines.as_slice(), 3)?;
+    Ok(if are_rounds(told.as_slice(), rounds) {
+        "yes"
+    } else {
+        "other bytes"
+    })
+}
+
+// What becomes of the segments of two hosts that talk.
+#[derive(Clone, Copy, Debug, PartialEq, Eq)]
+enum Way {
+    // Each segment of this count is lost, none where it is 0.
+    Losing(u32),
+    // The same, in version 2.
+    LosingScaled(u32),
+    // Fates in turn.
+    InTurn,
+    // Fates drawn from a seed.
+    Drawn(u32),
+}
+
+// Twice, behind two others, lost, and passed twice, in turn.
+#[derive(Clone, Copy, Drop)]
+struct InTurn {
+    turn: u8,
+}
+
+impl WireFate for InTurn {
+    fn next(&mut self) -> Fate {
+        self.turn = self.turn % 5 + 1;
+        match self.turn {
+            1 => Fate::Twice,
+            2 => Fate::Hold(2),
+            3 => Fate::Lose,
+            _ => Fate::Pass,
+        }
+    }
+}
+
+// The recording of a talk in version 1.
+fn talked<F: WireFate + Send + Drop, G: WireFate + Send + Drop, R: Threads + Wait + Sync>(
+    rt: &R,
+    alloc: Global,
+    talk: Talk<F, G>,
+) -> Result<Recording, RecordFault> {
+    let books = record_books(rt, alloc, Version::One, talk)?;
+    let recorded = merge(alloc, books.zero, books.one)?;
+    Ok(Recording {
+        recorded,
+        ended: books.ended,
+        receipts: books.receipts,
+    })
+}
+
+// The recording of so many rounds in version 1, with these fates there and back.
+fn fated<F: WireFate + Send + Drop, R: Threads + Wait + Sync>(
+    rt: &R,
+    alloc: Global,
+    rounds: u16,
+    there: F,
+    back: F,
+) -> Result<Recording, RecordFault> {
+    let there = Wire {
+        fate: there,
+        taken: MOST,
+    };
+    let back = Wire {
+        fate: back,
+        taken: MOST,
+    };
+    talked(
+        rt,
+        alloc,
+        Talk {
+            rounds,
+            there,
+            back,
+        },
+    )
+}
+
+// The recording of so many rounds.
+fn recording_of<R: Threads + Wait + Sync>(
+    rt: &R,
+    alloc: Global,
+    rounds: u16,
+    way: Way,
+) -> Result<Recording, RecordFault> {
+    let plan = |lose, version| Plan {
+        rounds,
+        lose,
+        version,
+    };
+    match way {
+        Way::Losing(lose) => record(rt, alloc, plan(lose, Version::One)),
+        Way::LosingScaled(lose) => record(rt, alloc, plan(lose, Version::Two)),
+        Way::InTurn => fated(rt, alloc, rounds, InTurn { turn: 0 }, InTurn { turn: 0 }),
+        Way::Drawn(seed) => fated(rt, alloc, rounds, Drawn::new(seed), Drawn::new(!seed)),
+    }
+}
+
+/// How often a talk is recorded whose rounds do not end. The clocks of both hosts go on while the system lets another
+/// thread of theirs wait, so
+/// where it waits for long a host gives up.
+pub const TRIES: u32 = 5;
+
+// What is wrong with a talk of so many rounds; `yes` where nothing is. Each recording is explained, also one whose
+// rounds did not end.
+fn said<R: Threads + Wait + Sync>(rt: &R, alloc: Global, rounds: u16, way: Way) -> &'static str {
+    for _ in 0..TRIES {
+        let said = match recording_of(rt, alloc, rounds, way) {
+            Ok(recording) => judge(alloc, &recording, rounds).unwrap_or("out of memory"),
+            Err(_) => "no recording",
+        };
+        if said != UNENDED {
+            return said;
+        }
+    }
+    UNENDED
+}
+
+// Talks with fates drawn from so many seeds. A test has a minute, which a busy machine may need for a hundred.
+fn draws<R: Threads + Wait + Sync>(
+    rt: &R,
+    alloc: Global,
+    seeds: Range<u32>,
+) -> (u32, &'static str) {
+    for seed in seeds {
+        let said = said(rt, alloc, 2, Way::Drawn(seed));
+        if said != "yes" {
+            return (seed, said);
+        }
+    }
+    (0, "yes")
+}
+
+#[test]
+fn drawn_fates_are_explained(rt: HostRuntime) -> Result<(), Fail> {
+    assert_eq!(rt; draws(&rt, rt.alloc(), 0..100), (0, "yes"));
+    Ok(())
+}
+
+#[test]
+fn further_drawn_fates_are_explained(rt: HostRuntime) -> Result<(), Fail> {
+    assert_eq!(rt; draws(&rt, rt.alloc(), 100..200), (0, "yes"));
+    Ok(())
+}
+
+#[test]
+fn rounds_with_losses_are_explained(rt: HostRuntime) -> Result<(), Fail> {
+    for (rounds, way) in [
+        (20, Way::Losing(3)),
+        (20, Way::Losing(0)),
+        (20, Way::Losing(2)),
+        (20, Way::Losing(5)),
+        (20, Way::Losing(50)),
+        (20, Way::LosingScaled(3)),
+        (20, Way::LosingScaled(0)),
+        (1_000, Way::LosingScaled(50)),
+        (20, Way::InTurn),
+    ] {
+        assert_eq!(rt; said(&rt, rt.alloc(), rounds, way), "yes", "{way:?}");
+    }
+    Ok(())
+}
+
+#[test]
+fn a_recording_that_does_not_end_is_explained(rt: HostRuntime) -> Result<(), Fail> {
+    let said = match recording_of(&rt, rt.alloc(), 20, Way::Losing(1)) {
+        Ok(recording) => judge(rt.alloc(), &recording, 20)?,
+        Err(_) => "no recording",
+    };
+    assert_eq!(rt; said, UNENDED, "all segments lost");
+    Ok(())
+}
+
+#[test]
+fn a_channel_that_closes_ends_all(rt: HostRuntime) -> Result<(), Fail> {
+    let talk = Talk {
+        rounds: 20,
+        there: Wire::losing(0, 3),
+        back: Wire::losing(0, MOST),
+    };
+    let said = match talked::<LoseEach, LoseEach, HostRuntime>(&rt, rt.alloc(), talk) {
+        Ok(recording) => judge(rt.alloc(), &recording, 20)?,
+        Err(_) => "no recording",
+    };
+    assert_eq!(rt; said, UNENDED);
+    Ok(())
+}

@@ -1,0 +1,119 @@
+//! An endpoint in words.
+
+use crate::text::{Piece, add, say};
+use case_forms::{Host, OutOfMemory};
+use endpoint_state::Endpoint;
+use line_fields::state_name;
+
+/// Writes what rules read of an endpoint, before the step.
+pub(crate) fn describe(
+    out: &mut Vec<u8>,
+    host: Host,
+    endpoint: &Endpoint,
+) -> Result<(), OutOfMemory> {
+    use Piece::{At, Number, Word};
+    say(
+        out,
+        &[
+            Word("before the step, "),
+            At(host),
+            Word("'s endpoint "),
+            Number(u64::from(endpoint.lport)),
+            Word(" -> "),
+            Number(u64::from(endpoint.rport)),
+            Word(": "),
+            Word(state_name(endpoint.state)),
+        ],
+    )?;
+    describe_stream(out, endpoint)?;
+    describe_windows(out, endpoint)?;
+    describe_timers(out, endpoint)
+}
+
+fn describe_stream(out: &mut Vec<u8>, endpoint: &Endpoint) -> Result<(), OutOfMemory> {
+    use Piece::{Number, Word};
+    say(
+        out,
+        &[
+            Word("  sending: una "),
+            Number(endpoint.stream.snd_una),
+            Word(", made up to "),
+            Number(endpoint.snd_max()),
+            Word(", accepted up to "),
+            Number(endpoint.stream.accepted.end()),
+            Word(if endpoint.stream.ended {
+                ", sending is ended"
+            } else {
+                ""
+            }),
+            Word(", may be made again up to "),
+            Number(endpoint.recover),
+        ],
+    )?;
+    say(
+        out,
+        &[
+            Word("  receiving: next "),
+            Number(endpoint.rcv_nxt()),
+            Word(", own windows reached "),
+            Number(endpoint.window.rcv_adv),
+        ],
+    )
+}
+
+fn describe_windows(out: &mut Vec<u8>, endpoint: &Endpoint) -> Result<(), OutOfMemory> {
+    use Piece::{Number, Word};
+    let congestion = &endpoint.congestion;
+    say(
+        out,
+        &[
+            Word("  windows: the peer offers "),
+            Number(u64::from(endpoint.window.snd_wnd)),
+            Word(", cwnd "),
+            Number(u64::from(congestion.cwnd)),
+            Word(", ssthresh "),
+            Number(u64::from(congestion.ssthresh)),
+            Word(", SMSS "),
+            Number(u64::from(congestion.smss)),
+            Word(", "),
+            Number(u64::from(congestion.dup)),
+            Word(" duplicate acknowledgments"),
+            Word(if congestion.fast {
+                ", in fast recovery"
+            } else {
+                ""
+            }),
+            Word(if endpoint.is_scaling() {
+                ", windows are scaled"
+            } else {
+                ""
+            }),
+        ],
+    )
+}
+
+fn describe_timers(out: &mut Vec<u8>, endpoint: &Endpoint) -> Result<(), OutOfMemory> {
+    let timers = &endpoint.timers;
+    add(
+        out,
+        &[Piece::Word("  timers: RTO "), Piece::Number(timers.rto)],
+    )?;
+    timer(out, ", rto", timers.rto_armed)?;
+    timer(out, ", persist", timers.persist_armed)?;
+    timer(out, ", 2msl", timers.msl_armed)?;
+    say(out, &[])
+}
+
+fn timer(out: &mut Vec<u8>, name: &str, armed: Option<u64>) -> Result<(), OutOfMemory> {
+    match armed {
+        Some(since) => add(
+            out,
+            &[
+                Piece::Word(name),
+                Piece::Word(" armed since "),
+                Piece::Number(since),
+            ],
+        ),
+        None => add(out, &[Piece::Word(name), Piece::Word(" off")]),
+    }
+}

@@ -1,0 +1,48 @@
+//! Why a case gets its verdict, in plain words.
+//!
+//! `explain` says the verdict and what it rests on. Nobody has to trust what is said here: the verdict is `checker`'s,
+//! and the
+//! values that a rule compares are read from the world of `endpoint_state` and from the functions that the rules
+//! themselves call.
+//! Of each function it is proved that it is safe and returns, and no more.
+//!
+//! - `explain`, `Said`: a case in words; `fault_line`: a fault of a text, as one line
+//! - `text`: lines of plain words; `words`: segments, calls and steps in words; `numbers`: numbers on the wire as
+//!   positions;
+//!   `parts`: the two texts of a case, and their lines. The crate `drawing` uses these four
+//!
+//! Private modules:
+//!
+//! - `verdict_in_words`: the verdict's line, and what it rests on
+//! - `marks`: a line at fault, with a mark under its columns
+//! - `scene`: the world before the step that is refused
+//! - `described`: an endpoint in words
+//! - `why_order`, `why_calls`, `why_making`, `why_wire`, `why_taking`, `why_reset`, `why_timers`: what each rule
+//!   compares
+//! - `why_answers`: the answers that a call may have; `why_inbox`: what waits in an inbox; `why_numbers`: numbers read
+//!   as positions
+//! - `causes`: what usually causes a rule to be broken
+#![tactic(auto)]
+
+mod causes;
+mod described;
+mod marks;
+pub mod numbers;
+pub mod parts;
+mod scene;
+pub mod text;
+mod verdict_in_words;
+mod why_answers;
+mod why_calls;
+mod why_inbox;
+mod why_making;
+mod why_numbers;
+mod why_order;
+mod why_reset;
+mod why_taking;
+mod why_timers;
+mod why_wire;
+pub mod words;
+
+pub use text::fault_line;
+pub use verdict_in_words::{Said, explain};

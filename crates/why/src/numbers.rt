@@ -1,0 +1,77 @@
+//! Numbers on the wire as positions, counted from the initial sequence numbers that a trace shows.
+
+use case_forms::{Event, Host, Line, OutOfMemory, Version, Wire};
+use indexmap::IndexMap;
+use segment::{Flag, Segment};
+use std::alloc::Global;
+
+// A host, its own port and the peer's.
+type ConnectionKey = (u8, u16, u16);
+
+/// The initial sequence numbers that were shown last.
+#[derive(Drop)]
+pub struct Numbers {
+    first: IndexMap<ConnectionKey, u32>,
+    half: bool,
+}
+
+impl Numbers {
+    pub fn new(alloc: Global, version: Version) -> Numbers {
+        Numbers {
+            first: IndexMap::new(alloc),
+            half: version.is_half(),
+        }
+    }
+
+    /// A line is seen: a SYN that goes out tells its host's initial sequence number; in a half case one that comes in
+    /// tells
+    /// the other host's.
+    pub fn read(&mut self, line: &Line) -> Result<(), OutOfMemory> {
+        match &line.event {
+            Event::Sent(host, wire) => self.see(*host, wire),
+            Event::Came(host, wire) if self.half => self.see(other(*host), wire),
+            _ => Ok(()),
+        }
+    }
+
+    fn see(&mut self, host: Host, wire: &Wire) -> Result<(), OutOfMemory> {
+        let seg = &wire.seg;
+        if seg.has(Flag::Syn) {
+            self.first
+                .insert(connection_key(host, seg.src, seg.dst), seg.seq.0)?;
+        }
+        Ok(())
+    }
+
+    /// The position of a segment of a host, modulo 2^32; its number where no SYN was seen.
+    pub fn position(&self, host: Host, seg: &Segment) -> u32 {
+        self.from(connection_key(host, seg.src, seg.dst), seg.seq.0)
+    }
+
+    /// The position that a segment of a host acknowledges.
+    pub fn acknowledged(&self, host: Host, seg: &Segment) -> u32 {
+        self.from(connection_key(other(host), seg.dst, seg.src), seg.ack.0)
+    }
+
+    fn from(&self, key: ConnectionKey, number: u32) -> u32 {
+        match self.first.get(&key) {
+            Some(first) => number.wrapping_sub(*first),
+            None => number,
+        }
+    }
+}
+
+fn connection_key(host: Host, lport: u16, rport: u16) -> ConnectionKey {
+    match host {
+        Host::Zero => (0, lport, rport),
+        Host::One => (1, lport, rport),
+    }
+}
+
+/// The other host.
+pub fn other(host: Host) -> Host {
+    match host {
+        Host::Zero => Host::One,
+        Host::One => Host::Zero,
+    }
+}

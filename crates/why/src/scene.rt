@@ -1,0 +1,166 @@
+//! A case up to the step that is refused: the world before it, and what was taken.
+
+ghost use Rattle.std.specs.Prelude.{◌<◌, IsTrue, OnOk};
+ghost use Rattle.case_forms.specs.Witnesses.{IsWithinLimits};
+ghost use Rattle.spec_tcp.specs.Bounds.{most_steps};
+
+use case_forms::{Flags, Header, Host, Label, Line, NamedLine, OutOfMemory, SegmentPlan, Step};
+use endpoint_state::{Endpoint, StepFault, World};
+use indexmap::IndexMap;
+use spec_step::{apply_hidden, apply_line};
+use spec_tcp::{Arrived, Emission};
+use std::alloc::{AllocError, Global};
+use verdict::Rule;
+
+// The greatest position of a segment that is made.
+const GREATEST_POSITION: u64 = 1_000_000_000_000_000_000;
+
+// A world takes fewer steps than this.
+const MOST_STEPS: u64 = 40_000_000;
+
+// Whether one more step may be done; no witness that `check` reads has so many.
+fn has_room(world: &World) -> Result<(), StepFault>
+    ensures { OnOk result (world.now.steps < most_steps) }
+{
+    if world.steps() < MOST_STEPS {
+        Ok(())
+    } else {
+        Err(StepFault::OutOfMemory)
+    }
+}
+
+/// What is known at a step.
+#[derive(Drop)]
+pub(crate) struct Scene<'t> {
+    pub world: World,
+    pub header: &'t Header,
+    pub lines: &'t [Line],
+    pub steps: &'t [Step],
+    /// The place of the step among the steps, from 0.
+    pub place: usize,
+    /// For each line that was taken, the place of the step that took it.
+    pub taken: IndexMap<u64, usize>,
+}
+
+impl<'t> Scene<'t> {
+    /// The world before a step, where the steps before it are permitted.
+    pub(crate) fn before(
+        alloc: Global,
+        header: &'t Header,
+        lines: &'t [Line],
+        steps: &'t [Step],
+        place: usize,
+    ) -> Result<Scene<'t>, OutOfMemory> {
+        let mut scene = Scene {
+            world: World::start(alloc, header),
+            header,
+            lines,
+            steps,
+            place,
+            taken: IndexMap::new(alloc),
+        };
+        for (at, step) in steps.iter().enumerate().take(place) {
+            scene.go_on(at, step)?;
+        }
+        Ok(scene)
+    }
+
+    fn go_on(&mut self, at: usize, step: &Step) -> Result<(), OutOfMemory> {
+        let done = match &step.label {
+            Label::L(named) => self.take_line(at, step.moment, *named),
+            label => do_hidden(&mut self.world, step.moment, label),
+        };
+        match done {
+            Ok(()) | Err(StepFault::Broken(_)) => Ok(()),
+            Err(StepFault::OutOfMemory) => Err(AllocError),
+        }
+    }
+
+    fn take_line(&mut self, at: usize, moment: u64, named: NamedLine) -> Result<(), StepFault> {
+        let Some(line) = self.line(named.number) else {
+            return Ok(());
+        };
+        let Some(taken) = line.copy()?.taken(named.extras) else {
+            return Ok(());
+        };
+        self.taken.insert(named.number, at)?;
+        has_room(&self.world)?;
+        apply_line(&mut self.world, moment, &taken)
+    }
+
+    /// The line of this number. None: the trace has no such event line.
+    pub(crate) fn line(&self, number: u64) -> Option<&'t Line> {
+        let place = number.checked_sub(self.header.first_event_line())?;
+        self.lines.get(usize::try_from(place).ok()?)
+    }
+
+    /// The step that is refused. None: the fault shows behind the last one.
+    pub(crate) fn step(&self) -> Option<&'t Step> {
+        self.steps.get(self.place)
+    }
+
+    /// The endpoint of a host with these ports, closed or not.
+    pub(crate) fn endpoint(&self, host: Host, lport: u16, rport: u16) -> Option<&Endpoint> {
+        self.world.body(host).endpoint_of(lport, rport)
+    }
+
+    /// A segment as an endpoint reads it. None: the endpoint is further than positions go.
+    pub(crate) fn as_read<'m>(&self, endpoint: &Endpoint, m: &'m Emission) -> Option<Arrived<'m>> {
+        if endpoint.stream.snd_una < 1 << 63 {
+            Some(Arrived::read(self.header.version, endpoint, m))
+        } else {
+            None
+        }
+    }
+
+    /// Whether the state of the endpoint at the ports of a making allows a segment of this kind there.
+    pub(crate) fn allows_kind(
+        &self,
+        host: Host,
+        plan: &SegmentPlan,
+        flags: Flags,
+        len: u16,
+    ) -> bool {
+        if has_room(&self.world).is_err() {
+            return false;
+        }
+        let plan = SegmentPlan {
+            pos: 0,
+            len,
+            flags,
+            ..*plan
+        };
+        !matches!(
+            self.world.admits_making(host, &plan),
+            Err(Rule::NoEndpoint | Rule::State)
+        )
+    }
+
+    /// The endpoint of a segment's ports, closed or not.
+    pub(crate) fn taker(&self, host: Host, m: &Emission) -> Option<&Endpoint> {
+        self.endpoint(host, m.rport, m.lport)
+    }
+}
+
+// Whether the positions that a label names are within limits; no witness that `check` reads has others.
+fn is_within_limits(label: &Label<NamedLine>) -> bool
+    ensures { IsTrue result → IsWithinLimits label.now }
+{
+    match label {
+        Label::M { plan, .. } => plan.pos <= GREATEST_POSITION,
+        Label::L(_)
+        | Label::D { .. }
+        | Label::T { .. }
+        | Label::K { .. }
+        | Label::R { .. }
+        | Label::F { .. } => true,
+    }
+}
+
+fn do_hidden(world: &mut World, moment: u64, label: &Label<NamedLine>) -> Result<(), StepFault> {
+    has_room(world)?;
+    if !is_within_limits(label) {
+        return Ok(());
+    }
+    apply_hidden(world, moment, label)
+}

@@ -1,0 +1,146 @@
+//! The verdict on a case, and in plain words what it rests on.
+
+use crate::causes::cause;
+use crate::marks::mark;
+use crate::parts::{Parts, cut, line_at};
+use crate::scene::Scene;
+use crate::text::{Piece, fault_line, say};
+use crate::{why_calls, why_making, why_order, why_reset, why_taking, why_timers, why_wire};
+use case_forms::{Label, OutOfMemory};
+use checker::{CaseFault, check_case};
+use std::alloc::{AllocError, Global};
+use trace_reader::read_trace;
+use verdict::{Rule, Verdict, print_verdict};
+use witness::read_witness_for;
+
+/// What is said of a case: the line that `tcpwit check` prints and its status, and behind a no or a fault some lines
+/// more.
+#[derive(Drop)]
+pub struct Said {
+    pub text: Vec<u8>,
+    /// 0: yes. 1: no. 2: a text is refused.
+    pub status: u8,
+}
+
+/// Explains the verdict on a case.
+pub fn explain(alloc: Global, text: &[u8]) -> Result<Said, OutOfMemory> {
+    let parts = cut(text);
+    match check_case(alloc, text) {
+        Ok(verdict) => explain_verdict(alloc, parts, &verdict),
+        Err(CaseFault::Trace(fault)) => {
+            let mut text = fault_line(alloc, "bad trace ", &fault)?;
+            mark(&mut text, parts.trace, &fault)?;
+            Ok(Said { text, status: 2 })
+        }
+        Err(CaseFault::Witness(fault)) => {
+            let mut text = fault_line(alloc, "bad witness ", &fault)?;
+            mark(&mut text, parts.witness, &fault)?;
+            Ok(Said { text, status: 2 })
+        }
+        Err(CaseFault::Read | CaseFault::OutOfMemory) => Err(AllocError),
+    }
+}
+
+fn explain_verdict(
+    alloc: Global,
+    parts: Parts<'_>,
+    verdict: &Verdict,
+) -> Result<Said, OutOfMemory> {
+    let mut text = Vec::new(alloc);
+    print_verdict(verdict, &mut text)?;
+    say(&mut text, &[])?;
+    match verdict {
+        Verdict::Yes { .. } => Ok(Said { text, status: 0 }),
+        Verdict::No {
+            witness_line,
+            trace_line,
+            rule,
+        } => {
+            quote(&mut text, parts, *witness_line, *trace_line)?;
+            explain_no(alloc, &mut text, parts, *witness_line, *rule)?;
+            say(&mut text, &[Piece::Word(cause(*rule))])?;
+            Ok(Said { text, status: 1 })
+        }
+    }
+}
+
+// The step and the trace line, as they are written.
+fn quote(
+    out: &mut Vec<u8>,
+    parts: Parts<'_>,
+    witness_line: u64,
+    trace_line: u64,
+) -> Result<(), OutOfMemory> {
+    if let Some(line) = line_at(parts.witness, witness_line) {
+        say(out, &[Piece::Word("the step: "), Piece::Raw(line)])?;
+    }
+    if let Some(line) = line_at(parts.trace, trace_line) {
+        say(
+            out,
+            &[
+                Piece::Word("trace line "),
+                Piece::Number(trace_line),
+                Piece::Word(": "),
+                Piece::Raw(line),
+            ],
+        )?;
+    }
+    Ok(())
+}
+
+// What is known at the step, and what the rule compares.
+fn explain_no(
+    alloc: Global,
+    out: &mut Vec<u8>,
+    parts: Parts<'_>,
+    witness_line: u64,
+    rule: Rule,
+) -> Result<(), OutOfMemory> {
+    let Ok(trace) = read_trace(alloc, parts.trace) else {
+        return Err(AllocError);
+    };
+    let Ok(witness) = read_witness_for(alloc, trace.header.version, parts.witness) else {
+        return Err(AllocError);
+    };
+    let steps = witness.steps.as_slice();
+    let place = match usize::try_from(witness_line.saturating_sub(2)) {
+        Ok(place) if witness_line >= 2 => place,
+        _ => steps.len(),
+    };
+    let scene = Scene::before(alloc, &trace.header, trace.lines.as_slice(), steps, place)?;
+    explain_rule(alloc, out, &scene, rule)
+}
+
+// What the rule compares.
+fn explain_rule(
+    alloc: Global,
+    out: &mut Vec<u8>,
+    scene: &Scene<'_>,
+    rule: Rule,
+) -> Result<(), OutOfMemory> {
+    let Some(step) = scene.step() else {
+        return why_order::why_unplaced(out, scene);
+    };
+    if why_order::is_of_order(rule) {
+        return why_order::explain_rule(out, scene, step, rule);
+    }
+    match &step.label {
+        Label::L(named) => match scene.line(named.number) {
+            Some(line) => why_wire::explain_rule(out, scene, line, *named, step.moment, rule),
+            None => Ok(()),
+        },
+        Label::D { thread, answer } => {
+            why_calls::why_effect(alloc, out, scene, *thread, answer, rule)
+        }
+        Label::M { host, plan } => why_making::explain_rule(out, scene, *host, plan, rule),
+        Label::T { host, line, choice } => {
+            why_taking::explain_rule(out, scene, *host, *line, *choice, rule)
+        }
+        Label::K { host, line } | Label::R { host, line } => {
+            why_reset::explain_rule(out, scene, *host, *line)
+        }
+        Label::F { host, recovery } => {
+            why_timers::why_recovery(out, scene, *host, *recovery, rule)
+        }
+    }
+}

@@ -1,0 +1,144 @@
+//! What waits in an inbox, or what became of it.
+
+use crate::described::describe;
+use crate::scene::Scene;
+use crate::text::{Piece, add, say};
+use crate::why_wire::no_endpoint;
+use crate::words::push_flags;
+use case_forms::{Event, Host, Label, OutOfMemory};
+use spec_tcp::Emission;
+
+/// A segment that waits. In a half case it has no positions where nobody reads it: then its numbers are told.
+pub(crate) fn describe_waiting(
+    out: &mut Vec<u8>,
+    scene: &Scene<'_>,
+    host: Host,
+    m: &Emission,
+) -> Result<(), OutOfMemory> {
+    match scene.taker(host, m) {
+        Some(endpoint) => {
+            let positions = match scene.as_read(endpoint, m) {
+                Some(read) => (read.pos(), read.ack()),
+                None => (m.pos, m.ack),
+            };
+            by_positions(out, m, positions)?;
+            describe(out, host, endpoint)
+        }
+        None if scene.header.version.is_half() => {
+            by_numbers(out, m)?;
+            no_endpoint(out, host, m.rport, m.lport)
+        }
+        None => {
+            by_positions(out, m, (m.pos, m.ack))?;
+            say(
+                out,
+                &[
+                    Piece::At(host),
+                    Piece::Word(" has no endpoint of its ports"),
+                ],
+            )
+        }
+    }
+}
+
+// A segment by the position at which it begins and the one that it acknowledges.
+fn by_positions(out: &mut Vec<u8>, m: &Emission, positions: (u64, u64)) -> Result<(), OutOfMemory> {
+    say(
+        out,
+        &[
+            Piece::Word("the segment: positions "),
+            Piece::Number(positions.0),
+            Piece::Word(" on, "),
+            Piece::Number(m.payload.len() as u64),
+            Piece::Word(" bytes,"),
+            Piece::Word(if m.flags.syn { " SYN" } else { "" }),
+            Piece::Word(if m.flags.ack { " ACK" } else { "" }),
+            Piece::Word(if m.flags.fin { " FIN" } else { "" }),
+            Piece::Word(if m.flags.rst { " RST" } else { "" }),
+            Piece::Word(", acknowledges "),
+            Piece::Number(positions.1),
+            Piece::Word(", window "),
+            Piece::Number(u64::from(m.window)),
+        ],
+    )
+}
+
+// A segment by the numbers in its header.
+fn by_numbers(out: &mut Vec<u8>, m: &Emission) -> Result<(), OutOfMemory> {
+    add(out, &[Piece::Word("the segment: ")])?;
+    push_flags(out, m.flags)?;
+    say(
+        out,
+        &[
+            Piece::Word("sequence number "),
+            Piece::Number(u64::from(m.seq.0)),
+            Piece::Word(", acknowledgment number "),
+            Piece::Number(u64::from(m.ack_seq.0)),
+            Piece::Word(", "),
+            Piece::Number(m.payload.len() as u64),
+            Piece::Word(" bytes"),
+        ],
+    )
+}
+
+/// Nothing waits under a line: what became of it.
+pub(crate) fn nothing_waits(
+    out: &mut Vec<u8>,
+    scene: &Scene<'_>,
+    host: Host,
+    line: u64,
+) -> Result<(), OutOfMemory> {
+    add(
+        out,
+        &[
+            Piece::Word("nothing waits in the inbox of "),
+            Piece::At(host),
+            Piece::Word(" under line "),
+            Piece::Number(line),
+        ],
+    )?;
+    let comes_in = match scene.line(line) {
+        Some(named) => matches!(&named.event, Event::Came(at, _) if *at == host),
+        None => false,
+    };
+    if !comes_in {
+        return say(out, &[Piece::Word(": that is no I line of this host")]);
+    }
+    if !scene.taken.contains_key(&line) {
+        return say(out, &[Piece::Word(": that line isn't taken yet")]);
+    }
+    say(
+        out,
+        &[
+            Piece::Word(": it was taken, dropped or answered in line "),
+            Piece::Number(emptied_at(scene, host, line)),
+            Piece::Word(" of the witness"),
+        ],
+    )
+}
+
+// The line of the witness that took what came in with a line out of the inbox; 0 where there is none.
+fn emptied_at(scene: &Scene<'_>, host: Host, line: u64) -> u64 {
+    let mut found: u64 = 0;
+    for (place, step) in scene.steps.iter().enumerate().take(scene.place) {
+        match &step.label {
+            Label::T {
+                host: at,
+                line: named,
+                ..
+            }
+            | Label::K {
+                host: at,
+                line: named,
+            }
+            | Label::R {
+                host: at,
+                line: named,
+            } if *at == host && *named == line => {
+                found = (place as u64).saturating_add(2);
+            }
+            _ => {}
+        }
+    }
+    found
+}

@@ -1,0 +1,373 @@
+//! The rules of making segments.
+
+use crate::described::describe;
+use crate::scene::Scene;
+use crate::text::{Piece, add, say};
+use crate::why_wire::no_endpoint;
+use crate::words::push_flags;
+use case_forms::{Flags, Host, OutOfMemory, SegmentPlan};
+use endpoint_state::Endpoint;
+use verdict::Rule;
+use window_rules::{congestion_edge, offered_edge};
+
+// Positions of the world are below this.
+const POSITIONS: u64 = 1 << 63;
+
+/// What the rule compares at a segment that is to be made.
+pub(crate) fn explain_rule(
+    out: &mut Vec<u8>,
+    scene: &Scene<'_>,
+    host: Host,
+    plan: &SegmentPlan,
+    rule: Rule,
+) -> Result<(), OutOfMemory> {
+    match scene.endpoint(host, plan.lport, plan.rport) {
+        None => no_endpoint(out, host, plan.lport, plan.rport),
+        Some(endpoint) => {
+            describe(out, host, endpoint)?;
+            if matches!(rule, Rule::NoEndpoint | Rule::State) {
+                state(out, endpoint, plan)?;
+                return may_make(out, scene, host, plan);
+            }
+            why_at(out, endpoint, plan, rule)
+        }
+    }
+}
+
+fn why_at(
+    out: &mut Vec<u8>,
+    endpoint: &Endpoint,
+    plan: &SegmentPlan,
+    rule: Rule,
+) -> Result<(), OutOfMemory> {
+    match rule {
+        Rule::Offered => offered(out, endpoint, plan),
+        Rule::Congestion => congestion(out, endpoint, plan),
+        Rule::OldData => old_data(out, endpoint, plan),
+        Rule::PayloadRange => payload_range(out, endpoint, plan),
+        Rule::AckField => ack_field(out, endpoint, plan),
+        Rule::Iss => iss(out, endpoint, plan),
+        _ => say(
+            out,
+            &[
+                Piece::Word("it holds "),
+                Piece::Number(u64::from(plan.len)),
+                Piece::Word(" bytes, SMSS is "),
+                Piece::Number(u64::from(endpoint.congestion.smss)),
+            ],
+        ),
+    }
+}
+
+fn end_of(plan: &SegmentPlan) -> u64 {
+    plan.pos.saturating_add(u64::from(plan.len))
+}
+
+fn offered(out: &mut Vec<u8>, endpoint: &Endpoint, plan: &SegmentPlan) -> Result<(), OutOfMemory> {
+    let snd_una = endpoint.stream.snd_una;
+    if snd_una >= POSITIONS {
+        return Ok(());
+    }
+    let edge = offered_edge(snd_una, endpoint.window.snd_wnd, endpoint.probe_due);
+    say(
+        out,
+        &[
+            Piece::Word("new bytes end at "),
+            Piece::Number(end_of(plan)),
+            Piece::Word(", the offered edge is "),
+            Piece::Number(edge),
+            Piece::Word(" = una "),
+            Piece::Number(snd_una),
+            Piece::Word(" + window "),
+            Piece::Number(u64::from(endpoint.window.snd_wnd)),
+            Piece::Word(if endpoint.probe_due {
+                " (a probe of one byte is due)"
+            } else {
+                ""
+            }),
+        ],
+    )
+}
+
+fn congestion(
+    out: &mut Vec<u8>,
+    endpoint: &Endpoint,
+    plan: &SegmentPlan,
+) -> Result<(), OutOfMemory> {
+    let snd_una = endpoint.stream.snd_una;
+    if snd_una >= POSITIONS {
+        return Ok(());
+    }
+    let edge = congestion_edge(snd_una, &endpoint.congestion);
+    let cwnd = u64::from(endpoint.congestion.cwnd);
+    add(
+        out,
+        &[
+            Piece::Word("ends at "),
+            Piece::Number(end_of(plan)),
+            Piece::Word(", the congestion edge is "),
+            Piece::Number(edge),
+            Piece::Word(" = una "),
+            Piece::Number(snd_una),
+            Piece::Word(" + cwnd "),
+            Piece::Number(cwnd),
+        ],
+    )?;
+    if edge > snd_una.saturating_add(cwnd) {
+        add(
+            out,
+            &[
+                Piece::Word(" + two segments of "),
+                Piece::Number(u64::from(endpoint.congestion.smss)),
+            ],
+        )?;
+    }
+    say(out, &[])
+}
+
+fn old_data(out: &mut Vec<u8>, endpoint: &Endpoint, plan: &SegmentPlan) -> Result<(), OutOfMemory> {
+    let made = endpoint.snd_max();
+    let snd_una = endpoint.stream.snd_una;
+    add(
+        out,
+        &[
+            Piece::Word("it begins at "),
+            Piece::Number(plan.pos),
+            Piece::Word(" and ends at "),
+            Piece::Number(end_of(plan)),
+            Piece::Word(if plan.flags.fin { " with a FIN" } else { "" }),
+        ],
+    )?;
+    if plan.pos > made {
+        return say(
+            out,
+            &[
+                Piece::Word(": a gap behind "),
+                Piece::Number(made),
+                Piece::Word(", up to which segments were made"),
+            ],
+        );
+    }
+    if plan.pos < snd_una {
+        return say(
+            out,
+            &[
+                Piece::Word(": below una "),
+                Piece::Number(snd_una),
+                Piece::Word(", so that is acknowledged; an empty segment may begin one below una"),
+            ],
+        );
+    }
+    say(
+        out,
+        &[
+            Piece::Word("; segments were made up to "),
+            Piece::Number(made),
+            Piece::Word(", and of that what ends at or below "),
+            Piece::Number(endpoint.recover),
+            Piece::Word(" may be made again: an expiry or fast recovery moves that"),
+        ],
+    )
+}
+
+fn payload_range(
+    out: &mut Vec<u8>,
+    endpoint: &Endpoint,
+    plan: &SegmentPlan,
+) -> Result<(), OutOfMemory> {
+    add(
+        out,
+        &[
+            Piece::Word("it begins at "),
+            Piece::Number(plan.pos),
+            Piece::Word(" and holds "),
+            Piece::Number(u64::from(plan.len)),
+            Piece::Word(" bytes, up to "),
+            Piece::Number(end_of(plan)),
+        ],
+    )?;
+    if plan.flags.syn {
+        return say(
+            out,
+            &[Piece::Word("; a SYN stands at 0 and holds no bytes")],
+        );
+    }
+    if plan.flags.rst {
+        return say(out, &[Piece::Word("; a reset holds no bytes")]);
+    }
+    say(
+        out,
+        &[
+            Piece::Word(if plan.flags.fin {
+                ", and a FIN there"
+            } else {
+                ""
+            }),
+            Piece::Word("; sends accepted the bytes from 1 up to "),
+            Piece::Number(endpoint.stream.accepted.end()),
+            Piece::Word(if endpoint.stream.ended {
+                ", and sending is ended: a FIN stands there"
+            } else {
+                ", and sending is not ended: no FIN may go"
+            }),
+        ],
+    )
+}
+
+fn ack_field(
+    out: &mut Vec<u8>,
+    endpoint: &Endpoint,
+    plan: &SegmentPlan,
+) -> Result<(), OutOfMemory> {
+    say(
+        out,
+        &[
+            Piece::Word(if plan.flags.ack {
+                "it has an acknowledgment"
+            } else {
+                "it has no acknowledgment"
+            }),
+            Piece::Word(if endpoint.rcv_nxt() == 0 {
+                ", and the peer's SYN was not taken"
+            } else {
+                ", and the peer's SYN was taken"
+            }),
+        ],
+    )
+}
+
+fn iss(out: &mut Vec<u8>, endpoint: &Endpoint, plan: &SegmentPlan) -> Result<(), OutOfMemory> {
+    match endpoint.iss {
+        Some(number) => add(
+            out,
+            &[
+                Piece::Word("the initial sequence number "),
+                Piece::Number(u64::from(number.0)),
+                Piece::Word(" was given before"),
+            ],
+        )?,
+        None => add(
+            out,
+            &[Piece::Word("no initial sequence number was given yet")],
+        )?,
+    }
+    match plan.iss {
+        Some(number) => add(
+            out,
+            &[
+                Piece::Word(", and the step gives "),
+                Piece::Number(u64::from(number.0)),
+            ],
+        )?,
+        None => add(out, &[Piece::Word(", and the step gives none")])?,
+    }
+    say(
+        out,
+        &[Piece::Word(if plan.flags.syn {
+            ", with a SYN"
+        } else {
+            ", without a SYN"
+        })],
+    )
+}
+
+fn state(out: &mut Vec<u8>, endpoint: &Endpoint, plan: &SegmentPlan) -> Result<(), OutOfMemory> {
+    add(out, &[Piece::Word("the segment: ")])?;
+    push_flags(out, plan.flags)?;
+    say(
+        out,
+        &[
+            Piece::Word("with "),
+            Piece::Number(u64::from(plan.len)),
+            Piece::Word(" bytes"),
+            Piece::Word(if endpoint.reset_due {
+                "; a reset is due"
+            } else {
+                "; no reset is due"
+            }),
+            Piece::Word(if endpoint.closed {
+                ", and the socket was closed"
+            } else {
+                ", and the socket was not closed"
+            }),
+        ],
+    )
+}
+
+// A kind of segment: its name, its flags, and whether it has bytes.
+struct Kind {
+    name: &'static str,
+    flags: Flags,
+    len: u16,
+}
+
+const BARE: Flags = Flags {
+    ack: false,
+    rst: false,
+    syn: false,
+    fin: false,
+};
+
+const KINDS: [Kind; 6] = [
+    Kind {
+        name: " SYN",
+        flags: Flags { syn: true, ..BARE },
+        len: 0,
+    },
+    Kind {
+        name: " SYN ACK",
+        flags: Flags {
+            syn: true,
+            ack: true,
+            ..BARE
+        },
+        len: 0,
+    },
+    Kind {
+        name: " ACK",
+        flags: Flags { ack: true, ..BARE },
+        len: 0,
+    },
+    Kind {
+        name: " ACK with bytes",
+        flags: Flags { ack: true, ..BARE },
+        len: 1,
+    },
+    Kind {
+        name: " FIN ACK",
+        flags: Flags {
+            fin: true,
+            ack: true,
+            ..BARE
+        },
+        len: 0,
+    },
+    Kind {
+        name: " RST",
+        flags: Flags { rst: true, ..BARE },
+        len: 0,
+    },
+];
+
+// Which kinds of segments the state allows at these ports.
+fn may_make(
+    out: &mut Vec<u8>,
+    scene: &Scene<'_>,
+    host: Host,
+    plan: &SegmentPlan,
+) -> Result<(), OutOfMemory> {
+    add(out, &[Piece::Word("allowed there:")])?;
+    let start = out.len();
+    for kind in &KINDS {
+        if scene.allows_kind(host, plan, kind.flags, kind.len) {
+            if out.len() != start {
+                add(out, &[Piece::Word(" or")])?;
+            }
+            add(out, &[Piece::Word(kind.name)])?;
+        }
+    }
+    if out.len() == start {
+        add(out, &[Piece::Word(" no segment")])?;
+    }
+    say(out, &[])
+}

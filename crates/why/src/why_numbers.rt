@@ -1,0 +1,204 @@
+//! Numbers of what is taken as positions, and the ranges that the rules ask for.
+
+use crate::text::{Piece, add, say};
+use case_forms::OutOfMemory;
+use endpoint_state::Endpoint;
+use seqno::{Word, read_near};
+use spec_tcp::Arrived;
+
+// Positions of the world are below this.
+const POSITIONS: u64 = 1 << 63;
+
+// What a number reads as, near a position.
+fn reads(
+    out: &mut Vec<u8>,
+    name: &str,
+    number: Word,
+    near: u64,
+    base: Option<Word>,
+) -> Result<(), OutOfMemory> {
+    add(
+        out,
+        &[
+            Piece::Word(name),
+            Piece::Word(" "),
+            Piece::Number(u64::from(number.0)),
+            Piece::Word(" reads near "),
+            Piece::Number(near),
+        ],
+    )?;
+    match place_read(number, near, base) {
+        Some(place) => add(out, &[Piece::Word(" as position "), Piece::Number(place)]),
+        None => add(out, &[Piece::Word(" as no position")]),
+    }
+}
+
+fn place_read(number: Word, near: u64, base: Option<Word>) -> Option<u64> {
+    if near < POSITIONS {
+        read_near(near, base?, number)
+    } else {
+        None
+    }
+}
+
+// How both numbers read; in a half case nobody knows what they were meant as.
+pub(crate) fn number(
+    out: &mut Vec<u8>,
+    half: bool,
+    endpoint: &Endpoint,
+    m: &Arrived<'_>,
+) -> Result<(), OutOfMemory> {
+    reads(
+        out,
+        "its sequence number",
+        m.seq(),
+        endpoint.rcv_nxt(),
+        endpoint.irs,
+    )?;
+    if m.is_reset_reply() {
+        return say(out, &[]);
+    }
+    meant(out, half, m.pos())?;
+    if !m.flags().ack {
+        return Ok(());
+    }
+    reads(
+        out,
+        "its acknowledgment number",
+        m.ack_seq(),
+        endpoint.stream.snd_una,
+        endpoint.iss,
+    )?;
+    meant(out, half, m.ack())
+}
+
+fn meant(out: &mut Vec<u8>, half: bool, position: u64) -> Result<(), OutOfMemory> {
+    if half {
+        return say(out, &[]);
+    }
+    say(
+        out,
+        &[Piece::Word(", it was meant as "), Piece::Number(position)],
+    )
+}
+
+pub(crate) fn unacceptable(
+    out: &mut Vec<u8>,
+    endpoint: &Endpoint,
+    m: &Arrived<'_>,
+) -> Result<(), OutOfMemory> {
+    if m.flags().syn && !m.flags().rst {
+        return say(
+            out,
+            &[Piece::Word(
+                "it has a SYN: that is acceptable in SYN-RECEIVED alone, at position 0 and with an ACK",
+            )],
+        );
+    }
+    let next = endpoint.rcv_nxt();
+    let first = if m.is_reset_reply() {
+        place_read(m.seq(), next, endpoint.irs).unwrap_or(0)
+    } else {
+        m.pos()
+    };
+    add(
+        out,
+        &[
+            Piece::Word("it takes "),
+            Piece::Number(length_of(m)),
+            Piece::Word(" positions, from "),
+            Piece::Number(first),
+            Piece::Word(" on; "),
+        ],
+    )?;
+    receive_window(out, endpoint)
+}
+
+// The receive window of an endpoint, and what a segment has to do with it.
+fn receive_window(out: &mut Vec<u8>, endpoint: &Endpoint) -> Result<(), OutOfMemory> {
+    let next = endpoint.rcv_nxt();
+    match endpoint.window.rcv_adv.checked_sub(1) {
+        Some(last) if next <= last => say(
+            out,
+            &[
+                Piece::Word("its first or last has to lie in the receive window, from "),
+                Piece::Number(next),
+                Piece::Word(" to "),
+                Piece::Number(last),
+            ],
+        ),
+        _ => say(
+            out,
+            &[
+                Piece::Word("the receive window is 0, so it has to begin at "),
+                Piece::Number(next),
+            ],
+        ),
+    }
+}
+
+// How many positions a segment takes.
+fn length_of(m: &Arrived<'_>) -> u64 {
+    (m.payload().len() as u64)
+        .saturating_add(u64::from(m.flags().syn))
+        .saturating_add(u64::from(m.flags().fin))
+}
+
+pub(crate) fn ack_range(
+    out: &mut Vec<u8>,
+    endpoint: &Endpoint,
+    m: &Arrived<'_>,
+) -> Result<(), OutOfMemory> {
+    if !m.flags().ack {
+        return say(
+            out,
+            &[Piece::Word(
+                "it has no ACK; a reset needs one in SYN-SENT, any other segment always",
+            )],
+        );
+    }
+    if endpoint.state.is_syn_sent() {
+        return ack_of_syn(out, endpoint, m);
+    }
+    say(
+        out,
+        &[
+            Piece::Word("it acknowledges "),
+            Piece::Number(m.ack()),
+            Piece::Word(", una is "),
+            Piece::Number(endpoint.stream.snd_una),
+            Piece::Word(", and segments were made up to "),
+            Piece::Number(endpoint.snd_max()),
+            Piece::Word(if endpoint.state.is_syn_received() {
+                "; in SYN-RECEIVED it has to be above una"
+            } else {
+                ""
+            }),
+        ],
+    )
+}
+
+/// The acknowledgment number beside that of the own SYN.
+pub(crate) fn ack_of_syn(
+    out: &mut Vec<u8>,
+    endpoint: &Endpoint,
+    m: &Arrived<'_>,
+) -> Result<(), OutOfMemory> {
+    add(
+        out,
+        &[
+            Piece::Word("its acknowledgment number is "),
+            Piece::Number(u64::from(m.ack_seq().0)),
+        ],
+    )?;
+    match endpoint.iss {
+        Some(iss) => say(
+            out,
+            &[
+                Piece::Word(", that of the own SYN is "),
+                Piece::Number(u64::from(iss.0.wrapping_add(1))),
+            ],
+        ),
+        None => say(out, &[Piece::Word(", and no own SYN was made")]),
+    }
+}

@@ -1,0 +1,242 @@
+//! The rules of expiries and of fast recovery.
+
+use crate::described::describe;
+use crate::scene::Scene;
+use crate::text::{Piece, say};
+use crate::why_wire::no_endpoint;
+use case_forms::{Extras, Host, OutOfMemory, Recovery, Timer};
+use endpoint::greatest_values;
+use endpoint_state::Endpoint;
+use verdict::Rule;
+use window_rules::{on_fast, recovery_window};
+
+/// What the rule compares at an expiry, at a moment.
+pub(crate) fn why_expiry(
+    out: &mut Vec<u8>,
+    scene: &Scene<'_>,
+    endpoint: &Endpoint,
+    timer: Timer,
+    extras: Extras,
+    asked: (u64, Rule),
+) -> Result<(), OutOfMemory> {
+    match (asked.1, extras) {
+        (Rule::NoEndpoint, _) => say(
+            out,
+            &[Piece::Word("the endpoint is CLOSED, and has no timers")],
+        ),
+        (Rule::Growth, Extras::Two(cwnd, ssthresh)) => growth(out, endpoint, cwnd, ssthresh),
+        (Rule::TimerOff, _) => off(out, endpoint, timer),
+        _ => early(out, scene, endpoint, timer, asked.0),
+    }
+}
+
+fn growth(
+    out: &mut Vec<u8>,
+    endpoint: &Endpoint,
+    cwnd: u32,
+    ssthresh: u32,
+) -> Result<(), OutOfMemory> {
+    let (most, highest) = greatest_values(endpoint);
+    say(
+        out,
+        &[
+            Piece::Word("the step chooses cwnd "),
+            Piece::Number(u64::from(cwnd)),
+            Piece::Word(" (the greatest is "),
+            Piece::Number(most),
+            Piece::Word(") and ssthresh "),
+            Piece::Number(u64::from(ssthresh)),
+            Piece::Word(" (the greatest is "),
+            Piece::Number(highest),
+            Piece::Word("); in flight "),
+            Piece::Number(endpoint.flight()),
+            Piece::Word(", expiries since a new acknowledgment "),
+            Piece::Number(u64::from(endpoint.backoffs)),
+        ],
+    )
+}
+
+// Why a timer may not expire at all.
+fn off(out: &mut Vec<u8>, endpoint: &Endpoint, timer: Timer) -> Result<(), OutOfMemory> {
+    match timer {
+        Timer::Rto => say(
+            out,
+            &[
+                Piece::Word("the timer is off: una "),
+                Piece::Number(endpoint.stream.snd_una),
+                Piece::Word(", made up to "),
+                Piece::Number(endpoint.snd_max()),
+                Piece::Word("; a segment that takes positions arms it"),
+            ],
+        ),
+        Timer::Persist => persist_off(out, endpoint),
+        Timer::Msl2 => say(
+            out,
+            &[Piece::Word("the timer is off: it is armed on entering TIME-WAIT")],
+        ),
+        Timer::Giveup => giveup_off(out, endpoint),
+    }
+}
+
+fn persist_off(out: &mut Vec<u8>, endpoint: &Endpoint) -> Result<(), OutOfMemory> {
+    if endpoint.timers.persist_armed.is_none() {
+        return say(
+            out,
+            &[
+                Piece::Word("the timer is off: a window of 0 arms it, and the peer offers "),
+                Piece::Number(u64::from(endpoint.window.snd_wnd)),
+            ],
+        );
+    }
+    if !endpoint.is_up() {
+        return say(
+            out,
+            &[
+                Piece::Word("the timer is armed, but the handshake is not done: una "),
+                Piece::Number(endpoint.stream.snd_una),
+                Piece::Word(", next "),
+                Piece::Number(endpoint.rcv_nxt()),
+                Piece::Word("; both have to be 1 at least"),
+            ],
+        );
+    }
+    say(
+        out,
+        &[
+            Piece::Word("the timer is armed, but there is nothing to probe with: una "),
+            Piece::Number(endpoint.stream.snd_una),
+            Piece::Word(", accepted up to "),
+            Piece::Number(endpoint.stream.accepted.end()),
+            Piece::Word(if endpoint.stream.ended {
+                " and the FIN behind"
+            } else {
+                ", and no FIN"
+            }),
+        ],
+    )
+}
+
+fn giveup_off(out: &mut Vec<u8>, endpoint: &Endpoint) -> Result<(), OutOfMemory> {
+    say(
+        out,
+        &[
+            Piece::Word("expiries since a segment was taken: "),
+            Piece::Number(u64::from(endpoint.unanswered_expiries)),
+            Piece::Word(", three are needed; not acknowledged: "),
+            Piece::Number(endpoint.flight()),
+            Piece::Word(if endpoint.timers.persist_armed.is_some() {
+                " positions, and the persist timer is armed"
+            } else {
+                " positions, and the persist timer is off; one of the two is needed"
+            }),
+        ],
+    )?;
+    say(
+        out,
+        &[Piece::Word(if endpoint.closed {
+            "or else FIN-WAIT-2 with a closed socket: the socket is closed"
+        } else {
+            "or else FIN-WAIT-2 with a closed socket: the socket is not closed"
+        })],
+    )
+}
+
+// From when on a timer may expire.
+fn early(
+    out: &mut Vec<u8>,
+    scene: &Scene<'_>,
+    endpoint: &Endpoint,
+    timer: Timer,
+    moment: u64,
+) -> Result<(), OutOfMemory> {
+    let timers = &endpoint.timers;
+    let (since, time) = match timer {
+        Timer::Rto => (timers.rto_armed, timers.rto),
+        Timer::Persist => (timers.persist_armed, timers.rto),
+        Timer::Msl2 | Timer::Giveup => (timers.msl_armed, scene.header.msl.saturating_mul(2)),
+    };
+    let since = since.unwrap_or(0);
+    let grain = scene.header.grain;
+    let earliest = since.saturating_add(time).saturating_sub(grain).max(since);
+    say(
+        out,
+        &[
+            Piece::Word("armed since "),
+            Piece::Number(since),
+            Piece::Word(", it runs for "),
+            Piece::Number(time),
+            Piece::Word(" and may expire a clock tick ("),
+            Piece::Number(grain),
+            Piece::Word(") before: from "),
+            Piece::Number(earliest),
+            Piece::Word(" on; the step's moment is "),
+            Piece::Number(moment),
+        ],
+    )
+}
+
+/// What the rule compares where fast recovery begins.
+pub(crate) fn why_recovery(
+    out: &mut Vec<u8>,
+    scene: &Scene<'_>,
+    host: Host,
+    recovery: Recovery,
+    rule: Rule,
+) -> Result<(), OutOfMemory> {
+    let Some(endpoint) = scene.endpoint(host, recovery.lport, recovery.rport) else {
+        return no_endpoint(out, host, recovery.lport, recovery.rport);
+    };
+    describe(out, host, endpoint)?;
+    match rule {
+        Rule::NoEndpoint => say(out, &[Piece::Word("the endpoint is CLOSED")]),
+        Rule::State => say(
+            out,
+            &[
+                Piece::Word("the handshake is not done: una "),
+                Piece::Number(endpoint.stream.snd_una),
+                Piece::Word(", next "),
+                Piece::Number(endpoint.rcv_nxt()),
+                Piece::Word("; both have to be 1 at least"),
+            ],
+        ),
+        _ => bad_recovery(out, endpoint, recovery),
+    }
+}
+
+fn bad_recovery(
+    out: &mut Vec<u8>,
+    endpoint: &Endpoint,
+    recovery: Recovery,
+) -> Result<(), OutOfMemory> {
+    let congestion = &endpoint.congestion;
+    say(
+        out,
+        &[
+            Piece::Word("duplicate acknowledgments: "),
+            Piece::Number(u64::from(congestion.dup)),
+            Piece::Word(", three are needed; in flight: "),
+            Piece::Number(endpoint.flight()),
+            Piece::Word(if congestion.fast {
+                ", in fast recovery already"
+            } else {
+                ", not in fast recovery"
+            }),
+        ],
+    )?;
+    let (_, highest) = on_fast(congestion, endpoint.flight());
+    let most = recovery_window(congestion, recovery.ssthresh);
+    say(
+        out,
+        &[
+            Piece::Word("the step chooses ssthresh "),
+            Piece::Number(u64::from(recovery.ssthresh)),
+            Piece::Word(" (the greatest is "),
+            Piece::Number(highest),
+            Piece::Word(") and cwnd "),
+            Piece::Number(u64::from(recovery.cwnd)),
+            Piece::Word(" (the greatest with that ssthresh is "),
+            Piece::Number(most),
+            Piece::Word(")"),
+        ],
+    )
+}

@@ -1,0 +1,325 @@
+//! A line that comes in is taken at once, or answered by a reset where one follows, or dropped.
+
+use crate::ahead::connection_key;
+use crate::calls::{endpoint_at, listener_at};
+use crate::chains::ConnectionKey;
+use crate::expiring::saturated;
+use crate::search::Search;
+use crate::sending::{place_of, plan_of};
+use case_forms::{Event, Extras, Host, Ports, TakeChoice, Timer, Wire};
+use endpoint::{greatest_at_syn, greatest_window, matches_sent, reset_of};
+use endpoint_state::{Endpoint, StepFault, World};
+use segment::Flag;
+use seqno::number;
+use spec_tcp::{Arrived, Emission};
+use verdict::Rule;
+
+// How many lines with the same bytes are tried for a copy, where those before are too old.
+const SENDINGS: usize = 16;
+
+fn other(host: Host) -> Host {
+    match host {
+        Host::Zero => Host::One,
+        Host::One => Host::Zero,
+    }
+}
+
+// The endpoint that a segment finds, where it is not CLOSED.
+fn endpoint_found<'w>(world: &'w World, host: Host, m: &Emission) -> Option<&'w Endpoint> {
+    let endpoint = world.body(host).endpoint_of(m.rport, m.lport)?;
+    if endpoint.state.is_closed() {
+        None
+    } else {
+        Some(endpoint)
+    }
+}
+
+// A segment as the endpoint reads it. None: the endpoint is further than positions go.
+fn as_read<'m>(world: &World, endpoint: &Endpoint, m: &'m Emission) -> Option<Arrived<'m>> {
+    if endpoint.stream.snd_una < 1 << 63 {
+        Some(Arrived::read(world.header().version, endpoint, m))
+    } else {
+        None
+    }
+}
+
+// The greatest congestion window with which a segment may be taken; 0 at a listener.
+fn greatest(world: &World, host: Host, m: &Emission) -> u32 {
+    let initial = world.header().initial;
+    let Some(endpoint) = endpoint_found(world, host, m) else {
+        return 0;
+    };
+    let Some(m) = as_read(world, endpoint, m) else {
+        return 0;
+    };
+    if endpoint.state.is_syn_sent() {
+        saturated(greatest_at_syn(initial, endpoint, &m))
+    } else {
+        saturated(greatest_window(initial, endpoint, &m))
+    }
+}
+
+// What taking a segment changes that later lines of its taker may still show as it was.
+#[derive(Clone, Copy)]
+struct Changes {
+    /// The acknowledgment that the taker makes.
+    next: bool,
+    /// The oldest position that may be made again.
+    snd_una: bool,
+}
+
+fn changes_by(endpoint: &Endpoint, m: &Arrived<'_>) -> Changes {
+    let behind = u128::from(m.pos()) + m.length();
+    Changes {
+        next: m.pos() <= endpoint.rcv_nxt() && u128::from(endpoint.rcv_nxt()) < behind,
+        snd_una: m.flags().ack && endpoint.stream.snd_una < m.ack(),
+    }
+}
+
+// Whether a segment acknowledges what its sender has taken, and nothing where that has met no peer.
+fn acknowledges_next(endpoint: &Endpoint, wire: &Wire) -> bool {
+    match endpoint.irs {
+        Some(irs) => wire.seg.has(Flag::Ack) && wire.seg.ack == number(irs, endpoint.rcv_nxt()),
+        None => !wire.seg.has(Flag::Ack) && !wire.seg.has(Flag::Rst),
+    }
+}
+
+// Whether a segment was made before its taker took another one: it acknowledges less, or holds what was acknowledged
+// then.
+fn is_before(endpoint: &Endpoint, changes: &Changes, m: &Arrived<'_>, wire: &Wire) -> bool {
+    let seg = &wire.seg;
+    if changes.next && acknowledges_next(endpoint, wire) {
+        return true;
+    }
+    let takes = !seg.payload.is_empty() || seg.has(Flag::Fin) || seg.has(Flag::Syn);
+    match place_of(endpoint, seg.seq) {
+        Some(pos) => changes.snd_una && takes && pos < m.ack(),
+        None => false,
+    }
+}
+
+// Whether a segment was made before its sender took another one, and whether that shows in what it acknowledges. None:
+// it was made
+// behind it, or that can't be told.
+fn needs_earlier(world: &World, host: Host, m: &Emission, wire: &Wire) -> Option<bool> {
+    let endpoint = endpoint_found(world, host, m)?;
+    let read = as_read(world, endpoint, m)?;
+    let changes = changes_by(endpoint, &read);
+    if is_before(endpoint, &changes, &read, wire) {
+        Some(changes.next)
+    } else {
+        None
+    }
+}
+
+// A line that goes out later and was made before an arrival was taken.
+#[derive(Clone, Copy)]
+struct Earlier<'t> {
+    key: ConnectionKey,
+    place: usize,
+    wire: &'t Wire,
+    /// Whether what it acknowledges shows that.
+    needed: bool,
+}
+
+impl<'t> Search<'t> {
+    /// A line shows a segment that comes in.
+    pub(crate) fn come_in(&mut self, host: Host, wire: &'t Wire) -> Result<(), StepFault> {
+        let line = self.number;
+        if self.world.header().version.is_half() {
+            self.push_line_step(Extras::Bare)?;
+            self.hear_in_world(host, wire)?;
+            return self.resolve_arrival(host, line);
+        }
+        let copied = self.copied(host, wire)?;
+        self.push_line_step(Extras::One(saturated(copied)))?;
+        self.arrive_in_world(host, copied, wire)?;
+        self.copies.pass(other(host), wire.bytes.as_slice());
+        self.resolve_arrival(host, line)
+    }
+
+    // The line that an arrival copies: of those with its bytes the first that has no copy yet, and is not too old.
+    fn copied(&mut self, host: Host, wire: &'t Wire) -> Result<u64, StepFault> {
+        let bytes = wire.bytes.as_slice();
+        for _ in 0..SENDINGS {
+            let Some(line) = self.copies.first(other(host), bytes) else {
+                return Ok(0);
+            };
+            match self.world.admits_arrival(host, self.moment, line, wire) {
+                Err(Rule::Lifetime) => {
+                    if !self.copies.pass(other(host), bytes) {
+                        return Ok(line);
+                    }
+                }
+                _ => return Ok(line),
+            }
+        }
+        Ok(self.copies.first(other(host), bytes).unwrap_or(0))
+    }
+
+    // What came in is taken, answered or dropped.
+    fn resolve_arrival(&mut self, host: Host, line: u64) -> Result<(), StepFault> {
+        let keep = self.make_earlier(host, line)?;
+        if self.try_taking(host, line, keep)? {
+            return Ok(());
+        }
+        if self.leaves_time_wait(host, line)? && self.try_taking(host, line, keep)? {
+            return Ok(());
+        }
+        if self.try_answer(host, line)? {
+            return Ok(());
+        }
+        self.drop_arrival(host, line)
+    }
+
+    // Takes what came in, where that may be.
+    fn try_taking(&mut self, host: Host, line: u64, keep: bool) -> Result<bool, StepFault> {
+        let Some(choice) = self.choice(host, line, keep) else {
+            return Ok(false);
+        };
+        let Some(m) = self.world.waiting(host, line) else {
+            return Ok(false);
+        };
+        let ports = Ports {
+            lport: m.rport,
+            rport: m.lport,
+        };
+        self.take(host, line, choice)?;
+        self.wake_taker(host, ports)?;
+        Ok(true)
+    }
+
+    // The greatest choice with which a segment may be taken.
+    fn choice(&self, host: Host, line: u64, keep: bool) -> Option<TakeChoice> {
+        let m = self.world.waiting(host, line)?;
+        let mut choice = TakeChoice {
+            cwnd: greatest(&self.world, host, m),
+            keep,
+            sample: true,
+        };
+        match self.world.admits_taking(host, self.moment, line, choice) {
+            Ok(()) => return Some(choice),
+            Err(Rule::Sample) => choice.sample = false,
+            Err(_) => return None,
+        }
+        match self.world.admits_taking(host, self.moment, line, choice) {
+            Ok(()) => Some(choice),
+            Err(_) => None,
+        }
+    }
+
+    // Calls on the endpoint that took a segment are tried, and those on its listener.
+    fn wake_taker(&mut self, host: Host, ports: Ports) -> Result<(), StepFault> {
+        let body = self.world.body(host);
+        let Some(place) = body.place_of(ports.lport, ports.rport) else {
+            return Ok(());
+        };
+        let listener = match body.endpoint_at(place) {
+            Some(endpoint) => endpoint.listener,
+            None => None,
+        };
+        self.wake(endpoint_at(host, place))?;
+        match listener {
+            Some(listener) => self.wake(listener_at(host, listener)),
+            None => Ok(()),
+        }
+    }
+
+    // A SYN finds an endpoint in TIME-WAIT whose wait is over.
+    fn leaves_time_wait(&mut self, host: Host, line: u64) -> Result<bool, StepFault> {
+        let Some(m) = self.world.waiting(host, line) else {
+            return Ok(false);
+        };
+        let ports = Ports {
+            lport: m.rport,
+            rport: m.lport,
+        };
+        let Some(endpoint) = endpoint_found(&self.world, host, m) else {
+            return Ok(false);
+        };
+        if !(m.flags.syn && endpoint.state.is_time_wait()) {
+            return Ok(false);
+        }
+        self.add_expiry(host, ports, Timer::Msl2)
+    }
+
+    // Answers what came in by a reset, where the next reset that goes out at its ports is that one.
+    fn try_answer(&mut self, host: Host, line: u64) -> Result<bool, StepFault> {
+        let Some((key, place)) = self.reset_of(host, line) else {
+            return Ok(false);
+        };
+        match self.reply_with_reset(host, line) {
+            Ok(made) => {
+                self.made.insert(place, made)?;
+                self.ahead.pass_reset(key, place);
+                Ok(true)
+            }
+            Err(StepFault::Broken(_)) => Ok(false),
+            Err(StepFault::OutOfMemory) => Err(StepFault::OutOfMemory),
+        }
+    }
+
+    // The segment that goes out with the line at a place.
+    fn sent_at(&self, place: usize) -> Option<&'t Wire> {
+        match &self.lines.get(place)?.event {
+            Event::Sent(_, wire) => Some(wire),
+            _ => None,
+        }
+    }
+
+    // The line of the reset that answers what came in, and its endpoint.
+    fn reset_of(&self, host: Host, line: u64) -> Option<(ConnectionKey, usize)> {
+        let m = self.world.waiting(host, line)?;
+        let key = connection_key(host, m.rport, m.lport);
+        let place = self.ahead.next_reset(key)?;
+        let wire = self.sent_at(place)?;
+        let reset = reset_of(self.alloc, m);
+        if matches_sent(self.world.header(), wire, &reset) {
+            Some((key, place))
+        } else {
+            None
+        }
+    }
+
+    // Makes what goes out later and was made before this arrival was taken. The answer is whether the arrival is kept.
+    fn make_earlier(&mut self, host: Host, line: u64) -> Result<bool, StepFault> {
+        for _ in 0..self.lines.len() {
+            let Some(earlier) = self.earlier(host, line) else {
+                return Ok(true);
+            };
+            if !self.try_making(host, earlier)? {
+                return Ok(!earlier.needed);
+            }
+        }
+        Ok(true)
+    }
+
+    // The next line that goes out at the taker of an arrival, where it was made before.
+    fn earlier(&self, host: Host, line: u64) -> Option<Earlier<'t>> {
+        let m = self.world.waiting(host, line)?;
+        let key = connection_key(host, m.rport, m.lport);
+        let place = self.ahead.next_out(key)?;
+        let wire = self.sent_at(place)?;
+        let needed = needs_earlier(&self.world, host, m, wire)?;
+        Some(Earlier {
+            key,
+            place,
+            wire,
+            needed,
+        })
+    }
+
+    // Makes a segment before its line. The answer is whether it may be made.
+    fn try_making(&mut self, host: Host, earlier: Earlier<'t>) -> Result<bool, StepFault> {
+        let plan = plan_of(&self.world, host, earlier.wire);
+        match self.make(host, plan) {
+            Ok(made) => {
+                self.made.insert(earlier.place, made)?;
+                self.ahead.pass(earlier.key, earlier.place);
+                Ok(true)
+            }
+            Err(StepFault::Broken(_)) => Ok(false),
+            Err(StepFault::OutOfMemory) => Err(StepFault::OutOfMemory),
+        }
+    }
+}

@@ -1,0 +1,110 @@
+//! The text of a trace becomes the text of a case.
+
+use crate::search::{Added, Search};
+use bstr::ByteSlice;
+use case_forms::{Event, Line, OutOfMemory, Span, Trace, Witness};
+use endpoint_state::StepFault;
+use line_fields::{
+    FaultKind, TextFault, push_end, push_host, push_number, push_space, push_word, timer_name,
+};
+use std::alloc::{AllocError, Global};
+use trace_reader::read_trace;
+use witness::print_witness;
+
+/// The text of a case: the trace, in which lines are added for expiries that it doesn't tell and that were needed, and
+/// a
+/// witness. Where a line's step is not permitted in the world that was reached, the witness ends with that step, so
+/// that `check`
+/// names the rule. An error is the trace's first fault; its kind is `OutOfMemory` where memory ran out, and where more
+/// than 40,000,000 steps would be needed.
+pub fn find(alloc: Global, text: &[u8]) -> Result<Vec<u8>, TextFault> {
+    let trace = read_trace(alloc, text)?;
+    let (added, witness) = search(alloc, &trace)?;
+    let thread = unused_thread(trace.lines.as_slice());
+    let mut case = trace_text(alloc, text, &trace, added.as_slice(), thread)?;
+    let steps = print_witness(alloc, &witness)?;
+    case.extend_from_slice(steps.as_slice())?;
+    Ok(case)
+}
+
+// The lines that are added, and the witness.
+fn search(alloc: Global, trace: &Trace) -> Result<(Vec<Added>, Witness), OutOfMemory> {
+    let mut search = Search::new(alloc, &trace.header, trace.lines.as_slice())?;
+    let ran = search.run();
+    let (added, steps) = search.found();
+    drop(search);
+    match ran {
+        Ok(()) | Err(StepFault::Broken(_)) => {}
+        Err(StepFault::OutOfMemory) => return Err(AllocError),
+    }
+    let witness = Witness {
+        version: trace.header.version,
+        steps,
+    };
+    Ok((added, witness))
+}
+
+// A thread that no line has, if there is one above all others.
+fn unused_thread(lines: &[Line]) -> u32 {
+    let mut greatest = 0;
+    for line in lines {
+        greatest = line.thread.max(greatest);
+    }
+    greatest.saturating_add(1)
+}
+
+// The text of the trace, with the lines that are added.
+fn trace_text(
+    alloc: Global,
+    text: &[u8],
+    trace: &Trace,
+    added: &[Added],
+    thread: u32,
+) -> Result<Vec<u8>, OutOfMemory> {
+    let first = trace.header.first_event_line();
+    let mut out = Vec::new(alloc);
+    let mut left = added;
+    let mut number: u64 = 1;
+    for raw in text.lines_with_terminator() {
+        left = push_before(&mut out, left, first, number, thread)?;
+        out.extend_from_slice(raw)?;
+        number = number.saturating_add(1);
+    }
+    Ok(out)
+}
+
+// Writes the lines that are added before the line of this number, and answers those that are left. The event lines
+// begin at `first`.
+fn push_before<'a>(
+    out: &mut Vec<u8>,
+    added: &'a [Added],
+    first: u64,
+    number: u64,
+    thread: u32,
+) -> Result<&'a [Added], OutOfMemory> {
+    let mut left = added;
+    while let [line, behind @ ..] = left {
+        if number < first.saturating_add(line.before as u64) {
+            break;
+        }
+        push_expiry(out, line, thread)?;
+        left = behind;
+    }
+    Ok(left)
+}
+
+// Writes a line that tells of an expiry.
+fn push_expiry(out: &mut Vec<u8>, line: &Added, thread: u32) -> Result<(), OutOfMemory> {
+    push_number(out, line.moment)?;
+    push_space(out)?;
+    push_number(out, u64::from(thread))?;
+    push_word(out, " T ")?;
+    push_host(out, line.host)?;
+    push_space(out)?;
+    push_number(out, u64::from(line.ports.lport))?;
+    push_space(out)?;
+    push_number(out, u64::from(line.ports.rport))?;
+    push_space(out)?;
+    push_word(out, timer_name(line.timer))?;
+    push_end(out)
+}
