@@ -1,5 +1,6 @@
 -- A trace that is read one line ahead.
-use Rattle.std.specs.Prelude.{◌≡◌, ◌≤◌, ◌+◌, ◌-◌, ℕ, Bool, true, false, List, [], ◌++◌, Option, None, Some, IfSome, Result, Ok, Err, All}
+use Rattle.std.specs.Prelude.{◌≡◌, ◌≤◌, ◌+◌, ◌-◌, ℕ, Bool, true, false, List, [], ◌++◌, Option, None, Some, IfSome}
+use Rattle.std.specs.Prelude.{Result, Ok, Err, All}
 use Rattle.std.specs.Option.{option_map}
 use Rattle.case_forms.specs.declared.trace.Line.{Line}
 use Rattle.case_forms.specs.declared.trace.Trace.{Trace}
@@ -46,13 +47,15 @@ pub record IsAhead {A : Type 0} (s : Ahead A) : Type 0 where
   pub place : IfSome s.line (λ line. (place_of s.reader ≡ (line.moment, line.number + 1)) × (line.number ≤ 10000000))
 
 -- the items of what was left, and what is left now
-abbrev pub Passes : {A : Type 0} → Option (Result (List A) TextFault) → Option (Result (List A) TextFault) → List A → Type 0
+abbrev pub Passes : {A : Type 0} → Option (Result (List A) TextFault) → Option (Result (List A) TextFault) → List A
+    → Type 0
 Passes None new items = Unit {0}
 Passes (Some left) None items = ⊥
 Passes (Some left) (Some rest) items = left ≡ (rest >>= λ more. Ok (items ++ more))
 
 -- one item is passed, or none is left
-abbrev pub Skips : {A : Type 0} → Bool → Option (Result (List A) TextFault) → Option (Result (List A) TextFault) → Type 0
+abbrev pub Skips : {A : Type 0} → Bool → Option (Result (List A) TextFault) → Option (Result (List A) TextFault)
+    → Type 0
 Skips {A} true old new = (item : A) × Yields old new (Some item)
 Skips false old new = Yields old new None
 

@@ -62,7 +62,8 @@ AllKeepWindows t w = EachStep (steps_of t w) (λ before x. KeepsWindows t.header
 
 -- each step leaves the states of endpoints as they are, or leads on from them by arrows of figure 5 (RFC 9293, 3.3.2)
 abbrev pub AllStatesFollow : Trace → Witness → Type 0
-AllStatesFollow t w = EachStep (steps_of t w) (λ before x. StatesFollow t.header x.moment (world_at_end t.header before) x.step)
+AllStatesFollow t w =
+    EachStep (steps_of t w) (λ before x. StatesFollow t.header x.moment (world_at_end t.header before) x.step)
 
 -- no step leaves a position of an endpoint below what it was (RFC 9293, 3.3.1)
 abbrev pub NoPositionFalls : Trace → Witness → Type 0

@@ -1,6 +1,7 @@
 -- What reads were told is a prefix of what the peer's sends accepted, by the lines of a trace and the steps of a
 -- witness alone (RFC 9293, 3.4, 3.9.1 and 3.10).
-use Rattle.std.specs.Prelude.{◌≡◌, ◌⊎◌, ℕ, ◌==◌, Bool, true, false, if◌then◌else◌, List, [], ◌∷◌, ◌++◌, take, slice_get, Option, None, Some}
+use Rattle.std.specs.Prelude.{◌≡◌, ◌⊎◌, ℕ, ◌==◌, Bool, true, false, if◌then◌else◌, List, [], ◌∷◌, ◌++◌, take, slice_get}
+use Rattle.std.specs.Prelude.{Option, None, Some}
 use Rattle.std.specs.List.{flat_map, list_any}
 use Rattle.std.specs.Option.{option_map_or, option_or}
 use Rattle.case_forms.specs.declared.calls.Host.{Host}
@@ -97,7 +98,8 @@ ended t steps socket = list_any (λ d. is_ended socket d.call d.answer) (calls_d
 -- all of it, and the peer's sending was ended
 pub record ReceivesFrom (t : Trace) (steps : List Step) (socket peer : ℕ) : Type 0 where
   pub prefix : IsPrefixOf (told t steps socket) (accepted t steps peer)
-  pub whole : told_end t steps socket ≡ true → (told t steps socket ≡ accepted t steps peer) × (ended t steps peer ≡ true)
+  pub whole : told_end t steps socket ≡ true → (told t steps socket ≡ accepted t steps peer)
+      × (ended t steps peer ≡ true)
 
 -- neither bytes nor the end were told
 pub record ReceivesNothing (t : Trace) (steps : List Step) (socket : ℕ) : Type 0 where
@@ -111,7 +113,8 @@ Stands all call answer = (place : ℕ) × (slice_get all place ≡ Some (record 
 -- the socket number was given at that host to an endpoint of these ports, its own first: by an `open` of both; or by an
 -- `accept` on a number that a `listen` on its own port was given there
 pub data HasPorts (all : List CallDone) : Host → ℕ → ℕ → ℕ → Type 0 where
-  Opened : (host : Host) (lport rport n : ℕ) → Stands all (calls.Connect host lport rport) (answers.Given n) → HasPorts all host lport rport n
+  Opened : (host : Host) (lport rport n : ℕ) → Stands all (calls.Connect host lport rport) (answers.Given n)
+      → HasPorts all host lport rport n
   Accepted : (host : Host) (lport rport backlog listener n : ℕ) →
       Stands all (calls.Listen host lport backlog) (answers.Given listener) →
       Stands all (calls.Accept listener) (answers.Given n) → HasPorts all host lport rport n
@@ -129,4 +132,5 @@ pub record AreOpposite (all : List CallDone) (socket peer : ℕ) : Type 0 where
 -- at each moment, after the first `place` steps
 abbrev pub ReceivesBeginSends : Trace → Witness → Type 0
 ReceivesBeginSends t w = (socket : ℕ) → ReceivesNothing t w.steps socket
-    ⊎ ((peer : ℕ) × AreOpposite (calls_done t w.steps) socket peer × ((place : ℕ) → ReceivesFrom t (take place w.steps) socket peer))
+    ⊎ ((peer : ℕ) × AreOpposite (calls_done t w.steps) socket peer
+    × ((place : ℕ) → ReceivesFrom t (take place w.steps) socket peer))

@@ -18,7 +18,9 @@ use Rattle.checker.specs.Explains.{Explains}
 
 -- the rules that are asked of the step at a place, after the steps before it and in the world that they leave
 abbrev pub rules_at : Trace → Witness → ℕ → Step → List (Rule × Bool)
-rules_at t w place s = all_rules t.header t.lines (take place w.steps) (world_at_end t.header (stamped t.header t.lines (take place w.steps))) s
+rules_at t w place s =
+    all_rules t.header t.lines (take place w.steps)
+    (world_at_end t.header (stamped t.header t.lines (take place w.steps))) s
 
 -- the first of them that it breaks
 abbrev pub broken_at : Trace → Witness → ℕ → Step → Option Rule

@@ -20,7 +20,8 @@ held_act o s = act_by (held_line o) s
 
 -- the least rule that it breaks
 abbrev pub kept_broken : Header → Order → World tcp_shape → Step → Option Rule
-kept_broken header o w s = first_broken (order_rules o (move_of s) ++ option_map_or (act_rules header w) (held_act o s) [])
+kept_broken header o w s =
+    first_broken (order_rules o (move_of s) ++ option_map_or (act_rules header w) (held_act o s) [])
 
 -- what the case has come to after it
 abbrev pub kept_progress : Order → Progress → Step → Progress

@@ -43,9 +43,11 @@ pub record TakesSynOf (w : World tcp_shape) (step : Step tcp_shape) (me sender :
 -- the endpoint that then is the peer
 abbrev pub PeersAreMet : Header → List (Stamped tcp_shape) → Stamped tcp_shape → Type 0
 PeersAreMet h before x = (me : EndpointId)
-    → (peer_of (after (tcp h) x.moment (world_at_end h before) x.step).hosts me ≡ peer_of (world_at_end h before).hosts me)
+    → (peer_of (after (tcp h) x.moment (world_at_end h before) x.step).hosts me
+    ≡ peer_of (world_at_end h before).hosts me)
     ⊎ ((peer_of (world_at_end h before).hosts me ≡ None)
-    × (q : EndpointId) × (peer_of (after (tcp h) x.moment (world_at_end h before) x.step).hosts me ≡ Some q) × TakesSynOf (world_at_end h before) x.step me q)
+    × (q : EndpointId) × (peer_of (after (tcp h) x.moment (world_at_end h before) x.step).hosts me ≡ Some q)
+    × TakesSynOf (world_at_end h before) x.step me q)
 
 -- so does each step of a witness
 abbrev pub AllPeersAreMet : Trace → Witness → Type 0
@@ -56,7 +58,8 @@ AllPeersAreMet t w = EachStep (steps_of t w) (λ before x. PeersAreMet t.header 
 abbrev pub PeersWereMet : Header → List (Stamped tcp_shape) → Type 0
 PeersWereMet h steps = (me q : EndpointId) → peer_of (world_at_end h steps).hosts me ≡ Some q
     → (place : ℕ) × (x : Stamped tcp_shape) × (slice_get steps place ≡ Some x)
-    × (peer_of (world_at_end h (take place steps)).hosts me ≡ None) × TakesSynOf (world_at_end h (take place steps)) x.step me q
+    × (peer_of (world_at_end h (take place steps)).hosts me ≡ None)
+    × TakesSynOf (world_at_end h (take place steps)) x.step me q
 
 abbrev pub EachPeerWasMet : Trace → Witness → Type 0
 EachPeerWasMet t w = PeersWereMet t.header (steps_of t w)

@@ -1,5 +1,6 @@
 -- A case whose lines are offered while its steps are done.
-use Rattle.std.specs.Prelude.{◌≡◌, ◌<◌, ◌≤◌, ◌+◌, ◌⊎◌, ℕ, Bool, not, List, [], ◌∷◌, ◌++◌, length, count_by, Option, None, Some, IfSome, Result, Ok, Err}
+use Rattle.std.specs.Prelude.{◌≡◌, ◌<◌, ◌≤◌, ◌+◌, ◌⊎◌, ℕ, Bool, not, List, [], ◌∷◌, ◌++◌, length, count_by, Option}
+use Rattle.std.specs.Prelude.{None, Some, IfSome, Result, Ok, Err}
 use Rattle.std.specs.Option.{option_map}
 use Rattle.case_forms.specs.declared.trace.Header.{Header}
 use Rattle.case_forms.specs.declared.trace.Line.{Line}
@@ -62,13 +63,15 @@ abbrev pub IsWhole : {A : Type 0} → Option (Result (List A) TextFault) → Lis
 IsWhole all items = all ≡ Some (Ok items)
 
 -- a case has come so far: which lines were offered, and which steps done, of all that there are
-pub record SoFar (header : Header) (lines left : Option (Result (List Line) TextFault)) (steps ahead : Option (Result (List Step) TextFault))
+pub record SoFar (header : Header) (lines left : Option (Result (List Line) TextFault))
+    (steps ahead : Option (Result (List Step) TextFault))
     (o : Order) (p : Progress) (offered : List Line) (earlier : List Step) : Type 0 where
   pub passed : Passes lines left offered
   pub done : Passes steps ahead earlier
   pub come : HasCome header offered earlier o p
   pub below : TakesBelow (first_event_line header + length offered) (moves earlier)
-  pub told : (all : List Line) → IsWhole lines all → (rest : List Step) → verdict_on header all [] (earlier ++ rest) ≡ verdict_on header all earlier rest
+  pub told : (all : List Line) → IsWhole lines all → (rest : List Step)
+      → verdict_on header all [] (earlier ++ rest) ≡ verdict_on header all earlier rest
 
 -- how many of the steps take a line, and how many are hidden
 pub record Tallied (earlier : List Step) (taken hidden : ℕ) : Type 0 where
@@ -81,20 +84,25 @@ first_of_both [] ahead = option_map (λ line. line.number) ahead
 first_of_both (e ∷ held) ahead = Some e.0
 
 -- both texts were read, and this is the verdict on them
-abbrev pub Ends : Header → Option (Result (List Line) TextFault) → Option (Result (List Step) TextFault) → Verdict → Type 0
+abbrev pub Ends : Header → Option (Result (List Line) TextFault) → Option (Result (List Step) TextFault) → Verdict
+    → Type 0
 Ends header None steps v = Unit {0}
 Ends header (Some lines) None v = Unit {0}
-Ends header (Some lines) (Some steps) v = (all : List Line) × (done : List Step) × (lines ≡ Ok all) × (steps ≡ Ok done) × (v ≡ verdict_on header all [] done)
+Ends header (Some lines) (Some steps) v =
+    (all : List Line) × (done : List Step) × (lines ≡ Ok all) × (steps ≡ Ok done) × (v ≡ verdict_on header all [] done)
 
 -- the fault is the trace's, or the witness's of a trace without one
-abbrev pub CaseFails : CaseFault → Option (Result (List Line) TextFault) → Option (Result (List Step) TextFault) → Type 0
+abbrev pub CaseFails : CaseFault → Option (Result (List Line) TextFault) → Option (Result (List Step) TextFault)
+    → Type 0
 CaseFails (faults.Trace f) lines steps = IfSome lines (λ l. l ≡ Err f)
-CaseFails (faults.Witness f) lines steps = IfSome lines (λ l. (all : List Line) × (l ≡ Ok all)) × IfSome steps (λ s. s ≡ Err f)
+CaseFails (faults.Witness f) lines steps =
+    IfSome lines (λ l. (all : List Line) × (l ≡ Ok all)) × IfSome steps (λ s. s ≡ Err f)
 CaseFails faults.Read lines steps = Unit {0}
 CaseFails faults.OutOfMemory lines steps = Unit {0}
 
 -- the verdict on both texts, or the first fault
-abbrev pub Tells : Header → Option (Result (List Line) TextFault) → Option (Result (List Step) TextFault) → Result Verdict CaseFault → Type 0
+abbrev pub Tells : Header → Option (Result (List Line) TextFault) → Option (Result (List Step) TextFault)
+    → Result Verdict CaseFault → Type 0
 Tells header lines steps (Ok v) = Ends header lines steps v
 Tells header lines steps (Err e) = CaseFails e lines steps
 
@@ -108,11 +116,13 @@ pub record Between (o : Order) (a b : Option (Result (List Line) TextFault)) (ah
 
 -- the least rule that is broken by a step which takes a line that is not offered: one of four, or the first where there
 -- is no such line
-abbrev pub IsLate : Order → Option (Result (List Line) TextFault) → Option (Result (List Line) TextFault) → ℕ → ℕ → ℕ → Rule → Type 0
+abbrev pub IsLate : Order → Option (Result (List Line) TextFault) → Option (Result (List Line) TextFault) → ℕ → ℕ → ℕ
+    → Rule → Type 0
 IsLate o a b number extras moment rule =
     ((between : List Line) × (line : Line) × Passes a b (between ++ line ∷ []) × (number ≡ o.next + length between) ×
     (moment < line.moment) × (rule ≡ late_rule o between line extras moment))
-    ⊎ ((between : List Line) × Passes a b between × (b ≡ Some (Ok [])) × (o.next + length between ≤ number) × (rule ≡ LineRange))
+    ⊎ ((between : List Line) × Passes a b between × (b ≡ Some (Ok [])) × (o.next + length between ≤ number)
+    × (rule ≡ LineRange))
 
 -- a step breaks no rule, and is done
 pub record IsDone (o n : Order) (p q : Progress) (s : Step) : Type 0 where
@@ -122,7 +132,9 @@ pub record IsDone (o n : Order) (p q : Progress) (s : Step) : Type 0 where
   pub acted : q ≡ kept_progress o p s
 
 -- it breaks this rule: told by what is kept, or by the lines that were read on
-abbrev pub IsRefused : Order → Progress → Step → Option (Result (List Line) TextFault) → Option (Result (List Line) TextFault) → Rule → Type 0
+abbrev pub IsRefused : Order → Progress → Step → Option (Result (List Line) TextFault)
+    → Option (Result (List Line) TextFault) → Rule → Type 0
 IsRefused o p s a b rule =
     (NamesBelow o.next s.label × (kept_broken p.header o p.world s ≡ Some rule) × (b ≡ a))
-    ⊎ ((named : NamedLine) × (s.label ≡ labels.L named) × IsLate o a b named.number (extras_count named.extras) s.moment rule)
+    ⊎ ((named : NamedLine) × (s.label ≡ labels.L named)
+    × IsLate o a b named.number (extras_count named.extras) s.moment rule)

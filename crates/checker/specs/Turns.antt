@@ -1,5 +1,6 @@
 -- What one turn of the loop has come to, and the loop.
-use Rattle.std.specs.Prelude.{◌≡◌, ◌+◌, ℕ, Bool, true, false, List, [], ◌∷◌, ◌++◌, length, Option, None, Some, Result, Ok, Err}
+use Rattle.std.specs.Prelude.{◌≡◌, ◌+◌, ℕ, Bool, true, false, List, [], ◌∷◌, ◌++◌, length, Option, None, Some, Result}
+use Rattle.std.specs.Prelude.{Ok, Err}
 use Rattle.case_forms.specs.declared.trace.Header.{Header}
 use Rattle.case_forms.specs.declared.trace.Line.{Line}
 use Rattle.case_forms.specs.declared.steps.Step.{Step}
@@ -21,28 +22,36 @@ use Rattle.checker.specs.Streaming.{SoFar, IsWhole, Tallied, CaseFails, verdict_
 
 -- the witness is at its end; or a step more is done; or a step is refused, whatever follows
 abbrev pub AfterTurn : Header → Option (Result (List Line) TextFault) → Option (Result (List Line) TextFault) →
-    Option (Result (List Step) TextFault) → Option (Result (List Step) TextFault) → Option (Result (List Step) TextFault)
+    Option (Result (List Step) TextFault) → Option (Result (List Step) TextFault)
+    → Option (Result (List Step) TextFault)
     → Order → Progress → List Line → List Step → StepOutcome → Type 0
-AfterTurn header lines left steps ahead next o p offered earlier turns.End = SoFar header lines left steps ahead o p offered earlier × Yields ahead next None
+AfterTurn header lines left steps ahead next o p offered earlier turns.End =
+    SoFar header lines left steps ahead o p offered earlier × Yields ahead next None
 AfterTurn header lines left steps ahead next o p offered earlier (turns.More taken) =
-    (more : List Line) × (s : Step) × SoFar header lines left steps next o p (offered ++ more) (earlier ++ s ∷ []) × (taken ≡ takes_line s.label)
+    (more : List Line) × (s : Step) × SoFar header lines left steps next o p (offered ++ more) (earlier ++ s ∷ [])
+    × (taken ≡ takes_line s.label)
 AfterTurn header lines left steps ahead next o p offered earlier (turns.Refused named rule) =
     (s : Step) × (passed : List Line) × Yields ahead next (Some s) × Passes lines left passed
-    × ((all : List Line) → IsWhole lines all → (rest : List Step) → verdict_on header all [] (earlier ++ s ∷ rest) ≡ No (length earlier + 2) named rule)
+    × ((all : List Line) → IsWhole lines all → (rest : List Step)
+    → verdict_on header all [] (earlier ++ s ∷ rest) ≡ No (length earlier + 2) named rule)
 
 -- a turn, or the first fault of the two texts
 abbrev pub TellsTurn : Header → Option (Result (List Line) TextFault) → Option (Result (List Line) TextFault) →
-    Option (Result (List Step) TextFault) → Option (Result (List Step) TextFault) → Option (Result (List Step) TextFault)
+    Option (Result (List Step) TextFault) → Option (Result (List Step) TextFault)
+    → Option (Result (List Step) TextFault)
     → Order → Progress → List Line → List Step → Result StepOutcome CaseFault → Type 0
-TellsTurn header lines left steps ahead next o p offered earlier (Ok r) = AfterTurn header lines left steps ahead next o p offered earlier r
+TellsTurn header lines left steps ahead next o p offered earlier (Ok r) =
+    AfterTurn header lines left steps ahead next o p offered earlier r
 TellsTurn header lines left steps ahead next o p offered earlier (Err e) = CaseFails e lines steps
 
 -- the witness is at its end, after these steps
 abbrev pub IsOver : Header → Option (Result (List Line) TextFault) → Option (Result (List Line) TextFault) →
-    Option (Result (List Step) TextFault) → Option (Result (List Step) TextFault) → Order → Progress → StepCounts → Type 0
+    Option (Result (List Step) TextFault) → Option (Result (List Step) TextFault) → Order → Progress → StepCounts
+    → Type 0
 IsOver header lines left steps next o p tally =
     (offered : List Line) × (earlier : List Step) × (ahead : Option (Result (List Step) TextFault))
-    × SoFar header lines left steps ahead o p offered earlier × Yields ahead next None × Tallied earlier tally.lines tally.hidden
+    × SoFar header lines left steps ahead o p offered earlier × Yields ahead next None
+    × Tallied earlier tally.lines tally.hidden
 
 -- a step behind the first ones is refused, whatever follows
 abbrev pub IsBroken : Header → Option (Result (List Line) TextFault) → Option (Result (List Line) TextFault) →
@@ -50,14 +59,16 @@ abbrev pub IsBroken : Header → Option (Result (List Line) TextFault) → Optio
 IsBroken header lines left steps next place named rule =
     (earlier : List Step) × (ahead : Option (Result (List Step) TextFault)) × (s : Step) × (passed : List Line) ×
     Passes steps ahead earlier × Yields ahead next (Some s) × Passes lines left passed
-    × ((all : List Line) → IsWhole lines all → (rest : List Step) → verdict_on header all [] (earlier ++ s ∷ rest) ≡ No (place + 2) named rule)
+    × ((all : List Line) → IsWhole lines all → (rest : List Step)
+    → verdict_on header all [] (earlier ++ s ∷ rest) ≡ No (place + 2) named rule)
 
 -- one of both, or the first fault of the two texts
 abbrev pub TellsAll : Header → Option (Result (List Line) TextFault) → Option (Result (List Line) TextFault) →
     Option (Result (List Step) TextFault) → Option (Result (List Step) TextFault)
     → Order → Progress → Result ReplayOutcome CaseFault → Type 0
 TellsAll header lines left steps next o p (Ok (replayed.All tally)) = IsOver header lines left steps next o p tally
-TellsAll header lines left steps next o p (Ok (replayed.Refused place named rule)) = IsBroken header lines left steps next place named rule
+TellsAll header lines left steps next o p (Ok (replayed.Refused place named rule)) =
+    IsBroken header lines left steps next place named rule
 TellsAll header lines left steps next o p (Err e) = CaseFails e lines steps
 
 -- with one step more, which takes a line or is hidden

@@ -68,7 +68,8 @@ refused_or (Some rule) earlier s rest = No (length earlier + 2) (line_named s.la
 abbrev pub verdict_from : Header → List Line → List Step → World tcp_shape → List Step → Verdict
 verdict_from header lines earlier w [] = verdict_left (unplaced header lines (moves earlier)) earlier
 verdict_from header lines earlier w (s ∷ steps) =
-    refused_or (broken header lines earlier w s) earlier s (verdict_from header lines (earlier ++ s ∷ []) (next_world header lines w s) steps)
+    refused_or (broken header lines earlier w s) earlier s (verdict_from header lines (earlier ++ s
+    ∷ []) (next_world header lines w s) steps)
 
 -- the verdict on a witness for a trace
 abbrev pub verdict : Trace → Witness → Verdict

@@ -8,8 +8,10 @@ ghost use Rattle.counted.specs.Counting.{failures_of, one_more};
 ghost use Rattle.line_fields.specs.Left.{Yields};
 ghost use Rattle.trace_reader.specs.EventLines.{behind};
 ghost use Rattle.trace_reader.specs.TraceText.{first_place};
-ghost use Rattle.trace_reader.specs.TraceLeft.{source_of, place_of, fault_of, reader_failures, IsBegun, lines_left, Begins, StandsAt};
-ghost use Rattle.checker.specs.Ahead.{source_ahead, line_ahead, left_ahead, trace_ahead, IsUnread, IsAhead, Skips, IsAll, TraceFails, Follows, lines_after};
+ghost use Rattle.trace_reader.specs.TraceLeft.{source_of, place_of, fault_of, reader_failures, IsBegun, lines_left};
+ghost use Rattle.trace_reader.specs.TraceLeft.{Begins, StandsAt};
+ghost use Rattle.checker.specs.Ahead.{source_ahead, line_ahead, left_ahead, trace_ahead, IsUnread, IsAhead, Skips};
+ghost use Rattle.checker.specs.Ahead.{IsAll, TraceFails, Follows, lines_after};
 
 use crate::case::{CaseFault, trace_fault};
 use case_forms::{Header, Line};
@@ -71,10 +73,13 @@ impl<A: BufRead> Ahead<A> {
         requires { IsUnread self.old }
         ensures ahead { IfOk result (λ header. IsAhead self.new) }
         ensures begins { IfOk result (Begins (trace_ahead A.remaining self.old) (left_ahead A.remaining self.new)) }
-        ensures first { IfOk result (λ header. IfSome (line_ahead self.new) (λ line. line.number ≡ first_event_line header)) }
+        ensures first { IfOk result (λ header. IfSome (line_ahead self.new) (λ line. line.number
+            ≡ first_event_line header)) }
         ensures fault { IfErr result (λ e. TraceFails e (trace_ahead A.remaining self.old)) }
-        ensures read { result ≡ Err CaseFault.Read → failures_of (source_ahead self.new) ≡ one_more (failures_of (source_ahead self.old)) }
-        ensures same { result ≢ Err CaseFault.Read → failures_of (source_ahead self.new) ≡ failures_of (source_ahead self.old) }
+        ensures read { result ≡ Err CaseFault.Read
+            → failures_of (source_ahead self.new) ≡ one_more (failures_of (source_ahead self.old)) }
+        ensures same { result ≢ Err CaseFault.Read
+            → failures_of (source_ahead self.new) ≡ failures_of (source_ahead self.old) }
     {
         match self.reader.header() {
             Ok(header) => {
@@ -95,8 +100,10 @@ impl<A: BufRead> Ahead<A> {
         ensures next { IfOk result (Yields (left_ahead A.remaining self.old) (left_ahead A.remaining self.new)) }
         ensures follows { IfOk result (λ item. IfSome item (λ line. IfSome (line_ahead self.new) (Follows line))) }
         ensures fault { IfErr result (λ e. TraceFails e (left_ahead A.remaining self.old)) }
-        ensures read { result ≡ Err CaseFault.Read → failures_of (source_ahead self.new) ≡ one_more (failures_of (source_ahead self.old)) }
-        ensures same { result ≢ Err CaseFault.Read → failures_of (source_ahead self.new) ≡ failures_of (source_ahead self.old) }
+        ensures read { result ≡ Err CaseFault.Read
+            → failures_of (source_ahead self.new) ≡ one_more (failures_of (source_ahead self.old)) }
+        ensures same { result ≢ Err CaseFault.Read
+            → failures_of (source_ahead self.new) ≡ failures_of (source_ahead self.old) }
     {
         if self.line.is_none() {
             return Ok(None);
@@ -109,11 +116,14 @@ impl<A: BufRead> Ahead<A> {
     fn skip(&mut self) -> Result<bool, CaseFault>
         requires { IsAhead self.old }
         ensures ahead { IfOk result (λ more. IsAhead self.new) }
-        ensures next { IfOk result (λ more. Skips more (left_ahead A.remaining self.old) (left_ahead A.remaining self.new)) }
+        ensures next { IfOk result (λ more. Skips more (left_ahead A.remaining self.old)
+            (left_ahead A.remaining self.new)) }
         ensures fewer { result ≡ Ok true → lines_after (line_ahead self.new) < lines_after (line_ahead self.old) }
         ensures fault { IfErr result (λ e. TraceFails e (left_ahead A.remaining self.old)) }
-        ensures read { result ≡ Err CaseFault.Read → failures_of (source_ahead self.new) ≡ one_more (failures_of (source_ahead self.old)) }
-        ensures same { result ≢ Err CaseFault.Read → failures_of (source_ahead self.new) ≡ failures_of (source_ahead self.old) }
+        ensures read { result ≡ Err CaseFault.Read
+            → failures_of (source_ahead self.new) ≡ one_more (failures_of (source_ahead self.old)) }
+        ensures same { result ≢ Err CaseFault.Read
+            → failures_of (source_ahead self.new) ≡ failures_of (source_ahead self.old) }
     {
         let item = self.next()?;
         Ok(item.is_some())
@@ -124,8 +134,10 @@ impl<A: BufRead> Ahead<A> {
         requires { IsAhead self.old }
         ensures all { IfOk result (λ u. (items : List Line) × IsAll (left_ahead A.remaining self.old) items) }
         ensures fault { IfErr result (λ e. TraceFails e (left_ahead A.remaining self.old)) }
-        ensures read { result ≡ Err CaseFault.Read → failures_of (source_ahead self.new) ≡ one_more (failures_of (source_ahead self.old)) }
-        ensures same { result ≢ Err CaseFault.Read → failures_of (source_ahead self.new) ≡ failures_of (source_ahead self.old) }
+        ensures read { result ≡ Err CaseFault.Read
+            → failures_of (source_ahead self.new) ≡ one_more (failures_of (source_ahead self.old)) }
+        ensures same { result ≢ Err CaseFault.Read
+            → failures_of (source_ahead self.new) ≡ failures_of (source_ahead self.old) }
     {
         while self.skip()? {}
         Ok(())

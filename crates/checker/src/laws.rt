@@ -24,8 +24,8 @@ ghost use Rattle.checker.specs.Headline.{ReceivesBeginSends};
 ghost use Rattle.spec_tcp_laws.specs.Consequences.{ReceivedIsAPrefix, EndIsWhole};
 ghost use Rattle.spec_tcp_laws.specs.Carried.{ReadsWereCarried};
 ghost use Rattle.checker.specs.Consequences.{steps_of, AreBothRecorded, ReadsBeginWhatWasSent, EndsAreWhole};
-ghost use Rattle.checker.specs.Consequences.{AllAcknowledgedWasTaken, AllReadsWereCarried, AllKeepWindows, AllStatesFollow};
-ghost use Rattle.checker.specs.Consequences.{NoPositionFalls};
+ghost use Rattle.checker.specs.Consequences.{AllAcknowledgedWasTaken, AllReadsWereCarried, AllKeepWindows};
+ghost use Rattle.checker.specs.Consequences.{AllStatesFollow, NoPositionFalls};
 
 use spec_tcp_laws::{
     acknowledged_was_taken, end_is_whole, new_data_fits, positions_never_fall, reads_were_carried,
@@ -35,7 +35,8 @@ use spec_tcp_laws::{
 /// Where a witness explains a trace, a line that precedes another in the interval order (of one thread and with the
 /// smaller number, or earlier by more than the skew) is taken first.
 pub fn earlier_lines_are_taken_first()
-    ensures { (t : Trace) (w : Witness) → Explains t w → (m n i j : ℕ) (a b : Line) → line_at t.header t.lines m ≡ Some a →
+    ensures { (t : Trace) (w : Witness) → Explains t w → (m n i j : ℕ) (a b : Line)
+        → line_at t.header t.lines m ≡ Some a →
         line_at t.header t.lines n ≡ Some b → Precedes t.header m a n b → TakesAt (moves w.steps) i m →
         TakesAt (moves w.steps) j n → i < j }
 {}
@@ -99,13 +100,16 @@ pub fn explained_follows()
 pub fn streams_at_each_moment()
     // Where both hosts are recorded: what reads were told by then is a prefix of what the peer's sends accepted by
     // then.
-    ensures received { (t : Trace) (w : Witness) → Explains t w → AreBothRecorded t → (place : ℕ) → ReceivedIsAPrefix t.header (take place (steps_of t w)) }
+    ensures received { (t : Trace) (w : Witness) → Explains t w → AreBothRecorded t → (place : ℕ)
+        → ReceivedIsAPrefix t.header (take place (steps_of t w)) }
 
     // Reads that were told the end by then were told all of them by then.
-    ensures whole { (t : Trace) (w : Witness) → Explains t w → AreBothRecorded t → (place : ℕ) → EndIsWhole t.header (take place (steps_of t w)) }
+    ensures whole { (t : Trace) (w : Witness) → Explains t w → AreBothRecorded t → (place : ℕ)
+        → EndIsWhole t.header (take place (steps_of t w)) }
 
     // In every case: what reads were told by then came with segments that were taken by then.
-    ensures carried { (t : Trace) (w : Witness) → Explains t w → (place : ℕ) → ReadsWereCarried t.header (take place (steps_of t w)) }
+    ensures carried { (t : Trace) (w : Witness) → Explains t w → (place : ℕ)
+        → ReadsWereCarried t.header (take place (steps_of t w)) }
 {
     received_is_a_prefix();
     end_is_whole();
@@ -127,8 +131,10 @@ pub fn peers_are_met()
 /// The verdict is the same on a trace that some text stands for and on one that is read from what is printed of it; and
 /// wherever two traces are the same but for the places of their lines in a text.
 pub fn verdict_when_read_again()
-    ensures same { (t u : Trace) (w : Witness) (text : List ℕ) → IsTraceText t text → IsTraceText u (trace_text t) → verdict u w ≡ verdict t w }
-    ensures yes { (t u : Trace) (w : Witness) (text : List ℕ) → IsTraceText t text → IsTraceText u (trace_text t) → IsYes (verdict t w) → IsYes (verdict u w) }
+    ensures same { (t u : Trace) (w : Witness) (text : List ℕ) → IsTraceText t text → IsTraceText u (trace_text t)
+        → verdict u w ≡ verdict t w }
+    ensures yes { (t u : Trace) (w : Witness) (text : List ℕ) → IsTraceText t text → IsTraceText u (trace_text t)
+        → IsYes (verdict t w) → IsYes (verdict u w) }
     ensures spans { (t u : Trace) (w : Witness) → without_spans t ≡ without_spans u → verdict t w ≡ verdict u w }
 {}
 
@@ -141,11 +147,13 @@ pub fn two_witnesses_of_one_trace()
 /// with
 /// their verdict.
 pub fn printed_case()
-    ensures texts { (t : Trace) (w : Witness) (first second : List ℕ) → t.header.version ≡ w.version → IsTraceText t first →
+    ensures texts { (t : Trace) (w : Witness) (first second : List ℕ) → t.header.version ≡ w.version
+        → IsTraceText t first →
         IsWitnessText w second → case_result (first ++ second) ≡ Ok (verdict t w) }
 
     // So are the texts that are printed, wherever the spans of lines and steps are.
-    ensures printed { (t : Trace) (w : Witness) → t.header.version ≡ w.version → IsPrintableTrace t → IsPrintableWitness w →
+    ensures printed { (t : Trace) (w : Witness) → t.header.version ≡ w.version → IsPrintableTrace t
+        → IsPrintableWitness w →
         case_result (trace_text t ++ witness_text w) ≡ Ok (verdict t w) }
 
     // What explains itself is printed as a case that is answered yes.
@@ -153,5 +161,6 @@ pub fn printed_case()
         Explains t w → (v : Verdict) × (case_result (trace_text t ++ witness_text w) ≡ Ok v) × IsYes v }
 
     // Where steps stand in their text does not matter.
-    ensures spans { (t : Trace) (v w : Witness) → map without_span v.steps ≡ map without_span w.steps → verdict t v ≡ verdict t w }
+    ensures spans { (t : Trace) (v w : Witness) → map without_span v.steps ≡ map without_span w.steps
+        → verdict t v ≡ verdict t w }
 {}

@@ -28,12 +28,15 @@ pub(crate) fn offer_reached<A: BufRead>(
     requires step { IsInStep window.old (line_ahead lines.old) }
     ensures ahead { IfOk result (λ u. IsAhead lines.new) }
     ensures step { IfOk result (λ u. IsInStep window.new (line_ahead lines.new)) }
-    ensures offered { IfOk result (λ u. (items : List Line) × Passes (left_ahead A.remaining lines.old) (left_ahead A.remaining lines.new) items ×
+    ensures offered { IfOk result (λ u. (items : List Line)
+        × Passes (left_ahead A.remaining lines.old) (left_ahead A.remaining lines.new) items ×
         (window.new ≡ with_lines window.old items)) }
     ensures later { IfOk result (λ u. IfSome (line_ahead lines.new) (λ line. moment < line.moment)) }
     ensures fault { IfErr result (λ e. TraceFails e (left_ahead A.remaining lines.old)) }
-    ensures read { result ≡ Err CaseFault.Read → failures_of (source_ahead lines.new) ≡ one_more (failures_of (source_ahead lines.old)) }
-    ensures same { result ≢ Err CaseFault.Read → failures_of (source_ahead lines.new) ≡ failures_of (source_ahead lines.old) }
+    ensures read { result ≡ Err CaseFault.Read
+        → failures_of (source_ahead lines.new) ≡ one_more (failures_of (source_ahead lines.old)) }
+    ensures same { result ≢ Err CaseFault.Read
+        → failures_of (source_ahead lines.new) ≡ failures_of (source_ahead lines.old) }
 {
     while lines.is_reached(moment) {
         if let Some(line) = lines.next()? {
@@ -58,10 +61,13 @@ pub(crate) fn refuse_late<A: BufRead>(
     requires late { IfSome (line_ahead lines.old) (λ line. moment < line.moment) }
     requires number { window.now.next ≤ number }
     ensures ahead { IfOk result (λ rule. IsAhead lines.new) }
-    ensures rule { IfOk result (λ rule. IsLate window.now (left_ahead A.remaining lines.old) (left_ahead A.remaining lines.new) number extras moment rule) }
+    ensures rule { IfOk result (λ rule. IsLate window.now (left_ahead A.remaining lines.old)
+        (left_ahead A.remaining lines.new) number extras moment rule) }
     ensures fault { IfErr result (λ e. TraceFails e (left_ahead A.remaining lines.old)) }
-    ensures read { result ≡ Err CaseFault.Read → failures_of (source_ahead lines.new) ≡ one_more (failures_of (source_ahead lines.old)) }
-    ensures same { result ≢ Err CaseFault.Read → failures_of (source_ahead lines.new) ≡ failures_of (source_ahead lines.old) }
+    ensures read { result ≡ Err CaseFault.Read
+        → failures_of (source_ahead lines.new) ≡ one_more (failures_of (source_ahead lines.old)) }
+    ensures same { result ≢ Err CaseFault.Read
+        → failures_of (source_ahead lines.new) ≡ failures_of (source_ahead lines.old) }
 {
     let mut threads = BTreeSet::new(alloc);
     while let Some(line) = lines.next()? {
@@ -76,7 +82,8 @@ pub(crate) fn refuse_late<A: BufRead>(
 
 // Keeps a line's thread.
 fn add_thread(threads: &mut BTreeSet<u32, Global>, line: Line) -> Result<(), AllocError>
-    ensures { IfOk result (λ u. (t : ℕ) → contains nat_cmp threads.new t ≡ (line.thread == t || contains nat_cmp threads.old t)) }
+    ensures { IfOk result (λ u. (t : ℕ) → contains nat_cmp threads.new t
+        ≡ (line.thread == t || contains nat_cmp threads.old t)) }
 {
     threads.insert(line.thread)?;
     Ok(())

@@ -21,10 +21,12 @@ use witness::print_witness;
 /// two.
 pub fn print_case(alloc: Global, trace: &Trace, witness: &Witness) -> Result<Vec<u8>, OutOfMemory>
     ensures text { IfOk result (λ text. text.items ≡ trace_text trace.now ++ witness_text witness.now) }
-    ensures judged { trace.now.header.version ≡ witness.now.version → IsWithinTrace trace.now → IsWithinWitness witness.now
+    ensures judged { trace.now.header.version ≡ witness.now.version → IsWithinTrace trace.now
+        → IsWithinWitness witness.now
         → IfOk result (λ text. case_result text.items ≡ Ok (verdict trace.now witness.now)) }
     ensures yes { trace.now.header.version ≡ witness.now.version → IsWithinTrace trace.now → IsWithinWitness witness.now
-        → Explains trace.now witness.now → IfOk result (λ text. (v : Verdict) × (case_result text.items ≡ Ok v) × IsYes v) }
+        → Explains trace.now witness.now → IfOk result (λ text. (v : Verdict) × (case_result text.items ≡ Ok v)
+        × IsYes v) }
 {
     let mut text = print_trace(alloc, trace)?;
     let behind = print_witness(alloc, witness)?;

@@ -23,8 +23,9 @@ ghost use Rattle.checker.specs.Kept.{kept_broken, kept_progress};
 ghost use Rattle.checker.specs.Explains.{Explains, IsYes};
 ghost use Rattle.checker.specs.Judges.{Says};
 ghost use Rattle.checker.specs.Headline.{ReceivesBeginSends};
-ghost use Rattle.checker.specs.Consequences.{AreBothRecorded, ReadsBeginWhatWasSent, EndsAreWhole, AllAcknowledgedWasTaken};
-ghost use Rattle.checker.specs.Consequences.{AllReadsWereCarried, AllKeepWindows, AllStatesFollow, NoPositionFalls};
+ghost use Rattle.checker.specs.Consequences.{AreBothRecorded, ReadsBeginWhatWasSent, EndsAreWhole};
+ghost use Rattle.checker.specs.Consequences.{AllAcknowledgedWasTaken, AllReadsWereCarried, AllKeepWindows};
+ghost use Rattle.checker.specs.Consequences.{AllStatesFollow, NoPositionFalls};
 
 use crate::laws::{explained_follows, receives_begin_sends};
 use case_forms::{Header, Label, Line, NamedLine, OutOfMemory, Step, TakenLine, Trace, Witness};
@@ -60,9 +61,11 @@ pub fn check(alloc: Global, trace: &Trace, witness: &Witness) -> Result<Verdict,
     // The same of the machine's endpoints: what reads were told is a prefix of what the peer's sends accepted; reads
     // that were told
     // the end were told all of it; what is acknowledged was taken before.
-    ensures received { IfOk result (λ v. IsYes v → AreBothRecorded trace.now → ReadsBeginWhatWasSent trace.now witness.now) }
+    ensures received { IfOk result (λ v. IsYes v → AreBothRecorded trace.now
+        → ReadsBeginWhatWasSent trace.now witness.now) }
     ensures whole { IfOk result (λ v. IsYes v → AreBothRecorded trace.now → EndsAreWhole trace.now witness.now) }
-    ensures acknowledged { IfOk result (λ v. IsYes v → AreBothRecorded trace.now → AllAcknowledgedWasTaken trace.now witness.now) }
+    ensures acknowledged { IfOk result (λ v. IsYes v → AreBothRecorded trace.now
+        → AllAcknowledgedWasTaken trace.now witness.now) }
 
     // What follows from every yes, also of a half case: what reads were told came with segments that were taken;
     // windows are kept;
@@ -194,7 +197,8 @@ fn pass(
 ) -> Result<Option<Rule>, OutOfMemory>
     requires steps { world.old.steps < most_steps }
     requires label { IsWithinLimits label.now }
-    ensures rule { IfOk result (λ r. r ≡ first_broken (order_rules window.old (passing moment) ++ asked_rules world.old moment (hidden_step label.now))) }
+    ensures rule { IfOk result (λ r. r ≡ first_broken (order_rules window.old (passing moment)
+        ++ asked_rules world.old moment (hidden_step label.now))) }
     ensures order { IfOk result (λ r. IfNone r (window.new ≡ order_after window.old (passing moment))) }
     ensures world { IfOk result (λ r. IfNone r (world.new ≡ asked_after world.old moment (hidden_step label.now))) }
 {

@@ -26,9 +26,11 @@ pub(crate) fn drain_steps<B: BufRead>(steps: &mut StepReader<B>) -> Result<(), C
 // Passes a step. False where there is none.
 fn skip_step<B: BufRead>(steps: &mut StepReader<B>) -> Result<bool, CaseFault>
     requires { fault_of steps.old ≡ None }
-    ensures next { IfOk result (λ more. Skips more (steps_left B.remaining steps.old) (steps_left B.remaining steps.new)) }
+    ensures next { IfOk result (λ more. Skips more (steps_left B.remaining steps.old)
+        (steps_left B.remaining steps.new)) }
     ensures working { IfOk result (λ more. fault_of steps.new ≡ None) }
-    ensures place { result ≡ Ok true → (number_of steps.new ≡ number_of steps.old + 1) × (number_of steps.old ≤ 10000000) }
+    ensures place { result ≡ Ok true → (number_of steps.new ≡ number_of steps.old + 1)
+        × (number_of steps.old ≤ 10000000) }
     ensures fault { IfErr result (λ e. WitnessFails e (steps_left B.remaining steps.old)) }
     ensures read { result ≡ Err CaseFault.Read → reader_failures steps.new ≡ one_more (reader_failures steps.old) }
     ensures same { result ≢ Err CaseFault.Read → reader_failures steps.new ≡ reader_failures steps.old }

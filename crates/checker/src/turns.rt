@@ -1,6 +1,7 @@
 //! The replay of a witness while both texts are read: one turn for each step, up to the first that is refused.
 
-ghost use Rattle.std.specs.Prelude.{◌≡◌, ◌≢◌, ◌<◌, ◌≤◌, ◌+◌, ◌^◌, List, [], Err, IfOk, IfErr, IfSome, None, Option, Result, MatchOption};
+ghost use Rattle.std.specs.Prelude.{◌≡◌, ◌≢◌, ◌<◌, ◌≤◌, ◌+◌, ◌^◌, List, [], Err, IfOk, IfErr, IfSome, None, Option};
+ghost use Rattle.std.specs.Prelude.{Result, MatchOption};
 ghost use Rattle.std.specs.Option.{IfNone};
 ghost use Rattle.case_forms.specs.declared.trace.Header.{Header};
 ghost use Rattle.case_forms.specs.declared.trace.Line.{Line};
@@ -89,12 +90,16 @@ fn next_step<A: BufRead, B: BufRead>(
     ensures next { IfOk result (Yields (steps_left B.remaining steps.old) (steps_left B.remaining steps.new)) }
     ensures working { IfOk result (λ item. fault_of steps.new ≡ None) }
     ensures within { IfOk result (λ item. IfSome item (λ step. IsWithinLimits step.label)) }
-    ensures place { IfOk result (λ item. IfSome item (λ step. (number_of steps.new ≡ number_of steps.old + 1) × (number_of steps.old ≤ 10000000))) }
+    ensures place { IfOk result (λ item. IfSome item (λ step. (number_of steps.new ≡ number_of steps.old + 1)
+        × (number_of steps.old ≤ 10000000))) }
     ensures lines { IfOk result (λ item. lines.new ≡ lines.old) }
-    ensures fault { IfErr result (λ e. CaseFails e (left_ahead A.remaining lines.old) (steps_left B.remaining steps.old)) }
+    ensures fault { IfErr result (λ e. CaseFails e (left_ahead A.remaining lines.old)
+        (steps_left B.remaining steps.old)) }
     ensures read { result ≡ Err CaseFault.Read →
-        OneFailed (failures_of (source_ahead lines.old)) (reader_failures steps.old) (failures_of (source_ahead lines.new)) (reader_failures steps.new) }
-    ensures same_lines { result ≢ Err CaseFault.Read → failures_of (source_ahead lines.new) ≡ failures_of (source_ahead lines.old) }
+        OneFailed (failures_of (source_ahead lines.old)) (reader_failures steps.old)
+        (failures_of (source_ahead lines.new)) (reader_failures steps.new) }
+    ensures same_lines { result ≢ Err CaseFault.Read
+        → failures_of (source_ahead lines.new) ≡ failures_of (source_ahead lines.old) }
     ensures same_steps { result ≢ Err CaseFault.Read → reader_failures steps.new ≡ reader_failures steps.old }
 {
     match steps.next() {
@@ -121,12 +126,16 @@ fn judge_step<A: BufRead>(
     requires few { world.old.steps < most_steps }
     requires label { IsWithinLimits step.now.label }
     ensures ahead { IfOk result (λ r. IsAhead lines.new) }
-    ensures done { IfOk result (λ r. IfNone r (IsDone window.old window.new world.old world.new step.now × (lines.new ≡ lines.old))) }
+    ensures done { IfOk result (λ r. IfNone r (IsDone window.old window.new world.old world.new step.now
+        × (lines.new ≡ lines.old))) }
     ensures refused { IfOk result (λ r. IfSome r (λ rule.
-        IsRefused window.old world.old step.now (left_ahead A.remaining lines.old) (left_ahead A.remaining lines.new) rule)) }
+        IsRefused window.old world.old step.now (left_ahead A.remaining lines.old)
+        (left_ahead A.remaining lines.new) rule)) }
     ensures fault { IfErr result (λ e. TraceFails e (left_ahead A.remaining lines.old)) }
-    ensures read { result ≡ Err CaseFault.Read → failures_of (source_ahead lines.new) ≡ one_more (failures_of (source_ahead lines.old)) }
-    ensures same { result ≢ Err CaseFault.Read → failures_of (source_ahead lines.new) ≡ failures_of (source_ahead lines.old) }
+    ensures read { result ≡ Err CaseFault.Read
+        → failures_of (source_ahead lines.new) ≡ one_more (failures_of (source_ahead lines.old)) }
+    ensures same { result ≢ Err CaseFault.Read
+        → failures_of (source_ahead lines.new) ≡ failures_of (source_ahead lines.old) }
 {
     if let Label::L(named) = &step.label {
         if named.number >= window.next_number() {
@@ -154,15 +163,21 @@ fn replay_next<A: BufRead, B: BufRead>(
     ensures working { IfOk result (λ r. fault_of steps.new ≡ None) }
     ensures in_step { IfOk result (λ r. IsOnward r → IsInStep window.new (line_ahead lines.new)) }
     ensures steps { IfOk result (λ r. IsOnward r → world.new.steps ≤ world.old.steps + 1) }
-    ensures place { IfOk result (λ r. IsMore r → (number_of steps.new ≡ number_of steps.old + 1) × (number_of steps.old ≤ 10000000)) }
-    ensures tells { (header : Header) (t : Option (Result (List Line) TextFault)) (s : Option (Result (List Step) TextFault))
+    ensures place { IfOk result (λ r. IsMore r → (number_of steps.new ≡ number_of steps.old + 1)
+        × (number_of steps.old ≤ 10000000)) }
+    ensures tells { (header : Header) (t : Option (Result (List Line) TextFault))
+        (s : Option (Result (List Step) TextFault))
         (offered : List Line) (earlier : List Step)
-        → SoFar header t (left_ahead A.remaining lines.old) s (steps_left B.remaining steps.old) window.old world.old offered earlier
-        → TellsTurn header t (left_ahead A.remaining lines.new) s (steps_left B.remaining steps.old) (steps_left B.remaining steps.new)
+        → SoFar header t (left_ahead A.remaining lines.old) s
+        (steps_left B.remaining steps.old) window.old world.old offered earlier
+        → TellsTurn header t (left_ahead A.remaining lines.new) s (steps_left B.remaining steps.old)
+        (steps_left B.remaining steps.new)
         window.new world.new offered earlier result }
     ensures read { result ≡ Err CaseFault.Read →
-        OneFailed (failures_of (source_ahead lines.old)) (reader_failures steps.old) (failures_of (source_ahead lines.new)) (reader_failures steps.new) }
-    ensures same_lines { result ≢ Err CaseFault.Read → failures_of (source_ahead lines.new) ≡ failures_of (source_ahead lines.old) }
+        OneFailed (failures_of (source_ahead lines.old)) (reader_failures steps.old)
+        (failures_of (source_ahead lines.new)) (reader_failures steps.new) }
+    ensures same_lines { result ≢ Err CaseFault.Read
+        → failures_of (source_ahead lines.new) ≡ failures_of (source_ahead lines.old) }
     ensures same_steps { result ≢ Err CaseFault.Read → reader_failures steps.new ≡ reader_failures steps.old }
 {
     let Some(step) = next_step(lines, steps)? else {
@@ -175,7 +190,8 @@ fn replay_next<A: BufRead, B: BufRead>(
 
 // A turn by the rule that its step breaks.
 fn turn_of(broken: Option<Rule>, step: Step) -> StepOutcome
-    ensures { MatchOption broken (result ≡ StepOutcome.More (takes_line step.label)) (λ rule. result ≡ StepOutcome.Refused (line_named step.label) rule) }
+    ensures { MatchOption broken (result ≡ StepOutcome.More (takes_line step.label)) (λ rule. result
+        ≡ StepOutcome.Refused (line_named step.label) rule) }
 {
     match broken {
         None => StepOutcome::More(takes_line(&step.label)),
@@ -201,12 +217,17 @@ pub(crate) fn replay_steps<A: BufRead, B: BufRead>(
     ensures working { IfOk result (λ r. fault_of steps.new ≡ None) }
     ensures few { IfOk result (λ r. steps_done r ≤ 10000000) }
     ensures in_step { IfOk result (λ r. IsDoneAll r → IsInStep window.new (line_ahead lines.new)) }
-    ensures tells { (header : Header) (t : Option (Result (List Line) TextFault)) (s : Option (Result (List Step) TextFault))
-        → SoFar header t (left_ahead A.remaining lines.old) s (steps_left B.remaining steps.old) window.old world.old [] []
-        → TellsAll header t (left_ahead A.remaining lines.new) s (steps_left B.remaining steps.new) window.new world.new result }
+    ensures tells { (header : Header) (t : Option (Result (List Line) TextFault))
+        (s : Option (Result (List Step) TextFault))
+        → SoFar header t (left_ahead A.remaining lines.old) s
+        (steps_left B.remaining steps.old) window.old world.old [] []
+        → TellsAll header t (left_ahead A.remaining lines.new) s
+        (steps_left B.remaining steps.new) window.new world.new result }
     ensures read { result ≡ Err CaseFault.Read →
-        OneFailed (failures_of (source_ahead lines.old)) (reader_failures steps.old) (failures_of (source_ahead lines.new)) (reader_failures steps.new) }
-    ensures same_lines { result ≢ Err CaseFault.Read → failures_of (source_ahead lines.new) ≡ failures_of (source_ahead lines.old) }
+        OneFailed (failures_of (source_ahead lines.old)) (reader_failures steps.old)
+        (failures_of (source_ahead lines.new)) (reader_failures steps.new) }
+    ensures same_lines { result ≢ Err CaseFault.Read
+        → failures_of (source_ahead lines.new) ≡ failures_of (source_ahead lines.old) }
     ensures same_steps { result ≢ Err CaseFault.Read → reader_failures steps.new ≡ reader_failures steps.old }
 {
     let mut tally = StepCounts {

@@ -19,8 +19,9 @@ ghost use Rattle.endpoint_state.specs.Worlds.{Progress};
 ghost use Rattle.checker.specs.Explains.{Explains, IsYes};
 ghost use Rattle.checker.specs.Judges.{Says};
 ghost use Rattle.checker.specs.Headline.{ReceivesBeginSends};
-ghost use Rattle.checker.specs.Consequences.{AreBothRecorded, ReadsBeginWhatWasSent, EndsAreWhole, AllAcknowledgedWasTaken};
-ghost use Rattle.checker.specs.Consequences.{AllReadsWereCarried, AllKeepWindows, AllStatesFollow, NoPositionFalls};
+ghost use Rattle.checker.specs.Consequences.{AreBothRecorded, ReadsBeginWhatWasSent, EndsAreWhole};
+ghost use Rattle.checker.specs.Consequences.{AllAcknowledgedWasTaken, AllReadsWereCarried, AllKeepWindows};
+ghost use Rattle.checker.specs.Consequences.{AllStatesFollow, NoPositionFalls};
 ghost use Rattle.checker.specs.Ahead.{source_ahead, line_ahead, left_ahead, IsAhead, IsInStep};
 ghost use Rattle.checker.specs.Streaming.{OneFailed, SoFar, Tallied, Tells, first_of_both};
 ghost use Rattle.checker.specs.Texts.{GivesTexts, AreOf};
@@ -59,8 +60,10 @@ pub fn check_streams<A: BufRead, B: BufRead>(
     ensures exact { GivesTexts result.0 (left_of A.remaining a) (left_of B.remaining b) }
 
     // What the verdict says of the trace and the witness that the texts stand for, in places.
-    ensures says { (t : Trace) (w : Witness) → AreOf (left_of A.remaining a) (left_of B.remaining b) t w → IfOk result.0 (Says t w) }
-    ensures explained { (t : Trace) (w : Witness) → AreOf (left_of A.remaining a) (left_of B.remaining b) t w → IfOk result.0 (λ v. IsYes v ↔ Explains t w) }
+    ensures says { (t : Trace) (w : Witness) → AreOf (left_of A.remaining a) (left_of B.remaining b) t w
+        → IfOk result.0 (Says t w) }
+    ensures explained { (t : Trace) (w : Witness) → AreOf (left_of A.remaining a) (left_of B.remaining b) t w
+        → IfOk result.0 (λ v. IsYes v ↔ Explains t w) }
 
     // The same of the machine's endpoints: what reads were told is a prefix of what the peer's sends accepted; reads
     // that were told
@@ -85,7 +88,8 @@ pub fn check_streams<A: BufRead, B: BufRead>(
         IfOk result.0 (λ v. IsYes v → NoPositionFalls t w) }
 
     // A failed read is counted, and nothing else is.
-    ensures read { result.0 ≡ Err CaseFault.Read → OneFailed (failures_of a) (failures_of b) (failures_of result.1) (failures_of result.2) }
+    ensures read { result.0 ≡ Err CaseFault.Read
+        → OneFailed (failures_of a) (failures_of b) (failures_of result.1) (failures_of result.2) }
     ensures same_trace { result.0 ≢ Err CaseFault.Read → failures_of result.1 ≡ failures_of a }
     ensures same_witness { result.0 ≢ Err CaseFault.Read → failures_of result.2 ≡ failures_of b }
 {
@@ -101,7 +105,8 @@ fn judge_texts<A: BufRead, B: BufRead>(
     b: Counted<B>,
 ) -> (Result<Verdict, CaseFault>, Counted<A>, Counted<B>)
     ensures exact { GivesTexts result.0 (left_of A.remaining a) (left_of B.remaining b) }
-    ensures read { result.0 ≡ Err CaseFault.Read → OneFailed (failures_of a) (failures_of b) (failures_of result.1) (failures_of result.2) }
+    ensures read { result.0 ≡ Err CaseFault.Read
+        → OneFailed (failures_of a) (failures_of b) (failures_of result.1) (failures_of result.2) }
     ensures same_trace { result.0 ≢ Err CaseFault.Read → failures_of result.1 ≡ failures_of a }
     ensures same_witness { result.0 ≢ Err CaseFault.Read → failures_of result.2 ≡ failures_of b }
 {
@@ -130,8 +135,10 @@ fn judge<A: BufRead, B: BufRead>(
     requires first_step { number_of steps.old ≡ 2 }
     ensures tells { Tells header.now (left_ahead A.remaining lines.old) (steps_left B.remaining steps.old) result }
     ensures read { result ≡ Err CaseFault.Read →
-        OneFailed (failures_of (source_ahead lines.old)) (reader_failures steps.old) (failures_of (source_ahead lines.new)) (reader_failures steps.new) }
-    ensures same_lines { result ≢ Err CaseFault.Read → failures_of (source_ahead lines.new) ≡ failures_of (source_ahead lines.old) }
+        OneFailed (failures_of (source_ahead lines.old)) (reader_failures steps.old)
+        (failures_of (source_ahead lines.new)) (reader_failures steps.new) }
+    ensures same_lines { result ≢ Err CaseFault.Read
+        → failures_of (source_ahead lines.new) ≡ failures_of (source_ahead lines.old) }
     ensures same_steps { result ≢ Err CaseFault.Read → reader_failures steps.new ≡ reader_failures steps.old }
 {
     let mut window = Window::new(alloc, header);
@@ -152,12 +159,16 @@ fn judge_in<A: BufRead, B: BufRead>(
     requires working { fault_of steps.old ≡ None }
     requires begun { world.old.steps ≡ 0 }
     requires first { number_of steps.old ≡ 2 }
-    ensures tells { (header : Header) (t : Option (Result (List Line) TextFault)) (s : Option (Result (List Step) TextFault))
-        → SoFar header t (left_ahead A.remaining lines.old) s (steps_left B.remaining steps.old) window.old world.old [] []
+    ensures tells { (header : Header) (t : Option (Result (List Line) TextFault))
+        (s : Option (Result (List Step) TextFault))
+        → SoFar header t (left_ahead A.remaining lines.old) s
+        (steps_left B.remaining steps.old) window.old world.old [] []
         → Tells header t s result }
     ensures read { result ≡ Err CaseFault.Read →
-        OneFailed (failures_of (source_ahead lines.old)) (reader_failures steps.old) (failures_of (source_ahead lines.new)) (reader_failures steps.new) }
-    ensures same_lines { result ≢ Err CaseFault.Read → failures_of (source_ahead lines.new) ≡ failures_of (source_ahead lines.old) }
+        OneFailed (failures_of (source_ahead lines.old)) (reader_failures steps.old)
+        (failures_of (source_ahead lines.new)) (reader_failures steps.new) }
+    ensures same_lines { result ≢ Err CaseFault.Read
+        → failures_of (source_ahead lines.new) ≡ failures_of (source_ahead lines.old) }
     ensures same_steps { result ≢ Err CaseFault.Read → reader_failures steps.new ≡ reader_failures steps.old }
 {
     match replay_steps(alloc, window, world, lines, steps)? {
@@ -182,13 +193,17 @@ fn end_of_witness<A: BufRead>(
 ) -> Result<Verdict, CaseFault>
     requires ahead { IsAhead lines.old }
     requires in_step { IsInStep window.now (line_ahead lines.old) }
-    ensures tells { (header : Header) (t : Option (Result (List Line) TextFault)) (s : Option (Result (List Step) TextFault))
+    ensures tells { (header : Header) (t : Option (Result (List Line) TextFault))
+        (s : Option (Result (List Step) TextFault))
         (p : Progress) (offered : List Line) (earlier : List Step) (ahead next : Option (Result (List Step) TextFault))
-        → SoFar header t (left_ahead A.remaining lines.old) s ahead window.now p offered earlier → Yields ahead next None
+        → SoFar header t (left_ahead A.remaining lines.old) s ahead window.now p offered earlier
+        → Yields ahead next None
         → Tallied earlier tally.lines tally.hidden
         → Tells header t s result }
-    ensures read { result ≡ Err CaseFault.Read → failures_of (source_ahead lines.new) ≡ one_more (failures_of (source_ahead lines.old)) }
-    ensures same { result ≢ Err CaseFault.Read → failures_of (source_ahead lines.new) ≡ failures_of (source_ahead lines.old) }
+    ensures read { result ≡ Err CaseFault.Read
+        → failures_of (source_ahead lines.new) ≡ one_more (failures_of (source_ahead lines.old)) }
+    ensures same { result ≢ Err CaseFault.Read
+        → failures_of (source_ahead lines.new) ≡ failures_of (source_ahead lines.old) }
 {
     let left = first_left(window, lines);
     lines.drain()?;

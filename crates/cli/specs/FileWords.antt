@@ -12,7 +12,8 @@ BeginsWith option value behind words =
 
 -- the words are two options with these values, in this order
 abbrev pub AreBoth : List ℕ → List ℕ → List ℕ → List ℕ → List (List ℕ) → Type 0
-AreBoth first one second two words = (behind : List (List ℕ)) × BeginsWith first one behind words × BeginsWith second two [] behind
+AreBoth first one second two words =
+    (behind : List (List ℕ)) × BeginsWith first one behind words × BeginsWith second two [] behind
 
 -- the words are `check` and both options, each once and in either order, with these values
 abbrev pub AreNamed : List (List ℕ) → List ℕ → List ℕ → Type 0

@@ -1,5 +1,6 @@
 -- Many cases in one text, and what is written of them.
-use Rattle.std.specs.Prelude.{◌≡◌, ◌≢◌, ◌⊎◌, ◌&&◌, ℕ, Bool, List, [], ◌∷◌, ◌++◌, Option, Result, map, max, if◌then◌else◌, codes}
+use Rattle.std.specs.Prelude.{◌≡◌, ◌≢◌, ◌⊎◌, ◌&&◌, ℕ, Bool, List, [], ◌∷◌, ◌++◌, Option, Result, map, max}
+use Rattle.std.specs.Prelude.{if◌then◌else◌, codes}
 use Rattle.std.specs.Io.KnownBytes.{Appends}
 use Rattle.std.specs.Str.{bytes_eq}
 use Rattle.bstr.specs.Text.{lines_of, without_terminator}
@@ -51,4 +52,5 @@ pub record TellsEach (cases : List (List ℕ)) (status : ℕ) (old new : Option 
 abbrev pub EndsMany : List (List ℕ) → ℕ → Option (List ℕ) → Option (List ℕ) → Type 0
 EndsMany cases status old new =
     (status ≡ 4 → Appends old new (codes "bad memory\n") ⊎ TellsEach cases status old new)
-    × (status ≢ 4 → (status ≡ greatest_status (map case_result cases)) × Appends old new (lines_of_all (map case_result cases)))
+    × (status ≢ 4 → (status ≡ greatest_status (map case_result cases))
+    × Appends old new (lines_of_all (map case_result cases)))

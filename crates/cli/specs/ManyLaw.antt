@@ -15,5 +15,6 @@ lines_written (lines ∷ cases) rest = lines ++ codes "end\n" ∷ lines_written 
 
 -- cases that were written so are cut into these cases again, and a rest that is not empty is one more
 abbrev pub CasesAreCutBack : Type 0
-CasesAreCutBack = (cases : List (List (List ℕ))) → (rest : List (List ℕ)) → AllByRecursion AreCaseLines cases → AreCaseLines rest
+CasesAreCutBack =
+    (cases : List (List (List ℕ))) → (rest : List (List ℕ)) → AllByRecursion AreCaseLines cases → AreCaseLines rest
     → cases_of (concat (lines_written cases rest)) ≡ map concat cases ++ rest_case (concat rest)

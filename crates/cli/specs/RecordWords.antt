@@ -55,7 +55,8 @@ TellsNumber setting words n = (text : Text) × AreOption setting text words × S
 abbrev pub TellEach : List (Setting × ℕ) → List Text → Type 0
 TellEach [] words = words ≡ []
 TellEach (option ∷ options) words =
-    (first : List Text) × (rest : List Text) × (words ≡ first ++ rest) × TellsNumber option.0 first option.1 × TellEach options rest
+    (first : List Text) × (rest : List Text) × (words ≡ first ++ rest) × TellsNumber option.0 first option.1
+    × TellEach options rest
 
 abbrev pub same : Setting → Setting → Bool
 same Rounds Rounds = true

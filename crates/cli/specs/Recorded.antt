@@ -29,7 +29,8 @@ pub record WritesCase (plan : Plan) (status : ℕ) (old new : Option (List ℕ))
   pub explains : Explains trace witness
   pub written : Appends old new (text_of trace witness)
   pub ended : status ≡ (if has_ended plan.rounds trace.lines then 0 else 1)
-  pub yes : IsWithinTrace trace → IsWithinWitness witness → (v : Verdict) × (case_result (text_of trace witness) ≡ Ok v) × IsYes v
+  pub yes : IsWithinTrace trace → IsWithinWitness witness → (v : Verdict) × (case_result (text_of trace witness) ≡ Ok v)
+      × IsYes v
 
 -- a run that records ends with this status: all rounds ended, a limit was met, or memory ran out, which is said alone
 abbrev pub EndsRecord : Plan → ℕ → Option (List ℕ) → Option (List ℕ) → Type 0

@@ -1,5 +1,6 @@
 -- The line and the status that a segment has.
-use Rattle.std.specs.Prelude.{◌==◌, ℕ, List, [], ◌++◌, length, Option, Some, None, Result, Ok, Err, codes, decimal, if◌then◌else◌}
+use Rattle.std.specs.Prelude.{◌==◌, ℕ, List, [], ◌++◌, length, Option, Some, None, Result, Ok, Err, codes, decimal}
+use Rattle.std.specs.Prelude.{if◌then◌else◌}
 use Rattle.segment.specs.Faults.{fault_name}
 use Rattle.segment.specs.Flags.{has_flag}
 use Rattle.segment.specs.declared.fields.Segment.{Segment}

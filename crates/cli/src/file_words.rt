@@ -1,6 +1,7 @@
 //! The words that ask for a case in two files.
 
-ghost use Rattle.std.specs.Prelude.{◌≡◌, ◌≢◌, ◌++◌, ◌↔◌, ℕ, List, IfOk, MatchOption, codes, map, option_map, string_bytes};
+ghost use Rattle.std.specs.Prelude.{◌≡◌, ◌≢◌, ◌++◌, ◌↔◌, ℕ, List, IfOk, MatchOption, codes, map, option_map};
+ghost use Rattle.std.specs.Prelude.{string_bytes};
 ghost use Rattle.cli.specs.FileWords.{has_nul, AreBoth, AreNamed, AsksFiles, BeginsWith};
 
 use crate::words::is_dashed;
@@ -22,7 +23,8 @@ const WITNESS: &str = "--witness";
 /// that memory ran out.
 pub fn file_names(alloc: Global, words: &[&str]) -> Result<Option<(String, String)>, OutOfMemory>
     ensures { IfOk result (λ named. (trace witness : List ℕ) →
-        option_map {U = List ℕ × List ℕ} (λ names. (string_bytes names.0, string_bytes names.1)) named ≡ Some (trace, witness)
+        option_map {U = List ℕ × List ℕ} (λ names. (string_bytes names.0, string_bytes names.1)) named
+        ≡ Some (trace, witness)
         ↔ AsksFiles (map (λ word. word.now) words.now) trace witness) }
 {
     let Some((trace, witness)) = named_files(words) else {
@@ -76,8 +78,10 @@ fn both<'a>(words: &[&'a str], first: &str, second: &str) -> Option<(&'a str, &'
 // The value of an option that stands first, and the words behind.
 fn take_option<'a, 'w>(words: &'w [&'a str], option: &str) -> Option<(&'a str, &'w [&'a str])>
     ensures { MatchOption result
-        ((value : List ℕ) (behind : List (List ℕ)) → ¬ BeginsWith option.now value behind (map (λ word. word.now) words.entry.now))
-        (λ found. BeginsWith option.now found.0.now (map (λ word. word.now) found.1.now) (map (λ word. word.now) words.entry.now)) }
+        ((value : List ℕ) (behind : List (List ℕ))
+        → ¬ BeginsWith option.now value behind (map (λ word. word.now) words.entry.now))
+        (λ found. BeginsWith option.now found.0.now (map (λ word. word.now) found.1.now)
+        (map (λ word. word.now) words.entry.now)) }
 {
     let [first, rest @ ..] = words else {
         return None;

@@ -29,10 +29,12 @@ pub fn run_files<A: BufRead, B: BufRead, W: Write>(
     requires witness { failures_of b < 2 ^ 50 }
     requires writer { failures_of w.old < 2 ^ 50 }
     ensures check { result.0 ≢ 5 → IfSome (left_of A.remaining a) (λ xs. IfSome (left_of B.remaining b) (λ ys.
-        Ends (status_of (texts_result xs ys)) (line_of (texts_result xs ys)) result.0 (left_of W.contents w.old) (left_of W.contents w.new))) }
+        Ends (status_of (texts_result xs ys)) (line_of (texts_result xs ys)) result.0 (left_of W.contents w.old)
+        (left_of W.contents w.new))) }
 
     // The status is 5 only where a count of failures grew. That is said where no write failed.
-    ensures device { result.0 ≡ 5 → (failures_of a < failures_of result.1) ⊎ (failures_of b < failures_of result.2) ⊎ (failures_of w.old < failures_of w.new) }
+    ensures device { result.0 ≡ 5 → (failures_of a < failures_of result.1) ⊎ (failures_of b < failures_of result.2)
+        ⊎ (failures_of w.old < failures_of w.new) }
     ensures told { result.0 ≡ 5 → failures_of w.new ≡ failures_of w.old → Appends (left_of W.contents w.old) (left_of W.contents w.new) (codes "bad device\n") }
     ensures quiet_trace { result.0 ≢ 5 → failures_of result.1 ≡ failures_of a }
     ensures quiet_witness { result.0 ≢ 5 → failures_of result.2 ≡ failures_of b }
@@ -62,7 +64,8 @@ pub(crate) fn tell_case<W: Write>(
     w: &mut Counted<W>,
 ) -> u8
     requires { failures_of w.old < 2 ^ 50 }
-    ensures said { result ≢ 5 → Ends (status_of answer.now) (line_of answer.now) result (left_of W.contents w.old) (left_of W.contents w.new) }
+    ensures said { result ≢ 5 → Ends (status_of answer.now) (line_of answer.now) result (left_of W.contents w.old)
+        (left_of W.contents w.new) }
     ensures unread { answer.now ≡ Err CaseFault.Read → result ≡ 5 }
     ensures told { answer.now ≡ Err CaseFault.Read → failures_of w.new ≡ failures_of w.old →
         Appends (left_of W.contents w.old) (left_of W.contents w.new) (codes "bad device\n") }

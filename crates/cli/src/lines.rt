@@ -81,10 +81,12 @@ fn push_column(line: &mut Vec<u8>, number: u64) -> Result<(), OutOfMemory>
 /// Writes a line, and answers this status, or 5 where the writer failed.
 pub(crate) fn say<W: Write>(w: &mut Counted<W>, line: &[u8], status: u8) -> u8
     requires { failures_of w.old < 2 ^ 50 }
-    ensures said { result ≢ 5 → (result ≡ status) × Appends (left_of W.contents w.old) (left_of W.contents w.new) line.now ×
+    ensures said { result ≢ 5 → (result ≡ status)
+        × Appends (left_of W.contents w.old) (left_of W.contents w.new) line.now ×
         (failures_of w.new ≡ failures_of w.old) }
     ensures device { status ≢ 5 → result ≡ 5 → failures_of w.old < failures_of w.new }
-    ensures told { status ≡ 5 → failures_of w.new ≡ failures_of w.old → Appends (left_of W.contents w.old) (left_of W.contents w.new) line.now }
+    ensures told { status ≡ 5 → failures_of w.new ≡ failures_of w.old
+        → Appends (left_of W.contents w.old) (left_of W.contents w.new) line.now }
 {
     if w.write_all(line).is_err() || w.flush().is_err() {
         return DEVICE;

@@ -48,18 +48,23 @@ pub fn run_all<R: BufRead, W: Write, H: Threads + Wait + Sync>(
 ) -> u8
     requires { (failures_of r.old < 2 ^ 50) × (failures_of w.old < 2 ^ 50) }
     ensures many { (n : ℕ) → AsksMany (map (λ word. word.now) words.now) n → result ≢ 5 →
-        IfSome (left_of R.remaining r.old) (λ text. EndsMany (cases_of text) result (left_of W.contents w.old) (left_of W.contents w.new)) }
+        IfSome (left_of R.remaining r.old) (λ text. EndsMany (cases_of text) result (left_of W.contents w.old)
+        (left_of W.contents w.new)) }
     ensures check { AsksCheck (map (λ word. word.now) words.now) → result ≢ 5 →
         IfSome (left_of R.remaining r.old) (λ text.
-        Ends (status_of (case_result text)) (line_of (case_result text)) result (left_of W.contents w.old) (left_of W.contents w.new)) }
+        Ends (status_of (case_result text)) (line_of (case_result text)) result (left_of W.contents w.old)
+        (left_of W.contents w.new)) }
     ensures segment { (text : List ℕ) → AsksSegment (map (λ word. word.now) words.now) text → result ≢ 5 →
-        Ends (segment_status (segment_in text)) (segment_line (segment_in text)) result (left_of W.contents w.old) (left_of W.contents w.new) }
+        Ends (segment_status (segment_in text)) (segment_line (segment_in text)) result (left_of W.contents w.old)
+        (left_of W.contents w.new) }
     ensures recorded { (plan : Plan) → AsksRecord (map (λ word. word.now) words.now) plan → result ≢ 5 →
         EndsRecord plan result (left_of W.contents w.old) (left_of W.contents w.new) }
-    ensures usage { AsksNothing (map (λ word. word.now) words.now) → ((n : ℕ) → ¬ AsksMany (map (λ word. word.now) words.now) n) →
+    ensures usage { AsksNothing (map (λ word. word.now) words.now)
+        → ((n : ℕ) → ¬ AsksMany (map (λ word. word.now) words.now) n) →
         ((plan : Plan) → ¬ AsksRecord (map (λ word. word.now) words.now) plan) → result ≢ 5 →
         Ends 3 (codes "bad usage\n") result (left_of W.contents w.old) (left_of W.contents w.new) }
-    ensures unread { ¬ AsksCheck (map (λ word. word.now) words.now) → ((n : ℕ) → ¬ AsksMany (map (λ word. word.now) words.now) n) → r.new ≡ r.old }
+    ensures unread { ¬ AsksCheck (map (λ word. word.now) words.now)
+        → ((n : ℕ) → ¬ AsksMany (map (λ word. word.now) words.now) n) → r.new ≡ r.old }
 
     // But for a recording, which may also find no thread, the status is 5 only where a count of failures grew. That is
     // said where
@@ -86,7 +91,8 @@ fn many<R: BufRead, W: Write, H: Threads + Wait + Sync>(
 ) -> u8
     requires { (failures_of r.old < 2 ^ 50) × (failures_of w.old < 2 ^ 50) }
     ensures many { result ≢ 5 →
-        IfSome (left_of R.remaining r.old) (λ text. EndsMany (cases_of text) result (left_of W.contents w.old) (left_of W.contents w.new)) }
+        IfSome (left_of R.remaining r.old) (λ text. EndsMany (cases_of text) result (left_of W.contents w.old)
+        (left_of W.contents w.new)) }
     ensures device { result ≡ 5 → (failures_of r.old < failures_of r.new) ⊎ (failures_of w.old < failures_of w.new) }
     ensures told { result ≡ 5 → failures_of w.new ≡ failures_of w.old → Appends (left_of W.contents w.old) (left_of W.contents w.new) (codes "bad device\n") }
     ensures quiet { result ≢ 5 → (failures_of r.new ≡ failures_of r.old) × (failures_of w.new ≡ failures_of w.old) }
@@ -108,7 +114,8 @@ fn answer_cases<W: Write, H: Threads + Wait + Sync>(
     w: &mut Counted<W>,
 ) -> u8
     requires { failures_of w.old < 2 ^ 50 }
-    ensures many { result ≢ 5 → EndsMany (cases_of text.now) result (left_of W.contents w.old) (left_of W.contents w.new) }
+    ensures many { result ≢ 5 → EndsMany (cases_of text.now) result (left_of W.contents w.old)
+        (left_of W.contents w.new) }
     ensures device { result ≡ 5 → failures_of w.old < failures_of w.new }
     ensures quiet { result ≢ 5 → failures_of w.new ≡ failures_of w.old }
 {

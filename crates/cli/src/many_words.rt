@@ -34,7 +34,8 @@ fn make_many<'a>(alloc: Global) -> Result<Command<'a>, AllocError>
 
 // The words behind `many`, as `clap` reads them.
 fn parse<'a>(alloc: Global, words: &'a [&'a str]) -> Result<ArgMatches<'a>, Error>
-    ensures ok { IfOk result (λ matches. rows_of (found_of matches) ≡ matches_of many (map (λ word. word.now) words.now)) }
+    ensures ok { IfOk result (λ matches. rows_of (found_of matches)
+        ≡ matches_of many (map (λ word. word.now) words.now)) }
     ensures exact { FailsBy (fault_of many (map (λ word. word.now) words.now)) result }
 {
     let many = make_many(alloc)?;

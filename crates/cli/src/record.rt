@@ -40,9 +40,11 @@ pub(crate) fn record_or_run<R: BufRead, W: Write, H: Threads + Wait + Sync>(
     requires { (failures_of r.old < 2 ^ 50) × (failures_of w.old < 2 ^ 50) }
     ensures check { AsksCheck (map (λ word. word.now) words.now) → result ≢ 5 →
         IfSome (left_of R.remaining r.old) (λ text.
-        Ends (status_of (case_result text)) (line_of (case_result text)) result (left_of W.contents w.old) (left_of W.contents w.new)) }
+        Ends (status_of (case_result text)) (line_of (case_result text)) result (left_of W.contents w.old)
+        (left_of W.contents w.new)) }
     ensures segment { (text : List ℕ) → AsksSegment (map (λ word. word.now) words.now) text → result ≢ 5 →
-        Ends (segment_status (segment_in text)) (segment_line (segment_in text)) result (left_of W.contents w.old) (left_of W.contents w.new) }
+        Ends (segment_status (segment_in text)) (segment_line (segment_in text)) result (left_of W.contents w.old)
+        (left_of W.contents w.new) }
     ensures recorded { (plan : Plan) → AsksRecord (map (λ word. word.now) words.now) plan → result ≢ 5 →
         EndsRecord plan result (left_of W.contents w.old) (left_of W.contents w.new) }
     ensures usage { AsksNothing (map (λ word. word.now) words.now) →
@@ -85,7 +87,8 @@ fn answer_record<W: Write, H: Threads + Wait + Sync>(
 fn print<W: Write>(alloc: Global, recording: &Recording, w: &mut Counted<W>) -> u8
     requires few { failures_of w.old < 2 ^ 50 }
     requires explains { Explains recording.now.recorded.trace recording.now.recorded.witness }
-    ensures recorded { (plan : Plan) → recording.now.recorded.trace.header ≡ header_of plan.version → recording.now.recorded.witness.version ≡ plan.version →
+    ensures recorded { (plan : Plan) → recording.now.recorded.trace.header ≡ header_of plan.version
+        → recording.now.recorded.witness.version ≡ plan.version →
         recording.now.ended ≡ has_ended plan.rounds recording.now.recorded.trace.lines → result ≢ 5 →
         EndsRecord plan result (left_of W.contents w.old) (left_of W.contents w.new) }
     ensures device { result ≡ 5 → failures_of w.old < failures_of w.new }

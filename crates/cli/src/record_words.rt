@@ -1,10 +1,12 @@
 //! The words that ask for a recording, and the numbers that they name.
 
-ghost use Rattle.std.specs.Prelude.{◌≡◌, ◌≤◌, ◌<◌, ◌^◌, false, ℕ, None, Some, IfOk, IfSome, MatchOption, OnOk, OnErr, length, map, option_map};
+ghost use Rattle.std.specs.Prelude.{◌≡◌, ◌≤◌, ◌<◌, ◌^◌, false, ℕ, None, Some, IfOk, IfSome, MatchOption, OnOk, OnErr};
+ghost use Rattle.std.specs.Prelude.{length, map, option_map};
 ghost use Rattle.clap.specs.Words.{app_of, rule_of, fault_of, found_of, matches_of, rows_of, FailsBy};
 ghost use Rattle.clap.specs.declared.builder.command.Command.TheViews.{out-Command};
 ghost use Rattle.two_hosts.specs.declared.plan.Plan.{Plan};
-ghost use Rattle.cli.specs.RecordReading.{app, rule, first_option, joined, listed, named, number_of, telling, AsksPlan, AsksRest};
+ghost use Rattle.cli.specs.RecordReading.{app, rule, first_option, joined, listed, named, number_of, telling, AsksPlan};
+ghost use Rattle.cli.specs.RecordReading.{AsksRest};
 ghost use Rattle.cli.specs.RecordWords.{most, name_of, AsksRecord, TellsNumber};
 
 use case_forms::{OutOfMemory, Version};
@@ -61,7 +63,8 @@ fn make_option<'a>(alloc: Global, setting: Setting) -> Result<Command<'a>, Alloc
 
 // The words of one option, as `clap` reads them.
 fn parse<'a>(alloc: Global, setting: Setting, words: &'a [&'a str]) -> Result<ArgMatches<'a>, Error>
-    ensures ok { IfOk result (λ matches. rows_of (found_of matches) ≡ matches_of (app setting) (map (λ word. word.now) words.now)) }
+    ensures ok { IfOk result (λ matches. rows_of (found_of matches)
+        ≡ matches_of (app setting) (map (λ word. word.now) words.now)) }
     ensures exact { FailsBy (fault_of (app setting) (map (λ word. word.now) words.now)) result }
 {
     let option = make_option(alloc, setting)?;
@@ -178,7 +181,8 @@ fn number_told<'a>(
 ) -> Result<Option<u64>, OutOfMemory>
     requires { first_option (map (λ word. word.now) words.now) ≡ Some (setting, length words.now) }
     ensures { IfOk result (λ told. MatchOption told ((n : ℕ) →
-        ¬ TellsNumber setting (map (λ word. word.now) words.now) n) (TellsNumber setting (map (λ word. word.now) words.now))) }
+        ¬ TellsNumber setting (map (λ word. word.now) words.now) n)
+        (TellsNumber setting (map (λ word. word.now) words.now))) }
 {
     match parse(alloc, setting, words) {
         Ok(matches) => Ok(matches.get_one(name_of(setting))),

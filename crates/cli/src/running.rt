@@ -33,9 +33,11 @@ pub fn run<R: BufRead, W: Write>(
     requires { (failures_of r.old < 2 ^ 50) × (failures_of w.old < 2 ^ 50) }
     ensures check { AsksCheck (map (λ word. word.now) words.now) → result ≢ 5 →
         IfSome (left_of R.remaining r.old) (λ text.
-        Ends (status_of (case_result text)) (line_of (case_result text)) result (left_of W.contents w.old) (left_of W.contents w.new)) }
+        Ends (status_of (case_result text)) (line_of (case_result text)) result (left_of W.contents w.old)
+        (left_of W.contents w.new)) }
     ensures segment { (text : List ℕ) → AsksSegment (map (λ word. word.now) words.now) text → result ≢ 5 →
-        Ends (segment_status (segment_in text)) (segment_line (segment_in text)) result (left_of W.contents w.old) (left_of W.contents w.new) }
+        Ends (segment_status (segment_in text)) (segment_line (segment_in text)) result (left_of W.contents w.old)
+        (left_of W.contents w.new) }
     ensures usage { AsksNothing (map (λ word. word.now) words.now) → result ≢ 5 →
         Ends 3 (codes "bad usage\n") result (left_of W.contents w.old) (left_of W.contents w.new) }
     ensures unread { ¬ AsksCheck (map (λ word. word.now) words.now) → r.new ≡ r.old }
@@ -79,7 +81,8 @@ fn check<R: BufRead, W: Write>(alloc: Global, r: &mut Counted<R>, w: &mut Counte
     requires { (failures_of r.old < 2 ^ 50) × (failures_of w.old < 2 ^ 50) }
     ensures check { result ≢ 5 →
         IfSome (left_of R.remaining r.old) (λ text.
-        Ends (status_of (case_result text)) (line_of (case_result text)) result (left_of W.contents w.old) (left_of W.contents w.new)) }
+        Ends (status_of (case_result text)) (line_of (case_result text)) result (left_of W.contents w.old)
+        (left_of W.contents w.new)) }
     ensures device { result ≡ 5 → (failures_of r.old < failures_of r.new) ⊎ (failures_of w.old < failures_of w.new) }
     ensures told { result ≡ 5 → failures_of w.new ≡ failures_of w.old → Appends (left_of W.contents w.old) (left_of W.contents w.new) (codes "bad device\n") }
     ensures quiet { result ≢ 5 → (failures_of r.new ≡ failures_of r.old) × (failures_of w.new ≡ failures_of w.old) }
@@ -96,7 +99,8 @@ fn check<R: BufRead, W: Write>(alloc: Global, r: &mut Counted<R>, w: &mut Counte
 fn answer_case<W: Write>(alloc: Global, text: &[u8], w: &mut Counted<W>) -> u8
     requires { failures_of w.old < 2 ^ 50 }
     ensures check { result ≢ 5 →
-        Ends (status_of (case_result text.now)) (line_of (case_result text.now)) result (left_of W.contents w.old) (left_of W.contents w.new) }
+        Ends (status_of (case_result text.now)) (line_of (case_result text.now)) result (left_of W.contents w.old)
+        (left_of W.contents w.new) }
     ensures device { result ≡ 5 → failures_of w.old < failures_of w.new }
     ensures quiet { result ≢ 5 → failures_of w.new ≡ failures_of w.old }
 {
@@ -113,7 +117,8 @@ fn answer_case<W: Write>(alloc: Global, text: &[u8], w: &mut Counted<W>) -> u8
 fn show<W: Write>(alloc: Global, text: &str, w: &mut Counted<W>) -> u8
     requires { failures_of w.old < 2 ^ 50 }
     ensures segment { result ≢ 5 →
-        Ends (segment_status (segment_in text.now)) (segment_line (segment_in text.now)) result (left_of W.contents w.old) (left_of W.contents w.new) }
+        Ends (segment_status (segment_in text.now)) (segment_line (segment_in text.now)) result
+        (left_of W.contents w.old) (left_of W.contents w.new) }
     ensures device { result ≡ 5 → failures_of w.old < failures_of w.new }
     ensures quiet { result ≢ 5 → failures_of w.new ≡ failures_of w.old }
 {

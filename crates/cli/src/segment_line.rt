@@ -1,8 +1,9 @@
 //! The line and the status of a segment.
 
 ghost use Rattle.std.specs.Prelude.{◌≡◌, ◌++◌, IfOk, codes, decimal};
-ghost use Rattle.cli.specs.SegmentText.{ends_text, first_number, flags_text, letter_in, letter_of, lower_letters, mss_text};
-ghost use Rattle.cli.specs.SegmentText.{payload_text, rest_text, segment_line, segment_status, segment_text, upper_letters};
+ghost use Rattle.cli.specs.SegmentText.{ends_text, first_number, flags_text, letter_in, letter_of, lower_letters};
+ghost use Rattle.cli.specs.SegmentText.{mss_text, payload_text, rest_text, segment_line, segment_status, segment_text};
+ghost use Rattle.cli.specs.SegmentText.{upper_letters};
 
 use crate::argument::ArgumentFault;
 use crate::lines::{MEMORY, REFUSED, YES};

@@ -60,7 +60,8 @@ fn make_tool<'a>(alloc: Global) -> Result<Command<'a>, AllocError>
 
 // The words as `clap` reads them.
 fn parse<'a>(alloc: Global, words: &'a [&'a str]) -> Result<ArgMatches<'a>, Error>
-    ensures ok { IfOk result (λ matches. subcommand_rows_of matches ≡ subcommand_of tool (map (λ word. word.now) words.now)) }
+    ensures ok { IfOk result (λ matches. subcommand_rows_of matches
+        ≡ subcommand_of tool (map (λ word. word.now) words.now)) }
     ensures exact { FailsBy (fault_of tool (map (λ word. word.now) words.now)) result }
 {
     let tool = make_tool(alloc)?;

@@ -1,5 +1,6 @@
 -- What was read of a line.
-use Rattle.std.specs.Prelude.{◌≡◌, ◌≢◌, ◌<◌, ◌+◌, ◌⊎◌, ℕ, Bool, true, false, List, [], ◌∷◌, ◌++◌, length, All, Option, Some, None, OnSome}
+use Rattle.std.specs.Prelude.{◌≡◌, ◌≢◌, ◌<◌, ◌+◌, ◌⊎◌, ℕ, Bool, true, false, List, [], ◌∷◌, ◌++◌, length, All, Option}
+use Rattle.std.specs.Prelude.{Some, None, OnSome}
 use Rattle.std.specs.Io.KnownBytes.{Consumes, IsAtEnd}
 
 -- no byte is LF
@@ -17,7 +18,8 @@ IsPart false bytes = HasNoFeed bytes
 
 -- known bytes lose their first line: up to its LF, or all that is left
 abbrev pub LosesLine : Option (List ℕ) → Option (List ℕ) → List ℕ → Type 0
-LosesLine old new raw = Consumes old new raw × (EndsAtFeed raw ⊎ (HasNoFeed raw × (0 < length raw) × OnSome old (IsAtEnd new)))
+LosesLine old new raw =
+    Consumes old new raw × (EndsAtFeed raw ⊎ (HasNoFeed raw × (0 < length raw) × OnSome old (IsAtEnd new)))
 
 -- the last bytes of a line, and those that stand before them: some only where the line has more than `most`
 pub record IsKept (most : ℕ) (front : List ℕ) (before : ℕ) (kept : List ℕ) : Type 0 where
@@ -28,4 +30,5 @@ pub record IsKept (most : ℕ) (front : List ℕ) (before : ℕ) (kept : List �
 -- a line is read, or the input is at its end
 abbrev pub GivesLine : ℕ → Option (List ℕ) → Option (List ℕ) → Option ℕ → List ℕ → Type 0
 GivesLine most old new None kept = Consumes old new [] × OnSome old (IsAtEnd new)
-GivesLine most old new (Some before) kept = (front : List ℕ) × IsKept most front before kept × LosesLine old new (front ++ kept)
+GivesLine most old new (Some before) kept =
+    (front : List ℕ) × IsKept most front before kept × LosesLine old new (front ++ kept)

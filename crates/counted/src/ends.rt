@@ -186,8 +186,10 @@ impl<B: BufRead> Counted<B> {
     /// Appends what one read gives, and says whether the input is at its end, where it gives nothing.
     pub fn append_piece(&mut self, buf: &mut Vec<u8>) -> Result<bool, ReadFault>
         ensures appends { StartsWith buf.new.items buf.old.items }
-        ensures bytes { Consumes (left_of B.remaining self.old) (left_of B.remaining self.new) (appended_bytes buf.old.items buf.new.items) }
-        ensures end { result ≡ Ok true → OnSome (left_of B.remaining self.old) (IsAtEnd (left_of B.remaining self.new)) }
+        ensures bytes { Consumes (left_of B.remaining self.old) (left_of B.remaining self.new)
+            (appended_bytes buf.old.items buf.new.items) }
+        ensures end { result ≡ Ok true → OnSome (left_of B.remaining self.old)
+            (IsAtEnd (left_of B.remaining self.new)) }
         ensures ok { OnOk result (failures_of self.new ≡ failures_of self.old) }
         ensures read { result ≡ Err ReadFault.Read → failures_of self.new ≡ one_more (failures_of self.old) }
         ensures memory { result ≡ Err ReadFault.OutOfMemory → failures_of self.new ≡ failures_of self.old }
@@ -216,7 +218,8 @@ impl<B: BufRead> Counted<B> {
     /// Appends all that is left to read. At an error `buf` has what was read before it.
     pub fn append_all(&mut self, buf: &mut Vec<u8>) -> Result<(), ReadFault>
         ensures appends { StartsWith buf.new.items buf.old.items }
-        ensures bytes { OnOk result (IfSome (left_of B.remaining self.old) (λ xs. buf.new.items ≡ buf.old.items ++ xs)) }
+        ensures bytes { OnOk result (IfSome (left_of B.remaining self.old) (λ xs. buf.new.items ≡ buf.old.items
+            ++ xs)) }
         ensures ok { OnOk result (failures_of self.new ≡ failures_of self.old) }
         ensures read { result ≡ Err ReadFault.Read → failures_of self.new ≡ one_more (failures_of self.old) }
         ensures memory { result ≡ Err ReadFault.OutOfMemory → failures_of self.new ≡ failures_of self.old }

@@ -1,6 +1,7 @@
 //! One line of a reader, a piece at a time.
 
-ghost use Rattle.std.specs.Prelude.{◌≡◌, ◌+◌, ◌≤◌, ◌<◌, ◌⊎◌, ◌^◌, [], OnOk, IfOk, IfSome, OnSome, ◌++◌, true, false, length, take};
+ghost use Rattle.std.specs.Prelude.{◌≡◌, ◌+◌, ◌≤◌, ◌<◌, ◌⊎◌, ◌^◌, [], OnOk, IfOk, IfSome, OnSome, ◌++◌, true, false};
+ghost use Rattle.std.specs.Prelude.{length, take};
 ghost use Rattle.std.specs.Io.{StartsWith, appended_bytes};
 ghost use Rattle.std.specs.Io.KnownBytes.{Consumes, IsAtEnd};
 ghost use Rattle.counted.specs.Counting.{left_of, failures_of, one_more};
@@ -47,10 +48,12 @@ impl<B: BufRead> Counted<B> {
         requires { 0 < most }
         ensures appends { StartsWith buf.new.items buf.old.items }
         ensures most { length (appended_bytes buf.old.items buf.new.items) ≤ most }
-        ensures bytes { Consumes (left_of B.remaining self.old) (left_of B.remaining self.new) (appended_bytes buf.old.items buf.new.items) }
+        ensures bytes { Consumes (left_of B.remaining self.old) (left_of B.remaining self.new)
+            (appended_bytes buf.old.items buf.new.items) }
         ensures more { result ≡ Ok false → HasNoFeed (appended_bytes buf.old.items buf.new.items) }
         ensures ended { result ≡ Ok true → EndsAtFeed (appended_bytes buf.old.items buf.new.items)
-            ⊎ ((appended_bytes buf.old.items buf.new.items ≡ []) × OnSome (left_of B.remaining self.old) (IsAtEnd (left_of B.remaining self.new))) }
+            ⊎ ((appended_bytes buf.old.items buf.new.items ≡ [])
+            × OnSome (left_of B.remaining self.old) (IsAtEnd (left_of B.remaining self.new))) }
         ensures ok { OnOk result (failures_of self.new ≡ failures_of self.old) }
         ensures read { result ≡ Err ReadFault.Read → failures_of self.new ≡ one_more (failures_of self.old) }
         ensures memory { result ≡ Err ReadFault.OutOfMemory → failures_of self.new ≡ failures_of self.old }
@@ -79,7 +82,8 @@ impl<B: BufRead> Counted<B> {
     #[inline(always)]
     pub fn read_line(&mut self, most: usize, line: &mut Vec<u8>) -> Result<Option<u64>, ReadFault>
         requires { most < 2 ^ 32 }
-        ensures line { IfOk result (λ before. GivesLine most (left_of B.remaining self.old) (left_of B.remaining self.new) before line.new.items) }
+        ensures line { IfOk result (λ before. GivesLine most (left_of B.remaining self.old)
+            (left_of B.remaining self.new) before line.new.items) }
         ensures fits { IfOk result (λ before. IfSome before (λ n. n + length line.new.items < 2 ^ 64)) }
         ensures ok { OnOk result (failures_of self.new ≡ failures_of self.old) }
         ensures read { result ≡ Err ReadFault.Read → failures_of self.new ≡ one_more (failures_of self.old) }

@@ -34,7 +34,8 @@ pub fn take_segment(
     requires room { HasRoom endpoint.old }
     requires small { IsSmallEmission m.now }
     requires open { is_closed endpoint.old.state ≡ false }
-    ensures ok { OnOk result (endpoint.new ≡ forget_endpoint (endpoint_taken header.now endpoint.old how m.now moment)) }
+    ensures ok { OnOk result (endpoint.new ≡ forget_endpoint
+        (endpoint_taken header.now endpoint.old how m.now moment)) }
     ensures err { OnErr result (endpoint.new ≡ endpoint.old) }
 {
     if m.flags().rst {

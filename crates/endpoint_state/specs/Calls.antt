@@ -27,4 +27,5 @@ gives_again hosts number = option_map_or (λ n. given hosts.zero.body n || given
 
 -- the host that is meant allows the answer; where none is, the answer says that
 abbrev pub allowed_at : Both (HostState tcp_shape) → Call → Answer → Option Host → Bool
-allowed_at hosts call answer host = option_map_or (λ h. call_allows (pick hosts h).body call answer) host (is_bad_socket answer)
+allowed_at hosts call answer host =
+    option_map_or (λ h. call_allows (pick hosts h).body call answer) host (is_bad_socket answer)

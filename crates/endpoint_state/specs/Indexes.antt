@@ -1,5 +1,6 @@
 -- Indexes: what leads to an endpoint or a listener with no walk over all of them, and what it has to say.
-use Rattle.std.specs.Prelude.{◌≡◌, ℕ, Bool, true, false, nat_eq, ◌||◌, List, [], ◌∷◌, Option, None, Some, slice_get, Vec}
+use Rattle.std.specs.Prelude.{◌≡◌, ℕ, Bool, true, false, nat_eq, ◌||◌, List, [], ◌∷◌, Option, None, Some, slice_get}
+use Rattle.std.specs.Prelude.{Vec}
 use Rattle.std.specs.declared.alloc.Global.{Global}
 use Rattle.std.specs.Map.{lookup}
 use Rattle.std.specs.declared.cmp.Ordering.{Ordering}
@@ -23,11 +24,13 @@ stands_in n (m ∷ ms) = nat_eq n m || stands_in n ms
 -- listener
 pub record IsIndexed (found : ℕ → ℕ → Option ℕ) (is_child : ℕ → ℕ → Bool) (endpoints : List Endpoint) : Type 0 where
   pub ports : (lport rport : ℕ) → found lport rport ≡ last_from (has_ports lport rport) 0 None endpoints
-  pub children : (place l : ℕ) (e : Endpoint) → slice_get endpoints place ≡ Some e → e.listener ≡ Some l → is_child l place ≡ true
+  pub children : (place l : ℕ) (e : Endpoint) → slice_get endpoints place ≡ Some e → e.listener ≡ Some l
+      → is_child l place ≡ true
 
 -- the port of each open listener leads to it, and a port leads to no listener of another port
 pub record IsListening (found : ℕ → Option ℕ) (listeners : List Listener) : Type 0 where
-  pub live : (place : ℕ) (x : Listener) → slice_get listeners place ≡ Some x → x.is_open ≡ true → found x.port ≡ Some place
+  pub live : (place : ℕ) (x : Listener) → slice_get listeners place ≡ Some x → x.is_open ≡ true
+      → found x.port ≡ Some place
   pub port : (port place : ℕ) → found port ≡ Some place → IsSomeAnd (slice_get listeners place) (λ x. x.port ≡ port)
 
 -- where a map from pairs of ports leads
@@ -36,4 +39,5 @@ find_ports entries lport rport = lookup (is_at (ports_cmp (lport, rport))) entri
 
 -- the place stands among the children of that listener
 abbrev pub is_child_in : List (ℕ × Vec ℕ Global) → ℕ → ℕ → Bool
-is_child_in entries l place = option_map_or (λ places. stands_in place places.items) (lookup (is_at (nat_cmp l)) entries) false
+is_child_in entries l place =
+    option_map_or (λ places. stands_in place places.items) (lookup (is_at (nat_cmp l)) entries) false

@@ -40,7 +40,8 @@ IsSmallAct (Recovers recovery) = Unit {0}
 pub record ActsKeep : Type 0 where
   pub starts : IsKeptBody 0 empty
   pub acts : (h : Header) (me : Host) (moment steps : ℕ) (b : Body) (act : Act) → IsSmallAct act
-      → first_broken (act_rules h me moment b act) ≡ None → IsKeptBody steps b → IsKeptBody (suc steps) (forget_body (act_after h me moment b act))
+      → first_broken (act_rules h me moment b act) ≡ None → IsKeptBody steps b
+      → IsKeptBody (suc steps) (forget_body (act_after h me moment b act))
 
 -- what holds after so many steps holds after one more in which nothing happens
 pub record KeptLonger : Type 0 where

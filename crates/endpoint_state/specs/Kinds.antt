@@ -36,7 +36,8 @@ made_one me moment fresh plan h = record h {
 
 -- the segment of that number stands on the wire with that line
 abbrev pub sent_one : (moment line number : ℕ) → Wire → HostState tcp_shape → HostState tcp_shape
-sent_one moment line number wire h = record h { made = made_gone_out number h.made; wire = wire_after sent h.made line number wire moment h.wire }
+sent_one moment line number wire h =
+    record h { made = made_gone_out number h.made; wire = wire_after sent h.made line number wire moment h.wire }
 
 -- what is heard of the host that is not recorded waits with that line, and the rule of it: the case is a half one
 abbrev pub heard_one : (moment line : ℕ) → Wire → HostState tcp_shape → HostState tcp_shape
@@ -81,7 +82,8 @@ recovered_body r b = at_ports b r.lport r.rport (λ x. after_recovery x r.cwnd r
 
 -- the rules of taking, dropping and answering what waits with that line
 abbrev pub taking_rules : Header → Host → (line : ℕ) → TakeChoice → HostState tcp_shape → List (Rule × Bool)
-taking_rules hd me line choice h = on (waiting line h.inbox) (just rules.Inbox true) (λ m. taker_rules hd me h.body choice m (taker h.body m))
+taking_rules hd me line choice h =
+    on (waiting line h.inbox) (just rules.Inbox true) (λ m. taker_rules hd me h.body choice m (taker h.body m))
 
 abbrev pub dropping_rules : (line : ℕ) → HostState tcp_shape → List (Rule × Bool)
 dropping_rules line h = on (waiting line h.inbox) (just rules.Inbox true) (λ m. [])

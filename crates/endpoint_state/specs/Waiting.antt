@@ -8,4 +8,5 @@ use Rattle.spec_tcp.specs.declared.endpoint.SocketTarget.TheVariants.{EndpointAt
 -- as many bytes wait at the endpoint that a socket number names
 abbrev pub AreWaiting : Body → ℕ → List ℕ → Type 0
 AreWaiting b n bytes =
-    (i : ℕ) (e : Endpoint) → thing_of b n ≡ Some (EndpointAt i) → slice_get b.endpoints i ≡ Some e → length bytes ≤ length (waiting e.stream.receive)
+    (i : ℕ) (e : Endpoint) → thing_of b n ≡ Some (EndpointAt i) → slice_get b.endpoints i ≡ Some e
+    → length bytes ≤ length (waiting e.stream.receive)

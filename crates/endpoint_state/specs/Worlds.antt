@@ -27,7 +27,8 @@ after p moment step = record p { world = forget (hosts.after (tcp p.header) mome
 
 -- both hosts, once a segment stands on that host's wire under that line, in place of one that stood there
 abbrev pub hosts_brought : Both (HostState tcp_shape) → Host → ℕ → Emission → Both (HostState tcp_shape)
-hosts_brought hosts host line m = with_host hosts host (record (pick hosts host) { wire = insert_entry nat_eq (pick hosts host).wire line m })
+hosts_brought hosts host line m =
+    with_host hosts host (record (pick hosts host) { wire = insert_entry nat_eq (pick hosts host).wire line m })
 
 -- once it was brought there; that is no step, and what came in stays as it was
 abbrev pub brought : Progress → Host → ℕ → Emission → Progress

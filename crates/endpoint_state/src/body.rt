@@ -11,7 +11,8 @@
 ghost use Rattle.std.specs.Prelude.{◌≡◌, length, slice_get, None, Some, IfErr, IfOk, OnErr};
 ghost use Rattle.std.specs.Option.{option_copied};
 ghost use Rattle.verdict.specs.declared.rule.Rule.TheVariants.{NoEndpoint};
-ghost use Rattle.spec_tcp.specs.Bodies.{empty, endpoint_of, given, is_connected, if_live, is_listening, listener_on, place_of, thing_of};
+ghost use Rattle.spec_tcp.specs.Bodies.{empty, endpoint_of, given, is_connected, if_live, is_listening, listener_on};
+ghost use Rattle.spec_tcp.specs.Bodies.{place_of, thing_of};
 
 mod arrives;
 mod calls;

@@ -1,6 +1,7 @@
 //! The endpoints of a host: found by their ports, and each changed in its place.
 
-ghost use Rattle.std.specs.Prelude.{◌≡◌, ◌+◌, ◌<◌, ◌^◌, ℕ, true, [], ◌∷◌, ◌++◌, None, length, slice_get, OnOk, OnErr, ◌≤◌, false, Some, is_some, IfOk, map};
+ghost use Rattle.std.specs.Prelude.{◌≡◌, ◌+◌, ◌<◌, ◌^◌, ℕ, true, [], ◌∷◌, ◌++◌, None, length, slice_get, OnOk, OnErr};
+ghost use Rattle.std.specs.Prelude.{◌≤◌, false, Some, is_some, IfOk, map};
 ghost use Rattle.std.specs.Option.{option_copied, option_map, IfSome, IsSomeAnd};
 ghost use Rattle.spec_tcp.specs.Bodies.{has_ports, last_from};
 ghost use Rattle.endpoint_state.specs.Indexes.{is_child_in};
@@ -102,7 +103,8 @@ fn add_child(
     listener: Option<u32>,
     place: u32,
 ) -> Result<(), OutOfMemory>
-    ensures kept { (l i : ℕ) → is_child_in children.old.entries l i ≡ true → is_child_in children.new.entries l i ≡ true }
+    ensures kept { (l i : ℕ) → is_child_in children.old.entries l i ≡ true
+        → is_child_in children.new.entries l i ≡ true }
     ensures added { OnOk result ((l : ℕ) → listener ≡ Some l → is_child_in children.new.entries l place ≡ true) }
 {
     let Some(listener) = listener else {
@@ -131,7 +133,8 @@ impl Endpoints {
         requires kept { All HasRoom self.old }
         requires small { making.now.pos ≤ greatest_position }
         requires there { is_some (slice_get self.old me.number) ≡ true }
-        ensures made { IfOk result (λ m. option_map (λ e. emission_of me e making.now) (slice_get self.old me.number) ≡ Some m) }
+        ensures made { IfOk result (λ m. option_map (λ e. emission_of me e making.now) (slice_get self.old me.number)
+            ≡ Some m) }
         ensures small { IfOk result IsSmallEmission }
         ensures ok { OnOk result (self.new ≡ changed self.old me.number (λ e. after_making e making.now moment)) }
         ensures err { OnErr result (self.new ≡ self.old) }
@@ -225,7 +228,8 @@ impl Endpoints {
         requires kept { All HasRoom self.old }
         requires small { IsSmallEmission m.now }
         requires open { IsSomeAnd (slice_get self.old place) (λ e. is_closed e.state ≡ false) }
-        ensures ok { OnOk result (self.new ≡ changed self.old place (λ e. endpoint_taken header.now e how m.now moment)) }
+        ensures ok { OnOk result (self.new ≡ changed self.old place
+            (λ e. endpoint_taken header.now e how m.now moment)) }
         ensures err { OnErr result (self.new ≡ self.old) }
     {
         let place = place as usize;
@@ -254,7 +258,8 @@ impl Endpoints {
     /// The bytes of a `recv` are delivered at the endpoint at a place, where no more than these wait.
     pub(crate) fn deliver(&mut self, place: u32, bytes: &[u8])
         requires kept { All HasRoom self.old }
-        requires waiting { IfSome (slice_get self.old place) (λ e. length bytes.now ≤ length (waiting e.stream.receive)) }
+        requires waiting { IfSome (slice_get self.old place)
+            (λ e. length bytes.now ≤ length (waiting e.stream.receive)) }
         ensures { self.new ≡ changed self.old place (after_recv bytes.now) }
     {
         let place = place as usize;

@@ -21,8 +21,9 @@ ghost use Rattle.spec_tcp.specs.Forgetting.{forget_host};
 ghost use Rattle.spec_tcp.specs.Bounds.{greatest_position, IsSmallEmission};
 ghost use Rattle.endpoint_state.specs.Kept.{AreReadable, IsReady};
 ghost use Rattle.endpoint_state.specs.Faults.{fault_rule};
-ghost use Rattle.endpoint_state.specs.Kinds.{answered_one, dropped_one, made_one, sent_one, taken_one, answering_rules, dropping_rules, expired_body};
-ghost use Rattle.endpoint_state.specs.Kinds.{expiring_rules, recovered_body, recovering_rules, taking_rules};
+ghost use Rattle.endpoint_state.specs.Kinds.{answered_one, dropped_one, made_one, sent_one, taken_one, answering_rules};
+ghost use Rattle.endpoint_state.specs.Kinds.{dropping_rules, expired_body, expiring_rules, recovered_body};
+ghost use Rattle.endpoint_state.specs.Kinds.{recovering_rules, taking_rules};
 
 use crate::arriving::{Arrival, admitted_arrival, consume_arrival, waiting};
 use crate::body::Body;
@@ -71,7 +72,8 @@ pub(crate) fn make(
 ) -> Result<(), StepFault>
     requires ready { IsReady host.old }
     requires small { plan.now.pos ≤ greatest_position }
-    ensures fault { fault_rule result ≡ first_broken (rules_at host.old.body plan.now.lport plan.now.rport (λ e. making_rules e plan.now)) }
+    ensures fault { fault_rule result ≡ first_broken
+        (rules_at host.old.body plan.now.lport plan.now.rport (λ e. making_rules e plan.now)) }
     ensures ok { OnOk result (host.new ≡ forget_host (made_one me moment fresh plan.now host.old)) }
     ensures small { OnOk result (IfSome (act_makes me host.old.body (acts.Makes plan.now)) IsSmallEmission) }
     ensures err { OnErr result (host.new ≡ host.old) }
@@ -96,7 +98,8 @@ pub(crate) fn send_made(
     wire: &Wire,
     moment: u64,
 ) -> Result<(), StepFault>
-    ensures fault { fault_rule result ≡ first_broken (sending_rules (out_rules header.now) host.old.made number wire.now) }
+    ensures fault { fault_rule result ≡ first_broken
+        (sending_rules (out_rules header.now) host.old.made number wire.now) }
     ensures ok { OnOk result (host.new ≡ sent_one moment line number wire.now host.old) }
     ensures err { OnErr result (host.new ≡ host.old) }
 {
@@ -204,7 +207,8 @@ pub(crate) fn expire(
 ) -> Result<(), Rule>
     requires { IsReady host.old }
     ensures rule { result_err result ≡ first_broken (expiring_rules header.now moment ports expired host.old.body) }
-    ensures ok { OnOk result (host.new ≡ forget_host (record host.old { body = expired_body moment ports expired host.old.body })) }
+    ensures ok { OnOk result (host.new ≡ forget_host
+        (record host.old { body = expired_body moment ports expired host.old.body })) }
     ensures err { OnErr result (host.new ≡ host.old) }
 {
     host.body.expire(header, ports, expired, moment)
@@ -214,7 +218,8 @@ pub(crate) fn expire(
 pub(crate) fn recover(host: &mut HostState, recovery: Recovery) -> Result<(), Rule>
     requires { IsReady host.old }
     ensures rule { result_err result ≡ first_broken (recovering_rules recovery host.old.body) }
-    ensures ok { OnOk result (host.new ≡ forget_host (record host.old { body = recovered_body recovery host.old.body })) }
+    ensures ok { OnOk result (host.new ≡ forget_host
+        (record host.old { body = recovered_body recovery host.old.body })) }
     ensures err { OnErr result (host.new ≡ host.old) }
 {
     host.body.recover(recovery)
@@ -229,7 +234,8 @@ pub(crate) fn do_call(
 ) -> Result<(), OutOfMemory>
     requires ready { IsReady host.old }
     requires allowed { call_allows host.old.body call.now answer.now ≡ true }
-    ensures ok { OnOk result (host.new ≡ forget_host (record host.old { body = after_call host.old.body call.now answer.now })) }
+    ensures ok { OnOk result (host.new ≡ forget_host
+        (record host.old { body = after_call host.old.body call.now answer.now })) }
     ensures err { OnErr result (host.new ≡ host.old) }
 {
     host.body.do_call(alloc, call, answer)
@@ -297,7 +303,8 @@ impl HostState {
         number: u32,
         wire: &Wire,
     ) -> Result<(), Rule>
-        ensures { result_err result ≡ first_broken (sending_rules (out_rules header.now) self.now.made number wire.now) }
+        ensures { result_err result ≡ first_broken
+            (sending_rules (out_rules header.now) self.now.made number wire.now) }
     {
         admitted_sending(header, &self.made, number, wire)?;
         Ok(())
@@ -313,7 +320,8 @@ impl HostState {
         copied: u64,
         wire: &Wire,
     ) -> Result<&Emission, Rule>
-        ensures rule { result_err result ≡ first_broken (arrival_rules (in_rules header.now moment) self.now.wire copied wire.now) }
+        ensures rule { result_err result ≡ first_broken
+            (arrival_rules (in_rules header.now moment) self.now.wire copied wire.now) }
         ensures found { IfOk result (λ m. lookup (nat_eq copied) self.now.wire ≡ Some m.now) }
     {
         admitted_arrival(header, moment, &self.wire, copied, wire)
@@ -323,7 +331,8 @@ impl HostState {
     pub(crate) fn admits_making(&self, plan: &SegmentPlan) -> Result<(), Rule>
         requires ready { IsReady self.now }
         requires small { plan.now.pos ≤ greatest_position }
-        ensures { result_err result ≡ first_broken (rules_at self.now.body plan.now.lport plan.now.rport (λ e. making_rules e plan.now)) }
+        ensures { result_err result ≡ first_broken
+            (rules_at self.now.body plan.now.lport plan.now.rport (λ e. making_rules e plan.now)) }
     {
         self.body.admitted_making(plan)?;
         Ok(())

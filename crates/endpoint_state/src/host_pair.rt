@@ -95,7 +95,8 @@ impl Hosts {
         requires ready { AreReady self.old }
         requires allowed { call_allows (pick self.old host).body call.now answer.now ≡ true }
         ensures ok { OnOk result (self.new
-            ≡ forget_hosts (with_host self.old host (record (pick self.old host) { body = after_call (pick self.old host).body call.now answer.now }))) }
+            ≡ forget_hosts (with_host self.old host (record
+            (pick self.old host) { body = after_call (pick self.old host).body call.now answer.now }))) }
         ensures err { OnErr result (self.new ≡ self.old) }
     {
         host::do_call(alloc, self.side(host), call, answer)

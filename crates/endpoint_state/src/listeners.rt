@@ -1,6 +1,7 @@
 //! The listeners of a host, found by their ports.
 
-ghost use Rattle.std.specs.Prelude.{◌≡◌, ◌+◌, ◌-◌, ◌<◌, ◌^◌, false, [], ◌∷◌, ◌++◌, None, length, drop, take, slice_get, OnOk, OnErr};
+ghost use Rattle.std.specs.Prelude.{◌≡◌, ◌+◌, ◌-◌, ◌<◌, ◌^◌, false, [], ◌∷◌, ◌++◌, None, length, drop, take, slice_get};
+ghost use Rattle.std.specs.Prelude.{OnOk, OnErr};
 ghost use Rattle.std.specs.Option.{option_copied};
 ghost use Rattle.streams.specs.Lists.{modify};
 ghost use Rattle.spec_tcp.specs.Bodies.{last_from, listens_on};
@@ -118,7 +119,8 @@ fn close_at(listeners: &mut Vec<Listener>, place: usize)
 }
 
 fn join_at(listeners: &mut Vec<Listener>, place: usize, child: u32) -> Result<(), OutOfMemory>
-    ensures ok { OnOk result (listeners.new.items ≡ modify listeners.old.items place (λ x. record x { queue = x.queue ++ child ∷ [] })) }
+    ensures ok { OnOk result (listeners.new.items
+        ≡ modify listeners.old.items place (λ x. record x { queue = x.queue ++ child ∷ [] })) }
     ensures err { OnErr result (listeners.new.items ≡ listeners.old.items) }
 {
     if place < listeners.len() {
@@ -139,7 +141,8 @@ fn leave_at(listeners: &mut Vec<Listener>, place: usize)
 }
 
 fn leave_last_at(listeners: &mut Vec<Listener>, place: usize)
-    ensures { listeners.new.items ≡ modify listeners.old.items place (λ x. record x { queue = take (length x.queue - 1) x.queue }) }
+    ensures { listeners.new.items ≡ modify listeners.old.items place
+        (λ x. record x { queue = take (length x.queue - 1) x.queue }) }
 {
     if place < listeners.len() {
         let listener = &mut listeners[place];

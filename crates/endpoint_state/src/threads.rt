@@ -76,7 +76,8 @@ pub(crate) fn admits_begin(threads: &Table<Turn>, thread: u32) -> Result<(), Rul
 /// rule
 /// that is broken.
 pub(crate) fn admits_end(threads: &Table<Turn>, thread: u32, answer: &Answer) -> Result<(), Rule>
-    ensures { result_err result ≡ first_broken (end_rules (λ given answer. not (same_answer given answer)) (turn_of thread threads.now.entries) answer.now) }
+    ensures { result_err result ≡ first_broken
+        (end_rules (λ given answer. not (same_answer given answer)) (turn_of thread threads.now.entries) answer.now) }
 {
     match place_in(threads, thread) {
         Some(Place::Answered(given)) => {

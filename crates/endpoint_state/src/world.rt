@@ -6,7 +6,8 @@ ghost use Rattle.std.specs.Option.{option_copied};
 ghost use Rattle.std.specs.Result.{result_err};
 ghost use Rattle.verdict.specs.Rules.{first_broken};
 ghost use Rattle.spec_network.specs.Tables.{pick};
-ghost use Rattle.spec_network.specs.Hosts.{At, Begin, Finish, Answers, Does, Drops, Gets, Hears, Makes, Sends, Takes, turn_of};
+ghost use Rattle.spec_network.specs.Hosts.{At, Begin, Finish, Answers, Does, Drops, Gets, Hears, Makes, Sends, Takes};
+ghost use Rattle.spec_network.specs.Hosts.{turn_of};
 ghost use Rattle.spec_network.specs.HostRules.{step_rules};
 ghost use Rattle.spec_tcp.specs.Bounds.{greatest_position, most_steps, IsSmallEmission};
 ghost use Rattle.spec_tcp.specs.Machine.{tcp};
@@ -149,7 +150,8 @@ impl World {
 
     /// Whether a thread may begin a call: it is in no other. An error is the first rule that is broken.
     pub fn admits_begin(&self, thread: u32, call: &Call) -> Result<(), Rule>
-        ensures { result_err result ≡ first_broken (step_rules (tcp self.now.header) 0 self.now.world (Begin 0 thread call.now)) }
+        ensures { result_err result ≡ first_broken
+            (step_rules (tcp self.now.header) 0 self.now.world (Begin 0 thread call.now)) }
     {
         admits_begin(&self.threads, thread)
     }
@@ -157,7 +159,8 @@ impl World {
     /// Whether a thread's call may end with this answer: it had its effect with it. An error is the first rule that is
     /// broken.
     pub fn admits_finish(&self, thread: u32, answer: &Answer) -> Result<(), Rule>
-        ensures { result_err result ≡ first_broken (step_rules (tcp self.now.header) 0 self.now.world (Finish 0 thread answer.now)) }
+        ensures { result_err result ≡ first_broken
+            (step_rules (tcp self.now.header) 0 self.now.world (Finish 0 thread answer.now)) }
     {
         admits_end(&self.threads, thread, answer)
     }
@@ -166,7 +169,8 @@ impl World {
     /// error is
     /// the first rule that is broken.
     pub fn admits_sending(&self, host: Host, number: u32, wire: &Wire) -> Result<(), Rule>
-        ensures { result_err result ≡ first_broken (step_rules (tcp self.now.header) 0 self.now.world (At host (Sends 0 number wire.now))) }
+        ensures { result_err result ≡ first_broken
+            (step_rules (tcp self.now.header) 0 self.now.world (At host (Sends 0 number wire.now))) }
     {
         self.hosts
             .near(host)
@@ -183,7 +187,8 @@ impl World {
         copied: u64,
         wire: &Wire,
     ) -> Result<(), Rule>
-        ensures { result_err result ≡ first_broken (step_rules (tcp self.now.header) moment self.now.world (At host (Gets 0 copied wire.now))) }
+        ensures { result_err result ≡ first_broken
+            (step_rules (tcp self.now.header) moment self.now.world (At host (Gets 0 copied wire.now))) }
     {
         self.hosts
             .far(host)
@@ -195,7 +200,8 @@ impl World {
     /// is the rule
     /// that is broken.
     pub fn admits_hearing(&self, host: Host, wire: &Wire) -> Result<(), Rule>
-        ensures { result_err result ≡ first_broken (step_rules (tcp self.now.header) 0 self.now.world (At host (Hears 0 wire.now))) }
+        ensures { result_err result ≡ first_broken
+            (step_rules (tcp self.now.header) 0 self.now.world (At host (Hears 0 wire.now))) }
     {
         if self.header.version.is_half() {
             Ok(())
@@ -208,7 +214,8 @@ impl World {
     pub fn admits_making(&self, host: Host, plan: &SegmentPlan) -> Result<(), Rule>
         requires steps { self.now.steps < most_steps }
         requires small { plan.now.pos ≤ greatest_position }
-        ensures { result_err result ≡ first_broken (step_rules (tcp self.now.header) 0 self.now.world (At host (Makes plan.now))) }
+        ensures { result_err result ≡ first_broken
+            (step_rules (tcp self.now.header) 0 self.now.world (At host (Makes plan.now))) }
     {
         self.hosts.near(host).admits_making(plan)
     }
@@ -223,7 +230,8 @@ impl World {
         line: u64,
         how: TakeChoice,
     ) -> Result<(), Rule>
-        ensures { result_err result ≡ first_broken (step_rules (tcp self.now.header) moment self.now.world (At host (Takes line how))) }
+        ensures { result_err result ≡ first_broken
+            (step_rules (tcp self.now.header) moment self.now.world (At host (Takes line how))) }
     {
         self.hosts
             .near(host)
@@ -233,7 +241,8 @@ impl World {
     /// Whether a host may drop what came in with this line. An error is the first rule that is broken: nothing waits
     /// (`Inbox`).
     pub fn admits_dropping(&self, host: Host, line: u64) -> Result<(), Rule>
-        ensures { result_err result ≡ first_broken (step_rules (tcp self.now.header) 0 self.now.world (At host (Drops line))) }
+        ensures { result_err result ≡ first_broken
+            (step_rules (tcp self.now.header) 0 self.now.world (At host (Drops line))) }
     {
         self.hosts.near(host).admits_dropping(line)
     }
@@ -242,7 +251,8 @@ impl World {
     /// first rule
     /// that is broken.
     pub fn admits_reset(&self, host: Host, moment: u64, line: u64) -> Result<(), Rule>
-        ensures { result_err result ≡ first_broken (step_rules (tcp self.now.header) moment self.now.world (At host (Answers line))) }
+        ensures { result_err result ≡ first_broken
+            (step_rules (tcp self.now.header) moment self.now.world (At host (Answers line))) }
     {
         self.hosts.near(host).admits_reset(line)
     }
@@ -257,7 +267,8 @@ impl World {
         ports: Ports,
         expired: Expired,
     ) -> Result<(), Rule>
-        ensures { result_err result ≡ first_broken (step_rules (tcp self.now.header) moment self.now.world (At host (expiry_of ports expired))) }
+        ensures { result_err result ≡ first_broken
+            (step_rules (tcp self.now.header) moment self.now.world (At host (expiry_of ports expired))) }
     {
         self.hosts
             .near(host)
@@ -266,7 +277,8 @@ impl World {
 
     /// Whether fast recovery may begin (RFC 5681, 3.2). An error is the first rule that is broken.
     pub fn admits_recovery(&self, host: Host, recovery: Recovery) -> Result<(), Rule>
-        ensures { result_err result ≡ first_broken (step_rules (tcp self.now.header) 0 self.now.world (At host (Does recovery))) }
+        ensures { result_err result ≡ first_broken
+            (step_rules (tcp self.now.header) 0 self.now.world (At host (Does recovery))) }
     {
         self.hosts.near(host).admits_recovery(recovery)
     }
@@ -275,7 +287,8 @@ impl World {
     /// was.
     pub fn begin(&mut self, thread: u32, call: &Call) -> Result<(), StepFault>
         requires { self.old.steps < most_steps }
-        ensures fault { fault_rule result ≡ first_broken (step_rules (tcp self.old.header) 0 self.old.world (Begin 0 thread call.now)) }
+        ensures fault { fault_rule result ≡ first_broken
+            (step_rules (tcp self.old.header) 0 self.old.world (Begin 0 thread call.now)) }
         ensures ok { OnOk result (self.new ≡ after self.old 0 (Begin 0 thread call.now)) }
         ensures err { OnErr result (self.new ≡ self.old) }
     {
@@ -288,7 +301,8 @@ impl World {
     /// was.
     pub fn finish(&mut self, thread: u32, answer: &Answer) -> Result<(), StepFault>
         requires { self.old.steps < most_steps }
-        ensures fault { fault_rule result ≡ first_broken (step_rules (tcp self.old.header) 0 self.old.world (Finish 0 thread answer.now)) }
+        ensures fault { fault_rule result ≡ first_broken
+            (step_rules (tcp self.old.header) 0 self.old.world (Finish 0 thread answer.now)) }
         ensures ok { OnOk result (self.new ≡ after self.old 0 (Finish 0 thread answer.now)) }
         ensures err { OnErr result (self.new ≡ self.old) }
     {
@@ -303,7 +317,8 @@ impl World {
     pub fn make(&mut self, host: Host, plan: &SegmentPlan, moment: u64) -> Result<(), StepFault>
         requires steps { self.old.steps < most_steps }
         requires small { plan.now.pos ≤ greatest_position }
-        ensures fault { fault_rule result ≡ first_broken (step_rules (tcp self.old.header) moment self.old.world (At host (Makes plan.now))) }
+        ensures fault { fault_rule result ≡ first_broken
+            (step_rules (tcp self.old.header) moment self.old.world (At host (Makes plan.now))) }
         ensures ok { OnOk result (self.new ≡ after self.old moment (At host (Makes plan.now))) }
         ensures err { OnErr result (self.new ≡ self.old) }
     {
@@ -326,7 +341,8 @@ impl World {
         moment: u64,
     ) -> Result<(), StepFault>
         requires { self.old.steps < most_steps }
-        ensures fault { fault_rule result ≡ first_broken (step_rules (tcp self.old.header) moment self.old.world (At host (Sends line number wire.now))) }
+        ensures fault { fault_rule result ≡ first_broken
+            (step_rules (tcp self.old.header) moment self.old.world (At host (Sends line number wire.now))) }
         ensures ok { OnOk result (self.new ≡ after self.old moment (At host (Sends line number wire.now))) }
         ensures err { OnErr result (self.new ≡ self.old) }
     {
@@ -354,7 +370,8 @@ impl World {
         moment: u64,
     ) -> Result<(), StepFault>
         requires { self.old.steps < most_steps }
-        ensures fault { fault_rule result ≡ first_broken (step_rules (tcp self.old.header) moment self.old.world (At host (Gets line copied wire.now))) }
+        ensures fault { fault_rule result ≡ first_broken
+            (step_rules (tcp self.old.header) moment self.old.world (At host (Gets line copied wire.now))) }
         ensures ok { OnOk result (self.new ≡ after self.old moment (At host (Gets line copied wire.now))) }
         ensures err { OnErr result (self.new ≡ self.old) }
     {
@@ -373,7 +390,8 @@ impl World {
     /// error is the rule that is broken, or that memory ran out; the world is then as it was.
     pub fn hear(&mut self, host: Host, line: u64, wire: &Wire, moment: u64) -> Result<(), StepFault>
         requires { self.old.steps < most_steps }
-        ensures fault { fault_rule result ≡ first_broken (step_rules (tcp self.old.header) moment self.old.world (At host (Hears line wire.now))) }
+        ensures fault { fault_rule result ≡ first_broken
+            (step_rules (tcp self.old.header) moment self.old.world (At host (Hears line wire.now))) }
         ensures ok { OnOk result (self.new ≡ after self.old moment (At host (Hears line wire.now))) }
         ensures err { OnErr result (self.new ≡ self.old) }
     {
@@ -395,7 +413,8 @@ impl World {
         moment: u64,
     ) -> Result<(), StepFault>
         requires { self.old.steps < most_steps }
-        ensures fault { fault_rule result ≡ first_broken (step_rules (tcp self.old.header) moment self.old.world (At host (Takes line how))) }
+        ensures fault { fault_rule result ≡ first_broken
+            (step_rules (tcp self.old.header) moment self.old.world (At host (Takes line how))) }
         ensures ok { OnOk result (self.new ≡ after self.old moment (At host (Takes line how))) }
         ensures err { OnErr result (self.new ≡ self.old) }
     {
@@ -417,7 +436,8 @@ impl World {
     /// is then as it was.
     pub fn drop_arrival(&mut self, host: Host, line: u64, moment: u64) -> Result<(), Rule>
         requires { self.old.steps < most_steps }
-        ensures rule { result_err result ≡ first_broken (step_rules (tcp self.old.header) moment self.old.world (At host (Drops line))) }
+        ensures rule { result_err result ≡ first_broken
+            (step_rules (tcp self.old.header) moment self.old.world (At host (Drops line))) }
         ensures ok { OnOk result (self.new ≡ after self.old moment (At host (Drops line))) }
         ensures err { OnErr result (self.new ≡ self.old) }
     {
@@ -431,7 +451,8 @@ impl World {
     /// goes out later. An error is the first rule that is broken, or that memory ran out; the world is then as it was.
     pub fn reply_with_reset(&mut self, host: Host, line: u64, moment: u64) -> Result<(), StepFault>
         requires { self.old.steps < most_steps }
-        ensures fault { fault_rule result ≡ first_broken (step_rules (tcp self.old.header) moment self.old.world (At host (Answers line))) }
+        ensures fault { fault_rule result ≡ first_broken
+            (step_rules (tcp self.old.header) moment self.old.world (At host (Answers line))) }
         ensures ok { OnOk result (self.new ≡ after self.old moment (At host (Answers line))) }
         ensures err { OnErr result (self.new ≡ self.old) }
     {
@@ -453,7 +474,8 @@ impl World {
         moment: u64,
     ) -> Result<(), Rule>
         requires { self.old.steps < most_steps }
-        ensures rule { result_err result ≡ first_broken (step_rules (tcp self.old.header) moment self.old.world (At host (expiry_of ports expired))) }
+        ensures rule { result_err result ≡ first_broken
+            (step_rules (tcp self.old.header) moment self.old.world (At host (expiry_of ports expired))) }
         ensures ok { OnOk result (self.new ≡ after self.old moment (At host (expiry_of ports expired))) }
         ensures err { OnErr result (self.new ≡ self.old) }
     {
@@ -467,7 +489,8 @@ impl World {
     /// then as it was.
     pub fn recover(&mut self, host: Host, recovery: Recovery, moment: u64) -> Result<(), Rule>
         requires { self.old.steps < most_steps }
-        ensures rule { result_err result ≡ first_broken (step_rules (tcp self.old.header) moment self.old.world (At host (Does recovery))) }
+        ensures rule { result_err result ≡ first_broken
+            (step_rules (tcp self.old.header) moment self.old.world (At host (Does recovery))) }
         ensures ok { OnOk result (self.new ≡ after self.old moment (At host (Does recovery))) }
         ensures err { OnErr result (self.new ≡ self.old) }
     {

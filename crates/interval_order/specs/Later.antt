@@ -1,6 +1,7 @@
 -- Lines that come behind those that were offered.
 use Rattle.case_forms.specs.declared.trace.Header.{Header}
-use Rattle.std.specs.Prelude.{◌≡◌, ◌≤◌, ◌<◌, ℕ, ◌+◌, Bool, false, not, ◌&&◌, nat_le, ◌||◌, ◌==◌, if◌then◌else◌, List, ◌++◌, length}
+use Rattle.std.specs.Prelude.{◌≡◌, ◌≤◌, ◌<◌, ℕ, ◌+◌, Bool, false, not, ◌&&◌, nat_le, ◌||◌, ◌==◌, if◌then◌else◌, List}
+use Rattle.std.specs.Prelude.{◌++◌, length}
 use Rattle.std.specs.List.{AllByRecursion, enumerate_from, list_any}
 use Rattle.case_forms.specs.declared.trace.Line.{Line}
 use Rattle.verdict.specs.declared.rule.Rule.{Rule}

@@ -1,5 +1,6 @@
 -- When a step breaks a rule of the order of lines.
-use Rattle.std.specs.Prelude.{ℕ, ◌+◌, Bool, false, not, ◌&&◌, ◌||◌, ◌==◌, nat_lt, if◌then◌else◌, List, [], ◌∷◌, Option, None, Some, is_none}
+use Rattle.std.specs.Prelude.{ℕ, ◌+◌, Bool, false, not, ◌&&◌, ◌||◌, ◌==◌, nat_lt, if◌then◌else◌, List, [], ◌∷◌, Option}
+use Rattle.std.specs.Prelude.{None, Some, is_none}
 use Rattle.std.specs.List.{list_any, find}
 use Rattle.std.specs.Option.{option_map, option_map_or}
 use Rattle.case_forms.specs.declared.trace.Event.{Event}
@@ -9,7 +10,8 @@ use Rattle.case_forms.specs.declared.version.Version.{Version}
 use Rattle.case_forms.specs.declared.timer.Timer.TheVariants.{Rto}
 use Rattle.case_forms.specs.Versions.{is_half}
 use Rattle.verdict.specs.declared.rule.Rule.{Rule}
-use Rattle.verdict.specs.declared.rule.Rule.TheVariants.{LineRange, LineAgain, ThreadOrder, MomentFalls, MomentOff, Overdue}
+use Rattle.verdict.specs.declared.rule.Rule.TheVariants.{LineRange, LineAgain, ThreadOrder, MomentFalls, MomentOff}
+use Rattle.verdict.specs.declared.rule.Rule.TheVariants.{Overdue}
 use Rattle.interval_order.specs.Orders.{Take, Move, Order, held_line, is_offered}
 
 -- how many extra numbers follow the number of a line of this kind: one for a segment that goes out, that of the segment
@@ -51,7 +53,9 @@ moment_falls o moment = nat_lt moment o.last
 -- the step is below its line's moment, or above it by more than the skew
 abbrev pub moment_off : Order → ℕ → Option Take → Bool
 moment_off o moment None = false
-moment_off o moment (Some t) = option_map_or (λ line. nat_lt moment line.moment || nat_lt (line.moment + o.header.skew) moment) (held_line o t.number) false
+moment_off o moment (Some t) =
+    option_map_or (λ line. nat_lt moment line.moment || nat_lt (line.moment + o.header.skew) moment)
+    (held_line o t.number) false
 
 -- a line may not wait until this moment
 abbrev pub is_overdue : Order → ℕ → ℕ × Line → Bool
@@ -69,4 +73,5 @@ first_overdue o moment = option_map (λ e. e.0) (find (is_overdue o moment) o.he
 abbrev pub order_rules : Order → Move → List (Rule × Bool)
 order_rules o move =
     (LineRange, line_range o move.take) ∷ (LineAgain, line_again o move.take) ∷ (ThreadOrder, thread_order o move.take)
-    ∷ (MomentFalls, moment_falls o move.moment) ∷ (MomentOff, moment_off o move.moment move.take) ∷ (Overdue, has_overdue o move.moment) ∷ []
+    ∷ (MomentFalls, moment_falls o move.moment) ∷ (MomentOff, moment_off o move.moment move.take)
+    ∷ (Overdue, has_overdue o move.moment) ∷ []

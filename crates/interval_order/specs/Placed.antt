@@ -27,13 +27,15 @@ pub record IsTimely (header : Header) (line : Line) (moment extras : ℕ) : Type
 -- the steps are a placement of the lines
 pub record Placed (header : Header) (lines : List Line) (moves : List Move) : Type 0 where
   -- the moments of the steps don't fall
-  pub rising : (i j : ℕ) (s t : Move) → slice_get moves i ≡ Some s → slice_get moves j ≡ Some t → i < j → s.moment ≤ t.moment
+  pub rising : (i j : ℕ) (s t : Move) → slice_get moves i ≡ Some s → slice_get moves j ≡ Some t → i < j
+      → s.moment ≤ t.moment
   -- each event line is taken
   pub every : (n : ℕ) (line : Line) → line_at header lines n ≡ Some line → (i : ℕ) × TakesAt moves i n
   -- once
   pub once : (n i j : ℕ) → TakesAt moves i n → TakesAt moves j n → i ≡ j
   -- steps take event lines alone, each in time
-  pub timely : (n i : ℕ) (t : TakesAt moves i n) → (line : Line) × (line_at header lines n ≡ Some line) × IsTimely header line t.moment t.extras
+  pub timely : (n i : ℕ) (t : TakesAt moves i n) → (line : Line) × (line_at header lines n ≡ Some line)
+      × IsTimely header line t.moment t.extras
   -- the lines of one thread are taken in their order
   pub threads : (m n i j : ℕ) (a b : Line) → line_at header lines m ≡ Some a → line_at header lines n ≡ Some b →
       a.thread ≡ b.thread → m < n → TakesAt moves i m → TakesAt moves j n → i < j

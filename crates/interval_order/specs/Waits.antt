@@ -30,7 +30,8 @@ pub record Leads (waiting : ℕ → Option Waiting) (thread number : ℕ) (link 
   -- which is of the thread, if it waits
   pub own : (p : ℕ) (w : Waiting) → link ≡ Some p → waiting p ≡ Some w → w.line.thread ≡ thread
   -- and where any such line waits, it does, and is not before that one
-  pub last : (m : ℕ) (w : Waiting) → waiting m ≡ Some w → w.line.thread ≡ thread → m < number → (p : ℕ) × (v : Waiting) ×
+  pub last : (m : ℕ) (w : Waiting) → waiting m ≡ Some w → w.line.thread ≡ thread → m < number → (p : ℕ)
+      × (v : Waiting) ×
       (link ≡ Some p) × (m ≤ p) × (waiting p ≡ Some v)
 
 -- the lines of each thread are linked

@@ -5,15 +5,15 @@
 //!
 //! - Lines wait in a queue by their numbers. A line that was placed keeps its slot there while one before it waits, so
 //!   there
-//!   are as many slots as lines were offered from the first that waits on. If no line is overdue, their moments are at most the
-//!   skew before the last step.
+//!   are as many slots as lines were offered from the first that waits on. If no line is overdue, their moments are at
+//!   most the skew before the last step.
 //! - Each line that waits names the line of its thread that was offered before it. The lines of a thread are placed in
 //!   their order, so those that wait are its last ones, and one of them is the first exactly where the line that it
 //!   names does not wait.
 //! - Moments don't fall along the lines, so some line is overdue exactly where the first that waits is.
 
-ghost use Rattle.std.specs.Prelude.{◌≡◌, ℕ, ◌+◌, ◌<◌, ◌≤◌, ◌^◌, [], length, All, IsSome, IfOk, OnOk, OnErr, IfSome, None, Some, false};
-ghost use Rattle.std.specs.Prelude.{cond, is_some, nat_eq, nat_lt, slice_get};
+ghost use Rattle.std.specs.Prelude.{◌≡◌, ℕ, ◌+◌, ◌<◌, ◌≤◌, ◌^◌, [], length, All, IsSome, IfOk, OnOk, OnErr, IfSome};
+ghost use Rattle.std.specs.Prelude.{None, Some, false, cond, is_some, nat_eq, nat_lt, slice_get};
 ghost use Rattle.std.specs.Option.{option_and_then, option_map};
 ghost use Rattle.std.specs.Result.{result_err};
 ghost use Rattle.case_forms.specs.Traces.{first_event_line};
@@ -21,7 +21,8 @@ ghost use Rattle.verdict.specs.Rules.{first_broken};
 ghost use Rattle.interval_order.specs.Orders.{taking, passing, held_line, is_offered, with_line, order_after};
 ghost use Rattle.interval_order.specs.Later.{waits, late_by, IsTimed};
 ghost use Rattle.interval_order.specs.Waits.{HasRoom, latest_in, waiting_at};
-ghost use Rattle.interval_order.specs.OrderRules.{extras_of, has_earlier, thread_order, order_rules, has_overdue, first_overdue};
+ghost use Rattle.interval_order.specs.OrderRules.{extras_of, has_earlier, thread_order, order_rules, has_overdue};
+ghost use Rattle.interval_order.specs.OrderRules.{first_overdue};
 
 use case_forms::{Event, Header, Line, OutOfMemory, Timer, Version};
 use std::alloc::Global;
@@ -142,7 +143,8 @@ impl Window {
     /// waits has a later moment, each has one that is at most the skew earlier.
     pub fn overdue(&self, moment: u64) -> Option<u64>
         ensures first { result ≡ first_overdue self.now moment }
-        ensures current { result ≡ None → All (λ e. e.1.moment ≤ moment) self.now.held → All (λ e. IsTimed self.now.header moment e.1) self.now.held }
+        ensures current { result ≡ None → All (λ e. e.1.moment ≤ moment) self.now.held
+            → All (λ e. IsTimed self.now.header moment e.1) self.now.held }
     {
         self.first_late(moment)
     }
@@ -282,7 +284,8 @@ fn latest_with_room(latest: &mut Table<u64>, thread: u32) -> Result<Option<u64>,
 // A line is the last one of its thread.
 fn remember_last_line(latest: &mut Table<u64>, thread: u32, number: u64)
     requires { HasRoom latest.old thread }
-    ensures { (t : ℕ) → latest_in latest.new.entries t ≡ cond (nat_eq thread t) (Some number) (latest_in latest.old.entries t) }
+    ensures { (t : ℕ) → latest_in latest.new.entries t
+        ≡ cond (nat_eq thread t) (Some number) (latest_in latest.old.entries t) }
 {
     match latest.insert(u64::from(thread), number) {
         Ok(()) => {}

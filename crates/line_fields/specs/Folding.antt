@@ -4,7 +4,8 @@ use Rattle.line_fields.specs.declared.fault.TextFault.{TextFault}
 use Rattle.line_fields.specs.Reading.{◌>>=◌}
 
 -- each line is read in a state, and the next one in the state behind it
-unfoldable pub read_lines : {S A : Type 0} → (S → List ℕ → Result A TextFault) → (S → A → S) → S → List (List ℕ) → Result (List A) TextFault
+unfoldable pub read_lines : {S A : Type 0} → (S → List ℕ → Result A TextFault) → (S → A → S) → S → List (List ℕ)
+    → Result (List A) TextFault
 read_lines read after state [] = Ok []
 read_lines read after state (raw ∷ raws) = do
   item ← read state raw

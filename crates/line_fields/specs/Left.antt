@@ -8,7 +8,8 @@ abbrev pub in_front : {A : Type 0} → A → Result (List A) TextFault → Resul
 in_front item left = left >>= λ items. Ok (item ∷ items)
 
 -- the next item is taken, or none is left
-abbrev pub Yields : {A : Type 0} → Option (Result (List A) TextFault) → Option (Result (List A) TextFault) → Option A → Type 0
+abbrev pub Yields : {A : Type 0} → Option (Result (List A) TextFault) → Option (Result (List A) TextFault) → Option A
+    → Type 0
 Yields None new item = Unit {0}
 Yields (Some left) None item = ⊥
 Yields (Some left) (Some rest) None = (left ≡ Ok []) × (rest ≡ Ok [])

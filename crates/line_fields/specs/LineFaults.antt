@@ -21,7 +21,8 @@ pub data IsWholeFault (number : ℕ) (raw : List ℕ) (e : TextFault) : Type 0 w
 -- the first fault of a line of this form: that of the line as a whole, or else that of the first of its fields that
 -- doesn't fit the form
 abbrev pub IsFaultOf : Form → ℕ → List ℕ → TextFault → Type 0
-IsFaultOf form number raw e = IsWholeFault number raw e ⊎ ((r : Rest) × (line_rest number raw ≡ Ok r) × IsFirstFault form r e)
+IsFaultOf form number raw e =
+    IsWholeFault number raw e ⊎ ((r : Rest) × (line_rest number raw ≡ Ok r) × IsFirstFault form r e)
 
 -- the first fault of a line whose text has to be as wanted: that of the line as a whole, or else Header
 abbrev pub IsTextFaultOf : (List ℕ → Type 0) → ℕ → List ℕ → TextFault → Type 0
@@ -41,7 +42,8 @@ state_behind after state (item ∷ items) = state_behind after (after state item
 
 -- the first fault of lines that are read one after the other: those before are spelled so, and it is that of the next
 -- one
-pub record IsFaultAmong {S A : Type 0} (R : S → A → List ℕ → Type 0) (Fault : S → List ℕ → TextFault → Type 0) (after : S → A → S) (state : S)
+pub record IsFaultAmong {S A : Type 0} (R : S → A → List ℕ → Type 0) (Fault : S → List ℕ → TextFault
+    → Type 0) (after : S → A → S) (state : S)
     (raws : List (List ℕ)) (e : TextFault) : Type 0 where
   pub front : List (List ℕ)
   pub items : List A

@@ -8,10 +8,12 @@ abbrev pub texts : Rest → List (List ℕ)
 texts r = map (λ w. w.text) r.words
 
 -- what is read is spelled so; and what is spelled so is read, where what follows it is as Follows says
-pub record IsReaderBefore (Follows : List (List ℕ) → Type 0) {A : Type 0} (read : Rest → Result (A × Rest) TextFault) (R : A →
+pub record IsReaderBefore (Follows : List (List ℕ) → Type 0) {A : Type 0} (read : Rest
+    → Result (A × Rest) TextFault) (R : A →
     List (List ℕ) → Type 0) : Type 0 where
   pub takes : (r : Rest) (x : A × Rest) → read r ≡ Ok x → (ws : List (List ℕ)) × R x.0 ws × (texts r ≡ ws ++ texts x.1)
-  pub again : (r : Rest) (a : A) (ws more : List (List ℕ)) → Follows more → R a ws → texts r ≡ ws ++ more → (rest : Rest) ×
+  pub again : (r : Rest) (a : A) (ws more : List (List ℕ)) → Follows more → R a ws → texts r ≡ ws ++ more
+      → (rest : Rest) ×
       (read r ≡ Ok (a, rest)) × (texts rest ≡ more)
 
 -- anything may follow

@@ -1,5 +1,6 @@
 -- Reading a line from left to right, with the first fault that is met.
-use Rattle.std.specs.Prelude.{◌≡◌, ℕ, ◌==◌, ◌&&◌, Bool, nat_le, if◌then◌else◌, List, [], ◌∷◌, length, Option, Some, None, Result, Ok, Err}
+use Rattle.std.specs.Prelude.{◌≡◌, ℕ, ◌==◌, ◌&&◌, Bool, nat_le, if◌then◌else◌, List, [], ◌∷◌, length, Option, Some}
+use Rattle.std.specs.Prelude.{None, Result, Ok, Err}
 use Rattle.std.specs.Str.{bytes_eq}
 use Rattle.std.specs.Str.Parse.{digits_value}
 use Rattle.std.specs.Fmt.{decimal}
@@ -69,7 +70,8 @@ unfoldable pub no_more : Rest → Result (Unit {0}) TextFault
 no_more r = ended_by r.words
 
 -- this value where nothing is left, else what is read
-abbrev pub or_end : {A : Type 0} → A → (Rest → Result (A × Rest) TextFault) → List Word → Rest → Result (A × Rest) TextFault
+abbrev pub or_end : {A : Type 0} → A → (Rest → Result (A × Rest) TextFault) → List Word → Rest
+    → Result (A × Rest) TextFault
 or_end a read [] r = Ok (a, r)
 or_end a read (w ∷ ws) r = read r
 

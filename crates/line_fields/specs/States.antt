@@ -20,5 +20,6 @@ state_name states.TimeWait = codes "TIME-WAIT"
 -- all states
 abbrev pub all_states : List State
 all_states =
-    states.Closed ∷ states.Listen ∷ states.SynSent ∷ states.SynReceived ∷ states.Established ∷ states.FinWait1 ∷ states.FinWait2
+    states.Closed ∷ states.Listen ∷ states.SynSent ∷ states.SynReceived ∷ states.Established ∷ states.FinWait1
+    ∷ states.FinWait2
     ∷ states.CloseWait ∷ states.Closing ∷ states.LastAck ∷ states.TimeWait ∷ []

@@ -1,6 +1,7 @@
 //! The digits of a field: a number in decimal, and bytes in hex.
 
-ghost use Rattle.std.specs.Prelude.{◌≡◌, ◌≢◌, ◌*◌, ◌<◌, ◌≤◌, ◌^◌, ℕ, length, unwrap_or, IfOk, IfSome, IfNone, Some, None, option_map};
+ghost use Rattle.std.specs.Prelude.{◌≡◌, ◌≢◌, ◌*◌, ◌<◌, ◌≤◌, ◌^◌, ℕ, length, unwrap_or, IfOk, IfSome, IfNone, Some};
+ghost use Rattle.std.specs.Prelude.{None, option_map};
 ghost use Rattle.std.specs.Bool.{MatchBool};
 ghost use Rattle.std.specs.Fmt.{decimal};
 ghost use Rattle.std.specs.Result.{result_ok};
@@ -66,7 +67,8 @@ pub fn hex_bytes(alloc: Global, text: &[u8]) -> Result<Option<Vec<u8>>, OutOfMem
 // Writes the bytes that a text spells, if it spells bytes.
 fn write_bytes(text: &[u8], bytes: &mut [u8]) -> bool
     requires { length text.now ≡ 2 * length bytes.old }
-    ensures { MatchBool result (result_ok (decode_of text.now) ≡ Some bytes.new) (result_ok (decode_of text.now) ≡ None) }
+    ensures { MatchBool result (result_ok (decode_of text.now) ≡ Some bytes.new) (result_ok (decode_of text.now)
+        ≡ None) }
 {
     for i in 0..bytes.len() {
         let Some(byte) = byte_of(text[2 * i], text[2 * i + 1]) else {

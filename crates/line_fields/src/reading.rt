@@ -19,9 +19,12 @@ pub fn next_line<B: BufRead>(
     number: u64,
     line: &mut Vec<u8>,
 ) -> Result<bool, ReadFault>
-    ensures line { result ≡ Ok true → TakesRow (rows_of (left_of B.remaining source.old)) (rows_of (left_of B.remaining source.new)) line.new.items }
-    ensures none { result ≡ Ok false → HasNoRow (rows_of (left_of B.remaining source.old)) (rows_of (left_of B.remaining source.new)) }
-    ensures fault { (e : TextFault) → result ≡ Err (ReadFault.Text e) → FailsAt (next_text number) e (rows_of (left_of B.remaining source.old)) }
+    ensures line { result ≡ Ok true → TakesRow (rows_of (left_of B.remaining source.old))
+        (rows_of (left_of B.remaining source.new)) line.new.items }
+    ensures none { result ≡ Ok false → HasNoRow (rows_of (left_of B.remaining source.old))
+        (rows_of (left_of B.remaining source.new)) }
+    ensures fault { (e : TextFault) → result ≡ Err (ReadFault.Text e)
+        → FailsAt (next_text number) e (rows_of (left_of B.remaining source.old)) }
     ensures read { result ≡ Err ReadFault.Read → failures_of source.new ≡ one_more (failures_of source.old) }
     ensures same { result ≢ Err ReadFault.Read → failures_of source.new ≡ failures_of source.old }
 {
@@ -51,8 +54,10 @@ pub fn needed_line<B: BufRead>(
     number: u64,
     line: &mut Vec<u8>,
 ) -> Result<(), ReadFault>
-    ensures line { OnOk result (TakesRow (rows_of (left_of B.remaining source.old)) (rows_of (left_of B.remaining source.new)) line.new.items) }
-    ensures fault { (e : TextFault) → result ≡ Err (ReadFault.Text e) → FailsAt (needed_text number) e (rows_of (left_of B.remaining source.old)) }
+    ensures line { OnOk result (TakesRow (rows_of (left_of B.remaining source.old))
+        (rows_of (left_of B.remaining source.new)) line.new.items) }
+    ensures fault { (e : TextFault) → result ≡ Err (ReadFault.Text e)
+        → FailsAt (needed_text number) e (rows_of (left_of B.remaining source.old)) }
     ensures read { result ≡ Err ReadFault.Read → failures_of source.new ≡ one_more (failures_of source.old) }
     ensures same { result ≢ Err ReadFault.Read → failures_of source.new ≡ failures_of source.old }
 {

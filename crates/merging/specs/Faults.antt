@@ -8,11 +8,13 @@ use Rattle.merging.specs.Naming.{AllNamed, IsStranger, line_keys, wire_of}
 
 -- each segment that this host's recording brought is one that the other's let out
 abbrev pub NamesAll : Recorded → Recorded → Type 0
-NamesAll mine others = AllNamed (first_event_line others.header) (line_keys others.entries) (wire_of others) mine.entries
+NamesAll mine others =
+    AllNamed (first_event_line others.header) (line_keys others.entries) (wire_of others) mine.entries
 
 -- the first that is none was brought where the line to come has this number
 abbrev pub HasStranger : Recorded → Recorded → ℕ → Type 0
-HasStranger mine others n = IsStranger (first_event_line others.header) (line_keys others.entries) (wire_of others) mine.entries n
+HasStranger mine others n =
+    IsStranger (first_event_line others.header) (line_keys others.entries) (wire_of others) mine.entries n
 
 -- the line of the first arrival that names no segment, in host 0's recording, else in host 1's
 abbrev pub IsFirstStranger : Recorded → Recorded → ℕ → Type 0

@@ -41,7 +41,8 @@ AllNamed first keys wire (x ∷ xs) = NamedItem first keys wire x.item × AllNam
 -- line has the number `line`
 abbrev pub StrangerItem : ℕ → List Key → List (ℕ × Emission) → ℕ → ℕ → Item tcp_shape → Type 0 → Type 0
 StrangerItem first keys wire line n (Do step) rest = rest
-StrangerItem first keys wire line n (Bring f) rest = ((IsNamed first keys wire f → ⊥) × (n ≡ line)) ⊎ (IsNamed first keys wire f × rest)
+StrangerItem first keys wire line n (Bring f) rest =
+    ((IsNamed first keys wire f → ⊥) × (n ≡ line)) ⊎ (IsNamed first keys wire f × rest)
 
 abbrev pub FirstStranger : ℕ → List Key → List (ℕ × Emission) → ℕ → List TcpEntry → ℕ → Type 0
 FirstStranger first keys wire line [] n = ⊥
@@ -65,7 +66,9 @@ IsStranger first keys wire xs n = StrangerFrom first keys wire first xs n
 
 -- two segments have the same mark, head, options, and bytes
 abbrev pub SameMark : Emission → Emission → Type 0
-SameMark a b = (a.sender ≡ b.sender) × (a.peer_at_send ≡ b.peer_at_send) × (a.pos ≡ b.pos) × (a.ack ≡ b.ack) × (a.is_reset_reply ≡ b.is_reset_reply) × (a.moment ≡ b.moment)
+SameMark a b =
+    (a.sender ≡ b.sender) × (a.peer_at_send ≡ b.peer_at_send) × (a.pos ≡ b.pos) × (a.ack ≡ b.ack)
+    × (a.is_reset_reply ≡ b.is_reset_reply) × (a.moment ≡ b.moment)
 
 abbrev pub SameHead : Emission → Emission → Type 0
 SameHead a b =

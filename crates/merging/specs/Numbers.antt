@@ -3,7 +3,8 @@ use Rattle.std.specs.Prelude.{◌≤◌, ℕ, ◌+◌, ◌-◌, nat_lt, Bool, tr
 use Rattle.std.specs.Prelude.{List, [], ◌∷◌, ◌++◌, length, slice_get, unwrap_or}
 use Rattle.case_forms.specs.declared.calls.Host.{Host}
 use Rattle.case_forms.specs.declared.calls.Host.TheVariants.{Zero, One}
-use Rattle.spec_network.specs.Hosts.{Deed, Expires, Makes, Sends, Gets, Hears, Takes, Drops, Answers, Step, Begin, Finish, Effect, At}
+use Rattle.spec_network.specs.Hosts.{Deed, Expires, Makes, Sends, Gets, Hears, Takes, Drops, Answers, Step, Begin}
+use Rattle.spec_network.specs.Hosts.{Finish, Effect, At}
 use Rattle.spec_tcp.specs.Machine.{tcp_shape}
 use Rattle.spec_merge.specs.Books.{Item, Do, Bring}
 use Rattle.spec_merge.specs.Merging.{Names}

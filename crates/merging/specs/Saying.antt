@@ -16,7 +16,8 @@ use Rattle.case_forms.specs.declared.trace.Event.{Event}
 use Rattle.case_forms.specs.declared.trace.Event.TheVariants as events
 use Rattle.case_forms.specs.declared.trace.Line.{Line}
 use Rattle.spec_network.specs.Tables.{on, other}
-use Rattle.spec_network.specs.Hosts.{Deed, Does, Expires, Makes, Sends, Gets, Hears, Takes, Drops, Answers, Step, Begin, Finish, Effect, At, Stamped}
+use Rattle.spec_network.specs.Hosts.{Deed, Does, Expires, Makes, Sends, Gets, Hears, Takes, Drops, Answers, Step, Begin}
+use Rattle.spec_network.specs.Hosts.{Finish, Effect, At, Stamped}
 use Rattle.spec_tcp.specs.Machine.{tcp_shape}
 use Rattle.spec_merge.specs.Books.{Item, Do, Bring, Key}
 use Rattle.spec_merge.specs.Merging.{Names}
@@ -31,7 +32,8 @@ abbrev pub said : ℕ → ℕ → ℕ → Event → Line
 said line moment thread event = record { number = line; moment = moment; thread = thread; event = event; span = nowhere }
 
 abbrev pub deed_line_said : ℕ → Host → Deed tcp_shape → Option Line
-deed_line_said moment host (Expires line x) = Some (said line moment (6 + rank host) (events.Expired host x.lport x.rport (timer_of x.expired)))
+deed_line_said moment host (Expires line x) =
+    Some (said line moment (6 + rank host) (events.Expired host x.lport x.rport (timer_of x.expired)))
 deed_line_said moment host (Sends line number wire) = Some (said line moment (8 + rank host) (events.Sent host wire))
 deed_line_said moment host (Gets line copied wire) = Some (said line moment (4 + rank host) (events.Came host wire))
 deed_line_said moment host (Hears line wire) = Some (said line moment (4 + rank host) (events.Came host wire))
@@ -143,4 +145,5 @@ all_renumbered names (x ∷ xs) = with_renumbered names x.key x.item (all_renumb
 
 -- the steps of both hosts' entries in the order of their keys, with lines counted from the first on
 abbrev pub both_renumbered : ℕ → (zeros ones : List TcpEntry) → List (Stamped tcp_shape)
-both_renumbered first zeros ones = all_renumbered (names_in (counted (no_counts first) (in_order zeros ones))) (in_order zeros ones)
+both_renumbered first zeros ones =
+    all_renumbered (names_in (counted (no_counts first) (in_order zeros ones))) (in_order zeros ones)

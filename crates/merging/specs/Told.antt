@@ -34,7 +34,8 @@ line_told line = record { moment = line.moment; event = event_told line.thread l
 -- a label that takes a line takes one of the trace's, with as many extra numbers as its kind has
 abbrev pub TakesWell : Header → List Line → Label NamedLine → Type 0
 TakesWell h lines (labels.L named) =
-    (line : Line) × (line_at h lines named.number ≡ Some line) × (extras_count named.extras ≡ extras_of h.version line.event)
+    (line : Line) × (line_at h lines named.number ≡ Some line)
+    × (extras_count named.extras ≡ extras_of h.version line.event)
 TakesWell h lines _ = Unit {0}
 
 -- each of these steps does

@@ -98,7 +98,8 @@ pub fn merge_recordings(
     requires above { AllAbove zero.now.entries × AllAbove one.now.entries }
     ensures header { IfOk result (λ r. r.trace.header ≡ zero.now.header) }
     ensures told { IfOk result (λ r.
-        Tells r.trace r.witness (merged zero.now.header (first_event_line zero.now.header) zero.now.entries one.now.entries)) }
+        Tells r.trace r.witness (merged zero.now.header
+        (first_event_line zero.now.header) zero.now.entries one.now.entries)) }
     ensures threads { IfOk result (λ r. AllOwnThreads r.trace.lines) }
     ensures explains { IfOk result (λ r. Explains r.trace r.witness) }
     ensures stranger { IfErr result (λ f. IfStranger f (IsFirstStranger zero.now one.now)) }

@@ -28,7 +28,8 @@ use stack_core::core_worlds_are_books;
 /// explains the trace, and the verdict is yes. The merged steps of two books beside each other are such a run.
 pub fn what_is_told_explains()
     ensures steps { (t : Trace) (w : Witness) (steps : List (Stamped tcp_shape))
-        → IsPlacedRun (tcp t.header) t.header.skew (first_event_line t.header) (lines_of (tcp t.header) steps) steps → Tells t w steps → Explains t w }
+        → IsPlacedRun (tcp t.header) t.header.skew (first_event_line t.header) (lines_of (tcp t.header) steps) steps
+        → Tells t w steps → Explains t w }
     ensures books { (t : Trace) (w : Witness) (zeros ones : List TcpEntry)
         → Books (tcp t.header) (first_event_line t.header) zeros ones
         → Tells t w (merged t.header (first_event_line t.header) zeros ones) → Explains t w }
@@ -62,7 +63,8 @@ pub fn core_worlds_are_explained()
         → Tells t w (merged h (first_event_line h) (entries_of Zero cores) (entries_of One cores)) → Explains t w }
     ensures yes { (h : Header) (events : List Event) (cores : Both Side) → IsCoreWorld h events cores
         → (t : Trace) (w : Witness) → t.header ≡ h
-        → Tells t w (merged h (first_event_line h) (entries_of Zero cores) (entries_of One cores)) → IsYes (verdict t w) }
+        → Tells t w (merged h (first_event_line h) (entries_of Zero cores) (entries_of One cores))
+        → IsYes (verdict t w) }
 {
     core_worlds_are_books();
     books_have_no_stranger();

@@ -4,7 +4,8 @@ ghost use Rattle.std.specs.Prelude.{◌≡◌, ◌↔◌, ◌≤◌, IsTrue, IfN
 ghost use Rattle.std.specs.Option.{IfSome};
 ghost use Rattle.case_forms.specs.Traces.{first_event_line};
 ghost use Rattle.stack_core.specs.Keys.{key_shown};
-ghost use Rattle.merging.specs.Naming.{AllNamed, FirstStranger, IsNamed, NamedItem, SameBytes, SameHead, SameMark, SameOptions, line_keys, wire_of};
+ghost use Rattle.merging.specs.Naming.{AllNamed, FirstStranger, IsNamed, NamedItem, SameBytes, SameHead, SameMark};
+ghost use Rattle.merging.specs.Naming.{SameOptions, line_keys, wire_of};
 ghost use Rattle.merging.specs.Faults.{NamesAll, HasStranger};
 
 use crate::numbers::takes_line;
@@ -71,7 +72,8 @@ fn is_same(a: &Emission, b: &Emission) -> bool
 
 // Whether a segment is one that a host let out, where these are the keys of that host's lines.
 fn is_named(keys: &[Key], other: &Recording, flying: &Flying) -> bool
-    ensures { IsTrue result ↔ IsNamed (first_event_line other.now.header) (map key_shown keys.now) (wire_of other.now) flying.now }
+    ensures { IsTrue result ↔ IsNamed (first_event_line other.now.header) (map key_shown keys.now)
+        (wire_of other.now) flying.now }
 {
     let first = other.header().first_event_line();
     if flying.line() < first {
@@ -93,7 +95,8 @@ fn is_named(keys: &[Key], other: &Recording, flying: &Flying) -> bool
 
 // Whether an entry is no segment that was brought, or one that the other host let out.
 fn is_known(keys: &[Key], other: &Recording, entry: &Entry) -> bool
-    ensures { IsTrue result ↔ NamedItem (first_event_line other.now.header) (map key_shown keys.now) (wire_of other.now) entry.now.item }
+    ensures { IsTrue result ↔ NamedItem (first_event_line other.now.header) (map key_shown keys.now)
+        (wire_of other.now) entry.now.item }
 {
     match entry.item() {
         Item::Does(_) => true,
@@ -121,8 +124,10 @@ fn line_keys(alloc: Global, entries: &[Entry]) -> Result<Vec<Key>, OutOfMemory>
 // number `first`.
 fn find_stranger(keys: &[Key], other: &Recording, first: u64, entries: &[Entry]) -> Option<u64>
     requires { first ≤ 100 }
-    ensures none { IfNone result (AllNamed (first_event_line other.now.header) (map key_shown keys.now) (wire_of other.now) entries.now) }
-    ensures some { IfSome result (FirstStranger (first_event_line other.now.header) (map key_shown keys.now) (wire_of other.now) first entries.now) }
+    ensures none { IfNone result (AllNamed (first_event_line other.now.header) (map key_shown keys.now)
+        (wire_of other.now) entries.now) }
+    ensures some { IfSome result (FirstStranger (first_event_line other.now.header) (map key_shown keys.now)
+        (wire_of other.now) first entries.now) }
 {
     let mut left = entries;
     let mut line = first;

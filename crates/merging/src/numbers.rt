@@ -3,7 +3,8 @@
 ghost use Rattle.std.specs.Prelude.{◌≡◌, ◌<◌, ◌≤◌, ◌+◌, IfOk, OnOk, OnErr};
 ghost use Rattle.spec_network.specs.Tables.{pick};
 ghost use Rattle.stack_core.specs.Entries.{steps_in};
-ghost use Rattle.merging.specs.Numbers.{IsSmall, counted, counted_one, makes_segment, no_counts, no_turns, number_in, takes_line, with_turn};
+ghost use Rattle.merging.specs.Numbers.{IsSmall, counted, counted_one, makes_segment, no_counts, no_turns, number_in};
+ghost use Rattle.merging.specs.Numbers.{takes_line, with_turn};
 
 use crate::order::InOrder;
 use case_forms::{Host, OutOfMemory};

@@ -4,8 +4,8 @@ ghost use Rattle.std.specs.Prelude.{◌≡◌, ◌≤◌, ◌+◌, ◌++◌, ◌
 ghost use Rattle.spec_network.specs.Tables.{on};
 ghost use Rattle.spec_tcp.specs.Steps.{line_step, step_of};
 ghost use Rattle.merging.specs.Numbers.{AllSmall, IsSmallItem, IsSmallStep, names_by};
-ghost use Rattle.merging.specs.Saying.{all_renumbered, event_said, extras_said, growth_said, label_said, line_said, lines_said};
-ghost use Rattle.merging.specs.Saying.{names, own_number, renumbered, said, steps_said, thread_said};
+ghost use Rattle.merging.specs.Saying.{all_renumbered, event_said, extras_said, growth_said, label_said, line_said};
+ghost use Rattle.merging.specs.Saying.{lines_said, names, own_number, renumbered, said, steps_said, thread_said};
 ghost use Rattle.checker.specs.Again.{nowhere};
 
 use crate::numbers::Counts;
@@ -136,8 +136,10 @@ fn tell_line(
     requires small { IsSmallStep (line_step taken.now) }
     requires lines { counts.now.lines.next ≤ 2147483647 }
     requires mades { counts.now.mades.next ≤ 2147483647 }
-    ensures label { IfOk result (λ t. t.label ≡ label_said (renumbered (names_by counts.now.lines counts.now.mades) host (line_step taken.now))) }
-    ensures line { IfOk result (λ t. t.line ≡ line_said moment (renumbered (names_by counts.now.lines counts.now.mades) host (line_step taken.now))) }
+    ensures label { IfOk result (λ t. t.label
+        ≡ label_said (renumbered (names_by counts.now.lines counts.now.mades) host (line_step taken.now))) }
+    ensures line { IfOk result (λ t. t.line ≡ line_said moment
+        (renumbered (names_by counts.now.lines counts.now.mades) host (line_step taken.now))) }
 {
     let event = event_of(taken)?;
     let number = counts.lines.number(host, own_number(taken));
@@ -150,8 +152,10 @@ fn tell_step(counts: &Counts, moment: u64, host: Host, label: &Label) -> Result<
     requires small { IsSmallStep (step_of label.now) }
     requires lines { counts.now.lines.next ≤ 2147483647 }
     requires mades { counts.now.mades.next ≤ 2147483647 }
-    ensures label { IfOk result (λ t. t.label ≡ label_said (renumbered (names_by counts.now.lines counts.now.mades) host (step_of label.now))) }
-    ensures line { IfOk result (λ t. t.line ≡ line_said moment (renumbered (names_by counts.now.lines counts.now.mades) host (step_of label.now))) }
+    ensures label { IfOk result (λ t. t.label
+        ≡ label_said (renumbered (names_by counts.now.lines counts.now.mades) host (step_of label.now))) }
+    ensures line { IfOk result (λ t. t.line ≡ line_said moment
+        (renumbered (names_by counts.now.lines counts.now.mades) host (step_of label.now))) }
 {
     let label = match label {
         Label::L(taken) => return tell_line(counts, moment, host, taken),
@@ -208,8 +212,10 @@ fn tell_entry(
     requires small { IsSmallItem entry.now.item }
     requires lines { counts.now.lines.next ≤ 2147483647 }
     requires mades { counts.now.mades.next ≤ 2147483647 }
-    ensures lines { OnOk result (lines.new ≡ lines.old ++ lines_said (all_renumbered (names_by counts.now.lines counts.now.mades) (entry.now ∷ []))) }
-    ensures steps { OnOk result (steps.new ≡ steps.old ++ steps_said (all_renumbered (names_by counts.now.lines counts.now.mades) (entry.now ∷ []))) }
+    ensures lines { OnOk result (lines.new ≡ lines.old
+        ++ lines_said (all_renumbered (names_by counts.now.lines counts.now.mades) (entry.now ∷ []))) }
+    ensures steps { OnOk result (steps.new ≡ steps.old
+        ++ steps_said (all_renumbered (names_by counts.now.lines counts.now.mades) (entry.now ∷ []))) }
 {
     let Item::Does(label) = entry.item() else {
         return Ok(());
@@ -235,8 +241,10 @@ pub(crate) fn tell_all(
     requires small { AllSmall entries }
     requires lines { counts.now.lines.next ≤ 2147483647 }
     requires mades { counts.now.mades.next ≤ 2147483647 }
-    ensures lines { IfOk result (λ r. r.0 ≡ lines_said (all_renumbered (names_by counts.now.lines counts.now.mades) entries.entry)) }
-    ensures steps { IfOk result (λ r. r.1 ≡ steps_said (all_renumbered (names_by counts.now.lines counts.now.mades) entries.entry)) }
+    ensures lines { IfOk result (λ r. r.0 ≡ lines_said
+        (all_renumbered (names_by counts.now.lines counts.now.mades) entries.entry)) }
+    ensures steps { IfOk result (λ r. r.1 ≡ steps_said
+        (all_renumbered (names_by counts.now.lines counts.now.mades) entries.entry)) }
 {
     let mut lines = Lines::new(alloc);
     let mut steps = Steps::new(alloc);

@@ -11,4 +11,5 @@ tick_after last moment counter = record { moment = max moment last.moment; count
 -- there is none: the host had 10,000,000 events, or the tick would pass the limits
 abbrev pub IsOver : Core → ℕ → ℕ → Type 0
 IsOver c moment counter =
-    (10000000 ≤ c.events) ⊎ ((1000000000000000000 < max moment c.last.moment) ⊎ (1000000000000000000 ≤ max counter c.last.counter))
+    (10000000 ≤ c.events) ⊎ ((1000000000000000000 < max moment c.last.moment)
+    ⊎ (1000000000000000000 ≤ max counter c.last.counter))

@@ -1,6 +1,7 @@
 //! What lies under a recorder's lock.
 
-ghost use Rattle.std.specs.Prelude.{◌≡◌, ◌+◌, ◌≤◌, ◌<◌, ◌↔◌, true, false, IsTrue, IfNone, IfOk, IfErr, OnOk, OnErr, sum_by, length};
+ghost use Rattle.std.specs.Prelude.{◌≡◌, ◌+◌, ◌≤◌, ◌<◌, ◌↔◌, true, false, IsTrue, IfNone, IfOk, IfErr, OnOk, OnErr};
+ghost use Rattle.std.specs.Prelude.{sum_by, length};
 ghost use Rattle.std.specs.BTreeSet.{contains};
 ghost use Rattle.std.specs.Option.{IfSome};
 ghost use Rattle.case_forms.specs.declared.calls.Host.{Host};
@@ -133,9 +134,11 @@ impl<L: Site> Desk<L> {
     /// A new seat.
     pub(crate) fn seat(&mut self, thread: u32) -> Result<Seat<L>, RecFault>
         ensures seat { IfOk result (λ s. (s.thread ≡ thread) × (s.count ≡ 0)) }
-        ensures free { OnOk result ((IsReserved thread → ⊥) × (contains ⟦<u32 as Ord>⟧.cmp self.old.threads thread ≡ false)) }
+        ensures free { OnOk result ((IsReserved thread → ⊥)
+            × (contains ⟦<u32 as Ord>⟧.cmp self.old.threads thread ≡ false)) }
         ensures kept { OnOk result (contains ⟦<u32 as Ord>⟧.cmp self.new.threads thread ≡ true) }
-        ensures refused { IfErr result (WhyNoSeat self.old.stopped self.old.left (contains ⟦<u32 as Ord>⟧.cmp self.old.threads thread) thread) }
+        ensures refused { IfErr result (WhyNoSeat self.old.stopped self.old.left
+            (contains ⟦<u32 as Ord>⟧.cmp self.old.threads thread) thread) }
     {
         if self.stopped {
             return Err(RecFault::Stopped);
@@ -178,7 +181,8 @@ impl<L: Site> Desk<L> {
     pub(crate) fn attempt(&mut self, seat: &mut Seat<L>) -> Result<Option<Receipt>, RecFault>
         requires lane { lane seat.old.thread ≡ L.host }
         ensures some { IfOk result (λ o. IfSome o (λ r.
-            (r.answered.thread ≡ seat.old.thread) × (r.index ≡ seat.old.count) × (seat.new.count ≡ seat.old.count + 1))) }
+            (r.answered.thread ≡ seat.old.thread) × (r.index ≡ seat.old.count)
+            × (seat.new.count ≡ seat.old.count + 1))) }
         ensures none { IfOk result (λ o. IfNone o (seat.new.count ≡ seat.old.count)) }
         ensures err { OnErr result (seat.new.count ≡ seat.old.count) }
         ensures thread { seat.new.thread ≡ seat.old.thread }

@@ -130,7 +130,8 @@ impl HostBook {
         requires events { self.old.core.events < 10000000 }
         requires lane { lane thread ≡ self.old.core.recorded.me }
         ensures site { IsSameSite self.old.core self.new.core }
-        ensures some { IfOk result (λ o. IfSome o (λ a. (a.thread ≡ thread) × (self.new.total ≡ self.old.total + 1) × (self.new.total ≤ 10000000))) }
+        ensures some { IfOk result (λ o. IfSome o (λ a. (a.thread ≡ thread) × (self.new.total ≡ self.old.total + 1)
+            × (self.new.total ≤ 10000000))) }
         ensures none { IfOk result (λ o. IfNone o (self.new.total ≡ self.old.total)) }
         ensures err { OnErr result (self.new.total ≡ self.old.total) }
     {

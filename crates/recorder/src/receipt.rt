@@ -61,7 +61,8 @@ fn end_of<'a>(line: &'a Line, thread: u32) -> Option<&'a Answer>
 /// Whether the line that ends the call of the receipt's thread with the receipt's index, counted from 0, has its
 /// answer.
 pub fn receipt_stands(recorded: &Recorded, receipt: &Receipt) -> bool
-    ensures { IsTrue result ↔ (end_at receipt.now.answered.thread receipt.now.index recorded.now.trace.lines ≡ Some receipt.now.answered.answer) }
+    ensures { IsTrue result ↔ (end_at receipt.now.answered.thread receipt.now.index recorded.now.trace.lines
+        ≡ Some receipt.now.answered.answer) }
 {
     stands(
         recorded.trace.lines.as_slice(),

@@ -129,7 +129,8 @@ impl<L: Site> Recorder<L> {
     /// Lends the book for reading, under the lock: a book of this recorder's host, under its header.
     pub fn look<R: Wait, T, F: FnOnce(&HostBook) -> T>(&self, rt: &R, f: F) -> T
         requires { F.IsAlwaysCallable f }
-        ensures { (b : BookView) × ((b.core.recorded.me ≡ L.host) × (b.core.recorded.header ≡ L.header) × FnOnceReturnsAt F.FnOnce f b result) }
+        ensures { (b : BookView) × ((b.core.recorded.me ≡ L.host) × (b.core.recorded.header ≡ L.header)
+            × FnOnceReturnsAt F.FnOnce f b result) }
     {
         let desk = self.desk.lock(rt);
         f(desk.book())

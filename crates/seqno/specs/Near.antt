@@ -16,4 +16,5 @@ near_position near base w =
 
 -- that is what a number reads as
 abbrev pub FindsReading : Type 0
-FindsReading = (near : ℕ) (base w : Word) → base.0 < 2 ^ 32 → w.0 < 2 ^ 32 → Reads near base w (near_position near base w)
+FindsReading =
+    (near : ℕ) (base w : Word) → base.0 < 2 ^ 32 → w.0 < 2 ^ 32 → Reads near base w (near_position near base w)

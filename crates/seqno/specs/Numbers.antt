@@ -33,7 +33,9 @@ Reads near base w None = IsBelowZero near base w
 
 -- what is numbered reads back near itself, and near nothing else
 abbrev pub ReadsBack : Type 0
-ReadsBack = (near : ℕ) (base : Word) (pos : ℕ) (read : Option ℕ) → Reads near base (number_of base pos) read → (read ≡ Some pos) ↔ IsNear near pos
+ReadsBack =
+    (near : ℕ) (base : Word) (pos : ℕ) (read : Option ℕ) → Reads near base (number_of base pos) read → (read ≡ Some pos)
+    ↔ IsNear near pos
 
 -- positions less than 2^31 apart that have one number are one
 abbrev pub NearbyDiffer : Type 0

@@ -3,8 +3,8 @@ use Rattle.std.specs.Prelude.{◌≡◌, ℕ, nat_eq, true, List, [], ◌∷◌,
 use Rattle.indexmap.specs.IndexMap.{insert_entry}
 use Rattle.case_forms.specs.declared.calls.Host.{Host}
 use Rattle.spec_network.specs.Tables.{pick, other, with_host, lane}
-use Rattle.spec_network.specs.Hosts.{Aim, ThatHost, ThatSocket, Shape, Kernel, World, Deed, Expires, Sends, Gets, Hears, Step, Begin}
-use Rattle.spec_network.specs.Hosts.{Finish, Effect, At, Called, turn_of}
+use Rattle.spec_network.specs.Hosts.{Aim, ThatHost, ThatSocket, Shape, Kernel, World, Deed, Expires, Sends, Gets, Hears}
+use Rattle.spec_network.specs.Hosts.{Step, Begin, Finish, Effect, At, Called, turn_of}
 use Rattle.spec_network.specs.HostRules.{Permitted}
 use Rattle.spec_network.specs.HostSteps.{after}
 
@@ -65,7 +65,8 @@ abbrev pub OwnStep : (k : Kernel) → Host → World k.shape → Step k.shape �
 OwnStep k h w (Begin line t call) = (lane t ≡ h) × Aims h (k.aim call)
 OwnStep k h w (Finish line t answer) = lane t ≡ h
 OwnStep k h w (Effect t answer) =
-    (lane t ≡ h) × ((call : k.shape.Call) → turn_of t w.threads ≡ Called call → (n : ℕ) → k.gives call answer ≡ Some n → lane n ≡ h)
+    (lane t ≡ h) × ((call : k.shape.Call) → turn_of t w.threads ≡ Called call → (n : ℕ) → k.gives call answer ≡ Some n
+    → lane n ≡ h)
 OwnStep k h w (At host d) = host ≡ h
 
 -- a step is permitted and this host's own; any segment may be brought

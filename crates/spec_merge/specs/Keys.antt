@@ -1,5 +1,6 @@
 -- The order of keys, the merge of two books by them, and what makes a list of entries a book.
-use Rattle.std.specs.Prelude.{◌≡◌, ℕ, suc, nat_eq, Bool, true, false, if◌then◌else◌, nat_lt, List, [], ◌∷◌, Option, None, Some}
+use Rattle.std.specs.Prelude.{◌≡◌, ℕ, suc, nat_eq, Bool, true, false, if◌then◌else◌, nat_lt, List, [], ◌∷◌, Option}
+use Rattle.std.specs.Prelude.{None, Some}
 use Rattle.std.specs.Map.{lookup}
 use Rattle.case_forms.specs.declared.calls.Host.{Host}
 use Rattle.case_forms.specs.declared.calls.Host.TheVariants.{Zero, One}
@@ -23,7 +24,8 @@ before a b = lesser a.moment a.counter (rank a.host) b.moment b.counter (rank b.
 
 -- an entry among those of the other host, in front of the first whose key is above its own; `rest` merges what stands
 -- behind it
-abbrev pub merge_with : (k : Kernel) → Entry k.shape → (List (Entry k.shape) → List (Entry k.shape)) → List (Entry k.shape) → List (Entry k.shape)
+abbrev pub merge_with : (k : Kernel) → Entry k.shape → (List (Entry k.shape) → List (Entry k.shape))
+    → List (Entry k.shape) → List (Entry k.shape)
 merge_with k x rest [] = x ∷ rest []
 merge_with k x rest (y ∷ ys) = if before x.key y.key then x ∷ rest (y ∷ ys) else y ∷ merge_with k x rest ys
 
@@ -72,4 +74,6 @@ pub record Book (k : Kernel) (h o : Host) (w : World k.shape) (n : ℕ) (xs : Li
 
 -- two finished books, each beside the other, whose event lines are numbered from the first on
 abbrev pub Books : (k : Kernel) → ℕ → List (Entry k.shape) → List (Entry k.shape) → Type 0
-Books k first xs ys = Book k Zero One (start k) first xs (end k One (start k) ys) ys × Book k One Zero (start k) first ys (end k Zero (start k) xs) xs
+Books k first xs ys =
+    Book k Zero One (start k) first xs (end k One (start k) ys) ys
+    × Book k One Zero (start k) first ys (end k Zero (start k) xs) xs

@@ -2,7 +2,8 @@
 use Rattle.std.specs.Prelude.{ℕ, zero, suc, Bool, true, false, if◌then◌else◌, List, [], ◌∷◌, Option, None, Some}
 use Rattle.case_forms.specs.declared.calls.Host.{Host}
 use Rattle.spec_network.specs.Tables.{other, host_is, on}
-use Rattle.spec_network.specs.Hosts.{Kernel, Deed, Does, Expires, Makes, Sends, Gets, Hears, Takes, Drops, Answers, Step, Begin, Finish, Effect, At, Stamped}
+use Rattle.spec_network.specs.Hosts.{Kernel, Deed, Does, Expires, Makes, Sends, Gets, Hears, Takes, Drops, Answers}
+use Rattle.spec_network.specs.Hosts.{Step, Begin, Finish, Effect, At, Stamped}
 use Rattle.spec_network.specs.HostSteps.{makes}
 use Rattle.spec_merge.specs.Books.{Key, Item, Do, Bring, Entry, item_line}
 

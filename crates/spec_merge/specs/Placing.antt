@@ -3,7 +3,8 @@ use Rattle.std.specs.Prelude.{◌≡◌, ℕ, ◌+◌, ◌<◌, ◌≤◌, List,
 use Rattle.std.specs.List.{slice_get}
 use Rattle.case_forms.specs.declared.calls.Host.{Host}
 use Rattle.spec_network.specs.Tables.{on}
-use Rattle.spec_network.specs.Hosts.{Shape, Kernel, Idle, Deed, Expires, Sends, Gets, Hears, Step, Begin, Finish, Effect, At, Stamped}
+use Rattle.spec_network.specs.Hosts.{Shape, Kernel, Idle, Deed, Expires, Sends, Gets, Hears, Step, Begin, Finish}
+use Rattle.spec_network.specs.Hosts.{Effect, At, Stamped}
 use Rattle.spec_network.specs.HostSteps.{start, Lawful}
 use Rattle.spec_network.specs.Turns.{Turns}
 use Rattle.spec_merge.specs.Books.{Entry, step_line}
@@ -63,9 +64,11 @@ NamesAt k steps p number = (x : Stamped k.shape) × (slice_get steps p ≡ Some 
 -- other line is, the lines in their order, and in each thread calls take turns
 pub record Placement (k : Kernel) (skew first : ℕ) (lines : List (Line k.shape)) (steps : List (Stamped k.shape)) : Type 0 where
   pub moments : MomentsRise k 0 steps
-  pub taken : (i : ℕ) (line : Line k.shape) → slice_get lines i ≡ Some line → (p : ℕ) × TakesLine k skew (first + i) line steps p
+  pub taken : (i : ℕ) (line : Line k.shape) → slice_get lines i ≡ Some line → (p : ℕ)
+      × TakesLine k skew (first + i) line steps p
   pub once : (p q number : ℕ) → NamesAt k steps p number → NamesAt k steps q number → p ≡ q
-  pub only : (p number : ℕ) → NamesAt k steps p number → (i : ℕ) × (line : Line k.shape) × (number ≡ first + i) × (slice_get lines i ≡ Some line)
+  pub only : (p number : ℕ) → NamesAt k steps p number → (i : ℕ) × (line : Line k.shape) × (number ≡ first + i)
+      × (slice_get lines i ≡ Some line)
   pub order : (p q m n : ℕ) → NamesAt k steps p m → NamesAt k steps q n → m < n → p < q
   pub turns : (t : ℕ) → Turns k t Idle steps
 

@@ -56,4 +56,5 @@ pub record MayJoin (h : Header) (me : Host) (first : ℕ) (old new : List TcpEnt
 -- key of
 -- that line, which is below the key of the arrival
 abbrev pub NamesSent : Header → Host → (mine others : List TcpEntry) → Type 0
-NamesSent h other mine others = EachEntry (tcp h) (λ x. NamesOne (tcp h) other (world_of h other others) others x.key x.item) mine
+NamesSent h other mine others =
+    EachEntry (tcp h) (λ x. NamesOne (tcp h) other (world_of h other others) others x.key x.item) mine

@@ -14,7 +14,8 @@ ghost use Rattle.case_forms.specs.declared.steps.SegmentPlan.{SegmentPlan};
 ghost use Rattle.spec_tcp_laws.specs.Bounds.{NewDataFits, WindowsFollow};
 ghost use Rattle.spec_tcp_laws.specs.Runs.{world_at_end};
 ghost use Rattle.spec_tcp_laws.specs.Consequences.{AcknowledgedWasTaken, EndIsWhole, ReceivedIsAPrefix};
-ghost use Rattle.spec_merge.specs.Recordings.{AreFirstSteps, IsKept, MayJoin, NamesSent, TcpEntry, merged, merged_lines, next_line, world_of};
+ghost use Rattle.spec_merge.specs.Recordings.{AreFirstSteps, IsKept, MayJoin, NamesSent, TcpEntry, merged};
+ghost use Rattle.spec_merge.specs.Recordings.{merged_lines, next_line, world_of};
 
 use spec_tcp_laws::{
     acknowledged_was_taken, end_is_whole, new_data_fits, received_is_a_prefix, windows_follow,
@@ -33,11 +34,15 @@ pub fn merged_books_are_a_run()
 /// where they were; what each host kept, with segments brought that the other host sent, are two books beside each
 /// other.
 pub fn books_grow()
-    ensures grows { (h : Header) (me : Host) (first : ℕ) (old new : List TcpEntry) → IsKept h me first old → MayJoin h me first old new →
+    ensures grows { (h : Header) (me : Host) (first : ℕ) (old new : List TcpEntry) → IsKept h me first old
+        → MayJoin h me first old new →
         IsKept h me first (old ++ new) }
-    ensures world { (h : Header) (me : Host) (old new : List TcpEntry) → world_of h me (old ++ new) ≡ end (tcp h) me (world_of h me old) new }
-    ensures line { (h : Header) (first : ℕ) (old new : List TcpEntry) → next_line h first (old ++ new) ≡ next_line h (next_line h first old) new }
-    ensures finished { (h : Header) (first : ℕ) (zeros ones : List TcpEntry) → IsKept h Zero first zeros → IsKept h One first ones →
+    ensures world { (h : Header) (me : Host) (old new : List TcpEntry)
+        → world_of h me (old ++ new) ≡ end (tcp h) me (world_of h me old) new }
+    ensures line { (h : Header) (first : ℕ) (old new : List TcpEntry)
+        → next_line h first (old ++ new) ≡ next_line h (next_line h first old) new }
+    ensures finished { (h : Header) (first : ℕ) (zeros ones : List TcpEntry) → IsKept h Zero first zeros
+        → IsKept h One first ones →
         NamesSent h One zeros ones → NamesSent h Zero ones zeros → Books (tcp h) first zeros ones }
 {}
 
@@ -48,17 +53,21 @@ pub fn books_grow()
 /// change
 /// by their causes alone.
 pub fn merged_books_have_the_consequences()
-    ensures received { (h : Header) → is_half h.version ≡ false → (first : ℕ) (zeros ones : List TcpEntry) (steps : List (Stamped tcp_shape)) →
+    ensures received { (h : Header) → is_half h.version ≡ false
+        → (first : ℕ) (zeros ones : List TcpEntry) (steps : List (Stamped tcp_shape)) →
         AreFirstSteps h first zeros ones steps → ReceivedIsAPrefix h steps }
-    ensures ended { (h : Header) → is_half h.version ≡ false → (first : ℕ) (zeros ones : List TcpEntry) (steps : List (Stamped tcp_shape)) →
+    ensures ended { (h : Header) → is_half h.version ≡ false
+        → (first : ℕ) (zeros ones : List TcpEntry) (steps : List (Stamped tcp_shape)) →
         AreFirstSteps h first zeros ones steps → EndIsWhole h steps }
     ensures acknowledged { (h : Header) → is_half h.version ≡ false →
         (first : ℕ) (zeros ones : List TcpEntry) (steps : List (Stamped tcp_shape)) (x : Stamped tcp_shape) →
         AreFirstSteps h first zeros ones (steps ++ x ∷ []) → AcknowledgedWasTaken h steps x }
-    ensures edges { (h : Header) (first : ℕ) (zeros ones : List TcpEntry) (steps : List (Stamped tcp_shape)) (moment : ℕ) (host : Host)
+    ensures edges { (h : Header) (first : ℕ) (zeros ones : List TcpEntry) (steps : List (Stamped tcp_shape))
+        (moment : ℕ) (host : Host)
         (m : SegmentPlan) → AreFirstSteps h first zeros ones (steps ++ record { moment = moment; step = At host (Makes m) } ∷ []) →
         NewDataFits (world_at_end h steps) host m }
-    ensures windows { (h : Header) (first : ℕ) (zeros ones : List TcpEntry) (steps : List (Stamped tcp_shape)) (x : Stamped tcp_shape) →
+    ensures windows { (h : Header) (first : ℕ) (zeros ones : List TcpEntry) (steps : List (Stamped tcp_shape))
+        (x : Stamped tcp_shape) →
         AreFirstSteps h first zeros ones (steps ++ x ∷ []) → WindowsFollow h x.moment (world_at_end h steps) x.step }
 {
     merged_books_are_a_run();

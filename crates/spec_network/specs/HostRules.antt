@@ -1,5 +1,6 @@
 -- The rules of a step of two hosts, least first.
-use Rattle.std.specs.Prelude.{◌≡◌, ℕ, nat_eq, Bool, true, false, not, if◌then◌else◌, List, [], ◌∷◌, ◌++◌, Option, None, Some}
+use Rattle.std.specs.Prelude.{◌≡◌, ℕ, nat_eq, Bool, true, false, not, if◌then◌else◌, List, [], ◌∷◌, ◌++◌, Option, None}
+use Rattle.std.specs.Prelude.{Some}
 use Rattle.std.specs.Map.{lookup}
 use Rattle.case_forms.specs.declared.calls.Host.{Host}
 use Rattle.case_forms.specs.declared.calls.Host.TheVariants.{Zero, One}
@@ -7,9 +8,9 @@ use Rattle.verdict.specs.declared.rule.Rule.{Rule}
 use Rattle.verdict.specs.declared.rule.Rule.TheVariants as rules
 use Rattle.verdict.specs.Rules.{first_broken}
 use Rattle.spec_network.specs.Tables.{Both, Made, pick, other, on, waiting}
-use Rattle.spec_network.specs.Hosts.{Aim, ThatHost, ThatSocket, Shape, Kernel, HostState, Turn, Idle, Called, Answered, World, Deed}
-use Rattle.spec_network.specs.Hosts.{Does, Expires, Makes, Sends, Gets, Hears, Takes, Drops, Answers, Step, Begin, Finish, Effect, At}
-use Rattle.spec_network.specs.Hosts.{turn_of}
+use Rattle.spec_network.specs.Hosts.{Aim, ThatHost, ThatSocket, Shape, Kernel, HostState, Turn, Idle, Called, Answered}
+use Rattle.spec_network.specs.Hosts.{World, Deed, Does, Expires, Makes, Sends, Gets, Hears, Takes, Drops, Answers, Step}
+use Rattle.spec_network.specs.Hosts.{Begin, Finish, Effect, At, turn_of}
 
 -- one rule alone
 abbrev pub just : Rule → Bool → List (Rule × Bool)
@@ -19,24 +20,29 @@ just rule broken = (rule, broken) ∷ []
 abbrev pub made_rules : {E W : Type 0} → (W → E → List (Rule × Bool)) → W → Made E → List (Rule × Bool)
 made_rules out_rules wire m = out_rules wire m.emission ++ just rules.NotMade m.sent
 
-abbrev pub sending_rules : {E W : Type 0} → (W → E → List (Rule × Bool)) → List (ℕ × Made E) → ℕ → W → List (Rule × Bool)
-sending_rules out_rules made number wire = on (lookup (nat_eq number) made) (just rules.NotMade true) (made_rules out_rules wire)
+abbrev pub sending_rules : {E W : Type 0} → (W → E → List (Rule × Bool)) → List (ℕ × Made E) → ℕ → W
+    → List (Rule × Bool)
+sending_rules out_rules made number wire =
+    on (lookup (nat_eq number) made) (just rules.NotMade true) (made_rules out_rules wire)
 
 -- the rules of one that comes in, as a copy of that line of the other host, whose wire is `far`
 abbrev pub arrival_rules : {E W : Type 0} → (W → E → List (Rule × Bool)) → List (ℕ × E) → ℕ → W → List (Rule × Bool)
 arrival_rules in_rules far copied wire = on (lookup (nat_eq copied) far) (just rules.NoEmission true) (in_rules wire)
 
 -- the rules of what one host does, which has this; `far` is the wire of the other host
-abbrev pub deed_rules : (k : Kernel) → Host → ℕ → List (ℕ × k.shape.Emission) → HostState k.shape → Deed k.shape → List (Rule × Bool)
+abbrev pub deed_rules : (k : Kernel) → Host → ℕ → List (ℕ × k.shape.Emission) → HostState k.shape → Deed k.shape
+    → List (Rule × Bool)
 deed_rules k me moment far h (Does x) = k.act_rules me moment h.body (k.does x)
 deed_rules k me moment far h (Expires line x) = k.act_rules me moment h.body (k.expires x)
 deed_rules k me moment far h (Makes x) = k.act_rules me moment h.body (k.making x)
 deed_rules k me moment far h (Sends line number wire) = sending_rules k.out_rules h.made number wire
 deed_rules k me moment far h (Gets line copied wire) = arrival_rules (k.in_rules moment) far copied wire
 deed_rules k me moment far h (Hears line wire) = just rules.NoEmission (not k.half)
-deed_rules k me moment far h (Takes line how) = on (waiting line h.inbox) (just rules.Inbox true) (λ e. k.act_rules me moment h.body (k.takes how e))
+deed_rules k me moment far h (Takes line how) =
+    on (waiting line h.inbox) (just rules.Inbox true) (λ e. k.act_rules me moment h.body (k.takes how e))
 deed_rules k me moment far h (Drops line) = on (waiting line h.inbox) (just rules.Inbox true) (λ e. [])
-deed_rules k me moment far h (Answers line) = on (waiting line h.inbox) (just rules.Inbox true) (λ e. k.act_rules me moment h.body (k.answers e))
+deed_rules k me moment far h (Answers line) =
+    on (waiting line h.inbox) (just rules.Inbox true) (λ e. k.act_rules me moment h.body (k.answers e))
 
 -- the host that a call means: for a socket number, the host that gave it
 abbrev pub aim_of : (k : Kernel) → Both (HostState k.shape) → Aim → Option Host
@@ -49,8 +55,10 @@ fresh_rules k hosts None = []
 fresh_rules k hosts (Some n) = (rules.Socket, k.given hosts.zero.body n) ∷ just rules.Socket (k.given hosts.one.body n)
 
 -- the rules of a call's effect, at the host that the call means
-abbrev pub call_rules : (k : Kernel) → ℕ → Both (HostState k.shape) → k.shape.Call → k.shape.Answer → Option Host → List (Rule × Bool)
-call_rules k moment hosts call answer None = fresh_rules k hosts (k.gives call answer) ++ just rules.CallAnswer (not (k.stray call answer))
+abbrev pub call_rules : (k : Kernel) → ℕ → Both (HostState k.shape) → k.shape.Call → k.shape.Answer → Option Host
+    → List (Rule × Bool)
+call_rules k moment hosts call answer None =
+    fresh_rules k hosts (k.gives call answer) ++ just rules.CallAnswer (not (k.stray call answer))
 call_rules k moment hosts call answer (Some host) =
     fresh_rules k hosts (k.gives call answer) ++ k.act_rules host moment (pick hosts host).body (k.calls call answer)
 
@@ -91,7 +99,8 @@ open_rules k moment hosts (Called call) answer = call_rules k moment hosts call 
 open_rules k moment hosts (Answered given) answer = []
 
 -- the effect of a call: it is open, had none yet, and may have this answer
-abbrev pub effect_rules : (k : Kernel) → ℕ → Both (HostState k.shape) → Turn k.shape → k.shape.Answer → List (Rule × Bool)
+abbrev pub effect_rules : (k : Kernel) → ℕ → Both (HostState k.shape) → Turn k.shape → k.shape.Answer
+    → List (Rule × Bool)
 effect_rules k moment hosts u answer = pending_rules u ++ open_rules k moment hosts u answer
 
 -- the rules of a step

@@ -4,21 +4,25 @@ use Rattle.std.specs.Map.{lookup}
 use Rattle.indexmap.specs.IndexMap.{insert_entry}
 use Rattle.case_forms.specs.declared.calls.Host.{Host}
 use Rattle.spec_network.specs.Tables.{Both, pick, other, with_host, on, Made, unsent, gone_out, waiting, settled}
-use Rattle.spec_network.specs.Hosts.{Kernel, HostState, Turn, Idle, Called, Answered, World, Deed, Does, Expires, Makes, Sends, Gets}
-use Rattle.spec_network.specs.Hosts.{Hears, Takes, Drops, Answers, Step, Begin, Finish, Effect, At, Stamped, turn_of}
+use Rattle.spec_network.specs.Hosts.{Kernel, HostState, Turn, Idle, Called, Answered, World, Deed, Does, Expires, Makes}
+use Rattle.spec_network.specs.Hosts.{Sends, Gets, Hears, Takes, Drops, Answers, Step, Begin, Finish, Effect, At}
+use Rattle.spec_network.specs.Hosts.{Stamped, turn_of}
 use Rattle.spec_network.specs.HostRules.{aim_of, Permitted}
 
 -- the made segments after an act, with the one that it makes under the fresh number
 abbrev pub act_made : (k : Kernel) → Host → ℕ → ℕ → HostState k.shape → k.shape.Act → List (ℕ × Made k.shape.Emission)
-act_made k me moment fresh h act = on (k.act_makes me moment h.body act) h.made (λ e. insert_entry nat_eq h.made fresh (unsent e))
+act_made k me moment fresh h act =
+    on (k.act_makes me moment h.body act) h.made (λ e. insert_entry nat_eq h.made fresh (unsent e))
 
 -- what was made, once the segment of that number went out
 abbrev pub made_gone_out : {E : Type 0} → ℕ → List (ℕ × Made E) → List (ℕ × Made E)
 made_gone_out number made = on (lookup (nat_eq number) made) made (λ m. insert_entry nat_eq made number (gone_out m))
 
 -- what stands on the wire, once the segment of that number went out with this line
-abbrev pub wire_after : {E W : Type 0} → (ℕ → W → E → E) → List (ℕ × Made E) → (line number : ℕ) → W → ℕ → List (ℕ × E) → List (ℕ × E)
-wire_after sent made line number wire moment out = on (lookup (nat_eq number) made) out (λ m. insert_entry nat_eq out line (sent moment wire m.emission))
+abbrev pub wire_after : {E W : Type 0} → (ℕ → W → E → E) → List (ℕ × Made E) → (line number : ℕ) → W → ℕ → List (ℕ × E)
+    → List (ℕ × E)
+wire_after sent made line number wire moment out =
+    on (lookup (nat_eq number) made) out (λ m. insert_entry nat_eq out line (sent moment wire m.emission))
 
 -- the inbox, once a copy of that line of the other host came in with this one
 abbrev pub inbox_after : {E : Type 0} → List (ℕ × E) → (line copied : ℕ) → List (ℕ × Option E) → List (ℕ × Option E)
@@ -31,14 +35,17 @@ inbox_settled line inbox = on (waiting line inbox) inbox (λ e. settled line inb
 -- what a host has after what it does: a line that goes out marks its segment and puts it on the wire, a line that comes
 -- in
 -- joins the inbox, and what is taken, dropped or answered waits there no longer
-abbrev pub deed_after : (k : Kernel) → Host → ℕ → ℕ → List (ℕ × k.shape.Emission) → HostState k.shape → Deed k.shape → HostState k.shape
+abbrev pub deed_after : (k : Kernel) → Host → ℕ → ℕ → List (ℕ × k.shape.Emission) → HostState k.shape → Deed k.shape
+    → HostState k.shape
 deed_after k me moment fresh far h (Does x) = record h { body = k.act_after me moment h.body (k.does x) }
 deed_after k me moment fresh far h (Expires line x) = record h { body = k.act_after me moment h.body (k.expires x) }
-deed_after k me moment fresh far h (Makes x) = record h { body = k.act_after me moment h.body (k.making x); made = act_made k me moment fresh h (k.making x) }
+deed_after k me moment fresh far h (Makes x) =
+    record h { body = k.act_after me moment h.body (k.making x); made = act_made k me moment fresh h (k.making x) }
 deed_after k me moment fresh far h (Sends line number wire) =
     record h { made = made_gone_out number h.made; wire = wire_after k.sent h.made line number wire moment h.wire }
 deed_after k me moment fresh far h (Gets line copied wire) = record h { inbox = inbox_after far line copied h.inbox }
-deed_after k me moment fresh far h (Hears line wire) = record h { inbox = insert_entry nat_eq h.inbox line (Some (k.heard moment wire)) }
+deed_after k me moment fresh far h (Hears line wire) =
+    record h { inbox = insert_entry nat_eq h.inbox line (Some (k.heard moment wire)) }
 deed_after k me moment fresh far h (Takes line how) =
     record h {
       body = on (waiting line h.inbox) h.body (λ e. k.act_after me moment h.body (k.takes how e));
@@ -59,9 +66,11 @@ makes k (Answers line) = true
 makes k d = false
 
 -- both hosts after a call's act at the host that the call means
-abbrev pub call_after : (k : Kernel) → ℕ → Both (HostState k.shape) → k.shape.Act → Option Host → Both (HostState k.shape)
+abbrev pub call_after : (k : Kernel) → ℕ → Both (HostState k.shape) → k.shape.Act → Option Host
+    → Both (HostState k.shape)
 call_after k moment hosts act None = hosts
-call_after k moment hosts act (Some host) = with_host hosts host (record (pick hosts host) { body = k.act_after host moment (pick hosts host).body act })
+call_after k moment hosts act (Some host) =
+    with_host hosts host (record (pick hosts host) { body = k.act_after host moment (pick hosts host).body act })
 
 -- the world with that thread's turn
 abbrev pub with_turn : (k : Kernel) → World k.shape → ℕ → Turn k.shape → World k.shape
@@ -83,7 +92,9 @@ after k moment w (Begin line t call) = with_turn k w t (Called call)
 after k moment w (Finish line t answer) = with_turn k w t Idle
 after k moment w (Effect t answer) = effect_after k moment w t answer (turn_of t w.threads)
 after k moment w (At host d) = record w {
-  hosts = with_host w.hosts host (deed_after k host moment (suc w.count) (pick w.hosts (other host)).wire (pick w.hosts host) d);
+  hosts =
+      with_host w.hosts host (deed_after k host moment (suc w.count) (pick w.hosts (other host)).wire
+      (pick w.hosts host) d);
   count = if makes k d then suc w.count else w.count;
 }
 

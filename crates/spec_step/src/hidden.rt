@@ -27,8 +27,10 @@ pub fn apply_hidden<Taken>(
     requires label { IsWithinLimits label.now }
     ensures ok { OnOk result (world.new ≡ asked_after world.old moment (hidden_step label.now)) }
     ensures admitted { OnOk result (first_broken (asked_rules world.old moment (hidden_step label.now)) ≡ None) }
-    ensures broken { IfErr result (λ fault. IfBroken fault (λ rule. first_broken (asked_rules world.old moment (hidden_step label.now)) ≡ Some rule)) }
-    ensures memory { result ≡ Err StepFault.OutOfMemory → first_broken (asked_rules world.old moment (hidden_step label.now)) ≡ None }
+    ensures broken { IfErr result (λ fault. IfBroken fault
+        (λ rule. first_broken (asked_rules world.old moment (hidden_step label.now)) ≡ Some rule)) }
+    ensures memory { result ≡ Err StepFault.OutOfMemory
+        → first_broken (asked_rules world.old moment (hidden_step label.now)) ≡ None }
     ensures err { OnErr result (world.new ≡ world.old) }
 {
     match label {

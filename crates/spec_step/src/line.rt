@@ -18,7 +18,8 @@ pub fn apply_line(world: &mut World, moment: u64, line: &TakenLine) -> Result<()
     requires { world.old.steps < most_steps }
     ensures ok { OnOk result (world.new ≡ after world.old moment (line_step line.now)) }
     ensures admitted { OnOk result (broken_by world.old moment (line_step line.now) ≡ None) }
-    ensures broken { IfErr result (λ fault. IfBroken fault (λ rule. broken_by world.old moment (line_step line.now) ≡ Some rule)) }
+    ensures broken { IfErr result (λ fault. IfBroken fault (λ rule. broken_by world.old moment (line_step line.now)
+        ≡ Some rule)) }
     ensures memory { result ≡ Err StepFault.OutOfMemory → broken_by world.old moment (line_step line.now) ≡ None }
     ensures err { OnErr result (world.new ≡ world.old) }
 {

@@ -43,7 +43,8 @@ pub fn apply(world: &mut World, moment: u64, label: &Label) -> Result<(), StepFa
     requires label { IsWithinLimits label.now }
     ensures ok { OnOk result (world.new ≡ after world.old moment (step_of label.now)) }
     ensures admitted { OnOk result (broken_by world.old moment (step_of label.now) ≡ None) }
-    ensures broken { IfErr result (λ fault. IfBroken fault (λ rule. broken_by world.old moment (step_of label.now) ≡ Some rule)) }
+    ensures broken { IfErr result (λ fault. IfBroken fault (λ rule. broken_by world.old moment (step_of label.now)
+        ≡ Some rule)) }
     ensures memory { result ≡ Err StepFault.OutOfMemory → broken_by world.old moment (step_of label.now) ≡ None }
     ensures err { OnErr result (world.new ≡ world.old) }
 {

@@ -59,7 +59,8 @@ joined b i e m =
 
 -- what the host has, once the endpoint of this place took it
 abbrev pub endpoint_after : Header → Body → TakeChoice → Emission → ℕ → ℕ → Endpoint → Body
-endpoint_after h b how m moment i e = record b { endpoints = modify b.endpoints i (λ x. endpoint_taken h x how m moment); listeners = joined b i e m }
+endpoint_after h b how m moment i e =
+    record b { endpoints = modify b.endpoints i (λ x. endpoint_taken h x how m moment); listeners = joined b i e m }
 
 -- what the host has then
 abbrev pub after_taking : Header → Body → TakeChoice → Emission → ℕ → Taker → Body

@@ -1,6 +1,7 @@
 -- What a host has: endpoints in the order of creation, listeners, and the sockets that name them; and how they are
 -- found (RFC 9293, 3.3.1 and 3.9.1.1).
-use Rattle.std.specs.Prelude.{ℕ, suc, ◌==◌, nat_eq, Bool, true, false, not, ◌&&◌, if◌then◌else◌, List, [], ◌∷◌, slice_get, Option, None, Some, is_some}
+use Rattle.std.specs.Prelude.{ℕ, suc, ◌==◌, nat_eq, Bool, true, false, not, ◌&&◌, if◌then◌else◌, List, [], ◌∷◌}
+use Rattle.std.specs.Prelude.{slice_get, Option, None, Some, is_some}
 use Rattle.std.specs.Map.{lookup}
 use Rattle.std.specs.Option.{option_map_or}
 use Rattle.indexmap.specs.IndexMap.{insert_entry}
@@ -81,4 +82,5 @@ with_socket b n thing = record b { sockets = insert_entry nat_eq b.sockets n (re
 
 -- the socket number is no longer live
 abbrev pub dead : List (ℕ × Socket) → ℕ → List (ℕ × Socket)
-dead sockets n = option_map_or (λ s. insert_entry nat_eq sockets n (record s { live = false })) (lookup (nat_eq n) sockets) sockets
+dead sockets n =
+    option_map_or (λ s. insert_entry nat_eq sockets n (record s { live = false })) (lookup (nat_eq n) sockets) sockets

@@ -34,7 +34,8 @@ endpoint_allows e _ _ = false
 
 abbrev pub thing_allows : Body → Call → Answer → SocketTarget → Bool
 thing_allows b call answer (ListenerAt l) = listener_allows (queue_of b l) call answer
-thing_allows b call answer (EndpointAt i) = option_map_or (λ e. endpoint_allows e call answer) (slice_get b.endpoints i) false
+thing_allows b call answer (EndpointAt i) =
+    option_map_or (λ e. endpoint_allows e call answer) (slice_get b.endpoints i) false
 
 -- the answer to a call on a socket number that is not live, and to no other
 abbrev pub is_bad_socket : Answer → Bool

@@ -11,7 +11,8 @@ pub use Rattle.spec_tcp.specs.declared.endpoint.Listener.{Listener}
 pub use Rattle.spec_tcp.specs.declared.endpoint.SocketTarget.{SocketTarget}
 pub use Rattle.spec_tcp.specs.declared.endpoint.SocketTarget.TheVariants.{ListenerAt, EndpointAt}
 pub use Rattle.spec_tcp.specs.declared.endpoint.Socket.{Socket}
-use Rattle.std.specs.Prelude.{ℕ, ◌+◌, ◌-◌, nat_le, Bool, true, false, not, ◌&&◌, if◌then◌else◌, [], length, Option, None, is_some}
+use Rattle.std.specs.Prelude.{ℕ, ◌+◌, ◌-◌, nat_le, Bool, true, false, not, ◌&&◌, if◌then◌else◌, [], length, Option}
+use Rattle.std.specs.Prelude.{None, is_some}
 use Rattle.std.specs.Option.{option_map_or}
 use Rattle.case_forms.specs.declared.calls.State.{State}
 use Rattle.streams.specs.Received as received

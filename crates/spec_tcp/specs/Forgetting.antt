@@ -9,7 +9,8 @@ use Rattle.spec_tcp.specs.Machine.{tcp_shape}
 
 abbrev pub forget_endpoint : Endpoint → Endpoint
 forget_endpoint e = record e {
-  stream = record e.stream { accepted = below e.stream.snd_una e.stream.accepted; receive = forgotten e.stream.receive };
+  stream =
+      record e.stream { accepted = below e.stream.snd_una e.stream.accepted; receive = forgotten e.stream.receive };
   transmissions = made_below e.stream.snd_una e.transmissions;
 }
 

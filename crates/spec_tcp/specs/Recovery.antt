@@ -13,7 +13,10 @@ is_bad_recovery e cwnd ssthresh =
     || nat_lt (halved e.congestion (flight e)) ssthresh || nat_lt (recovery_window e.congestion ssthresh) cwnd
 
 abbrev pub recovery_rules : Endpoint → (cwnd ssthresh : ℕ) → List (Rule × Bool)
-recovery_rules e cwnd ssthresh = (rules.NoEndpoint, is_closed e.state) ∷ (rules.State, not (is_up e)) ∷ (rules.Recovery, is_bad_recovery e cwnd ssthresh) ∷ []
+recovery_rules e cwnd ssthresh =
+    (rules.NoEndpoint, is_closed e.state) ∷ (rules.State, not (is_up e))
+    ∷ (rules.Recovery, is_bad_recovery e cwnd ssthresh) ∷ []
 
 abbrev pub after_recovery : Endpoint → (cwnd ssthresh : ℕ) → Endpoint
-after_recovery e cwnd ssthresh = record e { congestion = record e.congestion { cwnd = cwnd; ssthresh = ssthresh; fast = true }; recover = snd_max e }
+after_recovery e cwnd ssthresh =
+    record e { congestion = record e.congestion { cwnd = cwnd; ssthresh = ssthresh; fast = true }; recover = snd_max e }

@@ -17,7 +17,8 @@ use Rattle.verdict.specs.Rules.{first_broken}
 use Rattle.verdict.specs.declared.rule.Rule.{Rule}
 use Rattle.spec_network.specs.HostRules.{step_rules}
 use Rattle.spec_network.specs.HostSteps.{after, start}
-use Rattle.spec_network.specs.Hosts.{Answers, At, Begin, Does, Drops, Effect, Expires, Finish, Gets, Hears, Makes, Sends, Step, Takes, World}
+use Rattle.spec_network.specs.Hosts.{Answers, At, Begin, Does, Drops, Effect, Expires, Finish, Gets, Hears, Makes}
+use Rattle.spec_network.specs.Hosts.{Sends, Step, Takes, World}
 use Rattle.spec_tcp.specs.Machine.{tcp_shape, tcp}
 
 -- a line's step
@@ -54,7 +55,8 @@ hidden_step label = option_map step_of (with_line (λ line. None) label)
 
 -- the rule that a witness's step breaks, if it breaks one
 abbrev pub rule_broken : Header → List lines.Line → World tcp_shape → witness.Step → Option Rule
-rule_broken h all w s = option_map_or (λ step. first_broken (step_rules (tcp h) s.moment w step)) (label_step (line_at h all) s.label) None
+rule_broken h all w s =
+    option_map_or (λ step. first_broken (step_rules (tcp h) s.moment w step)) (label_step (line_at h all) s.label) None
 
 -- the world after it
 abbrev pub world_after : Header → List lines.Line → World tcp_shape → witness.Step → World tcp_shape
@@ -65,7 +67,8 @@ world_after h all w s = option_map_or (λ step. after (tcp h) s.moment w step) (
 abbrev pub broken_from : Header → List lines.Line → World tcp_shape → ℕ → List witness.Step → Option (ℕ × Rule)
 broken_from h all w place [] = None
 broken_from h all w place (s ∷ steps) =
-    option_map_or (λ rule. Some (place, rule)) (rule_broken h all w s) (broken_from h all (world_after h all w s) (suc place) steps)
+    option_map_or (λ rule. Some (place, rule)) (rule_broken h all w s)
+    (broken_from h all (world_after h all w s) (suc place) steps)
 
 abbrev pub first_broken_step : Header → List lines.Line → List witness.Step → Option (ℕ × Rule)
 first_broken_step h all steps = broken_from h all (start (tcp h)) 2 steps

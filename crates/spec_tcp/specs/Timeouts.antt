@@ -1,5 +1,6 @@
 -- A timer expires: which may, and the endpoint then (RFC 9293, 3.10.8, 3.6.1 and 3.8.6.1; RFC 6298, 5).
-use Rattle.std.specs.Prelude.{ℕ, ◌+◌, ◌==◌, nat_le, nat_lt, Bool, true, false, not, ◌&&◌, ◌||◌, List, [], ◌∷◌, Some, is_some}
+use Rattle.std.specs.Prelude.{ℕ, ◌+◌, ◌==◌, nat_le, nat_lt, Bool, true, false, not, ◌&&◌, ◌||◌, List, [], ◌∷◌, Some}
+use Rattle.std.specs.Prelude.{is_some}
 use Rattle.case_forms.specs.States.{is_closed, is_fin_wait_2}
 use Rattle.case_forms.specs.TakenLines.{timer_of}
 use Rattle.case_forms.specs.declared.taken_line.Expired.{Expired}
@@ -36,7 +37,8 @@ has_more e = nat_lt e.stream.snd_una (end_of e.stream.accepted + flag_count e.st
 -- three expiries without an answer while something is open, or a closed socket that waits for the peer's FIN (this
 -- profile's own)
 abbrev pub may_give_up : Endpoint → Bool
-may_give_up e = (nat_lt e.stream.snd_una (snd_max e) || is_some e.timers.persist_armed) && nat_le 3 e.unanswered_expiries || e.closed && is_fin_wait_2 e.state
+may_give_up e =
+    (nat_lt e.stream.snd_una (snd_max e) || is_some e.timers.persist_armed) && nat_le 3 e.unanswered_expiries || e.closed && is_fin_wait_2 e.state
 
 -- the timer is off, or its needs are not met
 abbrev pub is_off : Endpoint → Timer → Bool
@@ -54,7 +56,8 @@ expiry_rules h moment e x =
 -- to 5.6; RFC 5681, 3.1)
 abbrev pub after_rto : Endpoint → RtoChoice → ℕ → Endpoint
 after_rto e growth moment = record e {
-  congestion = record e.congestion { cwnd = growth.cwnd; ssthresh = growth.ssthresh; dup = 0; counted = 0; fast = false };
+  congestion =
+      record e.congestion { cwnd = growth.cwnd; ssthresh = growth.ssthresh; dup = 0; counted = 0; fast = false };
   recover = snd_max e;
   timers = expired e.timers Rto moment;
   unanswered_expiries = e.unanswered_expiries + 1;
@@ -64,7 +67,8 @@ after_rto e growth moment = record e {
 
 -- a probe is due (RFC 9293, 3.8.6.1)
 abbrev pub after_persist : Endpoint → ℕ → Endpoint
-after_persist e moment = record e { recover = snd_max e; probe_due = true; timers = expired e.timers Persist moment; unanswered_expiries = e.unanswered_expiries + 1 }
+after_persist e moment =
+    record e { recover = snd_max e; probe_due = true; timers = expired e.timers Persist moment; unanswered_expiries = e.unanswered_expiries + 1 }
 
 abbrev pub after_expiry : Endpoint → Expired → ℕ → Endpoint
 after_expiry e (expireds.Rto growth) moment = after_rto e growth moment

@@ -16,7 +16,8 @@ use Rattle.spec_tcp.specs.Same.{same_bool, same_word, same_bytes}
 -- the flags ACK, RST, SYN and FIN are those of the made segment; the others are read and ignored
 abbrev pub same_flags : Segment → Flags → Bool
 same_flags s f =
-    same_bool (has_flag s.flags Ack) f.ack && same_bool (has_flag s.flags Rst) f.rst && same_bool (has_flag s.flags Syn) f.syn
+    same_bool (has_flag s.flags Ack) f.ack && same_bool (has_flag s.flags Rst) f.rst && same_bool
+    (has_flag s.flags Syn) f.syn
     && same_bool (has_flag s.flags Fin) f.fin
 
 -- the fields are those of the made segment: the acknowledgment number where there is one, the window of all but a reset
@@ -28,7 +29,8 @@ header_matches s m =
 
 -- a SYN tells the shift that its sender gave, or none (RFC 7323, 2.2); a byte above 14 is read as 14 (RFC 7323, 2.3)
 abbrev pub shift_matches : Segment → Emission → Bool
-shift_matches s m = option_map_or (λ told. option_map_or (λ given. min told 14 == min given 14) m.shift false) s.scale true
+shift_matches s m =
+    option_map_or (λ told. option_map_or (λ given. min told 14 == min given 14) m.shift false) s.scale true
 
 -- the segment on the wire is the made one; shifts are looked at where windows may be scaled
 abbrev pub matches_sent : Header → Wire → Emission → Bool
@@ -44,4 +46,5 @@ sent moment wire m = record m { bytes = wire.bytes; mss = wire.seg.mss; scale = 
 
 -- what comes in is a copy of it, at most the maximum segment lifetime later (RFC 9293, 3.4.2)
 abbrev pub in_rules : Header → ℕ → Wire → Emission → List (Rule × Bool)
-in_rules h moment wire m = (rules.CopyDiffers, not (same_bytes wire.bytes m.bytes)) ∷ (rules.Lifetime, nat_lt (m.moment + h.msl) moment) ∷ []
+in_rules h moment wire m =
+    (rules.CopyDiffers, not (same_bytes wire.bytes m.bytes)) ∷ (rules.Lifetime, nat_lt (m.moment + h.msl) moment) ∷ []

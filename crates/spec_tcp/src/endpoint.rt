@@ -1,7 +1,8 @@
 //! What a host has, as values: endpoints, segments that were made, listeners, and what socket numbers name.
 
 ghost use Rattle.std.specs.Prelude.{◌≡◌, ◌<◌, ◌^◌, IfOk};
-ghost use Rattle.spec_tcp.specs.Endpoints.{flight, is_scaling, is_up, snd_max, new_endpoint, rcv_nxt, peer_window, receive_window, segment_length, window_in};
+ghost use Rattle.spec_tcp.specs.Endpoints.{flight, is_scaling, is_up, snd_max, new_endpoint, rcv_nxt, peer_window};
+ghost use Rattle.spec_tcp.specs.Endpoints.{receive_window, segment_length, window_in};
 
 use crate::arrived::Arrived;
 use crate::queue::Queue;

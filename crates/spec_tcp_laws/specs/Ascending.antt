@@ -61,4 +61,5 @@ IsLeastBroken rules least = All (λ r. r.1 ≡ true → rule_number least ≤ ru
 -- the machine's rules of each step ascend, behind the six of order
 abbrev pub RulesAscend : Type 0
 RulesAscend =
-    (h : Header) (moment : ℕ) (w : World tcp_shape) (step : Step tcp_shape) → ascend 6 (step_rules (tcp h) moment w step) ≡ true
+    (h : Header) (moment : ℕ) (w : World tcp_shape) (step : Step tcp_shape)
+    → ascend 6 (step_rules (tcp h) moment w step) ≡ true

@@ -53,16 +53,20 @@ greatest_taking h e m = greatest_reading h.initial e (as_read h.version e m)
 -- the step takes this segment, which waits for it, at the endpoint
 abbrev pub TakesThere : World tcp_shape → Step tcp_shape → EndpointId → Endpoint → Emission → Type 0
 TakesThere w step me e m = (line : ℕ) × (how : TakeChoice) × (step ≡ At me.host (Takes line how))
-    × (waiting line (pick w.hosts me.host).inbox ≡ Some m) × (taker (pick w.hosts me.host).body m ≡ AtEndpoint me.number e)
+    × (waiting line (pick w.hosts me.host).inbox ≡ Some m)
+    × (taker (pick w.hosts me.host).body m ≡ AtEndpoint me.number e)
 
 -- the step is an expiry of the retransmission timer of the endpoint's ports
 abbrev pub TimesOut : World tcp_shape → Step tcp_shape → EndpointId → Type 0
-TimesOut w step me = (line : ℕ) × (x : Expiring) × (growth : RtoChoice) × (step ≡ At me.host (Expires line x)) × (x.expired ≡ Rto growth)
+TimesOut w step me =
+    (line : ℕ) × (x : Expiring) × (growth : RtoChoice) × (step ≡ At me.host (Expires line x)) × (x.expired ≡ Rto growth)
     × (place_of (pick w.hosts me.host).body x.lport x.rport ≡ Some me.number)
 
 -- the step begins fast recovery at the endpoint of these ports
 abbrev pub Recovers : World tcp_shape → Step tcp_shape → EndpointId → Type 0
-Recovers w step me = (x : Recovery) × (step ≡ At me.host (Does x)) × (place_of (pick w.hosts me.host).body x.lport x.rport ≡ Some me.number)
+Recovers w step me =
+    (x : Recovery) × (step ≡ At me.host (Does x))
+    × (place_of (pick w.hosts me.host).body x.lport x.rport ≡ Some me.number)
 
 -- after the step the endpoint is there, and this holds of its congestion window and slow start threshold
 abbrev pub Leaves : Header → ℕ → World tcp_shape → Step tcp_shape → EndpointId → (Congestion → Type 0) → Type 0
@@ -79,11 +83,13 @@ pub record WindowsFollow (h : Header) (moment : ℕ) (w : World tcp_shape) (step
   -- where fast recovery begins, ssthresh is at most half the flight, or two segments, and cwnd at most that with a
   -- segment more for each duplicate
   pub recovers : (me : EndpointId) (e : Endpoint) → find w.hosts me ≡ Some e → Recovers w step me
-      → Leaves h moment w step me (λ c. (c.ssthresh ≤ halved e.congestion (flight e)) × (c.cwnd ≤ recovery_window e.congestion c.ssthresh))
+      → Leaves h moment w step me (λ c. (c.ssthresh ≤ halved e.congestion (flight e))
+      × (c.cwnd ≤ recovery_window e.congestion c.ssthresh))
   -- every other step leaves both as they are
   pub stays : (me : EndpointId) (e : Endpoint) → find w.hosts me ≡ Some e
       → ((m : Emission) → TakesThere w step me e m → ⊥) → (TimesOut w step me → ⊥) → (Recovers w step me → ⊥)
       → Leaves h moment w step me (λ c. (c.cwnd ≡ e.congestion.cwnd) × (c.ssthresh ≡ e.congestion.ssthresh))
   -- a new endpoint begins with no congestion window and the greatest threshold
-  pub begins : (me : EndpointId) (f : Endpoint) → find w.hosts me ≡ None → find (after (tcp h) moment w step).hosts me ≡ Some f
+  pub begins : (me : EndpointId) (f : Endpoint) → find w.hosts me ≡ None
+      → find (after (tcp h) moment w step).hosts me ≡ Some f
       → (f.congestion.cwnd ≡ 0) × (f.congestion.ssthresh ≡ greatest_value)

@@ -46,10 +46,13 @@ Carried h steps me position cell = CarriedFrom h (start (tcp h)) steps me positi
 
 -- the socket number names an endpoint, and the cell was carried to it
 abbrev pub CarriedTo : Header → List (Stamped tcp_shape) → (socket position : ℕ) → Cell → Type 0
-CarriedTo h steps socket position cell = (me : EndpointId) × (is_socket_of (world_at_end h steps).hosts socket me ≡ true) × Carried h steps me position cell
+CarriedTo h steps socket position cell =
+    (me : EndpointId) × (is_socket_of (world_at_end h steps).hosts socket me ≡ true) × Carried h steps me position cell
 
 -- byte i of what the reads on a socket number were told was carried at position 1 + i; where one was told the end, a
 -- FIN behind all of them was
 pub record ReadsWereCarried (h : Header) (steps : List (Stamped tcp_shape)) : Type 0 where
-  pub bytes : (socket i value : ℕ) → slice_get (told_to h socket steps) i ≡ Some value → CarriedTo h steps socket (1 + i) (Byte value)
-  pub end : (socket : ℕ) → was_told_end h socket steps ≡ true → CarriedTo h steps socket (1 + length (told_to h socket steps)) Fin
+  pub bytes : (socket i value : ℕ) → slice_get (told_to h socket steps) i ≡ Some value
+      → CarriedTo h steps socket (1 + i) (Byte value)
+  pub end : (socket : ℕ) → was_told_end h socket steps ≡ true
+      → CarriedTo h steps socket (1 + length (told_to h socket steps)) Fin

@@ -32,7 +32,8 @@ pub record BeginsWhatPeerSent (h : Header) (steps : List (Stamped tcp_shape)) (s
 -- the peer's bytes begin
 pub record ReadsInOrder (h : Header) (steps : List (Stamped tcp_shape)) (socket : ℕ) (s : Stream) : Type 0 where
   pub told : told_to h socket steps ≡ received s.receive
-  pub peer : ((s.peer ≡ None) × (told_to h socket steps ≡ [])) ⊎ ((q : EndpointId) × (s.peer ≡ Some q) × BeginsWhatPeerSent h steps socket q)
+  pub peer : ((s.peer ≡ None) × (told_to h socket steps ≡ []))
+      ⊎ ((q : EndpointId) × (s.peer ≡ Some q) × BeginsWhatPeerSent h steps socket q)
 
 -- so it is at each socket number that names an endpoint
 abbrev pub ReceivedIsAPrefix : Header → List (Stamped tcp_shape) → Type 0
@@ -50,17 +51,21 @@ pub record HasAllOfPeer (h : Header) (steps : List (Stamped tcp_shape)) (socket 
 abbrev pub EndIsWhole : Header → List (Stamped tcp_shape) → Type 0
 EndIsWhole h steps = (socket : ℕ) → was_told_end h socket steps ≡ true
     → (me : EndpointId) × (is_socket_of (world_at_end h steps).hosts socket me ≡ true)
-    × HasStream (world_at_end h steps).hosts me (λ s. (q : EndpointId) × (s.peer ≡ Some q) × HasAllOfPeer h steps socket q)
+    × HasStream (world_at_end h steps).hosts me (λ s. (q : EndpointId) × (s.peer ≡ Some q)
+    × HasAllOfPeer h steps socket q)
 
 -- the endpoint of this name has a peer, whose peer it is, and which took at this position what the endpoint sends there
 abbrev pub TookFrom : Both (HostState tcp_shape) → EndpointId → Stream → ℕ → Type 0
 TookFrom hosts me s position = (q : EndpointId) × (s.peer ≡ Some q)
-    × HasStream hosts q (λ t. (t.peer ≡ Some me) × (cell : Cell) × (slice_get t.receive.taken position ≡ Some (Some cell)) ×
+    × HasStream hosts q (λ t. (t.peer ≡ Some me) × (cell : Cell)
+    × (slice_get t.receive.taken position ≡ Some (Some cell)) ×
     (slice_get (cells s.accepted s.ended) position ≡ Some cell))
 
 -- each position below the oldest that is not acknowledged after a step, but for the SYN's, was taken by the peer before
 -- it; of
 -- the SYN nothing is said, since a segment of an older connection may acknowledge it
 abbrev pub AcknowledgedWasTaken : Header → List (Stamped tcp_shape) → Stamped tcp_shape → Type 0
-AcknowledgedWasTaken h steps x = (me : EndpointId) (f : Endpoint) → find (after (tcp h) x.moment (world_at_end h steps) x.step).hosts me ≡ Some f
-    → (position : ℕ) → 0 < position → position < f.stream.snd_una → TookFrom (world_at_end h steps).hosts me f.stream position
+AcknowledgedWasTaken h steps x =
+    (me : EndpointId) (f : Endpoint) → find (after (tcp h) x.moment (world_at_end h steps) x.step).hosts me ≡ Some f
+    → (position : ℕ) → 0 < position → position < f.stream.snd_una
+    → TookFrom (world_at_end h steps).hosts me f.stream position

@@ -8,7 +8,8 @@ use Rattle.case_forms.specs.declared.trace.Line as lines
 use Rattle.case_forms.specs.declared.steps.Step as witness
 use Rattle.verdict.specs.declared.rule.Rule.{Rule}
 use Rattle.spec_network.specs.Tables.{pick}
-use Rattle.spec_network.specs.Hosts.{HostState, World, Deed, Does, Expires, Makes, Sends, Gets, Hears, Takes, Drops, Answers, Step, Begin, Finish, Effect, At, Stamped}
+use Rattle.spec_network.specs.Hosts.{HostState, World, Deed, Does, Expires, Makes, Sends, Gets, Hears, Takes, Drops}
+use Rattle.spec_network.specs.Hosts.{Answers, Step, Begin, Finish, Effect, At, Stamped}
 use Rattle.spec_network.specs.HostRules.{step_rules, Permitted}
 use Rattle.spec_network.specs.HostSteps.{after, after_all, start, Lawful}
 use Rattle.spec_tcp.specs.Machine.{tcp, tcp_shape}
@@ -54,7 +55,8 @@ pub record ForgettingIsFree : Type 0 where
       step_rules (tcp h) moment (forget w) step ≡ step_rules (tcp h) moment w step
   pub next : (h : Header) (moment : ℕ) (w : World tcp_shape) (step : Step tcp_shape) → MakesPermitted h moment w step →
       forget (after (tcp h) moment (forget w) step) ≡ forget (after (tcp h) moment w step)
-  pub besides : (h : Header) (moment : ℕ) (w : World tcp_shape) (step : Step tcp_shape) → MakesPermitted h moment w step →
+  pub besides : (h : Header) (moment : ℕ) (w : World tcp_shape) (step : Step tcp_shape)
+      → MakesPermitted h moment w step →
       SameBesides (after (tcp h) moment (forget w) step) (after (tcp h) moment w step)
 
 -- the world after these steps, where each is followed by forgetting
@@ -65,22 +67,26 @@ kept_run h w (x ∷ xs) = kept_run h (forget (after (tcp h) x.moment w x.step)) 
 -- a run that forgets: each step is permitted in the world that was kept
 abbrev pub KeptLawful : Header → World tcp_shape → List (Stamped tcp_shape) → Type 0
 KeptLawful h w [] = Unit {0}
-KeptLawful h w (x ∷ xs) = Permitted (tcp h) x.moment w x.step × KeptLawful h (forget (after (tcp h) x.moment w x.step)) xs
+KeptLawful h w (x ∷ xs) =
+    Permitted (tcp h) x.moment w x.step × KeptLawful h (forget (after (tcp h) x.moment w x.step)) xs
 
 -- where the first rule is broken by steps of a witness, each followed by forgetting, and which
 abbrev pub kept_broken_from : Header → List lines.Line → World tcp_shape → ℕ → List witness.Step → Option (ℕ × Rule)
 kept_broken_from h all w place [] = None
 kept_broken_from h all w place (s ∷ steps) =
-    option_map_or (λ rule. Some (place, rule)) (rule_broken h all w s) (kept_broken_from h all (forget (world_after h all w s)) (suc place) steps)
+    option_map_or (λ rule. Some (place, rule)) (rule_broken h all w s)
+    (kept_broken_from h all (forget (world_after h all w s)) (suc place) steps)
 
 -- a run that forgets is permitted exactly where the whole one is, ends in what is kept of its end, and breaks the same
 -- rule
 -- first; the first step of a witness stands in line 2
 pub record RunsForget : Type 0 where
   pub starts : (h : Header) → forget (start (tcp h)) ≡ start (tcp h)
-  pub lawful : (h : Header) (w : World tcp_shape) (steps : List (Stamped tcp_shape)) → KeptLawful h (forget w) steps ↔ Lawful (tcp h) w steps
+  pub lawful : (h : Header) (w : World tcp_shape) (steps : List (Stamped tcp_shape)) → KeptLawful h (forget w) steps
+      ↔ Lawful (tcp h) w steps
   pub ends : (h : Header) (w : World tcp_shape) (steps : List (Stamped tcp_shape)) → Lawful (tcp h) w steps →
       kept_run h (forget w) steps ≡ forget (after_all (tcp h) w steps)
   pub breaks : (h : Header) (all : List lines.Line) (w : World tcp_shape) (place : ℕ) (steps : List witness.Step) →
       kept_broken_from h all (forget w) place steps ≡ broken_from h all w place steps
-  pub first : (h : Header) (all : List lines.Line) (steps : List witness.Step) → kept_broken_from h all (start (tcp h)) 2 steps ≡ first_broken_step h all steps
+  pub first : (h : Header) (all : List lines.Line) (steps : List witness.Step)
+      → kept_broken_from h all (start (tcp h)) 2 steps ≡ first_broken_step h all steps

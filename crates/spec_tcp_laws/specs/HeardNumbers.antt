@@ -9,7 +9,8 @@ use Rattle.spec_tcp.specs.Arrives.OtherStates.Sequence.{reads_as}
 -- where a number reads as a position, and a text could name it, that is the position, and the number reads back; where
 -- it reads as none, it doesn't
 pub record HeardNumbersAreRead (near : ℕ) (base w : Word) : Type 0 where
-  pub read : (position : ℕ) → near_position near base w ≡ Some position → position ≤ greatest_position → position_near near (Some base) w ≡ position
+  pub read : (position : ℕ) → near_position near base w ≡ Some position → position ≤ greatest_position
+      → position_near near (Some base) w ≡ position
   pub again : (position : ℕ) → near_position near base w ≡ Some position → position ≤ greatest_position →
       reads_as near (Some base) w (position_near near (Some base) w) ≡ true
   pub none : near_position near base w ≡ None → reads_as near (Some base) w (position_near near (Some base) w) ≡ false

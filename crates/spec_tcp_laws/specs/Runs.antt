@@ -1,5 +1,6 @@
 -- What the steps of a run say by themselves: what reads were told, what sends accepted, and which sendings were ended.
-use Rattle.std.specs.Prelude.{ℕ, ◌==◌, nat_eq, Bool, false, ◌||◌, if◌then◌else◌, List, [], ◌∷◌, ◌++◌, take, Option, None, Some}
+use Rattle.std.specs.Prelude.{ℕ, ◌==◌, nat_eq, Bool, false, ◌||◌, if◌then◌else◌, List, [], ◌∷◌, ◌++◌, take, Option}
+use Rattle.std.specs.Prelude.{None, Some}
 use Rattle.std.specs.Option.{option_map_or}
 use Rattle.std.specs.Map.{lookup}
 use Rattle.case_forms.specs.declared.trace.Header.{Header}
@@ -8,7 +9,8 @@ use Rattle.case_forms.specs.declared.calls.Call.TheVariants as calls
 use Rattle.case_forms.specs.declared.calls.Answer.{Answer}
 use Rattle.case_forms.specs.declared.calls.Answer.TheVariants as answers
 use Rattle.spec_network.specs.Tables.{Both, pick}
-use Rattle.spec_network.specs.Hosts.{HostState, Turn, Idle, Called, Answered, World, Step, Begin, Finish, Effect, At, Stamped, turn_of}
+use Rattle.spec_network.specs.Hosts.{HostState, Turn, Idle, Called, Answered, World, Step, Begin, Finish, Effect, At}
+use Rattle.spec_network.specs.Hosts.{Stamped, turn_of}
 use Rattle.spec_network.specs.HostSteps.{after, after_all, start}
 use Rattle.spec_tcp.specs.declared.endpoint.EndpointId.{EndpointId}
 use Rattle.spec_tcp.specs.declared.endpoint.SocketTarget.{SocketTarget}
@@ -70,7 +72,9 @@ of_effect h w (At host deed) none f = none
 -- the bytes that the steps from this world on told the reads on a socket number, in their order
 abbrev pub told_from : Header → ℕ → World tcp_shape → List (Stamped tcp_shape) → List ℕ
 told_from h socket w [] = []
-told_from h socket w (x ∷ xs) = of_effect h w x.step [] (λ call answer. call_told call answer socket) ++ told_from h socket (after (tcp h) x.moment w x.step) xs
+told_from h socket w (x ∷ xs) =
+    of_effect h w x.step [] (λ call answer. call_told call answer socket)
+    ++ told_from h socket (after (tcp h) x.moment w x.step) xs
 
 -- one of them told those reads the end
 abbrev pub told_end_from : Header → ℕ → World tcp_shape → List (Stamped tcp_shape) → Bool

@@ -73,8 +73,10 @@ left_number _ = None
 
 -- the step is the effect of such a call, whose socket number names this at that host
 abbrev pub CallsOn : (Call → Option ℕ) → World tcp_shape → Step tcp_shape → Host → SocketTarget → Type 0
-CallsOn number w step host thing = (thread : ℕ) × (answer : Answer) × (call : Call) × (n : ℕ) × (step ≡ Effect thread answer)
-    × (turn_of thread w.threads ≡ Called call) × (number call ≡ Some n) × (thing_of (pick w.hosts host).body n ≡ Some thing)
+CallsOn number w step host thing =
+    (thread : ℕ) × (answer : Answer) × (call : Call) × (n : ℕ) × (step ≡ Effect thread answer)
+    × (turn_of thread w.threads ≡ Called call) × (number call ≡ Some n)
+    × (thing_of (pick w.hosts host).body n ≡ Some thing)
 
 -- TIME-WAIT is over, or the endpoint gives up (RFC 9293, 3.6.1 and 3.8.3)
 abbrev pub closes : Expired → Bool
@@ -95,10 +97,12 @@ MakesReset w step me =
 -- from the state of an endpoint a step may lead to this one
 pub data MayLead (w : World tcp_shape) (step : Step tcp_shape) (me : EndpointId) (e : Endpoint) (t : State) : Type 0 where
   Stays : t ≡ e.state → MayLead w step me e t
-  ByClose : CallsOn closed_number w step me.host (EndpointAt me.number) → close_leads e.state t ≡ true → MayLead w step me e t
+  ByClose : CallsOn closed_number w step me.host (EndpointAt me.number) → close_leads e.state t ≡ true
+      → MayLead w step me e t
   ByAbort : CallsOn aborted_number w step me.host (EndpointAt me.number) → t ≡ states.Closed → MayLead w step me e t
   -- its listener is closed or aborted before the endpoint is accepted
-  ByListener : (l : ℕ) → e.listener ≡ Some l → CallsOn left_number w step me.host (ListenerAt l) → t ≡ states.Closed → MayLead w step me e t
+  ByListener : (l : ℕ) → e.listener ≡ Some l → CallsOn left_number w step me.host (ListenerAt l) → t ≡ states.Closed
+      → MayLead w step me e t
   -- the endpoint takes a segment without RST: its SYN or its acknowledgment may lead on, and from there its FIN (note 2
   -- at figure 5)
   BySegment : (m : Emission) (between : State) → TakesThere w step me e m → m.flags.rst ≡ false →
@@ -119,7 +123,8 @@ pub record StatesFollow (h : Header) (moment : ℕ) (w : World tcp_shape) (step 
       (find (after (tcp h) moment w step).hosts me ≡ Some f) × MayLead w step me e f.state
   pub waits : (me : EndpointId) (e : Endpoint) → find w.hosts me ≡ Some e → e.state ≡ states.TimeWait → (f : Endpoint) ×
       (find (after (tcp h) moment w step).hosts me ≡ Some f) × WaitsOn e f
-  pub begins : (me : EndpointId) (f : Endpoint) → find w.hosts me ≡ None → find (after (tcp h) moment w step).hosts me ≡ Some f →
+  pub begins : (me : EndpointId) (f : Endpoint) → find w.hosts me ≡ None
+      → find (after (tcp h) moment w step).hosts me ≡ Some f →
       (f.state ≡ states.SynSent) ⊎ (f.state ≡ states.SynReceived)
 
 -- none of these is below what it was (RFC 9293, 3.3.1): SND.UNA, SND.NXT at its greatest, RCV.NXT, and the greatest

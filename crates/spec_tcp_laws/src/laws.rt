@@ -27,12 +27,14 @@ use seqno::numbers_are_found_near;
 
 /// The bytes that reads on a socket number were told are a prefix of the bytes that its peer's sends accepted.
 pub fn received_is_a_prefix()
-    ensures { (h : Header) → is_half h.version ≡ false → (steps : List (Stamped tcp_shape)) → Lawful (tcp h) (start (tcp h)) steps → ReceivedIsAPrefix h steps }
+    ensures { (h : Header) → is_half h.version ≡ false → (steps : List (Stamped tcp_shape))
+        → Lawful (tcp h) (start (tcp h)) steps → ReceivedIsAPrefix h steps }
 {}
 
 /// Once a read was told the end, it was told all that the peer's sends ever accept, and the peer's sending was ended.
 pub fn end_is_whole()
-    ensures { (h : Header) → is_half h.version ≡ false → (steps : List (Stamped tcp_shape)) → Lawful (tcp h) (start (tcp h)) steps → EndIsWhole h steps }
+    ensures { (h : Header) → is_half h.version ≡ false → (steps : List (Stamped tcp_shape))
+        → Lawful (tcp h) (start (tcp h)) steps → EndIsWhole h steps }
 {}
 
 /// What is acknowledged, but for the SYN, was taken by the peer before the step that acknowledged it.
@@ -48,7 +50,8 @@ pub fn acknowledged_was_taken()
 /// case, also
 /// where one host alone was recorded.
 pub fn reads_were_carried()
-    ensures { (h : Header) (steps : List (Stamped tcp_shape)) → Lawful (tcp h) (start (tcp h)) steps → ReadsWereCarried h steps }
+    ensures { (h : Header) (steps : List (Stamped tcp_shape)) → Lawful (tcp h) (start (tcp h)) steps
+        → ReadsWereCarried h steps }
 {}
 
 /// Bytes that are made for the first time end in the window that the peer offers and in the congestion window. Other
@@ -63,7 +66,8 @@ pub fn new_data_fits()
 /// the slow start threshold at or below what they allow, also where a loss lowers it; every other step leaves both as
 /// they are.
 pub fn windows_follow()
-    ensures { (h : Header) (moment : ℕ) (w : World tcp_shape) (step : Step tcp_shape) → Permitted (tcp h) moment w step → WindowsFollow h moment w step }
+    ensures { (h : Header) (moment : ℕ) (w : World tcp_shape) (step : Step tcp_shape) → Permitted (tcp h) moment w step
+        → WindowsFollow h moment w step }
 {}
 
 /// A step leaves an endpoint in its state, or in one to which an arrow of RFC 9293, 3.3.2, figure 5, leads at such a
@@ -83,7 +87,8 @@ pub fn states_follow()
 /// made, the next
 /// one that it expects of its peer or the greatest that its windows reached below what it was (RFC 9293, 3.3.1).
 pub fn positions_never_fall()
-    ensures { (h : Header) (steps : List (Stamped tcp_shape)) (x : Stamped tcp_shape) → Lawful (tcp h) (start (tcp h)) steps →
+    ensures { (h : Header) (steps : List (Stamped tcp_shape)) (x : Stamped tcp_shape)
+        → Lawful (tcp h) (start (tcp h)) steps →
         Permitted (tcp h) x.moment (world_at_end h steps) x.step → PositionsNeverFall h steps x }
 {}
 
@@ -98,7 +103,8 @@ pub fn rules_ascend()
 /// sequence
 /// number doesn't read as its position any more (RFC 9293, 3.4).
 pub fn old_copies_are_refused()
-    ensures { (e : Endpoint) (m : Emission) → m.is_reset_reply ≡ false → m.pos + 2 ^ 31 < rcv_nxt e → is_bad_number e m ≡ true }
+    ensures { (e : Endpoint) (m : Emission) → m.is_reset_reply ≡ false → m.pos + 2 ^ 31 < rcv_nxt e
+        → is_bad_number e m ≡ true }
 {}
 
 /// A number of a segment that is heard of a host that is not recorded reads back exactly where it reads as a position

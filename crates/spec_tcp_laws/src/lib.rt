@@ -4,9 +4,9 @@
 //!
 //! - `laws`: what reads are told, what the end says, what is acknowledged, of two recorded hosts; which segments
 //!   brought what
-//!   reads are told, of every case; how far new data reaches, how windows move, how states follow each other, that positions
-//!   never fall, that rules stand in the order of their numbers, which copies are too old, how numbers are read of which the
-//!   position isn't known
+//!   reads are told, of every case; how far new data reaches, how windows move, how states follow each other, that
+//!   positions never fall, that rules stand in the order of their numbers, which copies are too old, how numbers are
+//!   read of which the position isn't known
 //! - `forgetting`: what may be discarded matters to no rule, and to nothing that is kept
 //!
 //! What is said of it stands in specs/: `Runs` has what the steps of a run say by themselves, `Consequences` what

@@ -36,7 +36,8 @@ ports_of m = record { lport = m.rport; rport = m.lport }
 
 -- what waits under a line is for the endpoint of these ports
 abbrev pub IsHeld : Core → ℕ → Ports → Type 0
-IsHeld c n ports = (m : Emission) × (waiting n (pick (world c).hosts c.recorded.me).inbox ≡ Some m) × (ports ≡ ports_of m)
+IsHeld c n ports =
+    (m : Emission) × (waiting n (pick (world c).hosts c.recorded.me).inbox ≡ Some m) × (ports ≡ ports_of m)
 
 -- it may be taken, with its bytes
 abbrev pub MayTake : Core → ℕ → Type 0
@@ -77,8 +78,10 @@ IsRecovered c ports d =
 pub data IsSettled (c : Core) (n : ℕ) (ports : Ports) (d : Core) : Type 0 where
   Taken : (choice : TakeChoice) (keep : choice.keep ≡ true) (may : MayTake c n)
       (recovered : IsRecovered (with_step c (At c.recorded.me (Takes n choice))) ports d) → IsSettled c n ports d
-  Reset : (not_taken : MayTake c n → ⊥) (may : MayReset c n) (row : d ≡ with_step c (At c.recorded.me (Answers n))) → IsSettled c n ports d
-  Dropped : (not_taken : MayTake c n → ⊥) (no_reset : MayReset c n → ⊥) (row : d ≡ with_step c (At c.recorded.me (Drops n))) → IsSettled c n ports d
+  Reset : (not_taken : MayTake c n → ⊥) (may : MayReset c n) (row : d ≡ with_step c (At c.recorded.me (Answers n)))
+      → IsSettled c n ports d
+  Dropped : (not_taken : MayTake c n → ⊥) (no_reset : MayReset c n
+      → ⊥) (row : d ≡ with_step c (At c.recorded.me (Drops n))) → IsSettled c n ports d
 
 -- what memory may leave of it: nothing, or that it was taken with its bytes, where fast recovery was to begin behind
 abbrev pub IsSettledShort : Core → ℕ → Ports → Core → Type 0
@@ -95,7 +98,8 @@ pub record IsArrived (c : Core) (tick : Tick) (f : Flying tcp_shape) (d : Core) 
 
 -- the segment is this host's own, or older than the maximum segment lifetime
 abbrev pub IsNotLetIn : Core → Tick → Flying tcp_shape → Type 0
-IsNotLetIn c tick f = (f.key.host ≡ c.recorded.me) ⊎ (nat_lt (f.emission.moment + c.recorded.header.msl) tick.moment ≡ true)
+IsNotLetIn c tick f =
+    (f.key.host ≡ c.recorded.me) ⊎ (nat_lt (f.emission.moment + c.recorded.header.msl) tick.moment ≡ true)
 
 -- it is not older than the maximum segment lifetime
 abbrev pub IsYoung : Core → Tick → Flying tcp_shape → Type 0
@@ -106,11 +110,14 @@ IsYoung c tick f = nat_lt (f.emission.moment + c.recorded.header.msl) tick.momen
 pub data IsArrivedShort (c : Core) (tick : Tick) (f : Flying tcp_shape) (d : Core) : Type 0 where
   Ticked : (row : d ≡ opened c tick) → IsArrivedShort c tick f d
   Brought : (row : d ≡ brought c tick f) → IsArrivedShort c tick f d
-  Came : (wire : Wire) (bytes : wire.bytes ≡ f.emission.bytes) (row : d ≡ came c tick f wire) → IsArrivedShort c tick f d
+  Came : (wire : Wire) (bytes : wire.bytes ≡ f.emission.bytes) (row : d ≡ came c tick f wire)
+      → IsArrivedShort c tick f d
   Took : (wire : Wire) (bytes : wire.bytes ≡ f.emission.bytes) (choice : TakeChoice) (keep : choice.keep ≡ true)
       (may : MayTake (came c tick f wire) (line_to_come c))
-      (due : MayRecover (with_step (came c tick f wire) (At c.recorded.me (Takes (line_to_come c) choice))) (ports_of f.emission))
-      (row : d ≡ with_step (came c tick f wire) (At c.recorded.me (Takes (line_to_come c) choice))) → IsArrivedShort c tick f d
+      (due : MayRecover (with_step (came c tick f wire) (At c.recorded.me (Takes (line_to_come c) choice)))
+      (ports_of f.emission))
+      (row : d ≡ with_step (came c tick f wire) (At c.recorded.me (Takes (line_to_come c) choice)))
+      → IsArrivedShort c tick f d
 
 abbrev pub IsArrival : Core → Tick → Flying tcp_shape → Bool → Core → Type 0
 IsArrival c tick f true d = IsArrived c tick f d

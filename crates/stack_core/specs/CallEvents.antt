@@ -33,7 +33,8 @@ IsAttempted c tick thread a d = (a.thread ≡ thread) × (d ≡ answered c tick 
 
 -- what memory may leave of it: the tick has passed, or an effect stands too, which is not `again`
 abbrev pub IsAttemptShort : Core → Tick → ℕ → Core → Type 0
-IsAttemptShort c tick thread d = (d ≡ opened c tick) ⊎ ((answer : Answer) × (is_again answer ≡ false) × (d ≡ effected c tick thread answer))
+IsAttemptShort c tick thread d =
+    (d ≡ opened c tick) ⊎ ((answer : Answer) × (is_again answer ≡ false) × (d ≡ effected c tick thread answer))
 
 -- no call of the thread is open without effect, or it waits
 abbrev pub NoAnswer : Core → ℕ → Type 0
@@ -41,4 +42,5 @@ NoAnswer c thread = (call : Call) → turn_of thread (world c).threads ≡ Calle
 
 -- the same, looked at in what is kept
 abbrev pub KeptNoAnswer : Core → ℕ → Type 0
-KeptNoAnswer c thread = (call : Call) → turn_of thread (world c).threads ≡ Called call → Waits c.ring (forget_body (own_body c)) call
+KeptNoAnswer c thread =
+    (call : Call) → turn_of thread (world c).threads ≡ Called call → Waits c.ring (forget_body (own_body c)) call

@@ -9,8 +9,8 @@ use Rattle.case_forms.specs.declared.calls.Call.TheVariants as calls
 use Rattle.case_forms.specs.declared.trace.Header.{Header}
 use Rattle.spec_network.specs.HostRules.{Permitted}
 use Rattle.spec_network.specs.Tables.{lane, other, pick}
-use Rattle.spec_network.specs.Hosts.{Deed, Does, Drops, Expires, Gets, Hears, Makes, Sends, Takes, Answers, At, Begin, Called, Effect}
-use Rattle.spec_network.specs.Hosts.{Finish, Idle, Answered, Step, Turn, World, turn_of}
+use Rattle.spec_network.specs.Hosts.{Deed, Does, Drops, Expires, Gets, Hears, Makes, Sends, Takes, Answers, At, Begin}
+use Rattle.spec_network.specs.Hosts.{Called, Effect, Finish, Idle, Answered, Step, Turn, World, turn_of}
 use Rattle.spec_merge.specs.Books.{Aims, Do, FitsItem, Item, Key, step_line}
 use Rattle.spec_merge.specs.Keys.{EachEntry, If}
 use Rattle.spec_merge.specs.Recordings.{IsKept, next_line}

@@ -29,7 +29,8 @@ AreFrom moment entries = (w : Deadline) → IsListed w entries → moment ≤ w.
 -- ever
 pub record AreCovered (Before : ℕ → Endpoint → Type 0) (Ever : Endpoint → Type 0) (looked : ℕ) (entries : List Deadline) (es : List Endpoint) : Type 0 where
   pub within : looked ≤ length es
-  pub each : (i : ℕ) (e : Endpoint) → i < looked → slice_get es i ≡ Some e → ((m : ℕ) × IsListed (from m i) entries × Before m e) ⊎ Ever e
+  pub each : (i : ℕ) (e : Endpoint) → i < looked → slice_get es i ≡ Some e
+      → ((m : ℕ) × IsListed (from m i) entries × Before m e) ⊎ Ever e
 
 -- what may be changed is listed
 abbrev pub IsTouchedIn : Touch → ℕ → List Deadline → Type 0
@@ -62,5 +63,6 @@ IsTouchAt touches.All i = Unit {0}
 
 -- endpoints stay as they are but for these, and none goes
 pub record Leaves (t : Touch) (es fs : List Endpoint) : Type 0 where
-  pub back : (i : ℕ) (f : Endpoint) → i < length es → slice_get fs i ≡ Some f → IsTouchAt t i ⊎ (slice_get es i ≡ Some f)
+  pub back : (i : ℕ) (f : Endpoint) → i < length es → slice_get fs i ≡ Some f → IsTouchAt t i
+      ⊎ (slice_get es i ≡ Some f)
   pub count : length es ≤ length fs

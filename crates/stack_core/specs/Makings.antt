@@ -61,7 +61,9 @@ fin_of e window =
 
 -- it may be made, at a position that a step may name, with a payload that may go out, and a shift that may be told
 abbrev pub IsMakeable : Header → Host → World tcp_shape → SegmentPlan → Type 0
-IsMakeable h me w m = (m.pos ≤ greatest_position) × (m.len ≤ greatest_payload) × TellsWell h.version m × Permitted (tcp h) 0 w (At me (Makes m))
+IsMakeable h me w m =
+    (m.pos ≤ greatest_position) × (m.len ≤ greatest_payload) × TellsWell h.version m
+    × Permitted (tcp h) 0 w (At me (Makes m))
 
 abbrev pub Refuses : Header → Host → World tcp_shape → SegmentPlan → Type 0
 Refuses h me w plan = Permitted (tcp h) 0 w (At me (Makes plan)) → ⊥
@@ -82,5 +84,6 @@ pub record IsTried (h : Header) (me : Host) (w : World tcp_shape) (e : Endpoint)
 -- nothing without RST may be made that takes new positions
 abbrev pub NothingToMake : Header → Host → World tcp_shape → Type 0
 NothingToMake h me w =
-    (m : SegmentPlan) (e : Endpoint) → m.flags.rst ≡ false → endpoint_of (pick w.hosts me).body m.lport m.rport ≡ Some e →
+    (m : SegmentPlan) (e : Endpoint) → m.flags.rst ≡ false
+    → endpoint_of (pick w.hosts me).body m.lport m.rport ≡ Some e →
     snd_max e < m.pos + making_length m → Refuses h me w m

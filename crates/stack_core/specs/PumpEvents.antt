@@ -17,12 +17,15 @@ made c tick plan = with_step (opened c tick) (At c.recorded.me (Makes plan))
 -- an event let a segment out, which flies: a reset that waited, or, where none did, one that it made, with the number
 -- of the last one made
 pub data IsPumped (c : Core) (tick : Tick) (f : Flying tcp_shape) (d : Core) : Type 0 where
-  Answered : (number : ℕ) (waited : IsResetToGo c.recorded number) (out : GoesOut (opened c tick) number f d) → IsPumped c tick f d
-  Made : (free : NoResetWaits c.recorded) (plan : SegmentPlan) (out : GoesOut (made c tick plan) (world (made c tick plan)).count f d) → IsPumped c tick f d
+  Answered : (number : ℕ) (waited : IsResetToGo c.recorded number) (out : GoesOut (opened c tick) number f d)
+      → IsPumped c tick f d
+  Made : (free : NoResetWaits c.recorded) (plan : SegmentPlan)
+      (out : GoesOut (made c tick plan) (world (made c tick plan)).count f d) → IsPumped c tick f d
 
 -- what memory may leave of it: the tick has passed, or, where no reset waits, a segment was made too
 abbrev pub IsPumpedShort : Core → Tick → Core → Type 0
-IsPumpedShort c tick d = (d ≡ opened c tick) ⊎ (NoResetWaits c.recorded × ((plan : SegmentPlan) × (d ≡ made c tick plan)))
+IsPumpedShort c tick d =
+    (d ≡ opened c tick) ⊎ (NoResetWaits c.recorded × ((plan : SegmentPlan) × (d ≡ made c tick plan)))
 
 -- no reset waits, and no segment without RST may be made that takes new positions
 abbrev pub NothingToPump : Core → Type 0

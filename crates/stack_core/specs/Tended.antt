@@ -22,7 +22,9 @@ use Rattle.stack_core.specs.Recordings.{Recorded, world_left}
 
 -- the endpoint makes nothing without RST that takes new positions
 abbrev pub IsQuiet : Endpoint → Type 0
-IsQuiet e = (m : SegmentPlan) → m.flags.rst ≡ false → snd_max e < m.pos + making_length m → first_broken (making_rules e m) ≡ None → ⊥
+IsQuiet e =
+    (m : SegmentPlan) → m.flags.rst ≡ false → snd_max e < m.pos + making_length m
+    → first_broken (making_rules e m) ≡ None → ⊥
 
 -- none of its timers may expire at this moment, but that it may give up
 abbrev pub IsStillAt : Header → ℕ → Endpoint → Type 0
@@ -65,5 +67,7 @@ IsDueSince armed time grain (Some m) = (since : ℕ) × (armed ≡ Some since) �
 
 -- one timer may not expire before a moment, or never
 abbrev pub IsSlow : Header → Endpoint → Timer → Option ℕ → Type 0
-IsSlow h e timer None = (moment : ℕ) (x : Expired) → timer_of x ≡ timer → first_broken (expiry_rules h moment e x) ≡ None → ⊥
-IsSlow h e timer (Some m) = (moment : ℕ) (x : Expired) → timer_of x ≡ timer → moment < m → first_broken (expiry_rules h moment e x) ≡ None → ⊥
+IsSlow h e timer None =
+    (moment : ℕ) (x : Expired) → timer_of x ≡ timer → first_broken (expiry_rules h moment e x) ≡ None → ⊥
+IsSlow h e timer (Some m) =
+    (moment : ℕ) (x : Expired) → timer_of x ≡ timer → moment < m → first_broken (expiry_rules h moment e x) ≡ None → ⊥

@@ -45,7 +45,9 @@ IfGivesUp r ports e = Unit {0}
 
 -- no line of a retransmission timer, a persist timer or a wait in TIME-WAIT is permitted at this moment
 abbrev pub NoneDueAt : Recorded → ℕ → Type 0
-NoneDueAt r moment = (x : Expiring) → (x.expired ≡ expireds.Giveup → ⊥) → Permitted (tcp r.header) moment (world_left r) (At r.me (Expires 0 x)) → ⊥
+NoneDueAt r moment =
+    (x : Expiring) → (x.expired ≡ expireds.Giveup → ⊥)
+    → Permitted (tcp r.header) moment (world_left r) (At r.me (Expires 0 x)) → ⊥
 
 abbrev pub NoneDue : Core → ℕ → Type 0
 NoneDue c moment = NoneDueAt c.recorded moment

@@ -4,7 +4,8 @@ use Rattle.case_forms.specs.Versions.{scales}
 use Rattle.case_forms.specs.Witnesses.{IsShift}
 use Rattle.case_forms.specs.declared.steps.SegmentPlan.{SegmentPlan}
 use Rattle.case_forms.specs.declared.version.Version.{Version}
-use Rattle.spec_network.specs.Hosts.{Answers, At, Begin, Deed, Does, Drops, Effect, Expires, Finish, Gets, Hears, Makes, Sends, Step, Takes}
+use Rattle.spec_network.specs.Hosts.{Answers, At, Begin, Deed, Does, Drops, Effect, Expires, Finish, Gets, Hears, Makes}
+use Rattle.spec_network.specs.Hosts.{Sends, Step, Takes}
 use Rattle.spec_tcp.specs.Bounds.{greatest_position}
 use Rattle.spec_tcp.specs.Machine.{tcp_shape}
 use Rattle.spec_merge.specs.Books.{Bring, Do, Item}

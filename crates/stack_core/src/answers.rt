@@ -72,7 +72,8 @@ fn on_socket(
     ensures some { IfOk result (λ o. IfSome o (λ a. socket_allows body.now number call.now a ≡ true)) }
     ensures once { IfOk result (λ o. IfSome o (λ a. is_again a ≡ false)) }
     ensures gives { IfOk result (λ o. IfSome o (λ a. (n : ℕ) → gives call.now a ≡ Some n → n ≡ next)) }
-    ensures none { IfOk result (λ o. IfNone o ((socket_allows body.now number call.now answers.Again ≡ true) × WaitsAt ring body.now number call.now)) }
+    ensures none { IfOk result (λ o. IfNone o ((socket_allows body.now number call.now answers.Again ≡ true)
+        × WaitsAt ring body.now number call.now)) }
 {
     match body.thing(number) {
         None => Ok(Some(Answer::BadSocket)),

@@ -7,8 +7,9 @@ ghost use Rattle.spec_network.specs.Hosts.{At, Takes};
 ghost use Rattle.spec_tcp.specs.Bounds.{most_steps};
 ghost use Rattle.spec_tcp.specs.Steps.{step_of};
 ghost use Rattle.spec_merge.specs.Books.{Bring};
-ghost use Rattle.stack_core.specs.ArrivalEvents.{IsArrival, IsArrivedShort, IsCameIn, IsChoice, IsHeld, IsRecovered, IsRecoveryAt};
-ghost use Rattle.stack_core.specs.ArrivalEvents.{IsRefusedRecovery, IsSettled, IsSettledShort, IsYoung, MayDrop, MayRecover, MayTake, ports_of};
+ghost use Rattle.stack_core.specs.ArrivalEvents.{IsArrival, IsArrivedShort, IsCameIn, IsChoice, IsHeld, IsRecovered};
+ghost use Rattle.stack_core.specs.ArrivalEvents.{IsRecoveryAt, IsRefusedRecovery, IsSettled, IsSettledShort, IsYoung};
+ghost use Rattle.stack_core.specs.ArrivalEvents.{MayDrop, MayRecover, MayTake, ports_of};
 ghost use Rattle.stack_core.specs.CoreWorlds.{Leaves};
 ghost use Rattle.stack_core.specs.CoreWorlds.CoreCall.{Arrive};
 ghost use Rattle.stack_core.specs.Cores.{IsAfter, IsRecorded, MayDo, line_to_come, with_item};
@@ -196,7 +197,8 @@ impl HostCore {
     // How it is taken so, if it may be.
     fn take_with(&self, line: u64, cwnd: u32, sample: bool) -> Option<TakeChoice>
         requires steps { steps_in self.now.recorded.entries < most_steps }
-        ensures some { IfSome result (λ choice. (choice.keep ≡ true) × MayDo self.now (At self.now.recorded.me (Takes line choice))) }
+        ensures some { IfSome result (λ choice. (choice.keep ≡ true)
+            × MayDo self.now (At self.now.recorded.me (Takes line choice))) }
         ensures same { IfSome result (λ choice. choice ≡ record { cwnd = cwnd; keep = true; sample = sample }) }
         ensures none { IfNone result (MayDo self.now (At self.now.recorded.me (Takes line (record { cwnd = cwnd; keep = true; sample = sample }))) → ⊥) }
     {

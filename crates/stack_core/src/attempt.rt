@@ -47,7 +47,9 @@ impl HostCore {
         requires lane { lane thread ≡ self.old.recorded.me }
         ensures some { IfOk result (λ o. IfSome o (λ a. IsAttempted self.old tick thread a self.new)) }
         ensures once { IfOk result (λ o. IfSome o (λ a. is_again a.answer ≡ false)) }
-        ensures gives { IfOk result (λ o. IfSome o (λ a. GivesNext self.old.recorded.me (own_body self.old) (turn_of thread (world self.old).threads) a.answer)) }
+        ensures gives { IfOk result (λ o. IfSome o
+            (λ a. GivesNext self.old.recorded.me (own_body self.old)
+            (turn_of thread (world self.old).threads) a.answer)) }
         ensures none { IfOk result (λ o. IfNone o ((self.new ≡ self.old) × NoAnswer self.old thread)) }
         ensures err { OnErr result (IsAttemptShort self.old tick thread self.new) }
         ensures leaves { Leaves self.old tick (Attempt thread result) self.new }
@@ -65,7 +67,9 @@ impl HostCore {
         requires lane { lane thread ≡ self.old.recorded.me }
         ensures some { IfOk result (λ o. IfSome o (λ a. IsAttempted self.old tick thread a self.new)) }
         ensures once { IfOk result (λ o. IfSome o (λ a. is_again a.answer ≡ false)) }
-        ensures gives { IfOk result (λ o. IfSome o (λ a. GivesNext self.old.recorded.me (own_body self.old) (turn_of thread (world self.old).threads) a.answer)) }
+        ensures gives { IfOk result (λ o. IfSome o
+            (λ a. GivesNext self.old.recorded.me (own_body self.old)
+            (turn_of thread (world self.old).threads) a.answer)) }
         ensures none { IfOk result (λ o. IfNone o ((self.new ≡ self.old) × NoAnswer self.old thread)) }
         ensures err { OnErr result (IsAttemptShort self.old tick thread self.new) }
     {
@@ -145,7 +149,8 @@ impl HostCore {
         requires few { steps_in self.now.recorded.entries < 1000000000 }
         ensures permitted { IfOk result (λ o. IfSome o (λ a. MayAnswer self.now thread a)) }
         ensures once { IfOk result (λ o. IfSome o (λ a. is_again a ≡ false)) }
-        ensures gives { IfOk result (λ o. IfSome o (λ a. GivesNext self.now.recorded.me (own_body self.now) (turn_of thread (world self.now).threads) a)) }
+        ensures gives { IfOk result (λ o. IfSome o
+            (λ a. GivesNext self.now.recorded.me (own_body self.now) (turn_of thread (world self.now).threads) a)) }
         ensures none { IfOk result (λ o. IfNone o (KeptNoAnswer self.now thread)) }
     {
         forgetting_is_free();

@@ -133,7 +133,8 @@ impl DeadlineQueue {
     // An entry joins. False: memory ran out, and nothing is changed.
     fn list(&mut self, wake: Deadline) -> bool
         ensures looked { self.new.looked ≡ self.old.looked }
-        ensures yes { result ≡ true → AreStill self.old.entries.keys self.new.entries.keys × IsListed wake self.new.entries.keys }
+        ensures yes { result ≡ true → AreStill self.old.entries.keys self.new.entries.keys
+            × IsListed wake self.new.entries.keys }
         ensures no { result ≡ false → self.new.entries.keys ≡ self.old.entries.keys }
     {
         match self.entries.insert(wake) {

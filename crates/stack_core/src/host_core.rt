@@ -7,8 +7,8 @@ ghost use Rattle.spec_tcp.specs.Machine.{tcp};
 ghost use Rattle.spec_tcp.specs.Steps.{step_of};
 ghost use Rattle.spec_merge.specs.Books.{Bring};
 ghost use Rattle.spec_merge.specs.Keys.{EachEntry};
-ghost use Rattle.stack_core.specs.Cores.{Fits, IsAfter, IsBelow, IsNextLine, IsOrderly, IsOwn, IsRecorded, line_to_come, lines_taken};
-ghost use Rattle.stack_core.specs.Cores.{new_core, opened, with_item, with_step, world};
+ghost use Rattle.stack_core.specs.Cores.{Fits, IsAfter, IsBelow, IsNextLine, IsOrderly, IsOwn, IsRecorded};
+ghost use Rattle.stack_core.specs.Cores.{line_to_come, lines_taken, new_core, opened, with_item, with_step, world};
 ghost use Rattle.stack_core.specs.Entries.{steps_in};
 ghost use Rattle.stack_core.specs.Told.{AllTold, IsToldStep};
 ghost use Rattle.stack_core.specs.Touches.{touched};
@@ -118,7 +118,8 @@ impl HostCore {
     /// A call that does nothing, whose contract says it.
     pub fn can_be_told(&self)
         ensures told { AllTold self.now.recorded.header.version self.now.recorded.entries }
-        ensures below { EachEntry (tcp self.now.recorded.header) (λ x. IsBelow self.now.recorded.me self.now.last x.key) self.now.recorded.entries }
+        ensures below { EachEntry (tcp self.now.recorded.header)
+            (λ x. IsBelow self.now.recorded.me self.now.last x.key) self.now.recorded.entries }
     {
         let _ = &self.line;
     }
@@ -214,7 +215,8 @@ impl HostCore {
         requires touch { touch ≡ touched self.old.recorded.me (world self.old) (step_of label) }
         ensures ok { OnOk result (self.new ≡ with_step self.old (step_of label)) }
         ensures count { OnOk result (steps_in self.new.recorded.entries ≡ suc (steps_in self.old.recorded.entries)) }
-        ensures world { OnOk result (world self.new ≡ after (tcp self.old.recorded.header) self.old.last.moment (world self.old) (step_of label)) }
+        ensures world { OnOk result (world self.new
+            ≡ after (tcp self.old.recorded.header) self.old.last.moment (world self.old) (step_of label)) }
         ensures err { OnErr result (self.new ≡ self.old) }
     {
         let lines = lines_taken(&label);

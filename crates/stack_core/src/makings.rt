@@ -172,7 +172,8 @@ fn is_quiet(endpoint: &Endpoint, opening: SynOptions) -> bool
 // Whether it may make its SYN where nothing was made before.
 fn may_begin(endpoint: &Endpoint, opening: SynOptions) -> bool
     requires { endpoint.now.stream.snd_una < 2 ^ 63 }
-    ensures { result ≡ false → snd_max endpoint.now ≤ 0 → first_broken (making_rules endpoint.now (syn_of endpoint.now opening 0)) ≡ None → ⊥ }
+    ensures { result ≡ false → snd_max endpoint.now ≤ 0
+        → first_broken (making_rules endpoint.now (syn_of endpoint.now opening 0)) ≡ None → ⊥ }
 {
     if 0 < endpoint.snd_max() {
         return false;
@@ -311,7 +312,8 @@ fn try_endpoint(
     offer: AdvertisedWindow,
 ) -> Option<SegmentPlan>
     requires steps { world.now.steps < most_steps }
-    requires short { All (λ e. end_of e.stream.accepted ≤ greatest_position) (pick world.now.world.hosts me).body.endpoints }
+    requires short { All (λ e. end_of e.stream.accepted ≤ greatest_position)
+        (pick world.now.world.hosts me).body.endpoints }
     requires opening { MayOpen world.now.header.version offer.opening }
     ensures some { IfSome result (λ m. IsMakeable world.now.header me world.now.world m) }
     ensures none { IfNone result (IsTried world.now.header me world.now.world endpoint.now) }

@@ -93,7 +93,8 @@ impl HostCore {
     fn plan(&mut self) -> Option<SegmentPlan>
         requires steps { steps_in self.old.recorded.entries < most_steps }
         ensures same { self.new ≡ self.old }
-        ensures some { IfSome result (λ m. IsMakeable self.old.recorded.header self.old.recorded.me (world self.old) m) }
+        ensures some { IfSome result (λ m. IsMakeable self.old.recorded.header self.old.recorded.me
+            (world self.old) m) }
         ensures none { IfNone result (NothingToMake self.old.recorded.header self.old.recorded.me (world self.old)) }
     {
         forgetting_is_free();
@@ -123,7 +124,8 @@ impl HostCore {
         requires limits { plan.pos ≤ greatest_position }
         requires short { plan.len ≤ greatest_payload }
         requires told { TellsWell self.old.recorded.header.version plan }
-        requires permitted { Permitted (tcp self.old.recorded.header) 0 (world self.old) (At self.old.recorded.me (Makes plan)) }
+        requires permitted { Permitted (tcp self.old.recorded.header) 0 (world self.old)
+            (At self.old.recorded.me (Makes plan)) }
         ensures ok { OnOk result (self.new ≡ with_step self.old (At self.old.recorded.me (Makes plan))) }
         ensures count { OnOk result (steps_in self.new.recorded.entries ≡ suc (steps_in self.old.recorded.entries)) }
         ensures waits { OnOk result (WaitsToGo self.new (world self.new).count) }

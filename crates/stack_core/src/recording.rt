@@ -111,7 +111,8 @@ impl Recording {
     pub fn admits(&self, moment: u64, label: &Label) -> Result<(), Rule>
         requires steps { steps_in self.now.entries < most_steps }
         requires label { IsWithinLimits label.now }
-        ensures { result_err result ≡ first_broken (step_rules (tcp self.now.header) moment (world_left self.now) (step_of label.now)) }
+        ensures { result_err result ≡ first_broken
+            (step_rules (tcp self.now.header) moment (world_left self.now) (step_of label.now)) }
     {
         forgetting_is_free();
         admits(&self.world, moment, label)
@@ -142,7 +143,8 @@ impl Recording {
 
     /// The segment that was made under this number.
     pub fn made(&self, number: u32) -> Option<&Made>
-        ensures made { option_copied result ≡ lookup (nat_eq number) (pick (world_left self.now).hosts self.now.me).made }
+        ensures made { option_copied result ≡ lookup (nat_eq number)
+            (pick (world_left self.now).hosts self.now.me).made }
         ensures small { IfSome (option_copied result) (λ m. IsSmallEmission m.emission) }
     {
         self.world.is_kept();

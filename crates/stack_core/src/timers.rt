@@ -9,7 +9,8 @@ ghost use Rattle.stack_core.specs.CoreWorlds.{Leaves};
 ghost use Rattle.stack_core.specs.CoreWorlds.CoreCall.{Timers};
 ghost use Rattle.stack_core.specs.Cores.{IsAfter, IsRecorded, opened};
 ghost use Rattle.stack_core.specs.Entries.{steps_in};
-ghost use Rattle.stack_core.specs.TimerEvents.{HasTried, IfGivesUp, IsDueAt, IsNotDueAt, IsRefused, IsTimed, NoneDue, NoneDueAt};
+ghost use Rattle.stack_core.specs.TimerEvents.{HasTried, IfGivesUp, IsDueAt, IsNotDueAt, IsRefused, IsTimed, NoneDue};
+ghost use Rattle.stack_core.specs.TimerEvents.{NoneDueAt};
 ghost use Rattle.stack_core.specs.Tended.{AreTimed, IsDueSince, IsSlow, IsStill, IsStillBefore, kept_ends, least};
 
 use crate::deadline_queue::{Deadline, DeadlineQueue, Touch};
@@ -173,7 +174,8 @@ fn look_later(wakes: &mut DeadlineQueue, wake: Deadline, header: &Header, body: 
 
 // The moment before which no timer of the endpoint at a place may expire. None: none may ever.
 fn next_due(header: &Header, body: &Body, place: u32) -> Option<u64>
-    ensures some { IfSome result (λ m. (e : Endpoint) → slice_get body.now.endpoints place ≡ Some e → IsStillBefore header.now m e) }
+    ensures some { IfSome result (λ m. (e : Endpoint) → slice_get body.now.endpoints place ≡ Some e
+        → IsStillBefore header.now m e) }
     ensures none { IfNone result ((e : Endpoint) → slice_get body.now.endpoints place ≡ Some e → IsStill header.now e) }
 {
     match body.endpoint_at(place) {

@@ -44,19 +44,27 @@ pub record ForgettingStreams : Type 0 where
   pub counts : (r : Receiving) → next (forgotten r) ≡ next r
   pub ends : (r : Receiving) → is_ended (forgotten r) ≡ is_ended r
   pub reads : (r : Receiving) → waiting (forgotten r) ≡ waiting r
-  pub takes : (r : Receiving) (position : ℕ) (bytes : List ℕ) (fin : Bool) → forgotten (kept (forgotten r) position bytes fin)
+  pub takes : (r : Receiving) (position : ℕ) (bytes : List ℕ) (fin : Bool)
+      → forgotten (kept (forgotten r) position bytes fin)
       ≡ forgotten (kept r position bytes fin)
   pub tells : (r : Receiving) (count : ℕ) → forgotten (told (forgotten r) count) ≡ forgotten (told r count)
   pub measures : (snd_una : ℕ) (accepted : List ℕ) → end_of (below snd_una accepted) ≡ end_of accepted
-  pub sends : (snd_una : ℕ) (accepted bytes : List ℕ) → below snd_una (below snd_una accepted ++ bytes) ≡ below snd_una (accepted ++ bytes)
-  pub makes : (snd_una : ℕ) (accepted : List ℕ) (position count : ℕ) → snd_una ≤ position → piece (below snd_una accepted) position count ≡ piece accepted position count
-  pub acks : (snd_una higher : ℕ) (accepted : List ℕ) → snd_una ≤ higher → below higher (below snd_una accepted) ≡ below higher accepted
+  pub sends : (snd_una : ℕ) (accepted bytes : List ℕ)
+      → below snd_una (below snd_una accepted ++ bytes) ≡ below snd_una (accepted ++ bytes)
+  pub makes : (snd_una : ℕ) (accepted : List ℕ) (position count : ℕ) → snd_una ≤ position
+      → piece (below snd_una accepted) position count ≡ piece accepted position count
+  pub acks : (snd_una higher : ℕ) (accepted : List ℕ) → snd_una ≤ higher
+      → below higher (below snd_una accepted) ≡ below higher accepted
 
 -- the same of transmissions
 pub record ForgettingMakings : Type 0 where
   pub measures : (snd_una : ℕ) (all : List Made) → length (made_below snd_una all) ≡ length all
   pub makes : (snd_una : ℕ) (all : List Made) (position count moment : ℕ) →
-      made_below snd_una (made (made_below snd_una all) position count moment) ≡ made_below snd_una (made all position count moment)
-  pub asks : (snd_una : ℕ) (all : List Made) (from upto : ℕ) → snd_una ≤ from → retransmitted (made_below snd_una all) from upto ≡ retransmitted all from upto
-  pub times : (snd_una : ℕ) (all : List Made) (position : ℕ) → snd_una ≤ position → made_moment (made_below snd_una all) position ≡ made_moment all position
-  pub acks : (snd_una higher : ℕ) (all : List Made) → snd_una ≤ higher → made_below higher (made_below snd_una all) ≡ made_below higher all
+      made_below snd_una (made (made_below snd_una all) position count moment)
+      ≡ made_below snd_una (made all position count moment)
+  pub asks : (snd_una : ℕ) (all : List Made) (from upto : ℕ) → snd_una ≤ from
+      → retransmitted (made_below snd_una all) from upto ≡ retransmitted all from upto
+  pub times : (snd_una : ℕ) (all : List Made) (position : ℕ) → snd_una ≤ position
+      → made_moment (made_below snd_una all) position ≡ made_moment all position
+  pub acks : (snd_una higher : ℕ) (all : List Made) → snd_una ≤ higher
+      → made_below higher (made_below snd_una all) ≡ made_below higher all

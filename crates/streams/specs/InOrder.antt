@@ -29,7 +29,8 @@ pub record StreamsInOrder : Type 0 where
   pub takes : (r : Receiving) (accepted : List ℕ) (ended : Bool) (position : ℕ) (bytes : List ℕ) (fin : Bool) →
       IsOf r accepted ended → StandsAt (body bytes fin) position accepted ended →
       IsOf (kept r position bytes fin) accepted ended
-  pub advances : (r : Receiving) (position : ℕ) (bytes : List ℕ) (fin : Bool) → next r ≤ next (kept r position bytes fin)
+  pub advances : (r : Receiving) (position : ℕ) (bytes : List ℕ) (fin : Bool)
+      → next r ≤ next (kept r position bytes fin)
   pub makes : (accepted : List ℕ) (ended : Bool) (position count : ℕ) (fin : Bool) →
       (0 < count → (0 < position) × (position + count ≤ end_of accepted)) →
       (fin ≡ true → (position + count ≡ end_of accepted) × (ended ≡ true)) →

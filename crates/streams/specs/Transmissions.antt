@@ -1,5 +1,6 @@
 -- When each position was made, and whether it was made again; only what was made once is measured (RFC 6298, 3).
-use Rattle.std.specs.Prelude.{ℕ, zero, suc, ◌+◌, ◌-◌, Bool, true, false, ◌||◌, List, [], ◌∷◌, ◌++◌, length, take, drop, replicate, Option, slice_get}
+use Rattle.std.specs.Prelude.{ℕ, zero, suc, ◌+◌, ◌-◌, Bool, true, false, ◌||◌, List, [], ◌∷◌, ◌++◌, length, take, drop}
+use Rattle.std.specs.Prelude.{replicate, Option, slice_get}
 use Rattle.std.specs.Option.{option_map}
 use Rattle.streams.specs.declared.making.Made.{Made}
 

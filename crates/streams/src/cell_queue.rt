@@ -1,6 +1,7 @@
 //! What was taken and waits, from one place on: bytes in one piece of memory, and behind them a cell for each place.
 
-ghost use Rattle.std.specs.Prelude.{◌≡◌, ◌+◌, ◌-◌, ◌≤◌, ◌<◌, ◌^◌, ◌++◌, [], nat_lt, OnOk, OnErr, IfOk, length, take, drop, slice_get};
+ghost use Rattle.std.specs.Prelude.{◌≡◌, ◌+◌, ◌-◌, ◌≤◌, ◌<◌, ◌^◌, ◌++◌, [], nat_lt, OnOk, OnErr, IfOk, length, take};
+ghost use Rattle.std.specs.Prelude.{drop, slice_get};
 ghost use Rattle.streams.specs.Views.{fin_alone};
 ghost use Rattle.streams.specs.Cells.{front, is_fin, leading, put_all};
 ghost use Rattle.streams.specs.Received.{body_kept, starts};

@@ -7,7 +7,8 @@
 //! how many there are.
 
 ghost use Rattle.std.specs.List.{list_any};
-ghost use Rattle.std.specs.Prelude.{◌≡◌, ℕ, ◌<◌, ◌≤◌, ◌∷◌, ◌&&◌, ◌||◌, nat_le, nat_lt, true, false, IfNone, IfSome, OnOk, OnErr};
+ghost use Rattle.std.specs.Prelude.{◌≡◌, ℕ, ◌<◌, ◌≤◌, ◌∷◌, ◌&&◌, ◌||◌, nat_le, nat_lt, true, false, IfNone, IfSome};
+ghost use Rattle.std.specs.Prelude.{OnOk, OnErr};
 ghost use Rattle.streams.specs.Marks.{AreRanges, IsBelow, in_ranges, is_marked};
 
 use std::alloc::{AllocError, Global};
@@ -65,9 +66,11 @@ impl Marks {
     /// Whether one of the positions from `from` to before `upto` was made again.
     pub(crate) fn meets(&self, from: u64, upto: u64) -> bool
         requires { from < upto }
-        ensures found { result ≡ true → (end : ℕ) → IsBelow end self.now → (position : ℕ) × (from ≤ position) × (position < upto) ×
+        ensures found { result ≡ true → (end : ℕ) → IsBelow end self.now → (position : ℕ) × (from ≤ position)
+            × (position < upto) ×
             (position < end) × (is_marked self.now position ≡ true) }
-        ensures none { result ≡ false → (position : ℕ) → from ≤ position → position < upto → is_marked self.now position ≡ false }
+        ensures none { result ≡ false → (position : ℕ) → from ≤ position → position < upto
+            → is_marked self.now position ≡ false }
     {
         from.max(self.floor) < upto.min(self.reached) || meet(&self.ranges, from, upto)
     }
@@ -90,7 +93,8 @@ fn add_range(ranges: &mut BTreeMap<u64, u64>, from: u64, upto: u64) -> Result<()
     ensures added { OnOk result ((position : ℕ) → in_ranges ranges.new.entries position
         ≡ (in_ranges ranges.old.entries position || (nat_le from position && nat_lt position upto))) }
     ensures err { OnErr result (ranges.new.entries ≡ ranges.old.entries) }
-    ensures below { (floor end : ℕ) → floor ≤ from → upto ≤ end → AreRanges floor end ranges.old.entries → AreRanges floor end ranges.new.entries }
+    ensures below { (floor end : ℕ) → floor ≤ from → upto ≤ end → AreRanges floor end ranges.old.entries
+        → AreRanges floor end ranges.new.entries }
 {
     if upto <= from {
         return Ok(());
@@ -114,9 +118,11 @@ fn meet(ranges: &BTreeMap<u64, u64>, from: u64, upto: u64) -> bool
 
 // The ranges that begin below a position are discarded. Answers how far they reach, and at least `reached`.
 fn drop_below(ranges: &mut BTreeMap<u64, u64>, snd_una: u64, reached: u64) -> u64
-    ensures same { (position : ℕ) → snd_una ≤ position → (in_ranges ranges.new.entries position || nat_lt position result)
+    ensures same { (position : ℕ) → snd_una ≤ position
+        → (in_ranges ranges.new.entries position || nat_lt position result)
         ≡ (in_ranges ranges.old.entries position || nat_lt position reached) }
-    ensures below { (floor end : ℕ) → AreRanges floor end ranges.old.entries → reached ≤ end → AreRanges snd_una end ranges.new.entries × (result ≤ end) }
+    ensures below { (floor end : ℕ) → AreRanges floor end ranges.old.entries → reached ≤ end
+        → AreRanges snd_una end ranges.new.entries × (result ≤ end) }
 {
     let mut far = reached;
     while let Some(end) = pop_below(ranges, snd_una) {
@@ -127,8 +133,10 @@ fn drop_below(ranges: &mut BTreeMap<u64, u64>, snd_una: u64, reached: u64) -> u6
 
 // The first range is discarded, if it begins below a position. Answers its end.
 fn pop_below(ranges: &mut BTreeMap<u64, u64>, snd_una: u64) -> Option<u64>
-    ensures popped { IfSome result (λ end. (start : ℕ) × (ranges.old.entries ≡ (start, end) ∷ ranges.new.entries) × (start < snd_una)) }
-    ensures none { IfNone result ((floor end : ℕ) → AreRanges floor end ranges.old.entries → AreRanges snd_una end ranges.old.entries) }
+    ensures popped { IfSome result (λ end. (start : ℕ) × (ranges.old.entries ≡ (start, end) ∷ ranges.new.entries)
+        × (start < snd_una)) }
+    ensures none { IfNone result ((floor end : ℕ) → AreRanges floor end ranges.old.entries
+        → AreRanges snd_una end ranges.old.entries) }
     ensures same { IfNone result (ranges.new.entries ≡ ranges.old.entries) }
 {
     let (start, _) = ranges.first_key_value()?;

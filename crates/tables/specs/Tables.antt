@@ -1,5 +1,6 @@
 -- Tables by number: their entries in the order in which they were added, and where each number stands.
-use Rattle.std.specs.Prelude.{◌≡◌, ℕ, suc, ◌<◌, ◌≤◌, Bool, true, false, nat_eq, ltb, if◌then◌else◌, List, [], ◌∷◌, length, slice_index_or, Option, None, Some, IsSome, IfSome}
+use Rattle.std.specs.Prelude.{◌≡◌, ℕ, suc, ◌<◌, ◌≤◌, Bool, true, false, nat_eq, ltb, if◌then◌else◌, List, [], ◌∷◌}
+use Rattle.std.specs.Prelude.{length, slice_index_or, Option, None, Some, IsSome, IfSome}
 use Rattle.std.specs.Option.{option_map, option_map_or, option_flatten, option_or}
 use Rattle.std.specs.Ordering.{nat_cmp}
 use Rattle.std.specs.Map.{lookup}
@@ -15,7 +16,8 @@ pub record Table (V : Type 0) : Type 0 where
 
 -- entries with another value for a number, made of the value that it has
 abbrev pub changed_at : {V : Type 0} → (V → V) → List (ℕ × V) → ℕ → List (ℕ × V)
-changed_at change entries number = option_map_or (λ v. insert_entry nat_eq entries number (change v)) (lookup (nat_eq number) entries) entries
+changed_at change entries number =
+    option_map_or (λ v. insert_entry nat_eq entries number (change v)) (lookup (nat_eq number) entries) entries
 
 -- the place of a number's entry
 abbrev pub place_of : {V : Type 0} → List (ℕ × V) → ℕ → Option ℕ
@@ -62,4 +64,5 @@ pub record IsPlaced {V : Type 0} (top : Option ℕ) (risen : List (ℕ × ℕ)) 
 -- or the number has its place in the map
 abbrev pub IsReady : Option ℕ → (Fits FitsRisen : Type 0) → List (ℕ × Option ℕ) → Option ℕ → Type 0
 IsReady top Fits FitsRisen others ready = IfSome ready (λ number.
-    Fits × (is_above top number ≡ true → FitsRisen) × (is_above top number ≡ false → IsSome (lookup (is_at (nat_cmp number)) others)))
+    Fits × (is_above top number ≡ true → FitsRisen)
+    × (is_above top number ≡ false → IsSome (lookup (is_at (nat_cmp number)) others)))

@@ -39,7 +39,8 @@ fn count_below(risen: &[(u64, usize)], number: u64) -> usize
 // The same of a number that is among them, where those up to it were given one after the other.
 fn count_in_turn(risen: &[(u64, usize)], number: u64) -> Option<usize>
     requires { IsRising risen.now }
-    ensures { IfSome result (λ count. (count ≤ length risen.now) × AreBelow risen.now count number × AreNotBelow risen.now count number) }
+    ensures { IfSome result (λ count. (count ≤ length risen.now) × AreBelow risen.now count number
+        × AreNotBelow risen.now count number) }
 {
     let (first, _) = risen.first()?;
     let count = number.checked_sub(*first)? as usize;

@@ -1,6 +1,7 @@
 //! A table by numbers, whose entries stay in the order in which they were added.
 
-ghost use Rattle.std.specs.Prelude.{◌≡◌, ◌≢◌, ◌<◌, ℕ, [], true, false, is_some, length, nat_eq, OnOk, OnErr, None, Some, IsSome};
+ghost use Rattle.std.specs.Prelude.{◌≡◌, ◌≢◌, ◌<◌, ℕ, [], true, false, is_some, length, nat_eq, OnOk, OnErr, None};
+ghost use Rattle.std.specs.Prelude.{Some, IsSome};
 ghost use Rattle.std.specs.Map.{lookup};
 ghost use Rattle.std.specs.Option.{option_copied};
 ghost use Rattle.std.specs.Ordering.{nat_cmp};

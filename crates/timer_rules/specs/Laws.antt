@@ -6,7 +6,8 @@ use Rattle.case_forms.specs.declared.timer.Timer.TheVariants.{Rto}
 use Rattle.timer_rules.specs.declared.fault.TimerFault.TheVariants.{Off}
 use Rattle.timer_rules.specs.declared.timers.Timers.{Timers}
 use Rattle.timer_rules.specs.Timeouts.{longest_rto, distance, srtt_after, rttvar_after, doubled}
-use Rattle.timer_rules.specs.Timers.{start, sampled, backed_off, raised_for_lost_syn, armed_since, with_timer, run_time, refusal, expired}
+use Rattle.timer_rules.specs.Timers.{start, sampled, backed_off, raised_for_lost_syn, armed_since, with_timer, run_time}
+use Rattle.timer_rules.specs.Timers.{refusal, expired}
 
 -- a value is one of so many equal parts of a whole, rounded down
 abbrev pub IsPart : ℕ → ℕ → ℕ → Type 0
@@ -43,8 +44,10 @@ pub record NeverPassesAMinute : Type 0 where
   pub by_sample : (t : Timers) (r : ℕ) (h : Header) → (sampled t r h).rto ≤ longest_rto
   pub by_doubling : (t : Timers) → (backed_off t).rto ≤ longest_rto
   pub by_lost_syn : (t : Timers) → t.rto ≤ longest_rto → (raised_for_lost_syn t).rto ≤ longest_rto
-  pub by_setting : (t : Timers) (timer : Timer) (since : Option ℕ) → t.rto ≤ longest_rto → (with_timer t timer since).rto ≤ longest_rto
-  pub by_expiry : (t : Timers) (timer : Timer) (moment : ℕ) → t.rto ≤ longest_rto → (expired t timer moment).rto ≤ longest_rto
+  pub by_setting : (t : Timers) (timer : Timer) (since : Option ℕ) → t.rto ≤ longest_rto
+      → (with_timer t timer since).rto ≤ longest_rto
+  pub by_expiry : (t : Timers) (timer : Timer) (moment : ℕ) → t.rto ≤ longest_rto
+      → (expired t timer moment).rto ≤ longest_rto
 
 -- so many doublings in a row
 abbrev pub doubled_times : ℕ → ℕ → ℕ
@@ -66,8 +69,10 @@ pub record MayExpire (t : Timers) (timer : Timer) (moment : ℕ) (h : Header) : 
 
 -- an expiry is refused exactly where the timer may not expire, as off exactly where it is not armed
 pub record ExpiryIsExact : Type 0 where
-  pub allowed : (t : Timers) (timer : Timer) (moment : ℕ) (h : Header) → (refusal t timer moment h ≡ None) ↔ MayExpire t timer moment h
-  pub off : (t : Timers) (timer : Timer) (moment : ℕ) (h : Header) → (refusal t timer moment h ≡ Some Off) ↔ (armed_since t timer ≡ None)
+  pub allowed : (t : Timers) (timer : Timer) (moment : ℕ) (h : Header) → (refusal t timer moment h ≡ None)
+      ↔ MayExpire t timer moment h
+  pub off : (t : Timers) (timer : Timer) (moment : ℕ) (h : Header) → (refusal t timer moment h ≡ Some Off)
+      ↔ (armed_since t timer ≡ None)
 
 -- between two expiries of the retransmission timer in a row lies twice the timeout of the first, at most a minute, but
 -- for a clock tick (RFC 6298, 5.5 and 5.6)

@@ -1,6 +1,7 @@
 -- The timers of an endpoint: which are armed, since when, when they may expire, and what samples and expiries do. Times
 -- are microseconds.
-use Rattle.std.specs.Prelude.{ℕ, ◌+◌, ◌-◌, ◌*◌, Bool, false, not, nat_lt, max, Option, None, Some, is_some, if◌then◌else◌}
+use Rattle.std.specs.Prelude.{ℕ, ◌+◌, ◌-◌, ◌*◌, Bool, false, not, nat_lt, max, Option, None, Some, is_some}
+use Rattle.std.specs.Prelude.{if◌then◌else◌}
 use Rattle.std.specs.Option.{option_map_or}
 use Rattle.case_forms.specs.declared.trace.Header.{Header}
 use Rattle.case_forms.specs.declared.timer.Timer.{Timer}
@@ -74,7 +75,8 @@ is_armed t timer = is_some (armed_since t timer)
 
 -- the timer is armed, and may not expire yet
 abbrev pub is_early : Timers → Timer → ℕ → Header → Bool
-is_early t timer moment h = option_map_or (λ since. nat_lt moment (earliest since (run_time t timer h) h.grain)) (armed_since t timer) false
+is_early t timer moment h =
+    option_map_or (λ since. nat_lt moment (earliest since (run_time t timer h) h.grain)) (armed_since t timer) false
 
 -- why a timer can't expire at a moment, if it can't
 abbrev pub refusal : Timers → Timer → ℕ → Header → Option TimerFault

@@ -4,8 +4,8 @@ ghost use Rattle.std.specs.Prelude.{◌≡◌, ◌≢◌, ◌≤◌, nat_lt, OnO
 ghost use Rattle.std.specs.Result.{result_err};
 ghost use Rattle.case_forms.specs.declared.timer.Timer.TheVariants.{Giveup};
 ghost use Rattle.timer_rules.specs.Timeouts.{longest_rto, srtt_after, rttvar_after, timeout};
-ghost use Rattle.timer_rules.specs.Timers.{start, sampled, backed_off, raised_for_lost_syn, armed_since, with_timer, armed};
-ghost use Rattle.timer_rules.specs.Timers.{stopped, all_stopped, run_time, earliest, refusal, expired};
+ghost use Rattle.timer_rules.specs.Timers.{start, sampled, backed_off, raised_for_lost_syn, armed_since, with_timer};
+ghost use Rattle.timer_rules.specs.Timers.{armed, stopped, all_stopped, run_time, earliest, refusal, expired};
 
 use crate::fault::TimerFault;
 use case_forms::{Header, Timer};

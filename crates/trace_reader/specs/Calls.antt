@@ -60,7 +60,8 @@ call_pieces call = plain (call_name (call_word call)) ∷ call_tail call
 -- the limits of a call in a text of this version
 abbrev pub IsCall : Version → Call → Type 0
 IsCall v (calls.Listen host port backlog) = IsHost v host × (1 ≤ port) × (port ≤ 65535) × (backlog ≤ 65535)
-IsCall v (calls.Connect host local remote) = IsHost v host × (1 ≤ local) × (local ≤ 65535) × (1 ≤ remote) × (remote ≤ 65535)
+IsCall v (calls.Connect host local remote) =
+    IsHost v host × (1 ≤ local) × (local ≤ 65535) × (1 ≤ remote) × (remote ≤ 65535)
 IsCall v (calls.Await socket) = socket ≤ 4294967295
 IsCall v (calls.Accept socket) = socket ≤ 4294967295
 IsCall v (calls.Send socket bytes) = (socket ≤ 4294967295) × (1 ≤ length bytes) × (length bytes ≤ 65535)

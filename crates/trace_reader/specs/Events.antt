@@ -38,7 +38,8 @@ event_tail (events.CallBegin call) = call_pieces call
 event_tail (events.CallEnd answer) = answer_pieces answer
 event_tail (events.Sent host wire) = number (host_number host) ∷ hex wire.bytes ∷ []
 event_tail (events.Came host wire) = number (host_number host) ∷ hex wire.bytes ∷ []
-event_tail (events.Expired host local remote timer) = number (host_number host) ∷ number local ∷ number remote ∷ plain (timer_name timer) ∷ []
+event_tail (events.Expired host local remote timer) =
+    number (host_number host) ∷ number local ∷ number remote ∷ plain (timer_name timer) ∷ []
 
 -- the fields of an event
 abbrev pub event_pieces : Event → List Piece
@@ -50,7 +51,8 @@ IsEvent v (events.CallBegin call) = IsCall v call
 IsEvent v (events.CallEnd answer) = IsAnswer answer
 IsEvent v (events.Sent host wire) = IsHost v host × IsSegment wire.bytes wire.seg
 IsEvent v (events.Came host wire) = IsHost v host × IsSegment wire.bytes wire.seg
-IsEvent v (events.Expired host local remote timer) = IsHost v host × (1 ≤ local) × (local ≤ 65535) × (1 ≤ remote) × (remote ≤ 65535)
+IsEvent v (events.Expired host local remote timer) =
+    IsHost v host × (1 ≤ local) × (local ≤ 65535) × (1 ≤ remote) × (remote ≤ 65535)
 
 -- these fields spell the event
 abbrev pub IsSpelledEvent : Version → Event → List (List ℕ) → Type 0

@@ -58,9 +58,11 @@ Fits r words = (value : Word) × AreNamed r words value [] × (r.value value ≡
 -- many, which is Header
 pub data Breaks (r : Row) (header : TextFault) (words : List Word) (e : TextFault) : Type 0 where
   Other : ((value : Word) (more : List Word) → AreNamed r words value more → ⊥) → e ≡ header → Breaks r header words e
-  Bad : (value : Word) (more : List Word) (kind : FaultKind) → AreNamed r words value more → r.value value ≡ Some kind → e ≡ fault_at kind value
+  Bad : (value : Word) (more : List Word) (kind : FaultKind) → AreNamed r words value more → r.value value ≡ Some kind
+      → e ≡ fault_at kind value
       → Breaks r header words e
-  More : (value next : Word) (more : List Word) → AreNamed r words value (next ∷ more) → r.value value ≡ None → e ≡ header → Breaks r header words e
+  More : (value next : Word) (more : List Word) → AreNamed r words value (next ∷ more) → r.value value ≡ None
+      → e ≡ header → Breaks r header words e
 
 -- the line of that number has this form
 abbrev pub IsRow : Row → ℕ → List ℕ → Type 0
@@ -68,7 +70,9 @@ IsRow r number raw = (rest : Rest) × (line_rest number raw ≡ Ok rest) × Fits
 
 -- its first fault: that of the line as a whole, or else that of its fields, where Header stands at the whole line
 abbrev pub IsRowFault : Row → ℕ → List ℕ → TextFault → Type 0
-IsRowFault r number raw e = IsWholeFault number raw e ⊎ ((rest : Rest) × (line_rest number raw ≡ Ok rest) × Breaks r (header_fault number rest) rest.words e)
+IsRowFault r number raw e =
+    IsWholeFault number raw e ⊎ ((rest : Rest) × (line_rest number raw ≡ Ok rest)
+    × Breaks r (header_fault number rest) rest.words e)
 
 -- these lines have these forms, from the line of that number on
 abbrev pub AreRows : ℕ → List Row → List (List ℕ) → Type 0
@@ -95,5 +99,6 @@ pub record IsRowsFault (number : ℕ) (rows : List Row) (raws : List (List ℕ))
 -- that of the others
 pub data IsHeaderFault (raws : List (List ℕ)) (e : TextFault) : Type 0 where
   First : IsNextFault (IsTextFaultOf IsFirstText) 1 raws e → IsHeaderFault raws e
-  Rows : (v : Version) (first : List ℕ) (others : List (List ℕ)) → raws ≡ first ∷ others → IsLine 1 (joined (first_words v)) first
+  Rows : (v : Version) (first : List ℕ) (others : List (List ℕ)) → raws ≡ first ∷ others
+      → IsLine 1 (joined (first_words v)) first
       → IsRowsFault 2 (header_rows v) others e → IsHeaderFault raws e

@@ -104,14 +104,16 @@ alone fault a [] = Ok a
 alone fault a (w ∷ ws) = Err fault
 
 -- a line of the header: its name, and the value that is read behind it
-unfoldable pub value_line : {A : Type 0} → ℕ → List ℕ → (Rest → Result (A × Rest) TextFault) → List ℕ → Result A TextFault
+unfoldable pub value_line : {A : Type 0} → ℕ → List ℕ → (Rest → Result (A × Rest) TextFault) → List ℕ
+    → Result A TextFault
 value_line number name read raw = do
   line ← named_rest number name raw
   a ← read line.0
   alone line.1 a.0 a.1.words
 
 -- the next line, which is that line of the header
-unfoldable pub next_value : {A : Type 0} → ℕ → List ℕ → (Rest → Result (A × Rest) TextFault) → List (List ℕ) → Result (A × List (List ℕ)) TextFault
+unfoldable pub next_value : {A : Type 0} → ℕ → List ℕ → (Rest → Result (A × Rest) TextFault) → List (List ℕ)
+    → Result (A × List (List ℕ)) TextFault
 next_value number name read raws = do
   raw ← next_raw number raws
   a ← value_line number name read raw.0

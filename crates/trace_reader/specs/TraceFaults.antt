@@ -11,5 +11,6 @@ use Rattle.trace_reader.specs.TraceText.{first_place}
 -- that of its header; or the text begins with a header, and it is that of the event lines behind it
 pub data IsTraceFault (text : List ℕ) (e : TextFault) : Type 0 where
   Headers : IsHeaderFault (lines_of text) e → IsTraceFault text e
-  Events : (h : Header) (heads raws : List (List ℕ)) → lines_of text ≡ heads ++ raws → IsHeader h → AreLines 1 (header_words h) heads
+  Events : (h : Header) (heads raws : List (List ℕ)) → lines_of text ≡ heads ++ raws → IsHeader h
+      → AreLines 1 (header_words h) heads
       → IsEventsFault h.version (first_place h) raws e → IsTraceFault text e

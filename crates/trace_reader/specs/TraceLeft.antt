@@ -50,7 +50,8 @@ trace_left known r = option_map trace_of (left_of known r.source)
 
 -- the event lines that are left, or the first fault among them, where the bytes are known
 abbrev pub lines_left : {A : Type 0} → (A → Option (List ℕ)) → TraceReader A → Option (Result (List Line) TextFault)
-lines_left known r = option_map (read_lines (line_of (version_of r)) behind (place_of r)) (rows_of (left_of known r.source))
+lines_left known r =
+    option_map (read_lines (line_of (version_of r)) behind (place_of r)) (rows_of (left_of known r.source))
 
 -- the trace of this header and of these lines, or their first fault
 abbrev pub with_header : Header → Result (List Line) TextFault → Result Trace TextFault

@@ -6,8 +6,9 @@ ghost use Rattle.counted.specs.Counting.{left_of, failures_of, one_more};
 ghost use Rattle.line_fields.specs.Reading.{Gives, number_field};
 ghost use Rattle.line_fields.specs.Rows.{rows_of, with_rest, Reads};
 ghost use Rattle.line_fields.specs.Spelling.{joined};
-ghost use Rattle.trace_reader.specs.Headers.{first_words, begins_trace, version_named, named_rest, value_line, next_value};
-ghost use Rattle.trace_reader.specs.Headers.{first_version, first_line, initial_field, initial_line, late_lines, header_of};
+ghost use Rattle.trace_reader.specs.Headers.{first_words, begins_trace, version_named, named_rest, value_line};
+ghost use Rattle.trace_reader.specs.Headers.{next_value, first_version, first_line, initial_field, initial_line};
+ghost use Rattle.trace_reader.specs.Headers.{late_lines, header_of};
 
 use bstr::ByteSlice;
 use case_forms::{Header, Initial, Version};
@@ -232,7 +233,8 @@ fn first_version(raw: &[u8]) -> Result<Version, TextFault>
 
 // The version that the first line names.
 fn first_line<A: BufRead>(source: &mut Counted<A>, line: &mut Vec<u8>) -> Result<Version, ReadFault>
-    ensures line { Reads with_rest first_line (rows_of (left_of A.remaining source.old)) (rows_of (left_of A.remaining source.new)) result }
+    ensures line { Reads with_rest first_line (rows_of (left_of A.remaining source.old))
+        (rows_of (left_of A.remaining source.new)) result }
     ensures read { result ≡ Err ReadFault.Read → failures_of source.new ≡ one_more (failures_of source.old) }
     ensures same { result ≢ Err ReadFault.Read → failures_of source.new ≡ failures_of source.old }
 {
@@ -246,7 +248,8 @@ pub(crate) fn header<A: BufRead>(
     source: &mut Counted<A>,
     line: &mut Vec<u8>,
 ) -> Result<Header, ReadFault>
-    ensures header { Reads with_rest header_of (rows_of (left_of A.remaining source.old)) (rows_of (left_of A.remaining source.new)) result }
+    ensures header { Reads with_rest header_of (rows_of (left_of A.remaining source.old))
+        (rows_of (left_of A.remaining source.new)) result }
     ensures read { result ≡ Err ReadFault.Read → failures_of source.new ≡ one_more (failures_of source.old) }
     ensures same { result ≢ Err ReadFault.Read → failures_of source.new ≡ failures_of source.old }
 {

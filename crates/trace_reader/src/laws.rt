@@ -15,14 +15,16 @@ ghost use Rattle.trace_reader.specs.TraceText.{trace_of};
 /// of the first
 /// field that doesn't fit the form of an event line.
 pub fn event_line_faults()
-    ensures { (v : Version) (place : Place) (raw : List ℕ) (e : TextFault) → (line_of v place raw ≡ Err e) ↔ IsLineFault v place raw e }
+    ensures { (v : Version) (place : Place) (raw : List ℕ) (e : TextFault) → (line_of v place raw ≡ Err e)
+        ↔ IsLineFault v place raw e }
 {}
 
 /// Event lines from a place on are read with this fault exactly where it is the first fault of the first of them that
 /// has one, and
 /// those before it are spelled as event lines.
 pub fn first_event_fault()
-    ensures { (v : Version) (place : Place) (raws : List (List ℕ)) (e : TextFault) → (read_lines (line_of v) behind place raws ≡ Err e)
+    ensures { (v : Version) (place : Place) (raws : List (List ℕ)) (e : TextFault)
+        → (read_lines (line_of v) behind place raws ≡ Err e)
         ↔ IsEventsFault v place raws e }
 {}
 

@@ -82,16 +82,19 @@ impl<A: BufRead> TraceReader<A> {
     /// The header, which is read before any line.
     pub fn header(&mut self) -> Result<Header, ReadFault>
         requires { IsFresh self.old }
-        ensures header { fault_of self.old ≡ None → IfOk result (Begins (trace_left A.remaining self.old) (lines_left A.remaining self.new)) }
+        ensures header { fault_of self.old ≡ None
+            → IfOk result (Begins (trace_left A.remaining self.old) (lines_left A.remaining self.new)) }
         ensures place { IfOk result (λ header. place_of self.new ≡ first_place header) }
         ensures version { IfOk result (λ header. version_of self.new ≡ header.version) }
-        ensures fault { (e : TextFault) → fault_of self.old ≡ None → result ≡ Err (ReadFault.Text e) → FailsLeft e (trace_left A.remaining self.old) }
+        ensures fault { (e : TextFault) → fault_of self.old ≡ None → result ≡ Err (ReadFault.Text e)
+            → FailsLeft e (trace_left A.remaining self.old) }
         ensures again { (f : ReadFault) → fault_of self.old ≡ Some f → result ≡ Err f }
         ensures stays { (f : ReadFault) → fault_of self.old ≡ Some f → self.new ≡ self.old }
         ensures kept { (f : ReadFault) → result ≡ Err f → fault_of self.new ≡ Some f }
         ensures open { IfOk result (λ header. fault_of self.new ≡ None) }
         ensures begun { IsBegun self.new }
-        ensures read { fault_of self.old ≡ None → result ≡ Err ReadFault.Read → reader_failures self.new ≡ one_more (reader_failures self.old) }
+        ensures read { fault_of self.old ≡ None → result ≡ Err ReadFault.Read
+            → reader_failures self.new ≡ one_more (reader_failures self.old) }
         ensures same { result ≢ Err ReadFault.Read → reader_failures self.new ≡ reader_failures self.old }
     {
         if let Some(fault) = self.fault {
@@ -108,16 +111,20 @@ impl<A: BufRead> TraceReader<A> {
     #[inline(always)]
     pub fn next(&mut self) -> Result<Option<Line>, ReadFault>
         requires { IsBegun self.old }
-        ensures next { fault_of self.old ≡ None → IfOk result (Yields (lines_left A.remaining self.old) (lines_left A.remaining self.new)) }
-        ensures place { IfOk result (λ item. IfSome item (λ line. StandsAt (place_of self.old) line × (place_of self.new ≡ behind (place_of self.old) line))) }
-        ensures fault { (e : TextFault) → fault_of self.old ≡ None → result ≡ Err (ReadFault.Text e) → FailsLeft e (lines_left A.remaining self.old) }
+        ensures next { fault_of self.old ≡ None → IfOk result
+            (Yields (lines_left A.remaining self.old) (lines_left A.remaining self.new)) }
+        ensures place { IfOk result (λ item. IfSome item (λ line. StandsAt (place_of self.old) line
+            × (place_of self.new ≡ behind (place_of self.old) line))) }
+        ensures fault { (e : TextFault) → fault_of self.old ≡ None → result ≡ Err (ReadFault.Text e)
+            → FailsLeft e (lines_left A.remaining self.old) }
         ensures again { (f : ReadFault) → fault_of self.old ≡ Some f → result ≡ Err f }
         ensures stays { (f : ReadFault) → fault_of self.old ≡ Some f → self.new ≡ self.old }
         ensures kept { (f : ReadFault) → result ≡ Err f → fault_of self.new ≡ Some f }
         ensures open { IfOk result (λ item. fault_of self.new ≡ None) }
         ensures begun { IsBegun self.new }
         ensures version { version_of self.new ≡ version_of self.old }
-        ensures read { fault_of self.old ≡ None → result ≡ Err ReadFault.Read → reader_failures self.new ≡ one_more (reader_failures self.old) }
+        ensures read { fault_of self.old ≡ None → result ≡ Err ReadFault.Read
+            → reader_failures self.new ≡ one_more (reader_failures self.old) }
         ensures same { result ≢ Err ReadFault.Read → reader_failures self.new ≡ reader_failures self.old }
     {
         if let Some(fault) = self.fault {
@@ -131,9 +138,11 @@ impl<A: BufRead> TraceReader<A> {
     #[inline(always)]
     fn read(&mut self) -> Result<Option<Line>, ReadFault>
         ensures next { IfOk result (Yields (lines_left A.remaining self.old) (lines_left A.remaining self.new)) }
-        ensures place { IfOk result (λ item. IfSome item (λ line. StandsAt (place_of self.old) line × (place_of self.new ≡ behind (place_of self.old) line))) }
+        ensures place { IfOk result (λ item. IfSome item (λ line. StandsAt (place_of self.old) line
+            × (place_of self.new ≡ behind (place_of self.old) line))) }
         ensures end { result ≡ Ok None → place_of self.new ≡ place_of self.old }
-        ensures fault { (e : TextFault) → result ≡ Err (ReadFault.Text e) → FailsLeft e (lines_left A.remaining self.old) }
+        ensures fault { (e : TextFault) → result ≡ Err (ReadFault.Text e)
+            → FailsLeft e (lines_left A.remaining self.old) }
         ensures open { fault_of self.new ≡ fault_of self.old }
         ensures version { version_of self.new ≡ version_of self.old }
         ensures read { result ≡ Err ReadFault.Read → reader_failures self.new ≡ one_more (reader_failures self.old) }

@@ -35,4 +35,5 @@ told measure thread (line ∷ lines) = line_amount measure thread line + told me
 -- answered)
 abbrev pub has_ended : ℕ → List Line → Bool
 has_ended rounds lines =
-    (told Bytes 3 lines == 64 * rounds) && (told Eofs 3 lines == 1) && (told Dones 3 lines == 1) && (told Dones 2 lines == 3)
+    (told Bytes 3 lines == 64 * rounds) && (told Eofs 3 lines == 1) && (told Dones 3 lines == 1) &&
+    (told Dones 2 lines == 3)

@@ -114,7 +114,8 @@ pub(crate) fn run_threads<
         thread::scope_env(),
         rt,
         |scope|
-            requires { (L.host ≡ Zero) × (lane asker.thread ≡ L.host) × (lane server.seat.thread ≡ M.host) × IfSome listener (λ n. lane n ≡ M.host) }
+            requires { (L.host ≡ Zero) × (lane asker.thread ≡ L.host) × (lane server.seat.thread ≡ M.host)
+                × IfSome listener (λ n. lane n ≡ M.host) }
         {
             let loops = start_loops(scope, rt, zero, one, zero_link);
             let others = start_loops(scope, rt, one, zero, one_link);

@@ -1,6 +1,7 @@
 //! A verdict, and its text.
 
-ghost use Rattle.std.specs.Prelude.{◌≡◌, ◌++◌, ◌+◌, ◌≤◌, ◌<◌, ◌∷◌, [], Some, length, OnOk, OnErr, IsOk, vec_len, vec_capacity, decimal};
+ghost use Rattle.std.specs.Prelude.{◌≡◌, ◌++◌, ◌+◌, ◌≤◌, ◌<◌, ◌∷◌, [], Some, length, OnOk, OnErr, IsOk, vec_len};
+ghost use Rattle.std.specs.Prelude.{vec_capacity, decimal};
 ghost use Rattle.verdict.specs.VerdictText.{two_numbers, verdict_text};
 
 use crate::rule::Rule;
@@ -57,9 +58,11 @@ fn append_words(
     tail: &str,
 ) -> Result<(), AllocError>
     requires { (length head.now ≤ 4) × (length gap.now ≤ 1) × (length tail.now ≤ 14) }
-    ensures ok { OnOk result (out.new.items ≡ out.old.items ++ (head.now ++ two_numbers first second ++ gap.now ++ tail.now)) }
+    ensures ok { OnOk result (out.new.items ≡ out.old.items
+        ++ (head.now ++ two_numbers first second ++ gap.now ++ tail.now)) }
     ensures err { OnErr result (out.new.items ≡ out.old.items) }
-    ensures room { vec_len out.old + length (head.now ++ two_numbers first second ++ gap.now ++ tail.now) ≤ vec_capacity out.old → IsOk result }
+    ensures room { vec_len out.old + length (head.now ++ two_numbers first second ++ gap.now
+        ++ tail.now) ≤ vec_capacity out.old → IsOk result }
 {
     let mut first_buffer = Buffer::new();
     let mut second_buffer = Buffer::new();

@@ -2,7 +2,8 @@
 
 ghost use Rattle.std.specs.Prelude.{◌≡◌, ◌+◌, ◌-◌, ◌*◌, ◌≤◌, ◌<◌, ◌^◌};
 ghost use Rattle.window_rules.specs.Windows.{greatest_window};
-ghost use Rattle.window_rules.specs.Growth.{slow_start, fills_window, increment, avoidance, growth, may_grow, is_avoiding, counted_after, on_duplicate};
+ghost use Rattle.window_rules.specs.Growth.{slow_start, fills_window, increment, avoidance, growth, may_grow};
+ghost use Rattle.window_rules.specs.Growth.{is_avoiding, counted_after, on_duplicate};
 
 use crate::congestion::Congestion;
 use crate::windows::capped;

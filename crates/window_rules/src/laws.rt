@@ -1,7 +1,8 @@
 //! What the greatest values have to do with what the RFCs allow, and what follows from them, for callers that prove
 //! more: each law is the contract of a call that does nothing.
 
-ghost use Rattle.window_rules.specs.Laws.{EdgesAreExact, GrowthIsGreatest, LossesAreGreatest, RecoveryIsGreatest, GrowthIsGentle, CountsOnce, LossHalves};
+ghost use Rattle.window_rules.specs.Laws.{EdgesAreExact, GrowthIsGreatest, LossesAreGreatest, RecoveryIsGreatest};
+ghost use Rattle.window_rules.specs.Laws.{GrowthIsGentle, CountsOnce, LossHalves};
 
 /// Both edges bound exactly what may be sent (RFC 9293, 3.8.6; RFC 5681, 3.1 and 3.2).
 pub fn edges_are_exact()

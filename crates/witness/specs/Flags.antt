@@ -1,5 +1,6 @@
 -- The flags of a segment that is made, as letters.
-use Rattle.std.specs.Prelude.{ℕ, Bool, true, false, ◌==◌, ◌&&◌, nat_lt, if◌then◌else◌, List, [], ◌∷◌, ◌++◌, length, Option, Some, None, Result, Ok, codes}
+use Rattle.std.specs.Prelude.{ℕ, Bool, true, false, ◌==◌, ◌&&◌, nat_lt, if◌then◌else◌, List, [], ◌∷◌, ◌++◌, length}
+use Rattle.std.specs.Prelude.{Option, Some, None, Result, Ok, codes}
 use Rattle.std.specs.Str.{bytes_eq}
 use Rattle.case_forms.specs.declared.steps.Flags.{Flags}
 use Rattle.line_fields.specs.declared.fault.FaultKind.TheVariants.{Field}

@@ -29,7 +29,8 @@ label_name words.Recovery = codes "F"
 
 -- all first words of labels
 abbrev pub all_label_words : List LabelWord
-all_label_words = words.Line ∷ words.Effect ∷ words.Making ∷ words.Taking ∷ words.Dropping ∷ words.Refusing ∷ words.Recovery ∷ []
+all_label_words =
+    words.Line ∷ words.Effect ∷ words.Making ∷ words.Taking ∷ words.Dropping ∷ words.Refusing ∷ words.Recovery ∷ []
 
 -- the number of yes or no
 abbrev pub bit_number : Bool → ℕ
@@ -85,17 +86,22 @@ entry_pieces host line = number (host_number host) ∷ number line ∷ []
 
 -- the fields of what a segment is that is made
 abbrev pub segment_pieces : SegmentPlan → List Piece
-segment_pieces plan = number plan.pos ∷ number plan.len ∷ plain (flags_text plan.flags) ∷ number plan.window ∷ (iss_pieces plan.iss ++ shift_pieces plan.shift)
+segment_pieces plan =
+    number plan.pos ∷ number plan.len ∷ plain (flags_text plan.flags) ∷ number plan.window
+    ∷ (iss_pieces plan.iss ++ shift_pieces plan.shift)
 
 -- the fields of a label behind its first word
 abbrev pub label_tail : Label NamedLine → List Piece
 label_tail (L line) = number line.number ∷ extras_pieces line.extras
 label_tail (D thread answer) = number thread ∷ answer_pieces answer
 label_tail (M host plan) = endpoint_pieces host plan.lport plan.rport ++ segment_pieces plan
-label_tail (T host line choice) = entry_pieces host line ++ number choice.cwnd ∷ number (bit_number choice.keep) ∷ number (bit_number choice.sample) ∷ []
+label_tail (T host line choice) =
+    entry_pieces host line ++ number choice.cwnd ∷ number (bit_number choice.keep) ∷ number (bit_number choice.sample)
+    ∷ []
 label_tail (K host line) = entry_pieces host line
 label_tail (R host line) = entry_pieces host line
-label_tail (F host recovery) = endpoint_pieces host recovery.lport recovery.rport ++ number recovery.cwnd ∷ number recovery.ssthresh ∷ []
+label_tail (F host recovery) =
+    endpoint_pieces host recovery.lport recovery.rport ++ number recovery.cwnd ∷ number recovery.ssthresh ∷ []
 
 -- the first word of each label
 abbrev pub label_word : Label NamedLine → LabelWord
@@ -116,12 +122,14 @@ abbrev pub IsLabel : Version → Label NamedLine → Type 0
 IsLabel v (L line) = (line.number ≤ 4294967295) × AreExtras line.extras
 IsLabel v (D thread answer) = (thread ≤ 4294967295) × IsAnswer answer
 IsLabel v (M host plan) =
-    IsEndpoint v host plan.lport plan.rport × (plan.pos ≤ 1000000000000000000) × (plan.len ≤ 65515) × (plan.window ≤ 65535) ×
+    IsEndpoint v host plan.lport plan.rport × (plan.pos ≤ 1000000000000000000) × (plan.len ≤ 65515)
+    × (plan.window ≤ 65535) ×
     IsStart v plan.iss plan.shift
 IsLabel v (T host line choice) = IsEntry v host line × (choice.cwnd ≤ 4294967295)
 IsLabel v (K host line) = IsEntry v host line
 IsLabel v (R host line) = IsEntry v host line
-IsLabel v (F host recovery) = IsEndpoint v host recovery.lport recovery.rport × (recovery.cwnd ≤ 4294967295) × (recovery.ssthresh ≤ 4294967295)
+IsLabel v (F host recovery) =
+    IsEndpoint v host recovery.lport recovery.rport × (recovery.cwnd ≤ 4294967295) × (recovery.ssthresh ≤ 4294967295)
 
 -- these fields spell the label
 abbrev pub IsSpelledLabel : Version → Label NamedLine → List (List ℕ) → Type 0

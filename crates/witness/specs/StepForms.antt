@@ -48,7 +48,8 @@ abbrev pub label_form : Version → LabelWord → Form
 label_form v words.Line = word32 (Maybe (word32 (Maybe (word32 End))))
 label_form v words.Effect = word32 answer_last
 label_form v words.Making =
-    endpoint v (then_form (numeric 0 1000000000000000000) (then_form (numeric 0 65515) (then_form lettered (then_form (numeric 0 65535) (start_form v)))))
+    endpoint v (then_form (numeric 0 1000000000000000000)
+    (then_form (numeric 0 65515) (then_form lettered (then_form (numeric 0 65535) (start_form v)))))
 label_form v words.Taking = host v (word32 (word32 (bit (bit End))))
 label_form v words.Dropping = host v (word32 End)
 label_form v words.Refusing = host v (word32 End)
@@ -70,5 +71,6 @@ IsStepsFault v number raws e = IsFaultAmong (IsStepText v) (IsStepFault v) numbe
 -- of the steps
 pub data IsWitnessFault (v : Version) (text : List ℕ) (e : TextFault) : Type 0 where
   First : IsNextFault (IsTextFaultOf (λ line. line ≡ first_text v)) 1 (lines_of text) e → IsWitnessFault v text e
-  Steps : (first : List ℕ) (raws : List (List ℕ)) → lines_of text ≡ first ∷ raws → IsLine 1 (first_text v) first → IsStepsFault v 2 raws e
+  Steps : (first : List ℕ) (raws : List (List ℕ)) → lines_of text ≡ first ∷ raws → IsLine 1 (first_text v) first
+      → IsStepsFault v 2 raws e
       → IsWitnessFault v text e

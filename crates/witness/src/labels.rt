@@ -4,7 +4,8 @@ ghost use Rattle.std.specs.Prelude.{◌≡◌};
 ghost use Rattle.line_fields.specs.Reading.{Gives};
 ghost use Rattle.line_fields.specs.Choice.{kind_named, kind_field};
 ghost use Rattle.witness.specs.Labels.{label_name, all_label_words};
-ghost use Rattle.witness.specs.LabelFields.{line_label, effect_label, segment_label, taking_label, recovery_label, label_field};
+ghost use Rattle.witness.specs.LabelFields.{line_label, effect_label, segment_label, taking_label, recovery_label};
+ghost use Rattle.witness.specs.LabelFields.{label_field};
 
 use crate::flags::flags;
 use crate::parts::{bit, endpoint, entry, extras, start};

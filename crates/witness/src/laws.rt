@@ -11,7 +11,8 @@ ghost use Rattle.witness.specs.WitnessText.{witness_for};
 /// first field
 /// that doesn't fit the form of a step.
 pub fn step_faults()
-    ensures { (v : Version) (number : ℕ) (raw : List ℕ) (e : TextFault) → (step_of v number raw ≡ Err e) ↔ IsStepFault v number raw e }
+    ensures { (v : Version) (number : ℕ) (raw : List ℕ) (e : TextFault) → (step_of v number raw ≡ Err e)
+        ↔ IsStepFault v number raw e }
 {}
 
 /// A text is read as a witness of this version with this fault exactly where it is the text's first one: that of its

@@ -4,7 +4,8 @@ ghost use Rattle.std.specs.Prelude.{◌≡◌, ◌<◌, ℕ, List, [], ◌∷◌
 ghost use Rattle.std.specs.List.{AllByRecursion};
 ghost use Rattle.case_forms.specs.declared.steps.Witness.{Witness};
 ghost use Rattle.line_fields.specs.Spelling.{IsBytePiece, number, printed_behind, printed_line};
-ghost use Rattle.witness.specs.Labels.{bit_number, extras_pieces, iss_pieces, shift_pieces, segment_pieces, endpoint_pieces, entry_pieces, label_pieces};
+ghost use Rattle.witness.specs.Labels.{bit_number, extras_pieces, iss_pieces, shift_pieces, segment_pieces};
+ghost use Rattle.witness.specs.Labels.{endpoint_pieces, entry_pieces, label_pieces};
 ghost use Rattle.witness.specs.Steps.{step_pieces};
 ghost use Rattle.witness.specs.WitnessText.{IsWitnessText, witness_of};
 ghost use Rattle.witness.specs.Printable.{HasBytes, IsPrintableWitness, with_columns};
@@ -162,7 +163,8 @@ pub fn print_witness(alloc: Global, witness: &Witness) -> Result<Vec<u8>, OutOfM
 /// stands for
 /// the same.
 pub fn print_law()
-    ensures { (v w : Witness) (text : List ℕ) → IsWitnessText v text → without_spans v ≡ without_spans w → IsWitnessText v (witness_text w) }
+    ensures { (v w : Witness) (text : List ℕ) → IsWitnessText v text → without_spans v ≡ without_spans w
+        → IsWitnessText v (witness_text w) }
 {}
 
 /// A witness is printed as a text that stands for it, with the spans of that text, exactly where it is within the

@@ -7,7 +7,8 @@ ghost use Rattle.line_fields.specs.declared.fault.ReadFault.{ReadFault};
 ghost use Rattle.line_fields.specs.Rows.{rows_of, rest_alone, Reads};
 ghost use Rattle.line_fields.specs.Left.{Yields, FailsLeft, Remains};
 ghost use Rattle.witness.specs.WitnessText.{number_after};
-ghost use Rattle.witness.specs.StepsLeft.{first_line, source_of, version_of, number_read, number_of, fault_of, steps_left, reader_failures, StandsAt};
+ghost use Rattle.witness.specs.StepsLeft.{first_line, source_of, version_of, number_read, number_of, fault_of};
+ghost use Rattle.witness.specs.StepsLeft.{steps_left, reader_failures, StandsAt};
 
 use crate::first_line::first_text;
 use crate::reading::read_step;
@@ -41,7 +42,8 @@ fn first_line<B: BufRead>(
     line: &mut Vec<u8>,
     version: Version,
 ) -> Result<(), ReadFault>
-    ensures line { Reads rest_alone (first_line version) (rows_of (left_of B.remaining source.old)) (rows_of (left_of B.remaining source.new)) result }
+    ensures line { Reads rest_alone (first_line version) (rows_of (left_of B.remaining source.old))
+        (rows_of (left_of B.remaining source.new)) result }
     ensures read { result ≡ Err ReadFault.Read → failures_of source.new ≡ one_more (failures_of source.old) }
     ensures same { result ≢ Err ReadFault.Read → failures_of source.new ≡ failures_of source.old }
 {
@@ -102,16 +104,20 @@ impl<B: BufRead> StepReader<B> {
     /// The next step, or none at the end of the text.
     #[inline(always)]
     pub fn next(&mut self) -> Result<Option<Step>, ReadFault>
-        ensures next { fault_of self.old ≡ None → IfOk result (Yields (steps_left B.remaining self.old) (steps_left B.remaining self.new)) }
-        ensures place { IfOk result (λ item. IfSome item (λ step. StandsAt (version_of self.old) (number_of self.old) step
+        ensures next { fault_of self.old ≡ None → IfOk result
+            (Yields (steps_left B.remaining self.old) (steps_left B.remaining self.new)) }
+        ensures place { IfOk result (λ item. IfSome item
+            (λ step. StandsAt (version_of self.old) (number_of self.old) step
             × (number_of self.new ≡ number_after (number_of self.old) step))) }
-        ensures fault { (e : TextFault) → fault_of self.old ≡ None → result ≡ Err (ReadFault.Text e) → FailsLeft e (steps_left B.remaining self.old) }
+        ensures fault { (e : TextFault) → fault_of self.old ≡ None → result ≡ Err (ReadFault.Text e)
+            → FailsLeft e (steps_left B.remaining self.old) }
         ensures again { (f : ReadFault) → fault_of self.old ≡ Some f → result ≡ Err f }
         ensures stays { (f : ReadFault) → fault_of self.old ≡ Some f → self.new ≡ self.old }
         ensures kept { (f : ReadFault) → result ≡ Err f → fault_of self.new ≡ Some f }
         ensures open { IfOk result (λ item. fault_of self.new ≡ None) }
         ensures version { version_of self.new ≡ version_of self.old }
-        ensures read { fault_of self.old ≡ None → result ≡ Err ReadFault.Read → reader_failures self.new ≡ one_more (reader_failures self.old) }
+        ensures read { fault_of self.old ≡ None → result ≡ Err ReadFault.Read
+            → reader_failures self.new ≡ one_more (reader_failures self.old) }
         ensures same { result ≢ Err ReadFault.Read → reader_failures self.new ≡ reader_failures self.old }
     {
         if let Some(fault) = self.fault {
@@ -125,9 +131,11 @@ impl<B: BufRead> StepReader<B> {
     #[inline(always)]
     fn read(&mut self) -> Result<Option<Step>, ReadFault>
         ensures next { IfOk result (Yields (steps_left B.remaining self.old) (steps_left B.remaining self.new)) }
-        ensures place { IfOk result (λ item. IfSome item (λ step. StandsAt (version_of self.old) (number_of self.old) step
+        ensures place { IfOk result (λ item. IfSome item
+            (λ step. StandsAt (version_of self.old) (number_of self.old) step
             × (number_of self.new ≡ number_after (number_of self.old) step))) }
-        ensures fault { (e : TextFault) → result ≡ Err (ReadFault.Text e) → FailsLeft e (steps_left B.remaining self.old) }
+        ensures fault { (e : TextFault) → result ≡ Err (ReadFault.Text e)
+            → FailsLeft e (steps_left B.remaining self.old) }
         ensures open { fault_of self.new ≡ fault_of self.old }
         ensures version { version_of self.new ≡ version_of self.old }
         ensures read { result ≡ Err ReadFault.Read → reader_failures self.new ≡ one_more (reader_failures self.old) }
@@ -142,7 +150,8 @@ impl<B: BufRead> StepReader<B> {
     fn begin(&mut self) -> Result<u64, ReadFault>
         ensures remains { OnOk result (Remains (steps_left B.remaining self.old) (steps_left B.remaining self.new)) }
         ensures number { IfOk result (λ number. (number_read self.new ≡ Some number) × (number ≡ number_of self.old)) }
-        ensures fault { (e : TextFault) → result ≡ Err (ReadFault.Text e) → FailsLeft e (steps_left B.remaining self.old) }
+        ensures fault { (e : TextFault) → result ≡ Err (ReadFault.Text e)
+            → FailsLeft e (steps_left B.remaining self.old) }
         ensures open { fault_of self.new ≡ fault_of self.old }
         ensures version { version_of self.new ≡ version_of self.old }
         ensures read { result ≡ Err ReadFault.Read → reader_failures self.new ≡ one_more (reader_failures self.old) }
@@ -163,7 +172,8 @@ impl<B: BufRead> StepReader<B> {
         ensures next { IfOk result (Yields (steps_left B.remaining self.old) (steps_left B.remaining self.new)) }
         ensures place { IfOk result (λ item. IfSome item (λ step. StandsAt (version_of self.old) number step ×
             (number_read self.new ≡ Some (number_after number step)))) }
-        ensures fault { (e : TextFault) → result ≡ Err (ReadFault.Text e) → FailsLeft e (steps_left B.remaining self.old) }
+        ensures fault { (e : TextFault) → result ≡ Err (ReadFault.Text e)
+            → FailsLeft e (steps_left B.remaining self.old) }
         ensures open { fault_of self.new ≡ fault_of self.old }
         ensures version { version_of self.new ≡ version_of self.old }
         ensures read { result ≡ Err ReadFault.Read → reader_failures self.new ≡ one_more (reader_failures self.old) }

@@ -1,7 +1,8 @@
 //! CLOSE and ABORT: what they may be answered, and the endpoint then.
 
 ghost use Rattle.spec_tcp.specs.Bounds.{HasRoom};
-ghost use Rattle.spec_tcp.specs.Calls.Close.{after_shut, after_close, shut_down, after_abort, orphaned, ended_state, resets_at_abort, shut_allows};
+ghost use Rattle.spec_tcp.specs.Calls.Close.{after_shut, after_close, shut_down, after_abort, orphaned, ended_state};
+ghost use Rattle.spec_tcp.specs.Calls.Close.{resets_at_abort, shut_allows};
 ghost use Rattle.spec_tcp.specs.Forgetting.{forget_endpoint};
 ghost use Rattle.std.specs.Prelude.{◌≡◌};
 

@@ -2,8 +2,8 @@
 
 ghost use Rattle.case_forms.specs.States.{is_syn_sent, is_syn_received};
 ghost use Rattle.spec_tcp.specs.Calls.Close.{shut_down};
-ghost use Rattle.spec_tcp.specs.Makes.Kind.{may_carry, may_finish, may_not_send, may_make_syn, may_make_reset, may_make_other, may_make};
-ghost use Rattle.spec_tcp.specs.Makes.Kind.{makes_nothing, is_bad_iss, given_shift, seq_of};
+ghost use Rattle.spec_tcp.specs.Makes.Kind.{may_carry, may_finish, may_not_send, may_make_syn, may_make_reset};
+ghost use Rattle.spec_tcp.specs.Makes.Kind.{may_make_other, may_make, makes_nothing, is_bad_iss, given_shift, seq_of};
 ghost use Rattle.std.specs.Prelude.{◌≡◌, if◌then◌else◌, false};
 
 use crate::calls::close::shut_down;

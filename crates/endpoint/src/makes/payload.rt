@@ -1,7 +1,8 @@
 //! The bytes of a segment, and where they begin.
 
 ghost use Rattle.spec_tcp.specs.Bounds.{greatest_position};
-ghost use Rattle.spec_tcp.specs.Makes.Payload.{making_length, has_new_bytes, is_bad_payload, old_end, is_bad_empty_place, is_bad_place};
+ghost use Rattle.spec_tcp.specs.Makes.Payload.{making_length, has_new_bytes, is_bad_payload, old_end};
+ghost use Rattle.spec_tcp.specs.Makes.Payload.{is_bad_empty_place, is_bad_place};
 ghost use Rattle.std.specs.Prelude.{◌≡◌, ◌≤◌};
 
 use case_forms::SegmentPlan;

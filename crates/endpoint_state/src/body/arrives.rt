@@ -8,7 +8,8 @@ ghost use Rattle.std.specs.Result.{result_err};
 ghost use Rattle.verdict.specs.Rules.{first_broken};
 ghost use Rattle.spec_tcp.specs.Arrives.Listen.{child};
 ghost use Rattle.spec_tcp.specs.Arrives.OtherStates.{is_queue_full, joins_full_queue};
-ghost use Rattle.spec_tcp.specs.Arrives.{after_taking, endpoint_taken, endpoint_taker, listener_taker, taker, taker_rules};
+ghost use Rattle.spec_tcp.specs.Arrives.{after_taking, endpoint_taken, endpoint_taker, listener_taker, taker};
+ghost use Rattle.spec_tcp.specs.Arrives.{taker_rules};
 ghost use Rattle.spec_tcp.specs.Bounds.{HasRoom, IsSmallEmission};
 ghost use Rattle.spec_tcp.specs.Forgetting.{forget_body};
 ghost use Rattle.spec_tcp.specs.Reset.{finds_nothing, is_stray_ack, reset_rules};
@@ -87,7 +88,8 @@ impl Body {
         m: &Emission,
     ) -> Result<Found, Rule>
         requires { AreReadable self.now.endpoints }
-        ensures rule { result_err result ≡ first_broken (taker_rules header.now host self.now how m.now (taker self.now m.now)) }
+        ensures rule { result_err result ≡ first_broken
+            (taker_rules header.now host self.now how m.now (taker self.now m.now)) }
         ensures taker { IfOk result (λ found. taker_found self.now (Some found) ≡ taker self.now m.now) }
         ensures open { IfOk result (IsOpen self.now) }
     {
@@ -107,7 +109,8 @@ impl Body {
         m: &Emission,
     ) -> Result<(), Rule>
         requires { AreReadable self.now.endpoints }
-        ensures { result_err result ≡ first_broken (taker_rules header.now host self.now how m.now (taker_found self.now (Some found))) }
+        ensures { result_err result ≡ first_broken
+            (taker_rules header.now host self.now how m.now (taker_found self.now (Some found))) }
     {
         match found {
             Found::Listener(_) => endpoint::admits_listening(how, m),
@@ -126,7 +129,8 @@ impl Body {
         m: &Emission,
     ) -> Result<(), Rule>
         requires { AreReadable self.now.endpoints }
-        ensures { result_err result ≡ first_broken (taker_rules header.now host self.now how m.now (taker_found self.now (Some (found.Endpoint place)))) }
+        ensures { result_err result ≡ first_broken
+            (taker_rules header.now host self.now how m.now (taker_found self.now (Some (found.Endpoint place)))) }
     {
         let Some(endpoint) = self.endpoint_at(place) else {
             return Err(Rule::NoEndpoint);
@@ -183,8 +187,10 @@ impl Body {
         requires kept { All HasRoom self.old.endpoints }
         requires small { IsSmallEmission m.now }
         requires endpoints { length self.old.endpoints + 1 < 2 ^ 32 }
-        ensures fault { fault_rule result ≡ first_broken (taker_rules header.now host self.old how m.now (taker self.old m.now)) }
-        ensures ok { OnOk result (self.new ≡ forget_body (after_taking header.now self.old how m.now moment (taker self.old m.now))) }
+        ensures fault { fault_rule result ≡ first_broken
+            (taker_rules header.now host self.old how m.now (taker self.old m.now)) }
+        ensures ok { OnOk result (self.new ≡ forget_body
+            (after_taking header.now self.old how m.now moment (taker self.old m.now))) }
         ensures err { OnErr result (self.new ≡ self.old) }
     {
         match self.admitted_taking(header, host, how, m)? {
@@ -205,7 +211,10 @@ impl Body {
     ) -> Result<(), OutOfMemory>
         requires kept { All HasRoom self.old.endpoints }
         requires endpoints { length self.old.endpoints + 1 < 2 ^ 32 }
-        ensures ok { OnOk result (self.new ≡ forget_body (record self.old { endpoints = self.old.endpoints ++ child place how m.now moment ∷ [] })) }
+        ensures ok { OnOk result (self.new ≡ forget_body (record self.old {
+          endpoints = self.old.endpoints
+              ++ child place how m.now moment ∷ [];
+        })) }
         ensures err { OnErr result (self.new ≡ self.old) }
     {
         let child = endpoint::child(alloc, place, how, m, moment);
@@ -225,7 +234,8 @@ impl Body {
         requires small { IsSmallEmission m.now }
         requires open { IsOpen self.old (found.Endpoint place) }
         ensures ok { OnOk result (self.new
-            ≡ forget_body (after_taking header.now self.old how m.now moment (taker_found self.old (Some (found.Endpoint place))))) }
+            ≡ forget_body (after_taking header.now self.old how m.now moment
+            (taker_found self.old (Some (found.Endpoint place))))) }
         ensures err { OnErr result (self.new ≡ self.old) }
     {
         let Some(endpoint) = self.endpoint_at(place) else {

@@ -1,6 +1,7 @@
 //! Socket calls (RFC 9293, 3.9.1 and 3.10): which answers they may have, and what a host has then.
 
-ghost use Rattle.std.specs.Prelude.{◌≡◌, ◌≤◌, ◌<◌, ◌+◌, ◌^◌, None, Some, false, true, length, drop, [], ◌∷◌, ◌++◌, OnOk, OnErr, nat_eq, slice_get};
+ghost use Rattle.std.specs.Prelude.{◌≡◌, ◌≤◌, ◌<◌, ◌+◌, ◌^◌, None, Some, false, true, length, drop, [], ◌∷◌, ◌++◌};
+ghost use Rattle.std.specs.Prelude.{OnOk, OnErr, nat_eq, slice_get};
 ghost use Rattle.std.specs.List.{All};
 ghost use Rattle.std.specs.Option.{option_map_or, IfSome};
 ghost use Rattle.indexmap.specs.IndexMap.{insert_entry};
@@ -205,7 +206,8 @@ impl Body {
     #[tactic(auto, using(crate::proofs::BodyLemmas::body_same))]
     fn accept(&mut self, number: u32, child_number: u32) -> Result<(), OutOfMemory>
         requires { All HasRoom self.old.endpoints }
-        ensures ok { OnOk result (self.new ≡ forget_body (option_map_or (after_accept self.old child_number) (thing_of self.old number) self.old)) }
+        ensures ok { OnOk result (self.new ≡ forget_body
+            (option_map_or (after_accept self.old child_number) (thing_of self.old number) self.old)) }
         ensures err { OnErr result (self.new ≡ self.old) }
     {
         match self.thing(number) {
@@ -216,7 +218,8 @@ impl Body {
 
     fn accept_from(&mut self, place: u32, child_number: u32) -> Result<(), OutOfMemory>
         requires { All HasRoom self.old.endpoints }
-        ensures ok { OnOk result (self.new ≡ forget_body (accepted_from self.old place child_number (queue_of self.old place))) }
+        ensures ok { OnOk result (self.new ≡ forget_body
+            (accepted_from self.old place child_number (queue_of self.old place))) }
         ensures err { OnErr result (self.new ≡ self.old) }
     {
         let Some(child) = self.first_child(place) else {

@@ -26,7 +26,8 @@ impl Body {
     pub(crate) fn admitted_making(&self, plan: &SegmentPlan) -> Result<u32, Rule>
         requires kept { All HasRoom self.now.endpoints }
         requires small { plan.now.pos ≤ greatest_position }
-        ensures rule { result_err result ≡ first_broken (rules_at self.now plan.now.lport plan.now.rport (λ e. making_rules e plan.now)) }
+        ensures rule { result_err result ≡ first_broken
+            (rules_at self.now plan.now.lport plan.now.rport (λ e. making_rules e plan.now)) }
         ensures place { IfOk result (λ place. place_of self.now plan.now.lport plan.now.rport ≡ Some place) }
         ensures there { IfOk result (λ place. is_some (slice_get self.now.endpoints place) ≡ true) }
     {
@@ -48,9 +49,11 @@ impl Body {
         requires kept { All HasRoom self.old.endpoints }
         requires small { plan.now.pos ≤ greatest_position }
         requires there { is_some (slice_get self.old.endpoints me.number) ≡ true }
-        ensures made { IfOk result (λ m. option_map (λ e. emission_of me e plan.now) (slice_get self.old.endpoints me.number) ≡ Some m) }
+        ensures made { IfOk result (λ m. option_map (λ e. emission_of me e plan.now)
+            (slice_get self.old.endpoints me.number) ≡ Some m) }
         ensures small { IfOk result IsSmallEmission }
-        ensures ok { OnOk result (self.new ≡ forget_body (with_endpoint self.old me.number (λ e. after_making e plan.now moment))) }
+        ensures ok { OnOk result (self.new ≡ forget_body
+            (with_endpoint self.old me.number (λ e. after_making e plan.now moment))) }
         ensures err { OnErr result (self.new ≡ self.old) }
     {
         self.endpoints.make(alloc, me, plan, moment)

@@ -12,7 +12,8 @@ use Rattle.spec_tcp.specs.Arrives.SynSent.{told_smss}
 -- a listener takes a SYN that is neither acknowledgment nor reset (RFC 9293, 3.10.7.2)
 abbrev pub listener_rules : TakeChoice → Emission → List (Rule × Bool)
 listener_rules how m =
-    (rules.State, not (m.flags.syn && not m.flags.ack && not m.flags.rst)) ∷ (rules.Growth, nat_lt 0 how.cwnd) ∷ (rules.Sample, how.sample) ∷ []
+    (rules.State, not (m.flags.syn && not m.flags.ack && not m.flags.rst)) ∷ (rules.Growth, nat_lt 0 how.cwnd)
+    ∷ (rules.Sample, how.sample) ∷ []
 
 -- a child of a listener: it knows the peer, and took its SYN
 abbrev pub child : ℕ → TakeChoice → Emission → ℕ → Endpoint

@@ -9,7 +9,8 @@ pub mod Window
 pub mod Fin
 pub mod Text
 pub mod Timers
-use Rattle.std.specs.Prelude.{ℕ, ◌+◌, nat_le, nat_lt, Bool, false, not, ◌&&◌, if◌then◌else◌, List, [], ◌∷◌, length, slice_get, is_some}
+use Rattle.std.specs.Prelude.{ℕ, ◌+◌, nat_le, nat_lt, Bool, false, not, ◌&&◌, if◌then◌else◌, List, [], ◌∷◌, length}
+use Rattle.std.specs.Prelude.{slice_get, is_some}
 use Rattle.std.specs.Option.{option_map_or}
 use Rattle.case_forms.specs.States.{is_syn_received}
 use Rattle.case_forms.specs.Versions.{is_half}
@@ -32,14 +33,18 @@ abbrev pub is_queue_full : Header → Body → ℕ → Bool
 is_queue_full h b l = option_map_or (λ x. nat_le (x.backlog + h.extra) (length x.queue)) (slice_get b.listeners l) false
 
 abbrev pub joins_full_queue : Header → Body → Endpoint → Emission → Bool
-joins_full_queue h b e m = is_syn_received e.state && not m.flags.rst && option_map_or (is_queue_full h b) e.listener false
+joins_full_queue h b e m =
+    is_syn_received e.state && not m.flags.rst && option_map_or (is_queue_full h b) e.listener false
 
 -- the rules in the other states, where it is known whether the child would join a full queue
-abbrev pub rules_with_queue : Header → (full : Bool) → EndpointId → Endpoint → TakeChoice → Emission → List (Rule × Bool)
+abbrev pub rules_with_queue : Header → (full : Bool) → EndpointId → Endpoint → TakeChoice → Emission
+    → List (Rule × Bool)
 rules_with_queue h full me e how m =
-    (rules.NotPeer, not (is_half h.version) && not (is_from_peer me e m)) ∷ (rules.Number, is_bad_number e m) ∷ (rules.Unacceptable, not (is_acceptable e m))
+    (rules.NotPeer, not (is_half h.version) && not (is_from_peer me e m)) ∷ (rules.Number, is_bad_number e m)
+    ∷ (rules.Unacceptable, not (is_acceptable e m))
     ∷ (rules.AckRange, is_bad_ack_range e m) ∷ (rules.QueueFull, full)
-    ∷ (rules.Growth, nat_lt (greatest_window h.initial e m) how.cwnd) ∷ (rules.Sample, how.sample && not (may_sample e m))
+    ∷ (rules.Growth, nat_lt (greatest_window h.initial e m) how.cwnd)
+    ∷ (rules.Sample, how.sample && not (may_sample e m))
     ∷ (rules.ScaleUnread, is_unread e m) ∷ []
 
 abbrev pub connected_rules : Header → Body → EndpointId → Endpoint → TakeChoice → Emission → List (Rule × Bool)

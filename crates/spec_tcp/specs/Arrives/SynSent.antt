@@ -1,5 +1,6 @@
 -- A segment arrives in SYN-SENT: what may be taken, and the endpoint once the peer is met (RFC 9293, 3.10.7.3).
-use Rattle.std.specs.Prelude.{ℕ, ◌==◌, nat_lt, max, Bool, false, not, ◌&&◌, ◌||◌, if◌then◌else◌, List, [], ◌∷◌, Option, Some}
+use Rattle.std.specs.Prelude.{ℕ, ◌==◌, nat_lt, max, Bool, false, not, ◌&&◌, ◌||◌, if◌then◌else◌, List, [], ◌∷◌, Option}
+use Rattle.std.specs.Prelude.{Some}
 use Rattle.std.specs.Option.{option_map_or}
 use Rattle.seqno.specs.Numbers.{number_of}
 use Rattle.case_forms.specs.declared.calls.State.TheVariants as states
@@ -19,7 +20,8 @@ use Rattle.spec_tcp.specs.Arrives.OtherStates.Timers.{timeout_taken, rto_taken}
 
 -- in SYN-SENT: it acknowledges the SYN, which is all that was made (RFC 9293, 3.10.7.3)
 abbrev pub answers_syn : Endpoint → Emission → Bool
-answers_syn e m = m.flags.ack && snd_max e == 1 && option_map_or (λ iss. same_word m.ack_seq (number_of iss 1)) e.iss false
+answers_syn e m =
+    m.flags.ack && snd_max e == 1 && option_map_or (λ iss. same_word m.ack_seq (number_of iss 1)) e.iss false
 
 -- the segment size that a SYN tells of, 536 where it tells of none or of 0 (RFC 9293, 3.7.1)
 abbrev pub told_smss : Option ℕ → ℕ
@@ -32,7 +34,8 @@ greatest_at_syn initial e m = if m.flags.syn && not m.flags.rst && m.flags.ack t
 -- in SYN-SENT: a SYN or a reset, where it acknowledges, of the own SYN (RFC 9293, 3.10.7.3)
 abbrev pub syn_sent_rules : Initial → Endpoint → TakeChoice → Emission → List (Rule × Bool)
 syn_sent_rules initial e how m =
-    (rules.State, not (m.flags.syn || m.flags.rst)) ∷ (rules.AckRange, (m.flags.ack || m.flags.rst) && not (answers_syn e m))
+    (rules.State, not (m.flags.syn || m.flags.rst))
+    ∷ (rules.AckRange, (m.flags.ack || m.flags.rst) && not (answers_syn e m))
     ∷ (rules.Growth, nat_lt (greatest_at_syn initial e m) how.cwnd)
     ∷ (rules.Sample, how.sample && (m.flags.rst || not m.flags.ack || retransmitted e.transmissions e.stream.snd_una 1))
     ∷ (rules.ScaleUnread, is_unread e m) ∷ []

@@ -55,7 +55,12 @@ orphaned l e = if option_map_or (λ holder. holder == l) e.listener false then a
 
 -- a listener is gone, and with it its children that were not accepted
 abbrev pub without_listener : Body → ℕ → Body
-without_listener b l = record b { endpoints = map (orphaned l) b.endpoints; listeners = modify b.listeners l (λ x. record x { is_open = false }) }
+without_listener b l =
+    record b {
+      endpoints = map (orphaned l) b.endpoints;
+      listeners = modify b.listeners l
+          (λ x. record x { is_open = false });
+    }
 
 -- `close` and `abort` of what a socket number names
 abbrev pub thing_gone : Body → SocketTarget → (Endpoint → Endpoint) → Body
@@ -63,4 +68,5 @@ thing_gone b (ListenerAt l) f = without_listener b l
 thing_gone b (EndpointAt i) f = with_endpoint b i f
 
 abbrev pub after_gone : Body → ℕ → (Endpoint → Endpoint) → Body
-after_gone b n f = option_map_or (λ thing. record (thing_gone b thing f) { sockets = dead b.sockets n }) (thing_of b n) b
+after_gone b n f =
+    option_map_or (λ thing. record (thing_gone b thing f) { sockets = dead b.sockets n }) (thing_of b n) b

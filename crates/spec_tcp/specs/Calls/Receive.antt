@@ -12,9 +12,11 @@ is_read_out e = is_ended e.stream.receive && length (waiting e.stream.receive) =
 
 -- `recv`: the next bytes in order; the end behind the last; a fault; nothing yet (RFC 9293, 3.10.3)
 abbrev pub recv_allows : Endpoint → ℕ → Answer → Bool
-recv_allows e most (answers.Bytes bytes) = nat_le 1 (length bytes) && nat_le (length bytes) most && starts bytes (waiting e.stream.receive)
+recv_allows e most (answers.Bytes bytes) =
+    nat_le 1 (length bytes) && nat_le (length bytes) most && starts bytes (waiting e.stream.receive)
 recv_allows e most answers.Eof = is_read_out e
-recv_allows e most answers.Again = not (is_some e.fault) && length (waiting e.stream.receive) == 0 && not (is_read_out e)
+recv_allows e most answers.Again =
+    not (is_some e.fault) && length (waiting e.stream.receive) == 0 && not (is_read_out e)
 recv_allows e most answers.NotConn = not (is_some e.fault) && not (is_up e)
 recv_allows e most answer = tells_fault e answer
 

@@ -16,7 +16,8 @@ own_window e m = window_in (is_scaling e) m.flags.syn e.shift m.window
 
 -- new bytes end above the window that the peer offers (RFC 9293, 3.8.6)
 abbrev pub is_beyond_offer : Endpoint → SegmentPlan → Bool
-is_beyond_offer e m = has_new_bytes e m && nat_lt (offered_edge e.stream.snd_una e.window.snd_wnd e.probe_due) (m.pos + m.len)
+is_beyond_offer e m =
+    has_new_bytes e m && nat_lt (offered_edge e.stream.snd_una e.window.snd_wnd e.probe_due) (m.pos + m.len)
 
 -- new bytes end above the congestion window (RFC 5681, 3.1)
 abbrev pub is_congesting : Endpoint → SegmentPlan → Bool

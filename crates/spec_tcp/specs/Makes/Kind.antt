@@ -42,7 +42,8 @@ abbrev pub may_make_reset : Endpoint → SegmentPlan → Bool
 may_make_reset e m = (e.reset_due || e.closed && not (is_closed e.state) && nat_le 1 (rcv_nxt e)) && not m.flags.fin
 
 abbrev pub may_make_other : Endpoint → SegmentPlan → Bool
-may_make_other e m = not (may_not_send e.state) && (m.len == 0 || may_carry e.state) && (not m.flags.fin || may_finish e.state)
+may_make_other e m =
+    not (may_not_send e.state) && (m.len == 0 || may_carry e.state) && (not m.flags.fin || may_finish e.state)
 
 -- the state allows a segment of this kind
 abbrev pub may_make : Endpoint → SegmentPlan → Bool

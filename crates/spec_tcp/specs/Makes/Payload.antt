@@ -38,4 +38,5 @@ is_bad_place e m =
     if m.flags.rst then nat_lt m.pos e.stream.snd_una || nat_lt (snd_max e) m.pos
     else if m.flags.syn && m.flags.ack then false
     else if making_length m == 0 then is_bad_empty_place e m
-    else nat_lt m.pos e.stream.snd_una || nat_lt (snd_max e) m.pos || nat_lt m.pos (snd_max e) && nat_lt e.recover (old_end e m)
+    else nat_lt m.pos e.stream.snd_una || nat_lt (snd_max e) m.pos || nat_lt m.pos (snd_max e) && nat_lt e.recover
+    (old_end e m)

@@ -31,7 +31,8 @@ pub(crate) fn at_endpoint(
     ensures some { IfOk result (λ o. IfSome o (λ a. endpoint_allows endpoint.now call.now a ≡ true)) }
     ensures once { IfOk result (λ o. IfSome o (λ a. is_again a ≡ false)) }
     ensures gives { IfOk result (λ o. IfSome o (λ a. (n : ℕ) → gives call.now a ≡ Some n → ⊥)) }
-    ensures none { IfOk result (λ o. IfNone o ((endpoint_allows endpoint.now call.now answers.Again ≡ true) × IfSendWaits ring endpoint.now call.now)) }
+    ensures none { IfOk result (λ o. IfNone o ((endpoint_allows endpoint.now call.now answers.Again ≡ true)
+        × IfSendWaits ring endpoint.now call.now)) }
 {
     match call {
         Call::Await(_) => Ok(await_answer(endpoint)),
@@ -94,7 +95,8 @@ fn send_answer(endpoint: &Endpoint, bytes: &Bytes, ring: u16) -> Option<Answer>
     requires some { 1 ≤ length bytes.now }
     ensures some { IfSome result (λ a. send_allows endpoint.now bytes.now a ≡ true) }
     ensures once { IfSome result (λ a. is_again a ≡ false) }
-    ensures none { IfNone result ((send_allows endpoint.now bytes.now answers.Again ≡ true) × SendWaits ring endpoint.now) }
+    ensures none { IfNone result ((send_allows endpoint.now bytes.now answers.Again ≡ true)
+        × SendWaits ring endpoint.now) }
 {
     match endpoint.fault {
         Some(fault) => Some(told(fault)),

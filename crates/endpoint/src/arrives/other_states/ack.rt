@@ -1,8 +1,9 @@
 //! Fifth, the ACK field.
 
 ghost use Rattle.case_forms.specs.declared.calls.State.TheVariants as states;
-ghost use Rattle.spec_tcp.specs.Arrives.OtherStates.Ack.{acknowledged, snd_una_taken, fin_acknowledged, is_bad_ack_range, is_new_ack, acknowledges_syn};
-ghost use Rattle.spec_tcp.specs.Arrives.OtherStates.Ack.{acked, is_duplicate, may_sample};
+ghost use Rattle.spec_tcp.specs.Arrives.OtherStates.Ack.{acknowledged, snd_una_taken, fin_acknowledged};
+ghost use Rattle.spec_tcp.specs.Arrives.OtherStates.Ack.{is_bad_ack_range, is_new_ack, acknowledges_syn, acked};
+ghost use Rattle.spec_tcp.specs.Arrives.OtherStates.Ack.{is_duplicate, may_sample};
 ghost use Rattle.spec_tcp.specs.Arrives.OtherStates.Window.{opens_window};
 ghost use Rattle.spec_tcp.specs.Endpoints.{snd_max};
 ghost use Rattle.std.specs.Prelude.{◌≡◌, ◌||◌, not, ◌<◌, ◌+◌, ◌^◌, if◌then◌else◌, ◌&&◌, is_some};

@@ -1,6 +1,7 @@
 //! First, the sequence number.
 
-ghost use Rattle.spec_tcp.specs.Arrives.OtherStates.Sequence.{place_taken, is_bad_number, reads_as, is_acceptable, is_acceptable_at, is_in_window};
+ghost use Rattle.spec_tcp.specs.Arrives.OtherStates.Sequence.{place_taken, is_bad_number, reads_as, is_acceptable};
+ghost use Rattle.spec_tcp.specs.Arrives.OtherStates.Sequence.{is_acceptable_at, is_in_window};
 ghost use Rattle.std.specs.Prelude.{◌≡◌, ◌&&◌, ◌+◌, ◌^◌, nat_le, nat_lt};
 
 use crate::same::same_word;

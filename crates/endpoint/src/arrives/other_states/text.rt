@@ -23,7 +23,12 @@ pub(crate) fn receive(
     requires forgets { forgotten endpoint.old.stream.receive ≡ endpoint.old.stream.receive }
     ensures ended { IfOk result (λ ended. ended ≡ is_ended (receive_after endpoint.old how m.now)) }
     ensures ok { OnOk result (endpoint.new
-        ≡ record endpoint.old { stream = record endpoint.old.stream { receive = forgotten (receive_after endpoint.old how m.now) } }) }
+        ≡ record endpoint.old {
+          stream = record endpoint.old.stream {
+            receive = forgotten
+                (receive_after endpoint.old how m.now);
+          };
+        }) }
     ensures err { OnErr result (endpoint.new ≡ endpoint.old) }
 {
     let start = kept_start(endpoint, m);

@@ -1,6 +1,7 @@
 //! The send window then.
 
-ghost use Rattle.spec_tcp.specs.Arrives.OtherStates.Window.{takes_window, window_taken, is_unread, opens_window, persist_taken};
+ghost use Rattle.spec_tcp.specs.Arrives.OtherStates.Window.{takes_window, window_taken, is_unread, opens_window};
+ghost use Rattle.spec_tcp.specs.Arrives.OtherStates.Window.{persist_taken};
 ghost use Rattle.std.specs.Prelude.{◌≡◌, ◌&&◌, not};
 
 use crate::arrives::other_states::ack::{acknowledges_syn, opens_window};

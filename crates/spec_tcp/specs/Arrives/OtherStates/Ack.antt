@@ -9,7 +9,9 @@ use Rattle.spec_tcp.specs.Endpoints.{Endpoint, Emission, snd_max, peer_window, s
 
 -- it acknowledges nothing, or what was not made; in SYN-RECEIVED the SYN has to be acknowledged (RFC 9293, 3.10.7.4)
 abbrev pub is_bad_ack_range : Endpoint → Emission → Bool
-is_bad_ack_range e m = not m.flags.rst && (not m.flags.ack || nat_lt (snd_max e) m.ack || is_syn_received e.state && nat_le m.ack e.stream.snd_una)
+is_bad_ack_range e m =
+    not m.flags.rst && (not m.flags.ack || nat_lt
+    (snd_max e) m.ack || is_syn_received e.state && nat_le m.ack e.stream.snd_una)
 
 -- the segment acknowledges what was not acknowledged before (RFC 5681, 2)
 abbrev pub is_new_ack : Endpoint → Emission → Bool
@@ -25,7 +27,8 @@ acked e m = m.ack - e.stream.snd_una
 
 -- a duplicate acknowledgment (RFC 5681, 2)
 abbrev pub is_duplicate : Endpoint → Emission → Bool
-is_duplicate e m = nat_lt e.stream.snd_una (snd_max e) && segment_length m == 0 && not m.flags.rst && m.ack == e.stream.snd_una && peer_window e m == e.window.snd_wnd
+is_duplicate e m =
+    nat_lt e.stream.snd_una (snd_max e) && segment_length m == 0 && not m.flags.rst && m.ack == e.stream.snd_una && peer_window e m == e.window.snd_wnd
 
 -- a round trip is measured by a new acknowledgment of positions that were made once (RFC 6298, 3)
 abbrev pub may_sample : Endpoint → Emission → Bool

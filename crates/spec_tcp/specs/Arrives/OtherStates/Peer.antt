@@ -8,4 +8,5 @@ use Rattle.spec_tcp.specs.Same.{same_name}
 abbrev pub is_from_peer : EndpointId → Endpoint → Emission → Bool
 is_from_peer me e m =
     if m.is_reset_reply then same_name m.sender me
-    else option_map_or (λ peer. same_name peer m.sender) e.stream.peer false && option_map_or (λ peer_at_send. same_name peer_at_send me) m.peer_at_send true
+    else option_map_or (λ peer. same_name peer m.sender) e.stream.peer false && option_map_or
+    (λ peer_at_send. same_name peer_at_send me) m.peer_at_send true

@@ -18,4 +18,5 @@ reset_fault _ e = e.fault
 
 -- a reset is taken
 abbrev pub was_reset : Endpoint → TakeChoice → Endpoint
-was_reset e how = record (shut_down e) { fault = reset_fault e.state e; congestion = record e.congestion { cwnd = how.cwnd }; unanswered_expiries = 0 }
+was_reset e how =
+    record (shut_down e) { fault = reset_fault e.state e; congestion = record e.congestion { cwnd = how.cwnd }; unanswered_expiries = 0 }

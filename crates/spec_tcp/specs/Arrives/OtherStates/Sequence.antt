@@ -1,5 +1,6 @@
 -- First, the sequence number (RFC 9293, 3.10.7.4).
-use Rattle.std.specs.Prelude.{ℕ, ◌+◌, ◌-◌, ◌^◌, ◌==◌, nat_le, nat_lt, Bool, false, not, ◌&&◌, ◌||◌, if◌then◌else◌, Option, None, Some, is_some}
+use Rattle.std.specs.Prelude.{ℕ, ◌+◌, ◌-◌, ◌^◌, ◌==◌, nat_le, nat_lt, Bool, false, not, ◌&&◌, ◌||◌, if◌then◌else◌}
+use Rattle.std.specs.Prelude.{Option, None, Some, is_some}
 use Rattle.std.specs.Option.{option_map_or}
 use Rattle.seqno.specs.Near.{near_position}
 use Rattle.seqno.specs.Numbers.{number_of}
@@ -14,13 +15,16 @@ place_taken e m = if m.is_reset_reply then option_map_or (λ irs. near_position 
 
 -- the number reads as this position, near another (RFC 9293, 3.4)
 abbrev pub reads_as : ℕ → Option Word → Word → ℕ → Bool
-reads_as near base w pos = option_map_or (λ b. same_word (number_of b pos) w && nat_le near (pos + 2 ^ 31) && nat_lt pos (near + 2 ^ 31)) base false
+reads_as near base w pos =
+    option_map_or (λ b. same_word (number_of b pos) w && nat_le near (pos + 2 ^ 31) && nat_lt pos
+    (near + 2 ^ 31)) base false
 
 -- both numbers read as the positions at making; of a reset that answers the sequence number reads as some position
 abbrev pub is_bad_number : Endpoint → Emission → Bool
 is_bad_number e m =
     if m.is_reset_reply then not (is_some (place_taken e m))
-    else not (reads_as (rcv_nxt e) e.irs m.seq m.pos) || m.flags.ack && not (reads_as e.stream.snd_una e.iss m.ack_seq m.ack)
+    else not (reads_as (rcv_nxt e) e.irs m.seq m.pos) || m.flags.ack && not
+    (reads_as e.stream.snd_una e.iss m.ack_seq m.ack)
 
 -- the position lies in the receive window
 abbrev pub is_in_window : Endpoint → ℕ → Bool

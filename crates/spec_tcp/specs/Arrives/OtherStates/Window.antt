@@ -17,7 +17,8 @@ is_unread e m = not m.flags.syn && not m.is_reset_reply && not (same_bool m.scal
 -- the window is taken from a segment that is not older than the one that it was taken from last; one that acknowledges
 -- the SYN sets it (RFC 9293, 3.10.7.4)
 abbrev pub takes_window : Endpoint → Emission → Bool
-takes_window e m = nat_le e.stream.snd_una m.ack && (acknowledges_syn e m || nat_lt e.window.snd_wl1 m.pos || e.window.snd_wl1 == m.pos && nat_le e.window.snd_wl2 m.ack)
+takes_window e m =
+    nat_le e.stream.snd_una m.ack && (acknowledges_syn e m || nat_lt e.window.snd_wl1 m.pos || e.window.snd_wl1 == m.pos && nat_le e.window.snd_wl2 m.ack)
 
 abbrev pub window_taken : Endpoint → Emission → SendWindow
 window_taken e m = if takes_window e m then record e.window { snd_wnd = peer_window e m; snd_wl1 = m.pos; snd_wl2 = m.ack } else e.window
