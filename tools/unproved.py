@@ -2,8 +2,10 @@
 """Builds a program of this repository without proving it, and keeps what it built.
 
     python3 tools/unproved.py NAME OUT [-O1]
+    python3 tools/unproved.py --keep NAME ..
 
-NAME is a crate with a `main`, OUT the file of the program. `rt try` makes a module of the whole program, compiles and runs it, and keeps
+NAME is a crate with a `main`, OUT the file of the program. With --keep, the program of each crate is built as `./tcpwit` builds it, unless a current
+one stands, and its file is printed. `rt try` makes a module of the whole program, compiles and runs it, and keeps
 nothing. This takes the module that `rt try` hands to its compiler, and compiles and links it with the kit's own tools. The module has a
 test in place of each proof: where one fails the program stops, in place of going on with a wrong value. It leans on how the kit of
 November 2026 lays out its folder.
@@ -135,9 +137,14 @@ def kept(name):
 
 
 def main():
-    if len(sys.argv) not in (3, 4):
+    words = sys.argv[1:]
+    if words[:1] == ["--keep"] and len(words) > 1:
+        for name in words[1:]:
+            print(kept(name))
+    elif len(words) in (2, 3):
+        build(*words)
+    else:
         sys.exit(__doc__)
-    build(*sys.argv[1:])
 
 
 if __name__ == "__main__":
