@@ -1,15 +1,50 @@
 //! The text of a trace becomes the text of a case.
 
-use crate::search::{Added, Search};
+use crate::choices::Choices;
+use crate::flights::longest_flight;
+use crate::going_back::{Attempt, Retried, Sought, search_again};
+use crate::hints::{HintFault, read_hints};
+use crate::search::Added;
 use bstr::ByteSlice;
-use case_forms::{Event, Line, OutOfMemory, Span, Trace, Witness};
-use endpoint_state::StepFault;
-use line_fields::{
-    FaultKind, TextFault, push_end, push_host, push_number, push_space, push_word, timer_name,
-};
+use case_forms::{Line, OutOfMemory, Trace, Witness};
+use line_fields::{TextFault, push_end, push_host, push_number, push_space, push_word, timer_name};
 use std::alloc::{AllocError, Global};
 use trace_reader::read_trace;
 use witness::print_witness;
+
+/// How many steps are spent on going back, where nothing else is asked for.
+pub const BUDGET: u64 = 5_000_000;
+
+/// What is looked for beside the trace: hints, as a text, and how many steps may be spent on going back.
+#[derive(Clone, Copy)]
+pub struct Wanted<'t> {
+    pub hints: &'t [u8],
+    pub budget: u64,
+}
+
+/// A case that was found, and how far it explains its trace.
+#[derive(Drop)]
+pub struct Found {
+    /// The text of the case.
+    pub case: Vec<u8>,
+    /// The line of the given trace that no step may take. None: all lines are explained.
+    pub stopped_at: Option<u64>,
+    /// How many times the search went back.
+    pub tries: u64,
+    /// How many steps it spent on that.
+    pub cost: u64,
+}
+
+/// Why nothing is found.
+#[derive(Clone, Copy, Debug, PartialEq, Eq)]
+pub enum FindFault {
+    /// The trace can't be read. The kind is `OutOfMemory` where memory ran out, and where more than 40,000,000 steps
+    /// would be
+    /// needed.
+    Trace(TextFault),
+    /// This line of the hints is none.
+    Hint(u64),
+}
 
 /// The text of a case: the trace, in which lines are added for expiries that it doesn't tell and that were needed, and
 /// a
@@ -19,29 +54,76 @@ use witness::print_witness;
 /// than 40,000,000 steps would be needed.
 pub fn find(alloc: Global, text: &[u8]) -> Result<Vec<u8>, TextFault> {
     let trace = read_trace(alloc, text)?;
-    let (added, witness) = search(alloc, &trace)?;
-    let thread = unused_thread(trace.lines.as_slice());
-    let mut case = trace_text(alloc, text, &trace, added.as_slice(), thread)?;
-    let steps = print_witness(alloc, &witness)?;
-    case.extend_from_slice(steps.as_slice())?;
-    Ok(case)
+    let found = find_in(alloc, text, &trace, &Choices::new(alloc), BUDGET)?;
+    Ok(found.case)
 }
 
-// The lines that are added, and the witness.
-fn search(alloc: Global, trace: &Trace) -> Result<(Vec<Added>, Witness), OutOfMemory> {
-    let mut search = Search::new(alloc, &trace.header, trace.lines.as_slice())?;
-    let ran = search.run();
-    let (added, steps) = search.found();
-    drop(search);
-    match ran {
-        Ok(()) | Err(StepFault::Broken(_)) => {}
-        Err(StepFault::OutOfMemory) => return Err(AllocError),
+/// As `find`, with hints and a budget.
+pub fn find_wanted(alloc: Global, text: &[u8], wanted: Wanted<'_>) -> Result<Found, FindFault> {
+    let trace = match read_trace(alloc, text) {
+        Ok(trace) => trace,
+        Err(fault) => return Err(FindFault::Trace(fault)),
+    };
+    let lines = trace.lines.as_slice();
+    let first = trace.header.first_event_line();
+    let choices = match read_hints(alloc, wanted.hints, lines, first) {
+        Ok(choices) => choices,
+        Err(HintFault::Line(line)) => return Err(FindFault::Hint(line)),
+        Err(HintFault::OutOfMemory) => return Err(FindFault::Trace(TextFault::from(AllocError))),
+    };
+    match find_in(alloc, text, &trace, &choices, wanted.budget) {
+        Ok(found) => Ok(found),
+        Err(AllocError) => Err(FindFault::Trace(TextFault::from(AllocError))),
     }
+}
+
+// Finds a case with these choices.
+fn find_in(
+    alloc: Global,
+    text: &[u8],
+    trace: &Trace,
+    choices: &Choices,
+    budget: u64,
+) -> Result<Found, OutOfMemory> {
+    let lines = trace.lines.as_slice();
+    let sought = Sought {
+        alloc,
+        header: &trace.header,
+        lines,
+        longest_flight: longest_flight(alloc, lines)?,
+    };
+    let Retried { best, tries, cost } = search_again(sought, choices, budget)?;
+    let first = trace.header.first_event_line();
+    let stopped_at = match best.failure {
+        Some(failure) => Some(first.saturating_add(failure.place as u64)),
+        None => None,
+    };
+    let case = case_text(alloc, text, trace, best)?;
+    Ok(Found {
+        case,
+        stopped_at,
+        tries,
+        cost,
+    })
+}
+
+// The text of a case.
+fn case_text(
+    alloc: Global,
+    text: &[u8],
+    trace: &Trace,
+    best: Attempt,
+) -> Result<Vec<u8>, OutOfMemory> {
+    let Attempt { added, steps, .. } = best;
     let witness = Witness {
         version: trace.header.version,
         steps,
     };
-    Ok((added, witness))
+    let thread = unused_thread(trace.lines.as_slice());
+    let mut case = trace_text(alloc, text, trace, added.as_slice(), thread)?;
+    let steps = print_witness(alloc, &witness)?;
+    case.extend_from_slice(steps.as_slice())?;
+    Ok(case)
 }
 
 // A thread that no line has, if there is one above all others.
@@ -70,6 +152,7 @@ fn trace_text(
         out.extend_from_slice(raw)?;
         number = number.saturating_add(1);
     }
+    push_before(&mut out, left, first, u64::MAX, thread)?;
     Ok(out)
 }
 
