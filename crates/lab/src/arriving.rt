@@ -195,12 +195,12 @@ impl<'t> Search<'t> {
             keep,
             sample: true,
         };
-        match self.world.admits_taking(host, self.moment, line, choice) {
+        match self.world.admits_taking(host, line, choice) {
             Ok(()) => return Some(choice),
             Err(Rule::Sample) => choice.sample = false,
             Err(_) => return None,
         }
-        match self.world.admits_taking(host, self.moment, line, choice) {
+        match self.world.admits_taking(host, line, choice) {
             Ok(()) => Some(choice),
             Err(_) => None,
         }

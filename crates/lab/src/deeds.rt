@@ -83,14 +83,14 @@ impl Search<'_> {
     /// A host drops the segment that came in with a line.
     pub(crate) fn drop_arrival(&mut self, host: Host, line: u64) -> Result<(), StepFault> {
         has_room(&self.world)?;
-        self.world.drop_arrival(host, line, self.moment)?;
+        self.world.drop_arrival(host, line)?;
         self.note(Label::K { host, line })
     }
 
     /// A host answers the segment that came in with a line by a reset. The answer is the reset's number.
     pub(crate) fn answer(&mut self, host: Host, line: u64) -> Result<u32, StepFault> {
         has_room(&self.world)?;
-        self.world.answer(host, line, self.moment)?;
+        self.world.answer(host, line)?;
         self.note(Label::R { host, line })?;
         Ok(self.world.count())
     }
@@ -98,7 +98,7 @@ impl Search<'_> {
     /// An endpoint enters fast recovery.
     pub(crate) fn recover(&mut self, host: Host, recovery: Recovery) -> Result<(), StepFault> {
         has_room(&self.world)?;
-        self.world.recover(host, recovery, self.moment)?;
+        self.world.recover(host, recovery)?;
         self.note(Label::F { host, recovery })
     }
 

@@ -3,6 +3,7 @@
 ghost use Rattle.std.specs.Prelude.{◌≡◌, ◌≤◌, ◌<◌, ◌+◌, ◌*◌, ◌⊎◌, suc, true, false, nat_lt, IfOk, IfNone, OnOk, OnErr};
 ghost use Rattle.std.specs.Option.{IfSome};
 ghost use Rattle.case_forms.specs.Witnesses.{IsWithinLimits};
+ghost use Rattle.case_forms.specs.declared.calls.Ports.{Ports};
 ghost use Rattle.hosts.specs.Hosts.{At, Takes};
 ghost use Rattle.machine.specs.Bounds.{most_steps};
 ghost use Rattle.machine.specs.Steps.{step_of};
@@ -143,7 +144,7 @@ impl HostCore {
         ensures err { OnErr result (IsSettledShort self.old line ports self.new) }
     {
         let Some(choice) = self.choice(line, window) else {
-            return self.turn_away(line, ports);
+            return self.turn_away(line);
         };
         let host = self.me();
         let touch = self.touch_at(ports.lport, ports.rport);
@@ -153,12 +154,12 @@ impl HostCore {
     }
 
     // What is not taken is answered by a reset where it may be, and else dropped.
-    fn turn_away(&mut self, line: u64, ports: Ports) -> Result<(), OutOfMemory>
+    fn turn_away(&mut self, line: u64) -> Result<(), OutOfMemory>
         requires room { steps_in self.old.recorded.entries < 4 * self.old.events }
         requires events { self.old.events ≤ 10000000 }
         requires waits { MayDrop self.old line }
         requires not_taken { MayTake self.old line → ⊥ }
-        ensures ok { OnOk result (IsSettled self.old line ports self.new) }
+        ensures ok { (ports : Ports) → OnOk result (IsSettled self.old line ports self.new) }
         ensures err { OnErr result (self.new ≡ self.old) }
     {
         let host = self.me();
