@@ -14,7 +14,6 @@ use crate::desk::Desk;
 use crate::host_book::HostBook;
 use crate::receipt::Receipt;
 use crate::seat::Seat;
-use crate::seats::Seats;
 use crate::site::Site;
 use case_forms::{Call, Header, Host, OutOfMemory};
 use stack_core::CoreConfig;
@@ -60,7 +59,7 @@ pub enum Cause {
 #[derive(Drop)]
 pub struct Unfinished<L: Site> {
     pub recorder: Recorder<L>,
-    pub seats: Seats<L>,
+    pub seats: Vec<Seat<L>>,
     pub cause: Cause,
 }
 
@@ -150,7 +149,7 @@ impl<L: Site> Recorder<L> {
         ensures host { IfOk result (λ b. b.core.recorded.me ≡ L.host) }
         ensures header { IfOk result (λ b. b.core.recorded.header ≡ L.header) }
         ensures total { IfOk result (λ b. b.total ≡ sum_by (λ s. s.count) seats.items) }
-        ensures back { IfErr result (λ u. u.seats ≡ seats.items) }
+        ensures back { IfErr result (λ u. u.seats.items ≡ seats.items) }
         ensures cause { IfErr result (λ u. u.cause ≡ SeatMissing) }
         ensures missing { OnErr result (length seats.items < 65535) }
     {
@@ -164,7 +163,7 @@ impl<L: Site> Recorder<L> {
                     moved,
                     alloc,
                 },
-                seats: Seats::new(seats),
+                seats,
                 cause: Cause::SeatMissing,
             });
         }

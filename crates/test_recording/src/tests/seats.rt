@@ -31,11 +31,10 @@ fn ends_with_both<L: Site, R: Wait>(
     };
     let Unfinished {
         recorder,
-        seats,
+        mut seats,
         cause,
     } = unfinished;
     let came_back = seats.len() == 1 && cause == Cause::SeatMissing;
-    let mut seats = seats.into_vec();
     seats.push(second).ok()?;
     Some(came_back && recorder.finish(rt, seats).is_ok())
 }
