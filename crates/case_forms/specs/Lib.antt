@@ -5,3 +5,5 @@ pub mod Steps
 pub mod TakenLines
 pub mod Naming
 pub mod Witnesses
+pub mod Wires
+pub mod Limits

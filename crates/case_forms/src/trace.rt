@@ -1,6 +1,7 @@
 //! The header and the event lines of a trace.
 
 ghost use Rattle.std.specs.Prelude.{◌≡◌, [], ◌∷◌, ◌++◌, IfOk, OnOk, OnErr};
+ghost use Rattle.segment.specs.Layout.{IsSegment};
 ghost use Rattle.case_forms.specs.Traces.{first_event_line};
 
 use crate::OutOfMemory;
@@ -46,7 +47,9 @@ impl Header {
     }
 }
 
-/// A segment as it was seen: its bytes, at most 65515, and what `segment::decode` gives of them.
+/// A segment as it was seen: its bytes, at most 65515, and what `segment::decode` gives of them. No wire has another
+/// segment
+/// than the one that its bytes stand for: whoever makes one has to show it, and `is_segment` says it.
 #[derive(Debug, PartialEq, Eq, Drop)]
 pub struct Wire {
     pub bytes: Bytes,
@@ -54,7 +57,27 @@ pub struct Wire {
     pub seg: Segment,
 }
 
+impl Model for Wire {
+    ghost use Rattle.segment.specs.Layout.{IsSegment};
+    ghost use Rattle.case_forms.specs.Wires.{Seen};
+
+    ghost Value = { Seen };
+
+    ghost view = { λ a. record { bytes = a.bytes; seg = a.seg } };
+
+    ghost invariant = { λ a. IsSegment a.bytes a.seg };
+
+    ghost inverse = { λ s. record { bytes = s.bytes; seg = s.seg } };
+}
+
 impl Wire {
+    /// The segment is what the bytes stand for, of each wire: a call that does nothing, whose contract says it.
+    pub fn is_segment(&self)
+        ensures { IsSegment self.now.bytes self.now.seg }
+    {
+        let _ = &self.seg;
+    }
+
     /// An equal wire.
     pub fn copy(&self) -> Result<Wire, OutOfMemory>
         ensures { IfOk result (λ wire. wire ≡ self.now) }

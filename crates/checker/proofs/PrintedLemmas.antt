@@ -187,14 +187,14 @@ printed_case_is t w version p q =
 pub printed_case_yes : (t : Trace) (w : Witness) → t.header.version ≡ w.version → traces.IsPrintableTrace t → witnesses.IsPrintableWitness w → Explains t w → (v : Verdict) × (case_result (trace_text t ++ witness_text w) ≡ Ok v) × IsYes v
 printed_case_yes t w version p q e = (verdict t w, printed_case_is t w version p q, explains_yes t w e)
 
--- the same of values in memory, whose bytes are bytes
-pub case_in_memory : (t : Trace) (w : Witness) (text : List ℕ) → text ≡ trace_text t ++ witness_text w → AllByRecursion traces.HasBytes t.lines → AllByRecursion witnesses.HasBytes w.steps
-    → t.header.version ≡ w.version → traces.IsWithinTrace t → witnesses.IsWithinWitness w → case_result text ≡ Ok (verdict t w)
-case_in_memory t w text is b d version p q = ap case_result is ∙ printed_case_is t w version (trace_law.within_prints t p b) (witness_law.within_prints w q d)
+-- the same of values in memory, which are as their types say
+pub case_in_memory : (t : Trace) (w : Witness) (text : List ℕ) → text ≡ trace_text t ++ witness_text w → AllByRecursion traces.IsInMemory t.lines → AllByRecursion witnesses.IsInMemory w.steps
+    → t.header.version ≡ w.version → traces.IsWithinTrace t → witnesses.IsWithinWitness w → witnesses.TellShifts w.version w.steps → case_result text ≡ Ok (verdict t w)
+case_in_memory t w text is b d version p q s = ap case_result is ∙ printed_case_is t w version (trace_law.within_prints t p b) (witness_law.within_prints w q s d)
 
-pub yes_in_memory : (t : Trace) (w : Witness) (text : List ℕ) → text ≡ trace_text t ++ witness_text w → AllByRecursion traces.HasBytes t.lines → AllByRecursion witnesses.HasBytes w.steps
-    → t.header.version ≡ w.version → traces.IsWithinTrace t → witnesses.IsWithinWitness w → Explains t w → (v : Verdict) × (case_result text ≡ Ok v) × IsYes v
-yes_in_memory t w text is b d version p q e = (verdict t w, case_in_memory t w text is b d version p q, explains_yes t w e)
+pub yes_in_memory : (t : Trace) (w : Witness) (text : List ℕ) → text ≡ trace_text t ++ witness_text w → AllByRecursion traces.IsInMemory t.lines → AllByRecursion witnesses.IsInMemory w.steps
+    → t.header.version ≡ w.version → traces.IsWithinTrace t → witnesses.IsWithinWitness w → witnesses.TellShifts w.version w.steps → Explains t w → (v : Verdict) × (case_result text ≡ Ok v) × IsYes v
+yes_in_memory t w text is b d version p q s e = (verdict t w, case_in_memory t w text is b d version p q s, explains_yes t w e)
 
 -- ---- a case that is printed, computed
 

@@ -3,6 +3,7 @@
 ghost use Rattle.std.specs.Prelude.{◌≡◌, ◌≢◌, ◌⊎◌, ◌<◌, ◌^◌, ℕ, List, false, IfSome, codes, map};
 ghost use Rattle.std.specs.Io.KnownBytes.{Appends};
 ghost use Rattle.case_forms.specs.Versions.{is_half};
+ghost use Rattle.witness.specs.Printable.{TellShifts};
 ghost use Rattle.checker.specs.Cases.{case_result};
 ghost use Rattle.checker.specs.Explains.{Explains};
 ghost use Rattle.counted.specs.Counting.{left_of, failures_of};
@@ -87,6 +88,7 @@ fn answer_record<W: Write, H: Threads + Wait + Sync>(
 fn print<W: Write>(alloc: Global, recording: &Recording, w: &mut Counted<W>) -> u8
     requires few { failures_of w.old < 2 ^ 50 }
     requires explains { Explains recording.now.recorded.trace recording.now.recorded.witness }
+    requires shifts { TellShifts recording.now.recorded.witness.version recording.now.recorded.witness.steps }
     ensures recorded { (plan : Plan) → recording.now.recorded.trace.header ≡ header_of plan.version
         → recording.now.recorded.witness.version ≡ plan.version →
         recording.now.ended ≡ has_ended plan.rounds recording.now.recorded.trace.lines → result ≢ 5 →

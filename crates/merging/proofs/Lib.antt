@@ -8,3 +8,4 @@ pub mod JoinLemmas
 pub mod SmallLemmas
 pub mod MergeLemmas
 pub mod HonestLemmas
+pub mod ShiftLemmas

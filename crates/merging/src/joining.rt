@@ -8,6 +8,8 @@ ghost use Rattle.spec_tcp.specs.Machine.{tcp};
 ghost use Rattle.spec_merge.specs.Keys.{Books};
 ghost use Rattle.spec_merge.specs.Recordings.{merged};
 ghost use Rattle.stack_core.specs.Entries.{steps_in};
+ghost use Rattle.stack_core.specs.Told.{AllTold};
+ghost use Rattle.witness.specs.Printable.{TellShifts};
 ghost use Rattle.checker.specs.Explains.{Explains};
 ghost use Rattle.merging.specs.declared.joining.MergeFault.TheVariants.{OutOfMemory};
 ghost use Rattle.merging.specs.Faults.{IfStranger, IsFirstStranger};
@@ -101,6 +103,8 @@ pub fn merge_recordings(
         Tells r.trace r.witness (merged zero.now.header
         (first_event_line zero.now.header) zero.now.entries one.now.entries)) }
     ensures threads { IfOk result (λ r. AllOwnThreads r.trace.lines) }
+    ensures shifts { AllTold zero.now.header.version zero.now.entries → AllTold one.now.header.version one.now.entries
+        → IfOk result (λ r. TellShifts r.witness.version r.witness.steps) }
     ensures explains { IfOk result (λ r. Explains r.trace r.witness) }
     ensures stranger { IfErr result (λ f. IfStranger f (IsFirstStranger zero.now one.now)) }
     ensures beside { Books (tcp zero.now.header) (first_event_line zero.now.header) zero.now.entries one.now.entries →

@@ -10,6 +10,7 @@ ghost use Rattle.spec_merge.specs.Keys.{before};
 ghost use Rattle.stack_core.specs.Cores.{IsAfter, IsCallWithin, IsRecorded, world};
 ghost use Rattle.stack_core.specs.Entries.{steps_in};
 ghost use Rattle.stack_core.specs.Keys.{key_of};
+ghost use Rattle.stack_core.specs.Told.{AllTold};
 ghost use Rattle.merging.specs.Naming.{AllAbove};
 ghost use Rattle.recorder.specs.Books.{IsSameSite, ends_in};
 
@@ -94,6 +95,17 @@ impl HostBook {
         ensures steps { steps_in self.now.core.recorded.entries ≤ 40000000 }
     {
         self.core.few_steps();
+    }
+
+    /// A text can tell what it recorded: each segment is made at a position that a text names, with a payload that fits
+    /// into one,
+    /// and with a shift only beside an initial number, where the version scales windows. A call that does nothing,
+    /// whose contract
+    /// says it.
+    pub fn can_be_told(&self)
+        ensures { AllTold self.now.core.recorded.header.version self.now.core.recorded.entries }
+    {
+        self.core.can_be_told();
     }
 
     // Whether a thread is in no call.

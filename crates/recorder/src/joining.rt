@@ -7,6 +7,7 @@ ghost use Rattle.case_forms.specs.Versions.{is_half};
 ghost use Rattle.spec_tcp.specs.Machine.{tcp};
 ghost use Rattle.spec_merge.specs.Keys.{Books};
 ghost use Rattle.spec_merge.specs.Recordings.{merged};
+ghost use Rattle.witness.specs.Printable.{TellShifts};
 ghost use Rattle.checker.specs.Explains.{Explains, IsYes};
 ghost use Rattle.checker.specs.Verdicts.{verdict};
 ghost use Rattle.merging.specs.declared.joining.MergeFault.TheVariants.{OutOfMemory};
@@ -30,6 +31,7 @@ pub fn merge(alloc: Global, zero: HostBook, one: HostBook) -> Result<Recorded, M
         Tells r.trace r.witness (merged zero.core.recorded.header (first_event_line zero.core.recorded.header)
         zero.core.recorded.entries one.core.recorded.entries)) }
     ensures threads { IfOk result (λ r. AllOwnThreads r.trace.lines) }
+    ensures shifts { IfOk result (λ r. TellShifts r.witness.version r.witness.steps) }
     ensures explains { IfOk result (λ r. Explains r.trace r.witness) }
     ensures yes { IfOk result (λ r. IsYes (verdict r.trace r.witness)) }
     ensures stranger { IfErr result (λ f. IfStranger f (IsFirstStranger zero.core.recorded one.core.recorded)) }
@@ -39,6 +41,8 @@ pub fn merge(alloc: Global, zero: HostBook, one: HostBook) -> Result<Recorded, M
     explained_is_yes();
     zero.few_steps();
     one.few_steps();
+    zero.can_be_told();
+    one.can_be_told();
     let merged = merge_recordings(alloc, zero.recording(), one.recording());
     drop(zero);
     drop(one);

@@ -5,10 +5,18 @@ use Rattle.std.specs.Fmt.{decimal}
 use Rattle.std.specs.List.{AllByRecursion}
 use Rattle.std.proofs.Math.Seq.{take-suc}
 use Rattle.std.proofs.lemmas.List.Folds.{concat-append}
+use Rattle.case_forms.specs.Limits.{HasAnswerBits, HasCallBits, IsTextAnswer, IsTextCall}
+use Rattle.case_forms.specs.declared.calls.Answer.{Answer}
+use Rattle.case_forms.specs.declared.calls.Answer.TheVariants as answers
+use Rattle.case_forms.specs.declared.calls.Call.{Call}
+use Rattle.case_forms.specs.declared.calls.Call.TheVariants as calls
+use Rattle.case_forms.specs.declared.trace.Event.{Event}
+use Rattle.case_forms.specs.declared.trace.Event.TheVariants as events
 use Rattle.case_forms.specs.declared.trace.Header.{Header}
 use Rattle.case_forms.specs.declared.trace.Line.{Line}
 use Rattle.case_forms.specs.declared.trace.Trace.{Trace}
 use Rattle.case_forms.specs.Traces.{IsRecorded}
+use Rattle.line_fields.specs.Answers.{IsAnswer}
 use Rattle.line_fields.specs.Lines.{IsLine}
 use Rattle.line_fields.specs.Folding.{AreSpelled}
 use Rattle.line_fields.specs.Spelling.{printed, printed_line, joined, piece_texts}
@@ -19,11 +27,12 @@ use Rattle.case_forms.specs.declared.version.Initial.{Initial}
 use Rattle.case_forms.specs.declared.version.Initial.TheVariants.{Rfc5681, Rfc6928}
 use Rattle.case_forms.specs.Versions.{first_line_of}
 use Rattle.trace_reader.specs.Headers.{IsHeader, AreLines, header_words, first_words, initial_words, initial_number, late_words}
-use Rattle.trace_reader.specs.Events.{event_pieces}
+use Rattle.trace_reader.specs.Calls.{IsCall}
+use Rattle.trace_reader.specs.Events.{event_pieces, IsEvent}
 use Rattle.trace_reader.specs.EventLines.{Place, behind, line_pieces, IsEventLine}
 use Rattle.trace_reader.specs.TraceText.{first_place, IsTraceText}
 use Rattle.trace_reader.specs.Printed.{trace_text}
-use Rattle.trace_reader.specs.Printable.{HasBytes, IsWithinLine, IsWithinTrace, IsPrintableLine, IsPrintableTrace, at_columns, with_columns}
+use Rattle.trace_reader.specs.Printable.{HasEventBits, IsCallOf, IsInMemory, IsWithinEvent, IsWithinLine, IsWithinTrace, IsPrintableLine, IsPrintableTrace, at_columns, with_columns}
 use Rattle.trace_reader.proofs.ShortLines.{line_short}
 
 -- ---- the header
@@ -151,9 +160,46 @@ all_more {X = X} P xs i d lt before here =
 
 -- ---- values in memory
 
-lines_print : (v : Version) (lines : List Line) → AllByRecursion (IsWithinLine v) lines → AllByRecursion HasBytes lines → AllByRecursion (IsPrintableLine v) lines
-lines_print v [] p b = tt
-lines_print v (l ∷ ls) p b = let own = p.0 in (record { moment = own.moment; thread = own.thread; event = own.event; bytes = b.0 }, lines_print v ls p.1 b.1)
+call_within : (v : Version) (call : Call) → IsCallOf v call → IsTextCall call → HasCallBits call → IsCall v call
+call_within v (calls.Listen host port backlog) host_is text bits = (host_is, text, bits.0, bits.1)
+call_within v (calls.Connect host local remote) host_is text bits = (host_is, text.0, bits.0, text.1, bits.1)
+call_within v (calls.Await socket) host_is text bits = bits
+call_within v (calls.Accept socket) host_is text bits = bits
+call_within v (calls.Send socket bytes) host_is text bits = (bits, text.0, text.1)
+call_within v (calls.Recv socket max) host_is text bits = (bits.0, text, bits.1)
+call_within v (calls.Shut socket) host_is text bits = bits
+call_within v (calls.Close socket) host_is text bits = bits
+call_within v (calls.Abort socket) host_is text bits = bits
+call_within v (calls.Status socket) host_is text bits = bits
 
-pub within_prints : (t : Trace) → IsWithinTrace t → AllByRecursion HasBytes t.lines → IsPrintableTrace t
+answer_within : (answer : Answer) → IsTextAnswer answer → HasAnswerBits answer → IsAnswer answer
+answer_within (answers.Given count) text bits = bits
+answer_within (answers.Bytes bytes) text bits = text
+answer_within (answers.State state) text bits = tt
+answer_within answers.Done text bits = tt
+answer_within answers.Again text bits = tt
+answer_within answers.Eof text bits = tt
+answer_within answers.Closed text bits = tt
+answer_within answers.NotConn text bits = tt
+answer_within answers.Refused text bits = tt
+answer_within answers.Reset text bits = tt
+answer_within answers.Timeout text bits = tt
+answer_within answers.InUse text bits = tt
+answer_within answers.BadSocket text bits = tt
+
+event_within : (v : Version) (event : Event) → IsWithinEvent v event → HasEventBits event → IsEvent v event
+event_within v (events.CallBegin call) p b = call_within v call p.0 p.1 b
+event_within v (events.CallEnd answer) p b = answer_within answer p b
+event_within v (events.Sent host wire) p b = (p, b)
+event_within v (events.Came host wire) p b = (p, b)
+event_within v (events.Expired host local remote timer) p b = (p.0, p.1, b.0, p.2, b.1)
+
+lines_print : (v : Version) (lines : List Line) → AllByRecursion (IsWithinLine v) lines → AllByRecursion IsInMemory lines → AllByRecursion (IsPrintableLine v) lines
+lines_print v [] p b = tt
+lines_print v (l ∷ ls) p b =
+    let own = p.0 in
+    let memory = b.0 in
+    (record { moment = own.moment; thread = memory.thread; event = event_within v l.event own.event memory.event; bytes = memory.bytes }, lines_print v ls p.1 b.1)
+
+pub within_prints : (t : Trace) → IsWithinTrace t → AllByRecursion IsInMemory t.lines → IsPrintableTrace t
 within_prints t p b = record { header = p.header; recorded = p.recorded; few = p.few; lines = lines_print t.header.version t.lines p.lines b }

@@ -4,6 +4,7 @@ ghost use Rattle.std.specs.Prelude.{◌≡◌, ◌<◌, ◌∷◌, [], ◌++◌,
 ghost use Rattle.std.specs.List.{concat, AllByRecursion};
 ghost use Rattle.std.specs.Fmt.{decimal};
 ghost use Rattle.case_forms.specs.declared.trace.Trace.{Trace};
+ghost use Rattle.case_forms.specs.Limits.{Has16, Has32, HasAnswerBits, HasCallBits};
 ghost use Rattle.line_fields.specs.Hosts.{host_number};
 ghost use Rattle.line_fields.specs.Spelling.{IsBytePiece, plain, hex, number, printed, printed_line, printed_behind};
 ghost use Rattle.trace_reader.specs.Headers.{late_words};
@@ -11,13 +12,11 @@ ghost use Rattle.trace_reader.specs.Calls.{call_pieces};
 ghost use Rattle.trace_reader.specs.Events.{event_pieces};
 ghost use Rattle.trace_reader.specs.EventLines.{line_pieces};
 ghost use Rattle.trace_reader.specs.TraceText.{IsTraceText, trace_of};
-ghost use Rattle.trace_reader.specs.Printable.{HasBytes, IsPrintableTrace, with_columns};
+ghost use Rattle.trace_reader.specs.Printable.{HasEventBits, IsInMemory, IsPrintableTrace, with_columns};
 ghost use Rattle.trace_reader.specs.Printed.{header_text, trace_text};
 
 use crate::header::first_text;
-use case_forms::{
-    Answer, Call, Event, Header, Host, Initial, Line, OutOfMemory, Trace, Version, Wire,
-};
+use case_forms::{Answer, Call, Event, Header, Host, Initial, Line, OutOfMemory, Trace, Version};
 use line_fields::{
     push_answer, push_end, push_hex, push_host, push_number, push_space, push_word, timer_name,
 };
@@ -136,14 +135,14 @@ fn push_call(out: &mut Vec<u8>, call: &Call) -> Result<(), OutOfMemory>
     }
 }
 
-// Writes a letter, a host and a segment, each behind a space.
-fn push_wire(out: &mut Vec<u8>, letter: &str, host: Host, wire: &Wire) -> Result<(), OutOfMemory>
+// Writes a letter, a host and the bytes of a segment, each behind a space.
+fn push_seen(out: &mut Vec<u8>, letter: &str, host: Host, bytes: &[u8]) -> Result<(), OutOfMemory>
     ensures { OnOk result (out.new.items ≡ out.old.items
-        ++ printed_behind (plain letter.now ∷ number (host_number host) ∷ hex wire.now.bytes ∷ [])) }
+        ++ printed_behind (plain letter.now ∷ number (host_number host) ∷ hex bytes.now ∷ [])) }
 {
     push_host_word(out, letter, host)?;
     push_space(out)?;
-    push_hex(out, wire.bytes.as_slice())
+    push_hex(out, bytes)
 }
 
 // Writes the fields of an event, each behind a space.
@@ -159,8 +158,8 @@ fn push_event(out: &mut Vec<u8>, event: &Event) -> Result<(), OutOfMemory>
             push_word(out, " E")?;
             push_answer(out, answer)
         }
-        Event::Sent(host, wire) => push_wire(out, "O", *host, wire),
-        Event::Came(host, wire) => push_wire(out, "I", *host, wire),
+        Event::Sent(host, wire) => push_seen(out, "O", *host, wire.bytes.as_slice()),
+        Event::Came(host, wire) => push_seen(out, "I", *host, wire.bytes.as_slice()),
         Event::Expired(host, local, remote, timer) => {
             push_ports(out, "T", *host, *local, *remote)?;
             push_space(out)?;
@@ -184,13 +183,13 @@ fn push_line(out: &mut Vec<u8>, line: &Line) -> Result<(), OutOfMemory>
 /// The text of a trace, each line ended by LF.
 pub fn print_trace(alloc: Global, trace: &Trace) -> Result<Vec<u8>, OutOfMemory>
     ensures text { IfOk result (λ text. text.items ≡ trace_text trace.now) }
-    ensures bytes { IfOk result (λ text. AllByRecursion HasBytes trace.now.lines) }
+    ensures memory { IfOk result (λ text. AllByRecursion IsInMemory trace.now.lines) }
 {
     let mut out = Vec::new(alloc);
     push_header(&mut out, &trace.header)?;
     for line in trace.lines.as_slice() {
         push_line(&mut out, line)?;
-        event_bytes(&line.event);
+        line_in_memory(line);
     }
     Ok(out)
 }
@@ -240,4 +239,72 @@ pub fn event_bytes(event: &Event)
         Event::Came(_, wire) => own_bytes(&wire.bytes),
         Event::Expired(_, _, _, _) => (),
     }
+}
+
+// A number of 16 bits, as its type says.
+fn bits16(n: u16)
+    ensures { Has16 n }
+{}
+
+// And one of 32.
+fn bits32(n: u32)
+    ensures { Has32 n }
+{}
+
+// The numbers of a call have the bits of their types.
+fn call_bits(call: &Call)
+    ensures { HasCallBits call.now }
+{
+    match call {
+        Call::Listen(_, first, second) | Call::Connect(_, first, second) => {
+            bits16(*first);
+            bits16(*second);
+        }
+        Call::Recv(socket, max) => {
+            bits32(*socket);
+            bits16(*max);
+        }
+        Call::Await(socket)
+        | Call::Accept(socket)
+        | Call::Send(socket, _)
+        | Call::Shut(socket)
+        | Call::Close(socket)
+        | Call::Abort(socket)
+        | Call::Status(socket) => bits32(*socket),
+    }
+}
+
+// So has that of an answer.
+fn answer_bits(answer: &Answer)
+    ensures { HasAnswerBits answer.now }
+{
+    if let Answer::Given(count) = answer {
+        bits32(*count);
+    }
+}
+
+// And those of an event; and the bytes of a segment stand for it.
+fn event_bits(event: &Event)
+    ensures { HasEventBits event.now }
+{
+    match event {
+        Event::CallBegin(call) => call_bits(call),
+        Event::CallEnd(answer) => answer_bits(answer),
+        Event::Sent(_, wire) | Event::Came(_, wire) => wire.is_segment(),
+        Event::Expired(_, local, remote, _) => {
+            bits16(*local);
+            bits16(*remote);
+        }
+    }
+}
+
+/// A line is as the types of values in memory say: its numbers have their bits, its bytes are bytes, and those of a
+/// segment
+/// stand for it.
+pub fn line_in_memory(line: &Line)
+    ensures { IsInMemory line.now }
+{
+    bits32(line.thread);
+    event_bits(&line.event);
+    event_bytes(&line.event);
 }

@@ -3,6 +3,7 @@
 ghost use Rattle.std.specs.Prelude.{◌≡◌, false, IfOk};
 ghost use Rattle.case_forms.specs.Versions.{is_half};
 ghost use Rattle.case_forms.specs.declared.calls.Host.TheVariants.{Zero, One};
+ghost use Rattle.witness.specs.Printable.{TellShifts};
 ghost use Rattle.checker.specs.Explains.{Explains};
 ghost use Rattle.two_hosts.specs.Ends.{has_ended};
 ghost use Rattle.two_hosts.specs.Plans.{AreBooks, header_of};
@@ -255,6 +256,7 @@ pub fn record<R: Threads + Wait + Sync>(
     requires { is_half plan.version ≡ false }
     ensures header { IfOk result (λ r. r.recorded.trace.header ≡ header_of plan.version) }
     ensures version { IfOk result (λ r. r.recorded.witness.version ≡ plan.version) }
+    ensures shifts { IfOk result (λ r. TellShifts r.recorded.witness.version r.recorded.witness.steps) }
     ensures explains { IfOk result (λ r. Explains r.recorded.trace r.recorded.witness) }
     ensures ended { IfOk result (λ r. r.ended ≡ has_ended plan.rounds r.recorded.trace.lines) }
 {

@@ -5,6 +5,10 @@ use Rattle.std.specs.Fmt.{decimal}
 use Rattle.std.specs.List.{AllByRecursion}
 use Rattle.std.proofs.Math.Seq.{take-suc}
 use Rattle.seqno.specs.declared.word.Word.{Word}
+use Rattle.case_forms.specs.Limits.{HasAnswerBits, HasIssBits, IsTextAnswer}
+use Rattle.case_forms.specs.Witnesses.{TellsShift}
+use Rattle.case_forms.specs.declared.calls.Answer.{Answer}
+use Rattle.case_forms.specs.declared.calls.Answer.TheVariants as answers
 use Rattle.case_forms.specs.declared.named_line.Extras.{Extras}
 use Rattle.case_forms.specs.declared.named_line.Extras.TheVariants.{Bare, One, Two}
 use Rattle.case_forms.specs.declared.named_line.NamedLine.{NamedLine}
@@ -15,6 +19,7 @@ use Rattle.case_forms.specs.declared.steps.Step.{Step}
 use Rattle.case_forms.specs.declared.steps.Witness.{Witness}
 use Rattle.case_forms.specs.declared.version.Version.{Version}
 use Rattle.case_forms.specs.declared.version.Version.TheVariants as versions
+use Rattle.line_fields.specs.Answers.{IsAnswer}
 use Rattle.line_fields.specs.Folding.{AreSpelled}
 use Rattle.line_fields.specs.Spelling.{Piece, printed_line, joined, piece_texts}
 use Rattle.line_fields.proofs.Printable.{IsShortPiece, room, short_decimal, pieces_short, pieces_written, written_bytes}
@@ -25,7 +30,7 @@ use Rattle.witness.specs.Labels.{bit_number, extras_pieces, AreExtras, iss_piece
 use Rattle.witness.specs.Steps.{step_pieces, IsStepText}
 use Rattle.witness.specs.WitnessText.{number_after, IsWitnessText}
 use Rattle.witness.specs.Printed.{witness_text}
-use Rattle.witness.specs.Printable.{HasBytes, IsWithinStep, IsWithinWitness, IsPrintableStep, IsPrintableWitness, step_at, steps_at, with_columns}
+use Rattle.witness.specs.Printable.{HasLabelBits, IsInMemory, IsWithinLabel, IsWithinStep, IsWithinWitness, TellShifts, IsPrintableStep, IsPrintableWitness, step_at, steps_at, with_columns}
 
 -- ---- the fields of a label are short
 
@@ -213,9 +218,41 @@ all_more {X = X} P xs i d lt before here =
 
 -- ---- values in memory
 
-steps_print : (v : Version) (steps : List Step) → AllByRecursion (IsWithinStep v) steps → AllByRecursion HasBytes steps → AllByRecursion (IsPrintableStep v) steps
-steps_print v [] p b = tt
-steps_print v (s ∷ steps) p b = let own = p.0 in (record { moment = own.moment; label = own.label; bytes = b.0 }, steps_print v steps p.1 b.1)
+answer_within : (answer : Answer) → IsTextAnswer answer → HasAnswerBits answer → IsAnswer answer
+answer_within (answers.Given count) text bits = bits
+answer_within (answers.Bytes bytes) text bits = text
+answer_within (answers.State state) text bits = tt
+answer_within answers.Done text bits = tt
+answer_within answers.Again text bits = tt
+answer_within answers.Eof text bits = tt
+answer_within answers.Closed text bits = tt
+answer_within answers.NotConn text bits = tt
+answer_within answers.Refused text bits = tt
+answer_within answers.Reset text bits = tt
+answer_within answers.Timeout text bits = tt
+answer_within answers.InUse text bits = tt
+answer_within answers.BadSocket text bits = tt
 
-pub within_prints : (w : Witness) → IsWithinWitness w → AllByRecursion HasBytes w.steps → IsPrintableWitness w
-within_prints w p b = record { few = p.few; steps = steps_print w.version w.steps p.steps b }
+iss_within : (iss : Option Word) → HasIssBits iss → IsIss iss
+iss_within None bits = tt
+iss_within (Some iss) bits = bits
+
+label_within : (v : Version) (label : Label NamedLine) → IsWithinLabel v label → TellsShift v label → HasLabelBits label → IsLabel v label
+label_within v (L line) p shift bits = (p, bits)
+label_within v (D thread answer) p shift bits = (bits.0, answer_within answer p bits.1)
+label_within v (M host plan) p shift bits =
+    ((p.0, p.1, bits.lport, p.2, bits.rport), p.3, p.4, bits.window, (iss_within plan.iss bits.iss, shift))
+label_within v (T host line choice) p shift bits = (p, bits)
+label_within v (K host line) p shift bits = p
+label_within v (R host line) p shift bits = p
+label_within v (F host x) p shift bits = ((p.0, p.1, bits.0, p.2, bits.1), bits.2, bits.3)
+
+steps_print : (v : Version) (steps : List Step) → AllByRecursion (IsWithinStep v) steps → TellShifts v steps → AllByRecursion IsInMemory steps → AllByRecursion (IsPrintableStep v) steps
+steps_print v [] p t b = tt
+steps_print v (s ∷ steps) p t b =
+    let own = p.0 in
+    let memory = b.0 in
+    (record { moment = own.moment; label = label_within v s.label own.label t.0 memory.label; bytes = memory.bytes }, steps_print v steps p.1 t.1 b.1)
+
+pub within_prints : (w : Witness) → IsWithinWitness w → TellShifts w.version w.steps → AllByRecursion IsInMemory w.steps → IsPrintableWitness w
+within_prints w p t b = record { few = p.few; steps = steps_print w.version w.steps p.steps t b }

@@ -47,6 +47,6 @@ pub use counted::Counted;
 pub use first_line::begins_witness;
 pub use laws::{step_faults, witness_faults};
 pub use line_fields::{FaultKind, ReadFault, TextFault};
-pub use printing::{label_bytes, print_law, print_witness, printable_law};
+pub use printing::{label_bytes, print_law, print_witness, printable_law, step_in_memory};
 pub use reading::{read_step, read_witness, read_witness_for};
 pub use stream::StepReader;

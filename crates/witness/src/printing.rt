@@ -2,13 +2,14 @@
 
 ghost use Rattle.std.specs.Prelude.{◌≡◌, ◌<◌, ℕ, List, [], ◌∷◌, ◌++◌, Ok, IfOk, OnOk, slice_index};
 ghost use Rattle.std.specs.List.{AllByRecursion};
+ghost use Rattle.case_forms.specs.Limits.{Has16, Has32, HasAnswerBits, HasPlanBits};
 ghost use Rattle.case_forms.specs.declared.steps.Witness.{Witness};
 ghost use Rattle.line_fields.specs.Spelling.{IsBytePiece, number, printed_behind, printed_line};
-ghost use Rattle.witness.specs.Labels.{bit_number, extras_pieces, iss_pieces, shift_pieces, segment_pieces};
+ghost use Rattle.witness.specs.Labels.{AreExtras, bit_number, extras_pieces, iss_pieces, shift_pieces, segment_pieces};
 ghost use Rattle.witness.specs.Labels.{endpoint_pieces, entry_pieces, label_pieces};
 ghost use Rattle.witness.specs.Steps.{step_pieces};
 ghost use Rattle.witness.specs.WitnessText.{IsWitnessText, witness_of};
-ghost use Rattle.witness.specs.Printable.{HasBytes, IsPrintableWitness, with_columns};
+ghost use Rattle.witness.specs.Printable.{HasLabelBits, IsInMemory, IsPrintableWitness, with_columns};
 ghost use Rattle.witness.specs.Printed.{witness_text, without_spans};
 
 use crate::first_line::first_text;
@@ -147,14 +148,14 @@ fn push_step(out: &mut Vec<u8>, step: &Step) -> Result<(), OutOfMemory>
 /// The text of a witness, each line ended by LF.
 pub fn print_witness(alloc: Global, witness: &Witness) -> Result<Vec<u8>, OutOfMemory>
     ensures text { IfOk result (λ bytes. bytes.items ≡ witness_text witness.now) }
-    ensures bytes { IfOk result (λ bytes. AllByRecursion HasBytes witness.now.steps) }
+    ensures memory { IfOk result (λ bytes. AllByRecursion IsInMemory witness.now.steps) }
 {
     let mut out = Vec::new(alloc);
     push_word(&mut out, first_text(witness.version))?;
     push_end(&mut out)?;
     for step in witness.steps.as_slice() {
         push_step(&mut out, step)?;
-        label_bytes(&step.label);
+        step_in_memory(step);
     }
     Ok(out)
 }
@@ -191,4 +192,79 @@ pub fn label_bytes(label: &Label<NamedLine>)
     {
         slice_bytes(bytes.as_slice());
     }
+}
+
+// A number of 16 bits, as its type says.
+fn bits16(n: u16)
+    ensures { Has16 n }
+{}
+
+// And one of 32.
+fn bits32(n: u32)
+    ensures { Has32 n }
+{}
+
+// The extra numbers of a line have the bits of their types.
+fn extras_bits(extras: Extras)
+    ensures { AreExtras extras }
+{
+    match extras {
+        Extras::Bare => (),
+        Extras::One(first) => bits32(first),
+        Extras::Two(first, second) => {
+            bits32(first);
+            bits32(second);
+        }
+    }
+}
+
+// So has the number of an answer.
+fn answer_bits(answer: &Answer)
+    ensures { HasAnswerBits answer.now }
+{
+    if let Answer::Given(count) = answer {
+        bits32(*count);
+    }
+}
+
+// And those of a plan.
+fn plan_bits(plan: SegmentPlan)
+    ensures { HasPlanBits plan }
+{
+    bits16(plan.lport);
+    bits16(plan.rport);
+    bits16(plan.window);
+    if let Some(Word(iss)) = plan.iss {
+        bits32(iss);
+    }
+}
+
+// And those of a label.
+fn label_bits(label: &Label<NamedLine>)
+    ensures { HasLabelBits label.now }
+{
+    match label {
+        Label::L(line) => extras_bits(line.extras),
+        Label::D { thread, answer } => {
+            bits32(*thread);
+            answer_bits(answer);
+        }
+        Label::M { plan, .. } => plan_bits(*plan),
+        Label::T { choice, .. } => bits32(choice.cwnd),
+        Label::K { .. } | Label::R { .. } => (),
+        Label::F { recovery, .. } => {
+            bits16(recovery.lport);
+            bits16(recovery.rport);
+            bits32(recovery.cwnd);
+            bits32(recovery.ssthresh);
+        }
+    }
+}
+
+/// A step is as the types of values in memory say: its numbers have their bits, and its bytes are bytes.
+pub fn step_in_memory(step: &Step)
+    ensures { IsInMemory step.now }
+{
+    label_bits(&step.label);
+    label_bytes(&step.label);
 }

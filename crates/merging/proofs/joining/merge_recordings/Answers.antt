@@ -5,10 +5,12 @@ use Rattle.case_forms.specs.Traces.{first_event_line}
 use Rattle.spec_tcp.specs.Machine.{tcp}
 use Rattle.spec_merge.specs.Keys.{Books}
 use Rattle.spec_merge.specs.Recordings.{merged}
+use Rattle.stack_core.specs.Told.{AllTold}
 use Rattle.merging.specs.Saying.{both_renumbered}
 use Rattle.merging.specs.Told.{AllOwnThreads, Tells}
 use Rattle.merging.proofs.HonestLemmas.{one_is_named, zero_is_named}
 use Rattle.merging.proofs.MergeLemmas.{beside, beside_books, beside_small, own_threads, told_as}
+use Rattle.merging.proofs.ShiftLemmas.{both_shifts}
 use Rattle.merging.proofs.joining.merge_recordings.Goals as goal
 
 pub tell-requires-clause-small : goal.tell-requires-clause-small
@@ -37,3 +39,7 @@ returns-clause-explains c =
     c.what_is_told_explains.ensures.books c.in_ok-recorded.recorded.trace c.in_ok-recorded.recorded.witness c.args.zero.now.entries c.args.one.now.entries
     (subst (λ (g : Header). Books (tcp g) (first_event_line g) c.args.zero.now.entries c.args.one.now.entries) (sym same) books)
     (subst (λ (g : Header). Tells c.in_ok-recorded.recorded.trace c.in_ok-recorded.recorded.witness (merged g (first_event_line g) c.args.zero.now.entries c.args.one.now.entries)) (sym same) tells)
+
+pub returns-clause-shifts : goal.returns-clause-shifts
+returns-clause-shifts c p q = both_shifts c.args.zero.now.header.version c.in_ok-recorded.recorded.witness.version (first_event_line c.args.zero.now.header) c.args.zero.now.entries c.args.one.now.entries c.in_ok-recorded.recorded.witness.steps
+    c.in_ok-recorded.ensures.version c.in_ok-recorded.ensures.steps p (subst (λ (h : Header). AllTold h.version c.args.one.now.entries) (sym c.requires.headers) q)

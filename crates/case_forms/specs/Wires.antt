@@ -1,0 +1,8 @@
+-- Segments as they were seen.
+use Rattle.std.specs.Prelude.{ℕ, List}
+use Rattle.segment.specs.declared.fields.Segment.{Segment}
+
+-- what contracts see of one: its bytes, and the segment that they stand for
+pub record Seen : Type 0 where
+  pub bytes : List ℕ
+  pub seg : Segment
