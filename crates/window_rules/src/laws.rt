@@ -1,6 +1,7 @@
 //! What the greatest values have to do with what the RFCs allow, and what follows from them, for callers that prove
 //! more: each law is the contract of a call that does nothing.
 
+ghost use Rattle.window_rules.specs.ControlLaws.{ControlCounts, ControlIsGreatest, ControlTakesChoice};
 ghost use Rattle.window_rules.specs.Laws.{EdgesAreExact, GrowthIsGreatest, LossesAreGreatest, RecoveryIsGreatest};
 ghost use Rattle.window_rules.specs.Laws.{GrowthIsGentle, CountsOnce, LossHalves};
 
@@ -37,4 +38,19 @@ pub fn counts_once()
 /// A loss halves the window (RFC 5681, 3.1 and 3.2).
 pub fn loss_halves()
     ensures { LossHalves }
+{}
+
+/// The greatest values of each profile are exactly what is allowed at each signal.
+pub fn control_is_greatest()
+    ensures { ControlIsGreatest }
+{}
+
+/// The values after a signal are those that were chosen, and no signal changes the profile.
+pub fn control_takes_choice()
+    ensures { ControlTakesChoice }
+{}
+
+/// What is counted is at most what was acknowledged, and at most the number of steps.
+pub fn control_counts()
+    ensures { ControlCounts }
 {}

@@ -4,6 +4,7 @@
 //! Each call answers the greatest value that a sender may choose; it may always choose less. All values are bytes,
 //! windows and thresholds are at most 4294967295.
 //!
+//! - `control`: the boundary of congestion control: what happened, what is allowed then, and what is remembered
 //! - `congestion`: what congestion control remembers of an endpoint
 //! - `windows`: how far new data may reach, and the first congestion window
 //! - `growth`: what acknowledgments do to the congestion window
@@ -14,16 +15,18 @@
 #![tactic(auto)]
 
 mod congestion;
+mod control;
 mod growth;
 mod laws;
 mod losses;
 mod windows;
 
 pub use congestion::Congestion;
+pub use control::{At, Control, Profile, Signal};
 pub use growth::{counted_after, may_grow, on_duplicate};
 pub use laws::{
-    counts_once, edges_are_exact, growth_is_gentle, growth_is_greatest, loss_halves,
-    losses_are_greatest, recovery_is_greatest,
+    control_counts, control_is_greatest, control_takes_choice, counts_once, edges_are_exact,
+    growth_is_gentle, growth_is_greatest, loss_halves, losses_are_greatest, recovery_is_greatest,
 };
 pub use losses::{on_fast, on_timeout, recovery_window};
 pub use windows::{
