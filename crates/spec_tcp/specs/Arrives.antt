@@ -19,6 +19,7 @@ use Rattle.spec_tcp.specs.Arrives.OtherStates.Ack.{acknowledges_syn}
 use Rattle.spec_tcp.specs.Arrives.OtherStates.{connected_rules, taken}
 use Rattle.spec_tcp.specs.Arrives.SynSent.{syn_sent_rules, on_syn}
 use Rattle.spec_tcp.specs.Arrives.Listen.{listener_rules, child}
+use Rattle.spec_tcp.specs.Signals.{profile_of}
 
 -- whom a segment finds: the endpoint of its ports, if that is not CLOSED, else the listener on its destination port
 pub data Taker : Type 0 where
@@ -36,19 +37,22 @@ abbrev pub taker : Body → Emission → Taker
 taker b m = option_map_or (endpoint_taker b m) (place_of b m.rport m.lport) (listener_taker b m)
 
 -- the rules of taking at the endpoint of this place
-abbrev pub endpoint_rules : Header → Host → Body → TakeChoice → Emission → ℕ → Endpoint → List (Rule × Bool)
-endpoint_rules h me b how m i e =
-    if is_syn_sent e.state then syn_sent_rules h.initial e how m
-    else connected_rules h b (record { host = me; number = i }) e how m
+abbrev pub endpoint_rules : Header → Host → Body → TakeChoice → Emission → (moment : ℕ) → ℕ → Endpoint
+    → List (Rule × Bool)
+endpoint_rules h me b how m moment i e =
+    if is_syn_sent e.state then syn_sent_rules e how m moment
+    else connected_rules h b (record { host = me; number = i }) e how m moment
 
 -- the rules of taking; an endpoint reads the segment first
-abbrev pub taker_rules : Header → Host → Body → TakeChoice → Emission → Taker → List (Rule × Bool)
-taker_rules h me b how m Nobody = (rules.NoEndpoint, true) ∷ []
-taker_rules h me b how m (AtListener l) = listener_rules how m
-taker_rules h me b how m (AtEndpoint i e) = endpoint_rules h me b how (as_read h.version e m) i e
+abbrev pub taker_rules : Header → Host → Body → TakeChoice → Emission → (moment : ℕ) → Taker
+    → List (Rule × Bool)
+taker_rules h me b how m moment Nobody = (rules.NoEndpoint, true) ∷ []
+taker_rules h me b how m moment (AtListener l) = listener_rules how m
+taker_rules h me b how m moment (AtEndpoint i e) = endpoint_rules h me b how (as_read h.version e m) moment i e
 
 abbrev pub endpoint_taken : Header → Endpoint → TakeChoice → Emission → ℕ → Endpoint
-endpoint_taken h e how m moment = if m.flags.rst then was_reset e how else if is_syn_sent e.state then on_syn h e how m moment else taken h e how m moment
+endpoint_taken h e how m moment =
+    if m.flags.rst then was_reset e how moment else if is_syn_sent e.state then on_syn h e how m moment else taken h e how m moment
 
 -- a child whose SYN is acknowledged joins its listener's queue
 abbrev pub joined : Body → ℕ → Endpoint → Emission → List Listener
@@ -65,5 +69,6 @@ endpoint_after h b how m moment i e =
 -- what the host has then
 abbrev pub after_taking : Header → Body → TakeChoice → Emission → ℕ → Taker → Body
 after_taking h b how m moment Nobody = b
-after_taking h b how m moment (AtListener l) = record b { endpoints = b.endpoints ++ child l how m moment ∷ [] }
+after_taking h b how m moment (AtListener l) =
+    record b { endpoints = b.endpoints ++ child (profile_of h.initial) l how m moment ∷ [] }
 after_taking h b how m moment (AtEndpoint i e) = endpoint_after h b how (as_read h.version e m) moment i e

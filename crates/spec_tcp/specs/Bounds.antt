@@ -6,6 +6,7 @@ use Rattle.std.specs.List.{All}
 use Rattle.case_forms.specs.States.{is_closed, is_syn_sent}
 use Rattle.streams.specs.Forgetting.{below, forgotten, made_below}
 use Rattle.streams.specs.Received as received
+use Rattle.window_rules.specs.Counts.{HasCounts, IsCounted}
 use Rattle.spec_tcp.specs.Endpoints.{Endpoint, Emission, rcv_nxt}
 use Rattle.spec_tcp.specs.Bodies.{Body}
 
@@ -28,8 +29,7 @@ pub record IsForgotten (e : Endpoint) : Type 0 where
 -- an endpoint after so many steps
 pub record IsKept (steps : ℕ) (e : Endpoint) : Type 0 where
   pub snd_una : e.stream.snd_una < 2 ^ 63
-  pub counted : e.congestion.counted ≤ e.stream.snd_una
-  pub dup : e.congestion.dup ≤ steps
+  pub counts : IsCounted steps e.stream.snd_una e.control
   pub unanswered_expiries : e.unanswered_expiries ≤ steps
   pub backoffs : e.backoffs ≤ steps
   pub accepted : length e.stream.accepted ≤ 2 ^ 32 * steps
@@ -47,8 +47,7 @@ pub record IsKeptBody (steps : ℕ) (b : Body) : Type 0 where
 -- what a step may add to an endpoint fits into its counts, and nothing is kept that may be discarded
 pub record HasRoom (e : Endpoint) : Type 0 where
   pub snd_una : e.stream.snd_una < 2 ^ 63
-  pub counted : e.congestion.counted < 2 ^ 63
-  pub dup : e.congestion.dup + 1 < 2 ^ 32
+  pub counts : HasCounts e.control
   pub unanswered_expiries : e.unanswered_expiries + 1 < 2 ^ 32
   pub backoffs : e.backoffs + 1 < 2 ^ 32
   pub accepted : length e.stream.accepted < 2 ^ 62

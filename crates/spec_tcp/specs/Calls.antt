@@ -14,6 +14,7 @@ use Rattle.case_forms.specs.declared.calls.State.TheVariants as states
 use Rattle.spec_tcp.specs.Endpoints.{Endpoint, SocketTarget, ListenerAt, EndpointAt, new_endpoint}
 use Rattle.spec_tcp.specs.Bodies.{Body, is_connected, with_endpoint, is_listening, queue_of, thing_of, with_socket}
 use Rattle.spec_tcp.specs.Same.{same_state}
+use Rattle.window_rules.specs.declared.control.Profile.{Profile}
 use Rattle.spec_tcp.specs.Calls.Await.{is_not_connected, await_allows}
 use Rattle.spec_tcp.specs.Calls.Send.{send_allows, after_send}
 use Rattle.spec_tcp.specs.Calls.Receive.{recv_allows, after_recv}
@@ -73,21 +74,21 @@ abbrev pub change : Body → ℕ → (Endpoint → Endpoint) → Body
 change b n f = option_map_or (change_thing b f) (thing_of b n) b
 
 -- what the host has then; every other answer changes nothing
-abbrev pub after_call : Body → Call → Answer → Body
-after_call b (calls.Listen host port backlog) (answers.Given n) =
+abbrev pub after_call : Profile → Body → Call → Answer → Body
+after_call profile b (calls.Listen host port backlog) (answers.Given n) =
     with_socket (record b {
       listeners = b.listeners ++ record { port = port; backlog = backlog; is_open = true; queue = [] }
           ∷ [];
     }) n (ListenerAt (length b.listeners))
-after_call b (calls.Connect host lport rport) (answers.Given n) =
+after_call profile b (calls.Connect host lport rport) (answers.Given n) =
     with_socket (record b {
-      endpoints = b.endpoints ++ new_endpoint lport rport None states.SynSent
+      endpoints = b.endpoints ++ new_endpoint lport rport None states.SynSent profile
           ∷ [];
     }) n (EndpointAt (length b.endpoints))
-after_call b (calls.Accept h) (answers.Given n) = option_map_or (after_accept b n) (thing_of b h) b
-after_call b (calls.Send h bytes) (answers.Given n) = change b h (after_send bytes n)
-after_call b (calls.Recv h most) (answers.Bytes bytes) = change b h (after_recv bytes)
-after_call b (calls.Shut h) answers.Done = change b h after_shut
-after_call b (calls.Close h) answers.Done = after_gone b h after_close
-after_call b (calls.Abort h) answers.Done = after_gone b h after_abort
-after_call b _ _ = b
+after_call profile b (calls.Accept h) (answers.Given n) = option_map_or (after_accept b n) (thing_of b h) b
+after_call profile b (calls.Send h bytes) (answers.Given n) = change b h (after_send bytes n)
+after_call profile b (calls.Recv h most) (answers.Bytes bytes) = change b h (after_recv bytes)
+after_call profile b (calls.Shut h) answers.Done = change b h after_shut
+after_call profile b (calls.Close h) answers.Done = after_gone b h after_close
+after_call profile b (calls.Abort h) answers.Done = after_gone b h after_abort
+after_call profile b _ _ = b

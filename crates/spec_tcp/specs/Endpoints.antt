@@ -17,11 +17,14 @@ use Rattle.std.specs.Option.{option_map_or}
 use Rattle.case_forms.specs.declared.calls.State.{State}
 use Rattle.streams.specs.Received as received
 use Rattle.window_rules.specs.Windows as windows
+use Rattle.window_rules.specs.Control.{began}
+use Rattle.window_rules.specs.declared.control.Profile.{Profile}
 use Rattle.timer_rules.specs.Timers as timers
 
--- an endpoint at its creation, for the listener that made it (RFC 9293, 3.10.1)
-abbrev pub new_endpoint : (lport rport : ℕ) → Option ℕ → State → Endpoint
-new_endpoint lport rport listener state = record {
+-- an endpoint at its creation, for the listener that made it, with the profile of its congestion control (RFC 9293,
+-- 3.10.1)
+abbrev pub new_endpoint : (lport rport : ℕ) → Option ℕ → State → Profile → Endpoint
+new_endpoint lport rport listener state profile = record {
   lport = lport;
   rport = rport;
   listener = listener;
@@ -36,7 +39,7 @@ new_endpoint lport rport listener state = record {
   stream = record { peer = None; accepted = []; ended = false; receive = received.empty; snd_una = 0 };
   transmissions = [];
   window = record { snd_wnd = 0; snd_wl1 = 0; snd_wl2 = 0; rcv_adv = 0 };
-  congestion = windows.start;
+  control = began profile;
   recover = 0;
   probe_due = false;
   timers = timers.start;

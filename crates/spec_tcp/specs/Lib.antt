@@ -4,6 +4,7 @@ pub mod Same
 pub mod Calls
 pub mod Makes
 pub mod Arrives
+pub mod Signals
 pub mod Timeouts
 pub mod Recovery
 pub mod Reset

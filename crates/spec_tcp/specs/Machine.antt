@@ -29,6 +29,7 @@ use Rattle.spec_tcp.specs.Recovery.{recovery_rules, after_recovery}
 use Rattle.spec_tcp.specs.Reset.{reset_rules, reset_of}
 use Rattle.spec_tcp.specs.Wire.{out_rules, sent, in_rules}
 use Rattle.spec_tcp.specs.Heard.{heard}
+use Rattle.spec_tcp.specs.Signals.{profile_of}
 
 -- a timer of the endpoint of these ports expires, with what is chosen there
 pub record Expiring : Type 0 where
@@ -53,19 +54,19 @@ rules_at b lport rport f = option_map_or f (endpoint_of b lport rport) ((rules.N
 abbrev pub act_rules : Header → Host → ℕ → Body → Act → List (Rule × Bool)
 act_rules h me moment b (Calls call answer) = (rules.CallAnswer, not (call_allows b call answer)) ∷ []
 act_rules h me moment b (Makes m) = rules_at b m.lport m.rport (λ e. making_rules e m)
-act_rules h me moment b (Takes how m) = taker_rules h me b how m (taker b m)
+act_rules h me moment b (Takes how m) = taker_rules h me b how m moment (taker b m)
 act_rules h me moment b (Resets m) = reset_rules b m
 act_rules h me moment b (Expires x) = rules_at b x.lport x.rport (λ e. expiry_rules h moment e x.expired)
-act_rules h me moment b (Recovers x) = rules_at b x.lport x.rport (λ e. recovery_rules e x.cwnd x.ssthresh)
+act_rules h me moment b (Recovers x) = rules_at b x.lport x.rport (λ e. recovery_rules e x.cwnd x.ssthresh moment)
 
 -- what the host has after it
 abbrev pub act_after : Header → Host → ℕ → Body → Act → Body
-act_after h me moment b (Calls call answer) = after_call b call answer
+act_after h me moment b (Calls call answer) = after_call (profile_of h.initial) b call answer
 act_after h me moment b (Makes m) = at_ports b m.lport m.rport (λ e. after_making e m moment)
 act_after h me moment b (Takes how m) = after_taking h b how m moment (taker b m)
 act_after h me moment b (Resets m) = b
 act_after h me moment b (Expires x) = at_ports b x.lport x.rport (λ e. after_expiry e x.expired moment)
-act_after h me moment b (Recovers x) = at_ports b x.lport x.rport (λ e. after_recovery e x.cwnd x.ssthresh)
+act_after h me moment b (Recovers x) = at_ports b x.lport x.rport (λ e. after_recovery e x.cwnd x.ssthresh moment)
 
 -- the segment made by the endpoint at a place
 abbrev pub made_at : Host → Body → SegmentPlan → ℕ → Option Emission

@@ -24,7 +24,7 @@ making_rules e m =
     (rules.NoEndpoint, makes_nothing e m) ∷ (rules.State, not (may_make e m)) ∷ (rules.Iss, is_bad_iss e m)
     ∷ (rules.PayloadRange, is_bad_payload e m) ∷ (rules.AckField, is_bad_ack e m) ∷ (rules.OldData, is_bad_place e m)
     ∷ (rules.Offered, is_beyond_offer e m) ∷ (rules.Congestion, is_congesting e m)
-    ∷ (rules.Size, nat_lt e.congestion.smss m.len) ∷ []
+    ∷ (rules.Size, nat_lt e.control.values.smss m.len) ∷ []
 
 -- the segment: the accepted bytes at its position, the next position expected as its acknowledgment, both also as
 -- numbers

@@ -1,22 +1,26 @@
 -- Fast recovery begins (RFC 5681, 3.2).
-use Rattle.std.specs.Prelude.{ℕ, ◌==◌, nat_lt, Bool, true, not, ◌||◌, List, [], ◌∷◌}
+use Rattle.std.specs.Prelude.{ℕ, ◌==◌, nat_lt, Bool, not, ◌||◌, List, [], ◌∷◌}
 use Rattle.case_forms.specs.States.{is_closed}
 use Rattle.verdict.specs.declared.rule.Rule.{Rule}
 use Rattle.verdict.specs.declared.rule.Rule.TheVariants as rules
-use Rattle.window_rules.specs.Losses.{halved, recovery_window}
-use Rattle.spec_tcp.specs.Endpoints.{Endpoint, snd_max, flight, is_up}
+use Rattle.window_rules.specs.Control.{greatest, after, may_recover}
+use Rattle.spec_tcp.specs.Endpoints.{Endpoint, snd_max, is_up}
+use Rattle.spec_tcp.specs.Signals.{at_moment, recovery_signal}
 
 -- fast recovery begins with the third duplicate acknowledgment (RFC 5681, 3.2, steps 2 and 3)
-abbrev pub is_bad_recovery : Endpoint → (cwnd ssthresh : ℕ) → Bool
-is_bad_recovery e cwnd ssthresh =
-    nat_lt e.congestion.dup 3 || e.congestion.fast || e.stream.snd_una == snd_max e
-    || nat_lt (halved e.congestion (flight e)) ssthresh || nat_lt (recovery_window e.congestion ssthresh) cwnd
+abbrev pub is_bad_recovery : Endpoint → (cwnd ssthresh moment : ℕ) → Bool
+is_bad_recovery e cwnd ssthresh moment =
+    not (may_recover e.control) || e.stream.snd_una == snd_max e
+    || nat_lt ((greatest e.control (recovery_signal e ssthresh) (at_moment e moment)).1) ssthresh
+    || nat_lt ((greatest e.control (recovery_signal e ssthresh) (at_moment e moment)).0) cwnd
 
-abbrev pub recovery_rules : Endpoint → (cwnd ssthresh : ℕ) → List (Rule × Bool)
-recovery_rules e cwnd ssthresh =
+abbrev pub recovery_rules : Endpoint → (cwnd ssthresh moment : ℕ) → List (Rule × Bool)
+recovery_rules e cwnd ssthresh moment =
     (rules.NoEndpoint, is_closed e.state) ∷ (rules.State, not (is_up e))
-    ∷ (rules.Recovery, is_bad_recovery e cwnd ssthresh) ∷ []
+    ∷ (rules.Recovery, is_bad_recovery e cwnd ssthresh moment) ∷ []
 
-abbrev pub after_recovery : Endpoint → (cwnd ssthresh : ℕ) → Endpoint
-after_recovery e cwnd ssthresh =
-    record e { congestion = record e.congestion { cwnd = cwnd; ssthresh = ssthresh; fast = true }; recover = snd_max e }
+abbrev pub after_recovery : Endpoint → (cwnd ssthresh moment : ℕ) → Endpoint
+after_recovery e cwnd ssthresh moment = record e {
+  control = after e.control (recovery_signal e ssthresh) (at_moment e moment) cwnd ssthresh;
+  recover = snd_max e;
+}

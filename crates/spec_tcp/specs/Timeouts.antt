@@ -12,23 +12,25 @@ use Rattle.case_forms.specs.declared.trace.Header.{Header}
 use Rattle.verdict.specs.declared.rule.Rule.{Rule}
 use Rattle.verdict.specs.declared.rule.Rule.TheVariants as rules
 use Rattle.streams.specs.Sent.{end_of}
-use Rattle.window_rules.specs.Losses.{on_timeout}
+use Rattle.window_rules.specs.Control.{greatest, after}
 use Rattle.timer_rules.specs.Timers.{expired, is_armed, is_early}
-use Rattle.spec_tcp.specs.Endpoints.{Timeout, Endpoint, snd_max, flight, is_up, flag_count}
+use Rattle.spec_tcp.specs.Endpoints.{Timeout, Endpoint, snd_max, is_up, flag_count}
+use Rattle.spec_tcp.specs.Signals.{at_moment, timeout_signal}
 use Rattle.spec_tcp.specs.Calls.Close.{shut_down}
 
--- the SYN is pending; the timer expired before
-abbrev pub greatest_values : Endpoint → ℕ × ℕ
-greatest_values e = on_timeout e.congestion (flight e) (e.stream.snd_una == 0) (nat_lt 0 e.backoffs)
+-- the greatest cwnd and ssthresh at an expiry of the retransmission timer
+abbrev pub greatest_values : Endpoint → (moment : ℕ) → ℕ × ℕ
+greatest_values e moment = greatest e.control (timeout_signal e) (at_moment e moment)
 
 -- a value is above the greatest at an expiry of the retransmission timer (RFC 5681, 3.1)
-abbrev pub is_above : Endpoint → RtoChoice → Bool
-is_above e growth = nat_lt ((greatest_values e).0) growth.cwnd || nat_lt ((greatest_values e).1) growth.ssthresh
+abbrev pub is_above : Endpoint → RtoChoice → (moment : ℕ) → Bool
+is_above e growth moment =
+    nat_lt ((greatest_values e moment).0) growth.cwnd || nat_lt ((greatest_values e moment).1) growth.ssthresh
 
 -- the same of what is chosen: at another timer nothing is
-abbrev pub grows_above : Endpoint → Expired → Bool
-grows_above e (expireds.Rto growth) = is_above e growth
-grows_above e _ = false
+abbrev pub grows_above : Endpoint → Expired → (moment : ℕ) → Bool
+grows_above e (expireds.Rto growth) moment = is_above e growth moment
+grows_above e _ moment = false
 
 -- data or the FIN is unsent or not acknowledged
 abbrev pub has_more : Endpoint → Bool
@@ -49,15 +51,15 @@ is_off e Giveup = not (may_give_up e)
 
 abbrev pub expiry_rules : Header → ℕ → Endpoint → Expired → List (Rule × Bool)
 expiry_rules h moment e x =
-    (rules.NoEndpoint, is_closed e.state) ∷ (rules.Growth, grows_above e x)
+    (rules.NoEndpoint, is_closed e.state) ∷ (rules.Growth, grows_above e x moment)
     ∷ (rules.TimerOff, is_off e (timer_of x)) ∷ (rules.TimerEarly, is_early e.timers (timer_of x) moment h) ∷ []
 
 -- a retransmission is due: the values chosen, all that was made may be made again, the timer runs anew (RFC 6298, 5.4
 -- to 5.6; RFC 5681, 3.1)
 abbrev pub after_rto : Endpoint → RtoChoice → ℕ → Endpoint
 after_rto e growth moment = record e {
-  congestion =
-      record e.congestion { cwnd = growth.cwnd; ssthresh = growth.ssthresh; dup = 0; counted = 0; fast = false };
+  control =
+      after e.control (timeout_signal e) (at_moment e moment) growth.cwnd growth.ssthresh;
   recover = snd_max e;
   timers = expired e.timers Rto moment;
   unanswered_expiries = e.unanswered_expiries + 1;

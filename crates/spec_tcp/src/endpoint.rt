@@ -12,7 +12,7 @@ use seqno::Word;
 use std::alloc::Global;
 use streams::{ReceiveBuffer, SendBuffer, Transmissions};
 use timer_rules::Timers;
-use window_rules::{Congestion, scaled_window};
+use window_rules::{Control, Profile, scaled_window};
 
 /// An endpoint, by its host and its place in the order of creation there. A name is never given twice.
 #[derive(Clone, Copy, Debug, PartialEq, Eq)]
@@ -88,7 +88,7 @@ pub struct Endpoint {
     /// When each position was made.
     pub transmissions: Transmissions,
     pub window: SendWindow,
-    pub congestion: Congestion,
+    pub control: Control,
     /// Up to this position what was made may be made again.
     pub recover: u64,
     /// A byte behind a window of 0 is to be made (RFC 9293, 3.8.6.1).
@@ -103,15 +103,17 @@ pub struct Endpoint {
 }
 
 impl Endpoint {
-    /// An endpoint at its creation, between its own port and the peer's. A child has the place of its listener.
+    /// An endpoint at its creation, between its own port and the peer's. A child has the place of its listener. Its
+    /// congestion control goes by this profile.
     pub fn new(
         alloc: Global,
         lport: u16,
         rport: u16,
         listener: Option<u32>,
         state: State,
+        profile: Profile,
     ) -> Endpoint
-        ensures { result ≡ new_endpoint lport rport listener state }
+        ensures { result ≡ new_endpoint lport rport listener state profile }
     {
         Endpoint {
             lport,
@@ -139,7 +141,7 @@ impl Endpoint {
                 snd_wl2: 0,
                 rcv_adv: 0,
             },
-            congestion: Congestion::start(),
+            control: Control::start(profile),
             recover: 0,
             probe_due: false,
             timers: Timers::start(),

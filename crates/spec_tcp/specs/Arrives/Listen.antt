@@ -7,7 +7,10 @@ use Rattle.verdict.specs.declared.rule.Rule.TheVariants as rules
 use Rattle.streams.specs.Received.{met}
 use Rattle.spec_tcp.specs.Endpoints.{Endpoint, Emission, new_endpoint}
 use Rattle.spec_tcp.specs.Arrives.OtherStates.Window.{persist_taken}
-use Rattle.spec_tcp.specs.Arrives.SynSent.{told_smss}
+use Rattle.window_rules.specs.Control.{after}
+use Rattle.window_rules.specs.declared.control.Profile.{Profile}
+use Rattle.window_rules.specs.declared.control.Signal.TheVariants.{Syn}
+use Rattle.spec_tcp.specs.Signals.{at_moment, told_smss}
 
 -- a listener takes a SYN that is neither acknowledgment nor reset (RFC 9293, 3.10.7.2)
 abbrev pub listener_rules : TakeChoice → Emission → List (Rule × Bool)
@@ -16,14 +19,15 @@ listener_rules how m =
     ∷ (rules.Sample, how.sample) ∷ []
 
 -- a child of a listener: it knows the peer, and took its SYN
-abbrev pub child : ℕ → TakeChoice → Emission → ℕ → Endpoint
-child l how m moment =
-    let fresh : Endpoint = new_endpoint m.rport m.lport (Some l) states.SynReceived in
+abbrev pub child : Profile → ℕ → TakeChoice → Emission → ℕ → Endpoint
+child profile l how m moment =
+    let fresh : Endpoint = new_endpoint m.rport m.lport (Some l) states.SynReceived profile in
     record fresh {
       irs = Some m.seq;
       peer_shift = m.scale;
       stream = record fresh.stream { peer = Some m.sender; receive = met };
       window = record fresh.window { snd_wnd = m.window; snd_wl1 = m.pos };
-      congestion = record fresh.congestion { cwnd = how.cwnd; smss = told_smss m.mss };
+      control =
+          after fresh.control (Syn (told_smss m.mss)) (at_moment fresh moment) how.cwnd fresh.control.values.ssthresh;
       timers = persist_taken fresh.timers m.window moment;
     }

@@ -4,7 +4,6 @@ pub mod Peer
 pub mod Sequence
 pub mod Reset
 pub mod Ack
-pub mod Congestion
 pub mod Window
 pub mod Fin
 pub mod Text
@@ -23,7 +22,8 @@ use Rattle.spec_tcp.specs.Bodies.{Body}
 use Rattle.spec_tcp.specs.Arrives.OtherStates.Peer.{is_from_peer}
 use Rattle.spec_tcp.specs.Arrives.OtherStates.Sequence.{is_bad_number, is_acceptable}
 use Rattle.spec_tcp.specs.Arrives.OtherStates.Ack.{is_bad_ack_range, is_new_ack, may_sample}
-use Rattle.spec_tcp.specs.Arrives.OtherStates.Congestion.{greatest_window, congestion_taken}
+use Rattle.window_rules.specs.Control.{greatest, after}
+use Rattle.spec_tcp.specs.Signals.{at_moment, signal_of}
 use Rattle.spec_tcp.specs.Arrives.OtherStates.Window.{is_unread, window_taken, opens_window}
 use Rattle.spec_tcp.specs.Arrives.OtherStates.Text.{stream_taken, state_taken}
 use Rattle.spec_tcp.specs.Arrives.OtherStates.Timers.{timers_taken}
@@ -38,17 +38,18 @@ joins_full_queue h b e m =
 
 -- the rules in the other states, where it is known whether the child would join a full queue
 abbrev pub rules_with_queue : Header → (full : Bool) → EndpointId → Endpoint → TakeChoice → Emission
-    → List (Rule × Bool)
-rules_with_queue h full me e how m =
+    → (moment : ℕ) → List (Rule × Bool)
+rules_with_queue h full me e how m moment =
     (rules.NotPeer, not (is_half h.version) && not (is_from_peer me e m)) ∷ (rules.Number, is_bad_number e m)
     ∷ (rules.Unacceptable, not (is_acceptable e m))
     ∷ (rules.AckRange, is_bad_ack_range e m) ∷ (rules.QueueFull, full)
-    ∷ (rules.Growth, nat_lt (greatest_window h.initial e m) how.cwnd)
+    ∷ (rules.Growth, nat_lt ((greatest e.control (signal_of e m) (at_moment e moment)).0) how.cwnd)
     ∷ (rules.Sample, how.sample && not (may_sample e m))
     ∷ (rules.ScaleUnread, is_unread e m) ∷ []
 
-abbrev pub connected_rules : Header → Body → EndpointId → Endpoint → TakeChoice → Emission → List (Rule × Bool)
-connected_rules h b me e how m = rules_with_queue h (joins_full_queue h b e m) me e how m
+abbrev pub connected_rules : Header → Body → EndpointId → Endpoint → TakeChoice → Emission → (moment : ℕ)
+    → List (Rule × Bool)
+connected_rules h b me e how m moment = rules_with_queue h (joins_full_queue h b e m) me e how m moment
 
 -- a segment without RST is taken, in all states but SYN-SENT
 abbrev pub taken : Header → Endpoint → TakeChoice → Emission → ℕ → Endpoint
@@ -56,7 +57,7 @@ taken h e how m moment = record e {
   state = state_taken e how m;
   stream = stream_taken e how m;
   window = window_taken e m;
-  congestion = congestion_taken e how m;
+  control = after e.control (signal_of e m) (at_moment e moment) how.cwnd e.control.values.ssthresh;
   recover = if opens_window e m && is_some e.timers.persist_armed then snd_max e else e.recover;
   probe_due = e.probe_due && not (opens_window e m);
   timers = timers_taken h e how m moment;

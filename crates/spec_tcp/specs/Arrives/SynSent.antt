@@ -6,7 +6,6 @@ use Rattle.seqno.specs.Numbers.{number_of}
 use Rattle.case_forms.specs.declared.calls.State.TheVariants as states
 use Rattle.case_forms.specs.declared.steps.TakeChoice.{TakeChoice}
 use Rattle.case_forms.specs.declared.trace.Header.{Header}
-use Rattle.case_forms.specs.declared.version.Initial.{Initial}
 use Rattle.verdict.specs.declared.rule.Rule.{Rule}
 use Rattle.verdict.specs.declared.rule.Rule.TheVariants as rules
 use Rattle.streams.specs.Transmissions.{retransmitted}
@@ -14,7 +13,8 @@ use Rattle.streams.specs.Received.{met}
 use Rattle.timer_rules.specs.declared.timers.Timers.{Timers}
 use Rattle.spec_tcp.specs.Endpoints.{Endpoint, Emission, snd_max}
 use Rattle.spec_tcp.specs.Same.{same_word}
-use Rattle.spec_tcp.specs.Arrives.OtherStates.Congestion.{first_window}
+use Rattle.window_rules.specs.Control.{greatest, after}
+use Rattle.spec_tcp.specs.Signals.{at_moment, signal_of}
 use Rattle.spec_tcp.specs.Arrives.OtherStates.Window.{is_unread, persist_taken}
 use Rattle.spec_tcp.specs.Arrives.OtherStates.Timers.{timeout_taken, rto_taken}
 
@@ -23,20 +23,12 @@ abbrev pub answers_syn : Endpoint → Emission → Bool
 answers_syn e m =
     m.flags.ack && snd_max e == 1 && option_map_or (λ iss. same_word m.ack_seq (number_of iss 1)) e.iss false
 
--- the segment size that a SYN tells of, 536 where it tells of none or of 0 (RFC 9293, 3.7.1)
-abbrev pub told_smss : Option ℕ → ℕ
-told_smss told = option_map_or (λ mss. if mss == 0 then 536 else mss) told 536
-
--- the greatest congestion window in SYN-SENT, with the segment size that the SYN brings
-abbrev pub greatest_at_syn : Initial → Endpoint → Emission → ℕ
-greatest_at_syn initial e m = if m.flags.syn && not m.flags.rst && m.flags.ack then first_window initial (told_smss m.mss) e.syn_lost else e.congestion.cwnd
-
 -- in SYN-SENT: a SYN or a reset, where it acknowledges, of the own SYN (RFC 9293, 3.10.7.3)
-abbrev pub syn_sent_rules : Initial → Endpoint → TakeChoice → Emission → List (Rule × Bool)
-syn_sent_rules initial e how m =
+abbrev pub syn_sent_rules : Endpoint → TakeChoice → Emission → (moment : ℕ) → List (Rule × Bool)
+syn_sent_rules e how m moment =
     (rules.State, not (m.flags.syn || m.flags.rst))
     ∷ (rules.AckRange, (m.flags.ack || m.flags.rst) && not (answers_syn e m))
-    ∷ (rules.Growth, nat_lt (greatest_at_syn initial e m) how.cwnd)
+    ∷ (rules.Growth, nat_lt ((greatest e.control (signal_of e m) (at_moment e moment)).0) how.cwnd)
     ∷ (rules.Sample, how.sample && (m.flags.rst || not m.flags.ack || retransmitted e.transmissions e.stream.snd_una 1))
     ∷ (rules.ScaleUnread, is_unread e m) ∷ []
 
@@ -59,7 +51,7 @@ on_syn h e how m moment = record e {
   peer_shift = m.scale;
   stream = record e.stream { peer = Some m.sender; receive = met; snd_una = snd_una_met e m };
   window = record e.window { snd_wnd = m.window; snd_wl1 = m.pos; snd_wl2 = if m.flags.ack then 1 else 0 };
-  congestion = record e.congestion { cwnd = how.cwnd; smss = told_smss m.mss; dup = if m.flags.ack then 0 else e.congestion.dup };
+  control = after e.control (signal_of e m) (at_moment e moment) how.cwnd e.control.values.ssthresh;
   timers = timers_met h e how m moment;
   unanswered_expiries = 0;
   backoffs = if m.flags.ack then 0 else e.backoffs;

@@ -2,7 +2,8 @@
 -- RFC 7323, 2.3).
 use Rattle.std.specs.Prelude.{ℕ, ◌+◌, ◌==◌, nat_le, nat_lt, Bool, not, ◌&&◌, if◌then◌else◌}
 use Rattle.case_forms.specs.declared.steps.SegmentPlan.{SegmentPlan}
-use Rattle.window_rules.specs.Windows.{congestion_edge, offered_edge}
+use Rattle.window_rules.specs.Windows.{offered_edge}
+use Rattle.window_rules.specs.Control.{control_edge}
 use Rattle.spec_tcp.specs.Endpoints.{Endpoint, rcv_nxt, is_scaling, window_in}
 use Rattle.spec_tcp.specs.Makes.Payload.{has_new_bytes}
 
@@ -21,4 +22,4 @@ is_beyond_offer e m =
 
 -- new bytes end above the congestion window (RFC 5681, 3.1)
 abbrev pub is_congesting : Endpoint → SegmentPlan → Bool
-is_congesting e m = has_new_bytes e m && nat_lt (congestion_edge e.stream.snd_una e.congestion) (m.pos + m.len)
+is_congesting e m = has_new_bytes e m && nat_lt (control_edge e.stream.snd_una e.control) (m.pos + m.len)

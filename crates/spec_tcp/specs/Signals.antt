@@ -1,0 +1,55 @@
+-- What happens to an endpoint, as its congestion control sees it: no other definition distinguishes one kind of event
+-- from another for it (RFC 5681, 3.1 and 3.2).
+use Rattle.std.specs.Prelude.{ℕ, ◌==◌, nat_lt, Bool, not, ◌&&◌, if◌then◌else◌, Option}
+use Rattle.std.specs.Option.{option_map_or}
+use Rattle.case_forms.specs.States.{is_syn_sent}
+use Rattle.case_forms.specs.declared.version.Initial.{Initial}
+use Rattle.case_forms.specs.declared.version.Initial.TheVariants as initials
+use Rattle.window_rules.specs.declared.control.At.{At}
+use Rattle.window_rules.specs.declared.control.Profile.{Profile}
+use Rattle.window_rules.specs.declared.control.Profile.TheVariants as profiles
+use Rattle.window_rules.specs.declared.control.Signal.{Signal}
+use Rattle.window_rules.specs.declared.control.Signal.TheVariants.{Syn, SynAcked, NewAck, Duplicate, Other}
+use Rattle.window_rules.specs.declared.control.Signal.TheVariants.{Timeout, Recovery}
+use Rattle.spec_tcp.specs.Endpoints.{Endpoint, Emission, flight}
+use Rattle.spec_tcp.specs.Arrives.OtherStates.Ack.{is_new_ack, acknowledges_syn, acked, is_duplicate}
+
+-- the profile that the header names
+abbrev pub profile_of : Initial → Profile
+profile_of initials.Rfc5681 = profiles.Rfc5681
+profile_of initials.Rfc6928 = profiles.Rfc6928
+
+-- the moment, and the smoothed round trip before it
+abbrev pub at_moment : Endpoint → ℕ → At
+at_moment e moment = record { moment = moment; srtt = e.timers.srtt }
+
+-- the segment size that a SYN brings, 536 if it has none or 0 (RFC 9293, 3.7.1)
+abbrev pub told_smss : Option ℕ → ℕ
+told_smss told = option_map_or (λ mss. if mss == 0 then 536 else mss) told 536
+
+-- a segment that is taken in SYN-SENT
+abbrev pub signal_at_syn : Endpoint → Emission → Signal
+signal_at_syn e m =
+    if not (m.flags.syn && not m.flags.rst) then Other
+    else if m.flags.ack then SynAcked (told_smss m.mss) e.syn_lost
+    else Syn (told_smss m.mss)
+
+-- a segment that is taken in any other state
+abbrev pub signal_in_other_states : Endpoint → Emission → Signal
+signal_in_other_states e m =
+    if acknowledges_syn e m then SynAcked e.control.values.smss e.syn_lost
+    else if is_new_ack e m then NewAck (acked e m)
+    else if is_duplicate e m then Duplicate
+    else Other
+
+-- a segment that is taken
+abbrev pub signal_of : Endpoint → Emission → Signal
+signal_of e m = if is_syn_sent e.state then signal_at_syn e m else signal_in_other_states e m
+
+-- the retransmission timer expires, perhaps while the SYN is pending, perhaps once more
+abbrev pub timeout_signal : Endpoint → Signal
+timeout_signal e = Timeout (flight e) (e.stream.snd_una == 0) (nat_lt 0 e.backoffs)
+
+-- fast recovery begins
+abbrev pub recovery_signal : Endpoint → (ssthresh : ℕ) → Signal
+recovery_signal e ssthresh = Recovery (flight e) ssthresh
