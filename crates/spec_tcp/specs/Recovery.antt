@@ -1,11 +1,18 @@
 -- Fast recovery begins (RFC 5681, 3.2).
-use Rattle.std.specs.Prelude.{ℕ, ◌==◌, nat_lt, Bool, not, ◌||◌, List, [], ◌∷◌}
+use Rattle.std.specs.Prelude.{ℕ, ◌==◌, nat_lt, Bool, not, ◌||◌, min, List, [], ◌∷◌}
 use Rattle.case_forms.specs.States.{is_closed}
 use Rattle.verdict.specs.declared.rule.Rule.{Rule}
 use Rattle.verdict.specs.declared.rule.Rule.TheVariants as rules
 use Rattle.window_rules.specs.Control.{greatest, after, may_recover}
+use Rattle.window_rules.specs.Windows.{greatest_window}
 use Rattle.spec_tcp.specs.Endpoints.{Endpoint, snd_max, is_up}
 use Rattle.spec_tcp.specs.Signals.{at_moment, recovery_signal}
+
+-- the greatest pair with which fast recovery may begin: the window for the greatest threshold, and that threshold
+abbrev pub greatest_at_recovery : Endpoint → (moment : ℕ) → ℕ × ℕ
+greatest_at_recovery e moment =
+    let ssthresh : ℕ = min ((greatest e.control (recovery_signal e 0) (at_moment e moment)).1) greatest_window in
+    ((greatest e.control (recovery_signal e ssthresh) (at_moment e moment)).0, ssthresh)
 
 -- fast recovery begins with the third duplicate acknowledgment (RFC 5681, 3.2, steps 2 and 3)
 abbrev pub is_bad_recovery : Endpoint → (cwnd ssthresh moment : ℕ) → Bool

@@ -43,12 +43,12 @@ ascend_on : {X : Type 0} (f : X → List (Rule × Bool)) (none : List (Rule × B
 ascend_on f none None a b = a
 ascend_on f none (Some x) a b = b x
 
-ascend_taker : (h : Header) (host : Host) (b : Body) (how : TakeChoice) (m : Emission) (t : Taker) → ascend 6 (taker_rules h host b how m t) ≡ true
-ascend_taker h host b how m Nobody = refl
-ascend_taker h host b how m (AtListener l) = refl
-ascend_taker h host b how m (AtEndpoint i e) = go (as_read h.version e m) (is_syn_sent e.state)
+ascend_taker : (h : Header) (host : Host) (b : Body) (how : TakeChoice) (m : Emission) (moment : ℕ) (t : Taker) → ascend 6 (taker_rules h host b how m moment t) ≡ true
+ascend_taker h host b how m moment Nobody = refl
+ascend_taker h host b how m moment (AtListener l) = refl
+ascend_taker h host b how m moment (AtEndpoint i e) = go (as_read h.version e m) (is_syn_sent e.state)
   where
-    go : (m : Emission) (s : Bool) → ascend 6 (if s then syn_sent_rules h.initial e how m else connected_rules h b (record { host = host; number = i }) e how m) ≡ true
+    go : (m : Emission) (s : Bool) → ascend 6 (if s then syn_sent_rules e how m moment else connected_rules h b (record { host = host; number = i }) e how m moment) ≡ true
     go m true = refl
     go m false = refl
 
@@ -73,7 +73,7 @@ ascend_call h moment both call answer o = fin o
 ascend_deed : (h : Header) (host : Host) (moment : ℕ) (far : List (ℕ × Emission)) (k : HostState tcp_shape) (d : Deed tcp_shape)
     → ascend 6 (deed_rules (tcp h) host moment far k d) ≡ true
 ascend_deed h host moment far k (Does x) =
-    ascend_or (λ e. recovery_rules e x.cwnd x.ssthresh) ((rules.NoEndpoint, true) ∷ []) (endpoint_of k.body x.lport x.rport) refl (λ e. refl)
+    ascend_or (λ e. recovery_rules e x.cwnd x.ssthresh moment) ((rules.NoEndpoint, true) ∷ []) (endpoint_of k.body x.lport x.rport) refl (λ e. refl)
 ascend_deed h host moment far k (Expires line x) =
     ascend_or (λ e. expiry_rules h moment e x.expired) ((rules.NoEndpoint, true) ∷ []) (endpoint_of k.body x.lport x.rport) refl (λ e. refl)
 ascend_deed h host moment far k (Makes m) =
@@ -82,7 +82,7 @@ ascend_deed h host moment far k (Sends line number wire) = ascend_on _ ((rules.N
 ascend_deed h host moment far k (Gets line copied wire) = ascend_on _ ((rules.NoEmission, true) ∷ []) (lookup (nat_eq copied) far) refl (λ m. refl)
 ascend_deed h host moment far k (Hears line wire) = refl
 ascend_deed h host moment far k (Takes line how) =
-    ascend_on _ ((rules.Inbox, true) ∷ []) (waiting line k.inbox) refl (λ m. ascend_taker h host k.body how m (taker k.body m))
+    ascend_on _ ((rules.Inbox, true) ∷ []) (waiting line k.inbox) refl (λ m. ascend_taker h host k.body how m moment (taker k.body m))
 ascend_deed h host moment far k (Drops line) = ascend_on _ ((rules.Inbox, true) ∷ []) (waiting line k.inbox) refl (λ m. refl)
 ascend_deed h host moment far k (Answers line) = ascend_on _ ((rules.Inbox, true) ∷ []) (waiting line k.inbox) refl (λ m. refl)
 

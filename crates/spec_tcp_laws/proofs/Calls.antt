@@ -20,6 +20,7 @@ use Rattle.streams.specs.Received.{received, starts, waiting}
 use Rattle.streams.proofs.Fronts.{body_grows, body_ends}
 use Rattle.streams.proofs.ReadLemmas.{starts_prefix}
 use Rattle.spec_network.specs.Tables.{pick, other}
+use Rattle.window_rules.specs.declared.control.Profile.{Profile}
 use Rattle.spec_tcp.specs.declared.endpoint.EndpointId.{EndpointId}
 use Rattle.spec_tcp.specs.declared.endpoint.Fault.{Fault}
 use Rattle.spec_tcp.specs.declared.endpoint.Stream.{Stream}
@@ -222,20 +223,20 @@ grown_accept comes host b n (ListenerAt l) g = go (queue_of b l)
     go [] = grown_not comes host silent b.endpoints (λ i. refl) g
     go (child ∷ queue) = grown_plain comes host b.endpoints child (λ e. record e { listener = None }) g (λ e. record { stream = refl; irs = refl; waits = λ x. x })
 
-bare_endpoint : (lport rport : ℕ) → Bare (new_endpoint lport rport None states.SynSent)
-bare_endpoint lport rport = record {
+bare_endpoint : (p : Profile) (lport rport : ℕ) → Bare (new_endpoint lport rport None states.SynSent p)
+bare_endpoint p lport rport = record {
   own = record { waits = λ x. (refl, refl); order = inl refl; begun = λ irs is. absurd (none-some irs is); delivered = omega arith };
   untouched = record { told = refl; accepted = refl; ended = refl };
   bare = λ p c e. absurd (none-some _ e);
 }
 
-pub grown_call : (comes : Coming) (a : Hosts) (host : Host) (call : Call) (answer : Answer) → OwnEnds (pick a host).body.endpoints → call_allows (pick a host).body call answer ≡ true
-    → Grown comes host (λ j. call_adds a call answer (name host j)) (pick a host).body.endpoints (after_call (pick a host).body call answer).endpoints
-grown_call comes a host (calls.Listen at port backlog) (answers.Given n) g may = grown_not comes host silent (pick a host).body.endpoints (λ i. refl) g
-grown_call comes a host (calls.Connect at lport rport) (answers.Given n) g may = grown_push comes host (pick a host).body.endpoints (new_endpoint lport rport None states.SynSent) g (bare_endpoint lport rport)
-grown_call comes a host (calls.Accept h) (answers.Given n) g may = let b = (pick a host).body in
+pub grown_call : (p : Profile) (comes : Coming) (a : Hosts) (host : Host) (call : Call) (answer : Answer) → OwnEnds (pick a host).body.endpoints → call_allows (pick a host).body call answer ≡ true
+    → Grown comes host (λ j. call_adds a call answer (name host j)) (pick a host).body.endpoints (after_call p (pick a host).body call answer).endpoints
+grown_call p comes a host (calls.Listen at port backlog) (answers.Given n) g may = grown_not comes host silent (pick a host).body.endpoints (λ i. refl) g
+grown_call p comes a host (calls.Connect at lport rport) (answers.Given n) g may = grown_push comes host (pick a host).body.endpoints (new_endpoint lport rport None states.SynSent p) g (bare_endpoint p lport rport)
+grown_call p comes a host (calls.Accept h) (answers.Given n) g may = let b = (pick a host).body in
     map_or_cases (λ (x : Body). Grown comes host silent b.endpoints x.endpoints) (thing_of b h) b (after_accept b n) (λ e. grown_not comes host silent b.endpoints (λ i. refl) g) (λ thing e. grown_accept comes host b n thing g)
-grown_call comes a host (calls.Send h bytes) (answers.Given n) g may =
+grown_call p comes a host (calls.Send h bytes) (answers.Given n) g may =
     let b = (pick a host).body in
     let x = named b h (calls.Send h bytes) (answers.Given n) may refl (λ queue. refused queue) in
     subst (λ (o : Option SocketTarget). Grown comes host (λ j. call_adds a (calls.Send h bytes) (answers.Given n) (name host j)) b.endpoints (option_map_or (change_thing b (after_send bytes n)) o b).endpoints) (sym x.1)
@@ -246,7 +247,7 @@ grown_call comes a host (calls.Send h bytes) (answers.Given n) g may =
     refused : (queue : List ℕ) → listener_allows queue (calls.Send h bytes) (answers.Given n) ≡ false
     refused [] = refl
     refused (c ∷ queue) = refl
-grown_call comes a host (calls.Recv h most) (answers.Bytes bytes) g may =
+grown_call p comes a host (calls.Recv h most) (answers.Bytes bytes) g may =
     let b = (pick a host).body in
     let x = named b h (calls.Recv h most) (answers.Bytes bytes) may refl (λ queue. refused queue) in
     let rest = starts_prefix bytes (waiting x.2.stream.receive) (both_true (nat_le 1 (length bytes) && nat_le (length bytes) most) (starts bytes (waiting x.2.stream.receive)) x.4).1 in
@@ -258,7 +259,7 @@ grown_call comes a host (calls.Recv h most) (answers.Bytes bytes) g may =
     refused : (queue : List ℕ) → listener_allows queue (calls.Recv h most) (answers.Bytes bytes) ≡ false
     refused [] = refl
     refused (c ∷ queue) = refl
-grown_call comes a host (calls.Shut h) answers.Done g may =
+grown_call p comes a host (calls.Shut h) answers.Done g may =
     let b = (pick a host).body in
     let x = named b h (calls.Shut h) answers.Done may refl (λ queue. refused queue) in
     subst (λ (o : Option SocketTarget). Grown comes host (λ j. call_adds a (calls.Shut h) answers.Done (name host j)) b.endpoints (option_map_or (change_thing b after_shut) o b).endpoints) (sym x.1)
@@ -267,7 +268,7 @@ grown_call comes a host (calls.Shut h) answers.Done g may =
     refused : (queue : List ℕ) → listener_allows queue (calls.Shut h) answers.Done ≡ false
     refused [] = refl
     refused (c ∷ queue) = refl
-grown_call comes a host (calls.Close h) answers.Done g may = go (thing_of (pick a host).body h) refl may
+grown_call p comes a host (calls.Close h) answers.Done g may = go (thing_of (pick a host).body h) refl may
   where
     go : (o : Option SocketTarget) → thing_of (pick a host).body h ≡ o → option_map_or (thing_allows (pick a host).body (calls.Close h) answers.Done) o false ≡ true
         → Grown comes host (λ j. call_adds a (calls.Close h) answers.Done (name host j)) (pick a host).body.endpoints (option_map_or (λ thing. record (thing_gone (pick a host).body thing after_close) { sockets = dead (pick a host).body.sockets h }) o (pick a host).body).endpoints
@@ -275,14 +276,14 @@ grown_call comes a host (calls.Close h) answers.Done g may = go (thing_of (pick 
     go (Some (ListenerAt l)) is may = grown_quiet comes host (λ j. call_adds a (calls.Close h) answers.Done (name host j)) (pick a host).body.endpoints (without_listener (pick a host).body l).endpoints
         (λ i. ap (λ (c : Bool). record { told = []; accepted = []; ended = c }) (socket_none a host h i (owner_of (pick a host).body h (ListenerAt l) is).0)) (grown_listener comes host (pick a host).body l g)
     go (Some (EndpointAt i)) is may = grown_socket comes a host h i after_close (λ c. record { told = []; accepted = []; ended = c }) refl (owner_of (pick a host).body h (EndpointAt i) is).0 g (λ e at. grows_close (comes (name host i)) e (g i e at))
-grown_call comes a host (calls.Abort h) answers.Done g may = let b = (pick a host).body in
+grown_call p comes a host (calls.Abort h) answers.Done g may = let b = (pick a host).body in
     map_or_cases (λ (x : Body). Grown comes host silent b.endpoints x.endpoints) (thing_of b h) b (λ thing. record (thing_gone b thing after_abort) { sockets = dead b.sockets h }) (λ e. grown_not comes host silent b.endpoints (λ i. refl) g)
     (λ thing e. go thing)
   where
     go : (thing : SocketTarget) → Grown comes host silent (pick a host).body.endpoints (thing_gone (pick a host).body thing after_abort).endpoints
     go (ListenerAt l) = grown_listener comes host (pick a host).body l g
     go (EndpointAt i) = grown_plain comes host (pick a host).body.endpoints i after_abort g (λ e. record { stream = refl; irs = refl; waits = λ x. absurd cc })
-grown_call comes a host call answer g may = grown_not comes host silent (pick a host).body.endpoints (λ i. refl) g
+grown_call p comes a host call answer g may = grown_not comes host silent (pick a host).body.endpoints (λ i. refl) g
 
 -- 4. endpoints and their peers: no call changes what an endpoint has of its peer
 
@@ -322,8 +323,8 @@ moves_accept a host b n (ListenerAt l) g = go (queue_of b l)
     go [] = moves_not a host b.endpoints g
     go (child ∷ queue) = moves_keeps a host b.endpoints child (λ e. record e { listener = None }) g (λ e. record { peer = refl; taken = refl; snd_una = refl; waits = λ x. x })
 
-fresh_endpoint : (a : Hosts) (me : EndpointId) (lport rport : ℕ) → Fresh a me (new_endpoint lport rport None states.SynSent)
-fresh_endpoint a me lport rport = record {
+fresh_endpoint : (p : Profile) (a : Hosts) (me : EndpointId) (lport rport : ℕ) → Fresh a me (new_endpoint lport rport None states.SynSent p)
+fresh_endpoint p a me lport rport = record {
   snd_una = λ more. absurd (omega arith);
   good = λ c later. record {
     stream = record { taken = λ p c e. absurd (none-some _ e); snd_una = λ more. absurd (omega arith); peer = λ q e. absurd (none-some q e) };
@@ -331,13 +332,13 @@ fresh_endpoint a me lport rport = record {
   };
 }
 
-pub moves_call : (a : Hosts) (host : Host) (b : Body) (call : Call) (answer : Answer) → GoodEnds a host b.endpoints → Moves a host b.endpoints (after_call b call answer).endpoints
-moves_call a host b (calls.Listen at port backlog) (answers.Given n) g = moves_not a host b.endpoints g
-moves_call a host b (calls.Connect at lport rport) (answers.Given n) g = moves_push a host b.endpoints (new_endpoint lport rport None states.SynSent) g (fresh_endpoint a _ lport rport)
-moves_call a host b (calls.Accept h) (answers.Given n) g = map_or_cases (λ (x : Body). Moves a host b.endpoints x.endpoints) (thing_of b h) b (after_accept b n) (λ e. moves_not a host b.endpoints g) (λ thing e. moves_accept a host b n thing g)
-moves_call a host b (calls.Send h bytes) (answers.Given n) g = moves_change a host b h (after_send bytes n) g (λ e. record { peer = refl; taken = refl; snd_una = refl; waits = λ x. x })
-moves_call a host b (calls.Recv h most) (answers.Bytes bytes) g = moves_change a host b h (after_recv bytes) g (λ e. record { peer = refl; taken = refl; snd_una = refl; waits = λ x. x })
-moves_call a host b (calls.Shut h) answers.Done g = moves_change a host b h after_shut g keeps_shut
-moves_call a host b (calls.Close h) answers.Done g = moves_gone a host b h after_close g keeps_close
-moves_call a host b (calls.Abort h) answers.Done g = moves_gone a host b h after_abort g keeps_abort
-moves_call a host b call answer g = moves_not a host b.endpoints g
+pub moves_call : (p : Profile) (a : Hosts) (host : Host) (b : Body) (call : Call) (answer : Answer) → GoodEnds a host b.endpoints → Moves a host b.endpoints (after_call p b call answer).endpoints
+moves_call p a host b (calls.Listen at port backlog) (answers.Given n) g = moves_not a host b.endpoints g
+moves_call p a host b (calls.Connect at lport rport) (answers.Given n) g = moves_push a host b.endpoints (new_endpoint lport rport None states.SynSent p) g (fresh_endpoint p a _ lport rport)
+moves_call p a host b (calls.Accept h) (answers.Given n) g = map_or_cases (λ (x : Body). Moves a host b.endpoints x.endpoints) (thing_of b h) b (after_accept b n) (λ e. moves_not a host b.endpoints g) (λ thing e. moves_accept a host b n thing g)
+moves_call p a host b (calls.Send h bytes) (answers.Given n) g = moves_change a host b h (after_send bytes n) g (λ e. record { peer = refl; taken = refl; snd_una = refl; waits = λ x. x })
+moves_call p a host b (calls.Recv h most) (answers.Bytes bytes) g = moves_change a host b h (after_recv bytes) g (λ e. record { peer = refl; taken = refl; snd_una = refl; waits = λ x. x })
+moves_call p a host b (calls.Shut h) answers.Done g = moves_change a host b h after_shut g keeps_shut
+moves_call p a host b (calls.Close h) answers.Done g = moves_gone a host b h after_close g keeps_close
+moves_call p a host b (calls.Abort h) answers.Done g = moves_gone a host b h after_abort g keeps_abort
+moves_call p a host b call answer g = moves_not a host b.endpoints g

@@ -11,6 +11,7 @@ use Rattle.verdict.specs.declared.rule.Rule.TheVariants as rules
 use Rattle.verdict.specs.Rules.{first_broken}
 use Rattle.verdict.proofs.RuleLemmas.{none_all}
 use Rattle.streams.specs.Sent.{piece}
+use Rattle.spec_tcp.specs.Signals.{profile_of}
 use Rattle.spec_tcp.specs.declared.endpoint.EndpointId.{EndpointId}
 use Rattle.spec_tcp.specs.declared.endpoint.Endpoint.{Endpoint}
 use Rattle.spec_tcp.specs.declared.endpoint.Emission.{Emission}
@@ -73,18 +74,18 @@ taker-forget b m = rw (place-forget b m.rport m.lport) (by (place_of b m.rport m
 read-forget : (h : Header) (e : Endpoint) (m : Emission) → as_read h.version (forget_endpoint e) m ≡ as_read h.version e m
 read-forget h e m = rw (rcv_nxt-forget e) refl
 
-taker_rules-forget : (h : Header) (me : Host) (b : Body) (how : TakeChoice) (m : Emission) (t : Taker) → taker_rules h me (forget_body b) how m (forget_taker t) ≡ taker_rules h me b how m t
-taker_rules-forget h me b how m Nobody = refl
-taker_rules-forget h me b how m (AtListener l) = refl
-taker_rules-forget h me b how m (AtEndpoint i e) = rw (read-forget h e m) (by (as_read h.version e m) (is_syn_sent e.state))
+taker_rules-forget : (h : Header) (me : Host) (b : Body) (how : TakeChoice) (m : Emission) (moment : ℕ) (t : Taker) → taker_rules h me (forget_body b) how m moment (forget_taker t) ≡ taker_rules h me b how m moment t
+taker_rules-forget h me b how m moment Nobody = refl
+taker_rules-forget h me b how m moment (AtListener l) = refl
+taker_rules-forget h me b how m moment (AtEndpoint i e) = rw (read-forget h e m) (by (as_read h.version e m) (is_syn_sent e.state))
   where
     name : EndpointId
     name = record { host = me; number = i }
 
-    by : (m : Emission) (sent : Bool) → (if sent then syn_sent_rules h.initial (forget_endpoint e) how m else connected_rules h (forget_body b) name (forget_endpoint e) how m)
-        ≡ (if sent then syn_sent_rules h.initial e how m else connected_rules h b name e how m)
-    by m true = syn_sent_rules-forget h.initial e how m
-    by m false = connected_rules-forget h b name e how m
+    by : (m : Emission) (sent : Bool) → (if sent then syn_sent_rules (forget_endpoint e) how m moment else connected_rules h (forget_body b) name (forget_endpoint e) how m moment)
+        ≡ (if sent then syn_sent_rules e how m moment else connected_rules h b name e how m moment)
+    by m true = syn_sent_rules-forget e how m moment
+    by m false = connected_rules-forget h b name e how m moment
 
 nothing-forget : (m : Emission) (t : Taker) → finds_nothing m (forget_taker t) ≡ finds_nothing m t
 nothing-forget m Nobody = refl
@@ -94,23 +95,23 @@ nothing-forget m (AtEndpoint i e) = refl
 pub act_rules-forget : (h : Header) (me : Host) (moment : ℕ) (b : Body) (act : Act) → act_rules h me moment (forget_body b) act ≡ act_rules h me moment b act
 act_rules-forget h me moment b (Calls call answer) = rw (call_allows-forget b call answer) refl
 act_rules-forget h me moment b (Makes m) = rules_at-forget b m.lport m.rport (λ e. making_rules e m) (λ e. making_rules-forget e m)
-act_rules-forget h me moment b (Takes how m) = rw (taker-forget b m) (taker_rules-forget h me b how m (taker b m))
+act_rules-forget h me moment b (Takes how m) = rw (taker-forget b m) (taker_rules-forget h me b how m moment (taker b m))
 act_rules-forget h me moment b (Resets m) = rw (taker-forget b m, nothing-forget m (taker b m)) refl
 act_rules-forget h me moment b (Expires x) = rules_at-forget b x.lport x.rport (λ e. expiry_rules h moment e x.expired) (λ e. expiry_rules-forget h moment e x.expired)
-act_rules-forget h me moment b (Recovers x) = rules_at-forget b x.lport x.rport (λ e. recovery_rules e x.cwnd x.ssthresh) (λ e. recovery_rules-forget e x.cwnd x.ssthresh)
+act_rules-forget h me moment b (Recovers x) = rules_at-forget b x.lport x.rport (λ e. recovery_rules e x.cwnd x.ssthresh moment) (λ e. recovery_rules-forget e x.cwnd x.ssthresh moment)
 
 taking-forgets : (h : Header) (b : Body) (how : TakeChoice) (m : Emission) (moment : ℕ) (t : Taker) → forget_body (after_taking h (forget_body b) how m moment (forget_taker t)) ≡ forget_body (after_taking h b how m moment t)
 taking-forgets h b how m moment Nobody = body-forget b
-taking-forgets h b how m moment (AtListener l) = rw (append-forgets b.endpoints (child l how m moment ∷ [])) refl
+taking-forgets h b how m moment (AtListener l) = rw (append-forgets b.endpoints (child (profile_of h.initial) l how m moment ∷ [])) refl
 taking-forgets h b how m moment (AtEndpoint i e) = rw (read-forget h e m, modify-forgets b.endpoints i (λ x. endpoint_taken h x how (as_read h.version e m) moment) (endpoint-forgets h how (as_read h.version e m) moment)) refl
 
 pub act-forgets : (h : Header) (me : Host) (moment : ℕ) (b : Body) (act : Act) → forget_body (act_after h me moment (forget_body b) act) ≡ forget_body (act_after h me moment b act)
-act-forgets h me moment b (Calls call answer) = call-forgets b call answer
+act-forgets h me moment b (Calls call answer) = call-forgets (profile_of h.initial) b call answer
 act-forgets h me moment b (Makes m) = ports-forgets b m.lport m.rport (λ e. after_making e m moment) (making-forgets m moment)
 act-forgets h me moment b (Takes how m) = rw (taker-forget b m) (taking-forgets h b how m moment (taker b m))
 act-forgets h me moment b (Resets m) = body-forget b
 act-forgets h me moment b (Expires x) = ports-forgets b x.lport x.rport (λ e. after_expiry e x.expired moment) (expiry-forgets x.expired moment)
-act-forgets h me moment b (Recovers x) = ports-forgets b x.lport x.rport (λ e. after_recovery e x.cwnd x.ssthresh) (recovery-forgets x.cwnd x.ssthresh)
+act-forgets h me moment b (Recovers x) = ports-forgets b x.lport x.rport (λ e. after_recovery e x.cwnd x.ssthresh moment) (recovery-forgets x.cwnd x.ssthresh moment)
 
 -- a permitted segment below the oldest position that is not acknowledged is empty
 empty_below : (e : Endpoint) (m : SegmentPlan) → is_bad_payload e m ≡ false → is_bad_place e m ≡ false → m.pos < e.stream.snd_una → m.len ≡ 0

@@ -9,6 +9,7 @@ use Rattle.case_forms.specs.declared.calls.Call.TheVariants as calls
 use Rattle.case_forms.specs.declared.calls.Answer.{Answer}
 use Rattle.case_forms.specs.declared.calls.Answer.TheVariants as answers
 use Rattle.case_forms.specs.declared.calls.State.TheVariants as states
+use Rattle.window_rules.specs.declared.control.Profile.{Profile}
 use Rattle.spec_tcp.specs.declared.endpoint.Endpoint.{Endpoint}
 use Rattle.spec_tcp.specs.declared.endpoint.SocketTarget.{SocketTarget}
 use Rattle.spec_tcp.specs.declared.endpoint.SocketTarget.TheVariants.{ListenerAt, EndpointAt}
@@ -92,13 +93,13 @@ accept-forgets b n None = body-forget b
 accept-forgets b n (Some (ListenerAt l)) = accepted-forgets b l n (queue_of b l)
 accept-forgets b n (Some (EndpointAt i)) = body-forget b
 
-pub call-forgets : (b : Body) (call : Call) (answer : Answer) → forget_body (after_call (forget_body b) call answer) ≡ forget_body (after_call b call answer)
-call-forgets b (calls.Listen host port backlog) (answers.Given n) = rw (all-forget b.endpoints) refl
-call-forgets b (calls.Connect host lport rport) (answers.Given n) = rw (length-map b.endpoints forget_endpoint, append-forgets b.endpoints (new_endpoint lport rport None states.SynSent ∷ [])) refl
-call-forgets b (calls.Accept h) (answers.Given n) = accept-forgets b n (thing_of b h)
-call-forgets b (calls.Send h bytes) (answers.Given n) = change-forgets b h (after_send bytes n) (send-forgets bytes n)
-call-forgets b (calls.Recv h most) (answers.Bytes bytes) = change-forgets b h (after_recv bytes) (recv-forgets bytes)
-call-forgets b (calls.Shut h) answers.Done = change-forgets b h after_shut shut-forgets
-call-forgets b (calls.Close h) answers.Done = gone-forgets b h after_close close-forgets
-call-forgets b (calls.Abort h) answers.Done = gone-forgets b h after_abort abort-forgets
-call-forgets b _ _ = body-forget b
+pub call-forgets : (p : Profile) (b : Body) (call : Call) (answer : Answer) → forget_body (after_call p (forget_body b) call answer) ≡ forget_body (after_call p b call answer)
+call-forgets p b (calls.Listen host port backlog) (answers.Given n) = rw (all-forget b.endpoints) refl
+call-forgets p b (calls.Connect host lport rport) (answers.Given n) = rw (length-map b.endpoints forget_endpoint, append-forgets b.endpoints (new_endpoint lport rport None states.SynSent p ∷ [])) refl
+call-forgets p b (calls.Accept h) (answers.Given n) = accept-forgets b n (thing_of b h)
+call-forgets p b (calls.Send h bytes) (answers.Given n) = change-forgets b h (after_send bytes n) (send-forgets bytes n)
+call-forgets p b (calls.Recv h most) (answers.Bytes bytes) = change-forgets b h (after_recv bytes) (recv-forgets bytes)
+call-forgets p b (calls.Shut h) answers.Done = change-forgets b h after_shut shut-forgets
+call-forgets p b (calls.Close h) answers.Done = gone-forgets b h after_close close-forgets
+call-forgets p b (calls.Abort h) answers.Done = gone-forgets b h after_abort abort-forgets
+call-forgets p b _ _ = body-forget b

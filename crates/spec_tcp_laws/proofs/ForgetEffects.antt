@@ -115,5 +115,5 @@ expiry_same Giveup moment e = refl
 pub expiry-forgets : (x : Expired) (moment : ℕ) → Forgets (λ e. after_expiry e x moment)
 expiry-forgets x moment = forgets (λ e. after_expiry e x moment) (expiry_same x moment)
 
-pub recovery-forgets : (cwnd ssthresh : ℕ) → Forgets (λ e. after_recovery e cwnd ssthresh)
-recovery-forgets cwnd ssthresh = forgets (λ e. after_recovery e cwnd ssthresh) (λ e. rw (snd_max-forget e) refl)
+pub recovery-forgets : (cwnd ssthresh moment : ℕ) → Forgets (λ e. after_recovery e cwnd ssthresh moment)
+recovery-forgets cwnd ssthresh moment = forgets (λ e. after_recovery e cwnd ssthresh moment) (λ e. rw (snd_max-forget e) refl)

@@ -18,7 +18,6 @@ use Rattle.case_forms.specs.declared.steps.TakeChoice.{TakeChoice}
 use Rattle.spec_tcp.specs.Arrives.OtherStates.Sequence.{is_acceptable_at, place_taken}
 use Rattle.spec_tcp.specs.Arrives.OtherStates.{connected_rules}
 use Rattle.spec_tcp.specs.Arrives.SynSent.{syn_sent_rules}
-use Rattle.case_forms.specs.declared.version.Initial.{Initial}
 use Rattle.spec_tcp.specs.Timeouts.{expiry_rules}
 use Rattle.spec_tcp.specs.Recovery.{recovery_rules}
 use Rattle.spec_tcp.specs.Forgetting.{forget_endpoint}
@@ -39,8 +38,8 @@ recv-forget e most answers.Again = rw (ended-forget e, waiting-forget e) refl
 recv-forget e most answers.NotConn = rw (rcv_nxt-forget e) refl
 recv-forget e most _ = refl
 
-pub syn_sent_rules-forget : (initial : Initial) (e : Endpoint) (how : TakeChoice) (m : Emission) → syn_sent_rules initial (forget_endpoint e) how m ≡ syn_sent_rules initial e how m
-syn_sent_rules-forget initial e how m = rw (snd_max-forget e, again-forget e 1) refl
+pub syn_sent_rules-forget : (e : Endpoint) (how : TakeChoice) (m : Emission) (moment : ℕ) → syn_sent_rules (forget_endpoint e) how m moment ≡ syn_sent_rules e how m moment
+syn_sent_rules-forget e how m moment = rw (snd_max-forget e, again-forget e 1) refl
 
 place_taken-forget : (e : Endpoint) (m : Emission) → place_taken (forget_endpoint e) m ≡ place_taken e m
 place_taken-forget e m = rw (rcv_nxt-forget e) refl
@@ -52,8 +51,8 @@ acceptable-forget e m = rw (place_taken-forget e m) (by (place_taken e m))
     by None = refl
     by (Some pos) = rw (rcv_nxt-forget e) refl
 
-pub connected_rules-forget : (h : Header) (b : Body) (me : EndpointId) (e : Endpoint) (how : TakeChoice) (m : Emission) → connected_rules h b me (forget_endpoint e) how m ≡ connected_rules h b me e how m
-connected_rules-forget h b me e how m = rw (acceptable-forget e m, rcv_nxt-forget e, snd_max-forget e, again-forget e m.ack) refl
+pub connected_rules-forget : (h : Header) (b : Body) (me : EndpointId) (e : Endpoint) (how : TakeChoice) (m : Emission) (moment : ℕ) → connected_rules h b me (forget_endpoint e) how m moment ≡ connected_rules h b me e how m moment
+connected_rules-forget h b me e how m moment = rw (acceptable-forget e m, rcv_nxt-forget e, snd_max-forget e, again-forget e m.ack) refl
 
 pub expiry_rules-forget : (h : Header) (moment : ℕ) (e : Endpoint) (x : Expired) → expiry_rules h moment (forget_endpoint e) x ≡ expiry_rules h moment e x
 expiry_rules-forget h moment e (Rto growth) = rw (snd_max-forget e) refl
@@ -61,5 +60,5 @@ expiry_rules-forget h moment e Persist = rw (rcv_nxt-forget e, end_of-forget e) 
 expiry_rules-forget h moment e Msl2 = refl
 expiry_rules-forget h moment e Giveup = rw (snd_max-forget e) refl
 
-pub recovery_rules-forget : (e : Endpoint) (cwnd ssthresh : ℕ) → recovery_rules (forget_endpoint e) cwnd ssthresh ≡ recovery_rules e cwnd ssthresh
-recovery_rules-forget e cwnd ssthresh = rw (rcv_nxt-forget e, snd_max-forget e) refl
+pub recovery_rules-forget : (e : Endpoint) (cwnd ssthresh moment : ℕ) → recovery_rules (forget_endpoint e) cwnd ssthresh moment ≡ recovery_rules e cwnd ssthresh moment
+recovery_rules-forget e cwnd ssthresh moment = rw (rcv_nxt-forget e, snd_max-forget e) refl

@@ -94,20 +94,20 @@ pub met-forgets : (h : Header) (how : TakeChoice) (m : Emission) (moment : ℕ) 
 met-forgets h how m moment e =
     let snd_una = e.stream.snd_una in
     let higher = una_rises e m in
-    rw (timers_met-forget h e how m moment, covered-covered 0 (snd_una - 1) (snd_una_met e m - 1) e.stream.accepted (omega arith), covered-covered (once 0) snd_una (snd_una_met e m) e.transmissions higher) refl
+    rw (timers_met-forget h e how m moment, snd_max-forget e, covered-covered 0 (snd_una - 1) (snd_una_met e m - 1) e.stream.accepted (omega arith), covered-covered (once 0) snd_una (snd_una_met e m) e.transmissions higher) refl
 
 fault-forget : (state : State) (e : Endpoint) → reset_fault state (forget_endpoint e) ≡ reset_fault state e
 fault-forget states.SynReceived e = refl
 fault-forget _ e = refl
 
-pub reset-forgets : (how : TakeChoice) → Forgets (λ e. was_reset e how)
-reset-forgets how = forgets (λ e. was_reset e how) (λ e. rw (fault-forget e.state e) refl)
+pub reset-forgets : (how : TakeChoice) (moment : ℕ) → Forgets (λ e. was_reset e how moment)
+reset-forgets how moment = forgets (λ e. was_reset e how moment) (λ e. rw (fault-forget e.state e) refl)
 
 pub endpoint-forgets : (h : Header) (how : TakeChoice) (m : Emission) (moment : ℕ) → Forgets (λ e. endpoint_taken h e how m moment)
 endpoint-forgets h how m moment e = by m.flags.rst (is_syn_sent e.state)
   where
-    by : (rst sent : Bool) → forget_endpoint (if rst then was_reset (forget_endpoint e) how else if sent then on_syn h (forget_endpoint e) how m moment else taken h (forget_endpoint e) how m moment)
-        ≡ forget_endpoint (if rst then was_reset e how else if sent then on_syn h e how m moment else taken h e how m moment)
-    by true sent = reset-forgets how e
+    by : (rst sent : Bool) → forget_endpoint (if rst then was_reset (forget_endpoint e) how moment else if sent then on_syn h (forget_endpoint e) how m moment else taken h (forget_endpoint e) how m moment)
+        ≡ forget_endpoint (if rst then was_reset e how moment else if sent then on_syn h e how m moment else taken h e how m moment)
+    by true sent = reset-forgets how moment e
     by false true = met-forgets h how m moment e
     by false false = taken-forgets h how m moment e

@@ -15,6 +15,7 @@ pub mod Ends
 pub mod Runs
 pub mod Carried
 pub mod Windows
+pub mod Profiles
 pub mod Computed
 pub mod ForgetReads
 pub mod ForgetRules

@@ -161,5 +161,5 @@ plain_expiry Persist moment e = record { stream = refl; irs = refl; waits = λ x
 plain_expiry Msl2 moment e = record { stream = refl; irs = refl; waits = λ x. absurd cc }
 plain_expiry Giveup moment e = record { stream = refl; irs = refl; waits = λ x. absurd cc }
 
-pub plain_recovery : (cwnd ssthresh : ℕ) (e : Endpoint) → Plain e (after_recovery e cwnd ssthresh)
-plain_recovery cwnd ssthresh e = record { stream = refl; irs = refl; waits = λ x. x }
+pub plain_recovery : (cwnd ssthresh moment : ℕ) (e : Endpoint) → Plain e (after_recovery e cwnd ssthresh moment)
+plain_recovery cwnd ssthresh moment e = record { stream = refl; irs = refl; waits = λ x. x }

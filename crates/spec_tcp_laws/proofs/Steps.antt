@@ -20,6 +20,8 @@ use Rattle.spec_network.specs.Tables.{pick, other, with_host, on, Made, unsent, 
 use Rattle.spec_network.specs.Hosts.{HostState, Turn, Idle, Called, Answered, World, Deed, Does, Expires, Makes, Sends, Gets, Hears, Takes, Drops, Answers, Step, Begin, Finish, Effect, At, turn_of}
 use Rattle.spec_network.specs.HostRules.{aim_of, just, fresh_rules, call_rules, effect_rules, Permitted}
 use Rattle.spec_network.specs.HostSteps.{deed_after, call_after, effect_after, after}
+use Rattle.window_rules.specs.declared.control.Profile.{Profile}
+use Rattle.spec_tcp.specs.Signals.{profile_of}
 use Rattle.spec_tcp.specs.declared.endpoint.EndpointId.{EndpointId}
 use Rattle.spec_tcp.specs.declared.endpoint.Emission.{Emission}
 use Rattle.spec_tcp.specs.declared.endpoint.SocketTarget.{SocketTarget}
@@ -123,10 +125,10 @@ kept_takes h whole s w host line how g may = let a = w.hosts in let k = pick a h
     → Kept a (with_host a host (record k { body = on o k.body (λ m. (tcp h).act_after host s k.body ((tcp h).takes how m)); inbox = on o k.inbox (λ m. settled line k.inbox) })))
     (waiting line k.inbox) (λ up. kept_same a host g)
     (λ m e up.
-    let t = on_passes (waiting line k.inbox) rules.Inbox (λ x. taker_rules h host k.body how x (taker k.body x)) may in
+    let t = on_passes (waiting line k.inbox) rules.Inbox (λ x. taker_rules h host k.body how x s (taker k.body x)) may in
     let one : t.0 ≡ m = same_Some t.0 m (sym t.1 ∙ e) in
     kept_host a host (deed_taken m) g up
-    (moves_taking a h whole host k.body how m s (ends a host g) ((g host).tables.inbox line m e) (subst (λ (x : Emission). first_broken (taker_rules h host k.body how x (taker k.body x)) ≡ None) one t.2))
+    (moves_taking a h whole host k.body how m s (ends a host g) ((g host).tables.inbox line m e) (subst (λ (x : Emission). first_broken (taker_rules h host k.body how x s (taker k.body x)) ≡ None) one t.2))
     (λ c later t. record { made = t.made; wire = t.wire; inbox = inbox_settled (GoodEmission c) k.inbox line t.inbox }))
   where
     deed_taken : Emission → HostState tcp_shape
@@ -148,7 +150,7 @@ heard_nothing h whole may = let e : first_broken (just rules.NoEmission true) �
 kept_deed : (h : Header) → is_half h.version ≡ false → (s : ℕ) (w : World tcp_shape) (host : Host) (d : Deed tcp_shape) → Good w.hosts → Permitted (tcp h) s w (At host d) → Keeps h s w host d
 kept_deed h whole s w host (Does x) g may up = let k = pick w.hosts host in
     kept_host w.hosts host (deed_after (tcp h) host s (suc w.count) (pick w.hosts (other host)).wire k (Does x)) g up
-    (moves_at_ports w.hosts host k.body x.lport x.rport (λ e. after_recovery e x.cwnd x.ssthresh) (ends w.hosts host g) (plain_recovery x.cwnd x.ssthresh)) (λ c later t. record { made = t.made; wire = t.wire; inbox = t.inbox })
+    (moves_at_ports w.hosts host k.body x.lport x.rport (λ e. after_recovery e x.cwnd x.ssthresh s) (ends w.hosts host g) (plain_recovery x.cwnd x.ssthresh s)) (λ c later t. record { made = t.made; wire = t.wire; inbox = t.inbox })
 kept_deed h whole s w host (Expires line x) g may up = let k = pick w.hosts host in
     kept_host w.hosts host (deed_after (tcp h) host s (suc w.count) (pick w.hosts (other host)).wire k (Expires line x)) g up
     (moves_at_ports w.hosts host k.body x.lport x.rport (λ e. after_expiry e x.expired s) (ends w.hosts host g) (plain_expiry x.expired s)) (λ c later t. record { made = t.made; wire = t.wire; inbox = t.inbox })
@@ -182,10 +184,10 @@ adds_elsewhere a host (calls.Close n) answers.Done apart may i = ap (λ (c : Boo
     (socket_none a (other host) n i (owner_elsewhere a host n apart (live (pick a host).body n (calls.Close n) answers.Done may refl)))
 adds_elsewhere a host call answer apart may i = refl
 
-kept_call : (a : Hosts) (host : Host) (call : Call) (answer : Answer) → Good a → AllLater a (with_host a host (record (pick a host) { body = after_call (pick a host).body call answer }))
-    → Kept a (with_host a host (record (pick a host) { body = after_call (pick a host).body call answer }))
-kept_call a host call answer g up = kept_host a host (record (pick a host) { body = after_call (pick a host).body call answer }) g up
-    (moves_call a host (pick a host).body call answer (ends a host g)) (λ c later t. record { made = t.made; wire = t.wire; inbox = t.inbox })
+kept_call : (p : Profile) (a : Hosts) (host : Host) (call : Call) (answer : Answer) → Good a → AllLater a (with_host a host (record (pick a host) { body = after_call p (pick a host).body call answer }))
+    → Kept a (with_host a host (record (pick a host) { body = after_call p (pick a host).body call answer }))
+kept_call p a host call answer g up = kept_host a host (record (pick a host) { body = after_call p (pick a host).body call answer }) g up
+    (moves_call p a host (pick a host).body call answer (ends a host g)) (λ c later t. record { made = t.made; wire = t.wire; inbox = t.inbox })
 
 -- nothing is added by the answer of a dead number
 stray_adds : (a : Hosts) (call : Call) (answer : Answer) (me : EndpointId) → is_bad_socket answer ≡ true → call_adds a call answer me ≡ nothing
@@ -215,7 +217,7 @@ effect_allowed h s hosts call answer (Some host) may = let x = none_both (fresh_
 -- endpoints by themselves, in every case
 grown_deed : (h : Header) (s : ℕ) (w : World tcp_shape) (host : Host) (d : Deed tcp_shape) → AllOwn w.hosts → Permitted (tcp h) s w (At host d)
     → Grown (Carries h w (At host d)) host silent (pick w.hosts host).body.endpoints (deed_after (tcp h) host s (suc w.count) (pick w.hosts (other host)).wire (pick w.hosts host) d).body.endpoints
-grown_deed h s w host (Does x) g may = grown_at_ports (Carries h w (At host (Does x))) host (pick w.hosts host).body x.lport x.rport (λ e. after_recovery e x.cwnd x.ssthresh) (g host) (plain_recovery x.cwnd x.ssthresh)
+grown_deed h s w host (Does x) g may = grown_at_ports (Carries h w (At host (Does x))) host (pick w.hosts host).body x.lport x.rport (λ e. after_recovery e x.cwnd x.ssthresh s) (g host) (plain_recovery x.cwnd x.ssthresh s)
 grown_deed h s w host (Expires line x) g may = grown_at_ports (Carries h w (At host (Expires line x))) host (pick w.hosts host).body x.lport x.rport (λ e. after_expiry e x.expired s) (g host) (plain_expiry x.expired s)
 grown_deed h s w host (Makes m) g may = grown_at_ports (Carries h w (At host (Makes m))) host (pick w.hosts host).body m.lport m.rport (λ e. after_making e m s) (g host) (plain_making m s)
 grown_deed h s w host (Sends line number wire) g may = grown_not (Carries h w (At host (Sends line number wire))) host silent (pick w.hosts host).body.endpoints (λ i. refl) (g host)
@@ -224,9 +226,9 @@ grown_deed h s w host (Hears line wire) g may = grown_not (Carries h w (At host 
 grown_deed h s w host (Takes line how) g may = let k = pick w.hosts host in let step : Step tcp_shape = At host (Takes line how) in
     on_cases (λ (b : Body). Grown (Carries h w step) host silent k.body.endpoints b.endpoints) (waiting line k.inbox) k.body _ (grown_not (Carries h w step) host silent k.body.endpoints (λ i. refl) (g host))
     (λ m e.
-    let t = on_passes (waiting line k.inbox) rules.Inbox (λ x. taker_rules h host k.body how x (taker k.body x)) may in
+    let t = on_passes (waiting line k.inbox) rules.Inbox (λ x. taker_rules h host k.body how x s (taker k.body x)) may in
     let one : t.0 ≡ m = same_Some t.0 m (sym t.1 ∙ e) in
-    grown_taking h s w host line how m g e (subst (λ (x : Emission). first_broken (taker_rules h host k.body how x (taker k.body x)) ≡ None) one t.2))
+    grown_taking h s w host line how m g e (subst (λ (x : Emission). first_broken (taker_rules h host k.body how x s (taker k.body x)) ≡ None) one t.2))
 grown_deed h s w host (Drops line) g may = grown_not (Carries h w (At host (Drops line))) host silent (pick w.hosts host).body.endpoints (λ i. refl) (g host)
 grown_deed h s w host (Answers line) g may = let k = pick w.hosts host in let step : Step tcp_shape = At host (Answers line) in
     on_cases (λ (b : Body). Grown (Carries h w step) host silent k.body.endpoints b.endpoints) (waiting line k.inbox) k.body _ (grown_not (Carries h w step) host silent k.body.endpoints (λ i. refl) (g host)) (λ m e. grown_not (Carries h w step) host silent k.body.endpoints (λ i. refl) (g host))
@@ -240,8 +242,8 @@ grown_effect h s w t answer g apart may = go (turn_of t w.threads) may
 
     by : (call : Call) (o : Option Host) → option_map_or (λ host. call_allows (pick w.hosts host).body call answer) o (is_bad_socket answer) ≡ true → AllGrown comes (call_adds w.hosts call answer) w.hosts (call_after (tcp h) s w.hosts (Calls call answer) o)
     by call None may = all_grown_not comes w.hosts (call_adds w.hosts call answer) (λ me. stray_adds w.hosts call answer me may) g
-    by call (Some host) may = all_grown_host comes w.hosts host (record (pick w.hosts host) { body = after_call (pick w.hosts host).body call answer }) (call_adds w.hosts call answer) g
-        (grown_call comes w.hosts host call answer (g host) may) (adds_elsewhere w.hosts host call answer apart may)
+    by call (Some host) may = all_grown_host comes w.hosts host (record (pick w.hosts host) { body = after_call (profile_of h.initial) (pick w.hosts host).body call answer }) (call_adds w.hosts call answer) g
+        (grown_call (profile_of h.initial) comes w.hosts host call answer (g host) may) (adds_elsewhere w.hosts host call answer apart may)
 
     go : (u : Turn tcp_shape) → first_broken (effect_rules (tcp h) s w.hosts u answer) ≡ None
         → AllGrown comes (λ me. record { told = of_turn u [] (λ call. name_told w.hosts call answer me); accepted = of_turn u [] (λ call. call_accepted w.hosts call answer me); ended = of_turn u false (λ call. call_ended w.hosts call answer me) })
@@ -262,7 +264,7 @@ kept_effect h s w t answer g = go (turn_of t w.threads)
   where
     by : (call : Call) (o : Option Host) → AllLater w.hosts (call_after (tcp h) s w.hosts (Calls call answer) o) → Kept w.hosts (call_after (tcp h) s w.hosts (Calls call answer) o)
     by call None up = kept_not w.hosts g
-    by call (Some host) up = kept_call w.hosts host call answer g up
+    by call (Some host) up = kept_call (profile_of h.initial) w.hosts host call answer g up
 
     go : (u : Turn tcp_shape) → AllLater w.hosts (effect_after (tcp h) s w t answer u).hosts → Kept w.hosts (effect_after (tcp h) s w t answer u).hosts
     go Idle up = kept_not w.hosts g

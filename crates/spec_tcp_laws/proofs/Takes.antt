@@ -19,6 +19,8 @@ use Rattle.streams.specs.Received.{Receiving, arrived, body_kept, kept, next, re
 use Rattle.streams.proofs.Keeping.{kept_within}
 use Rattle.streams.proofs.Fronts.{all_put_all, next_put_all, syn_taken, front_put_all, bytes_of-append}
 use Rattle.streams.proofs.Pieces.{carried_in}
+use Rattle.window_rules.specs.declared.control.Profile.{Profile}
+use Rattle.spec_tcp.specs.Signals.{profile_of}
 use Rattle.spec_tcp.specs.declared.endpoint.EndpointId.{EndpointId}
 use Rattle.spec_tcp.specs.declared.endpoint.Stream.{Stream}
 use Rattle.spec_tcp.specs.declared.endpoint.Endpoint.{Endpoint}
@@ -170,8 +172,8 @@ kept_told r position bytes fin le d =
     )
 
 -- a reset changes no stream
-plain_reset : (e : Endpoint) (how : TakeChoice) → Plain e (was_reset e how)
-plain_reset e how = record { stream = refl; irs = refl; waits = λ y. absurd cc }
+plain_reset : (e : Endpoint) (how : TakeChoice) (moment : ℕ) → Plain e (was_reset e how moment)
+plain_reset e how moment = record { stream = refl; irs = refl; waits = λ y. absurd cc }
 
 -- what is taken behind the SYN is what the segment has
 grows_taken : (comes : ℕ → Cell → Type 0) (h : Header) (e : Endpoint) (how : TakeChoice) (m : Emission) (moment : ℕ) → Own e → is_syn_sent e.state ≡ false → (irs : Word) → e.irs ≡ Some irs
@@ -231,8 +233,8 @@ grows_met comes h e how m moment g waits =
       gains = syn_taken (λ p c. 0 < p → (slice_get e.stream.receive.taken p ≡ Some (Some c)) ⊎ comes p c) (λ some. absurd (omega arith));
     }
 
-bare_child : (l : ℕ) (how : TakeChoice) (m : Emission) (moment : ℕ) → Bare (child l how m moment)
-bare_child l how m moment = record {
+bare_child : (p : Profile) (l : ℕ) (how : TakeChoice) (m : Emission) (moment : ℕ) → Bare (child p l how m moment)
+bare_child p l how m moment = record {
   own = record { waits = λ y. absurd cc; order = inr begun_met; begun = λ base is. begun_met; delivered = omega arith };
   untouched = record { told = refl; accepted = refl; ended = refl };
   bare = syn_taken (λ p c. 0 < p → ⊥) (λ some. omega arith);
@@ -252,14 +254,14 @@ base_there e m good = go m.is_reset_reply e.irs refl good
 
 grows_endpoint : (comes : ℕ → Cell → Type 0) (h : Header) (b : Body) (me : EndpointId) (e : Endpoint) (how : TakeChoice) (m : Emission) (moment : ℕ) → Own e
     → ((k : ℕ) (c : Cell) → how.keep ≡ true → m.flags.rst ≡ false → slice_get (body m.payload m.flags.fin) k ≡ Some c → comes (first_byte m + k) c)
-    → first_broken (if is_syn_sent e.state then syn_sent_rules h.initial e how m else connected_rules h b me e how m) ≡ None → Grows comes nothing e (endpoint_taken h e how m moment)
+    → first_broken (if is_syn_sent e.state then syn_sent_rules e how m moment else connected_rules h b me e how m moment) ≡ None → Grows comes nothing e (endpoint_taken h e how m moment)
 grows_endpoint comes h b me e how m moment g new may = go m.flags.rst (is_syn_sent e.state) refl refl may
   where
-    go : (r s : Bool) → m.flags.rst ≡ r → is_syn_sent e.state ≡ s → first_broken (if s then syn_sent_rules h.initial e how m else connected_rules h b me e how m) ≡ None
-        → Grows comes nothing e (if r then was_reset e how else if s then on_syn h e how m moment else taken h e how m moment)
-    go true s is x may = grows_plain comes e (was_reset e how) g (plain_reset e how)
+    go : (r s : Bool) → m.flags.rst ≡ r → is_syn_sent e.state ≡ s → first_broken (if s then syn_sent_rules e how m moment else connected_rules h b me e how m moment) ≡ None
+        → Grows comes nothing e (if r then was_reset e how moment else if s then on_syn h e how m moment else taken h e how m moment)
+    go true s is x may = grows_plain comes e (was_reset e how moment) g (plain_reset e how moment)
     go false true is x may = grows_met comes h e how m moment g x
-    go false false is x may = let base = base_there e m (none_all (connected_rules h b me e how m) may).1.0 in grows_taken comes h e how m moment g x base.0 base.1 (λ k c keep. new k c keep is)
+    go false false is x may = let base = base_there e m (none_all (connected_rules h b me e how m moment) may).1.0 in grows_taken comes h e how m moment g x base.0 base.1 (λ k c keep. new k c keep is)
 
 -- reading a segment changes neither its flags nor what it carries
 read_flags : (b : Bool) (e : Endpoint) (m : Emission) → (if b then read_at e m else m).flags ≡ m.flags
@@ -271,7 +273,7 @@ read_body true e m = refl
 read_body false e m = refl
 
 pub grown_taking : (h : Header) (s : ℕ) (w : World tcp_shape) (host : Host) (line : ℕ) (how : TakeChoice) (m : Emission) → AllOwn w.hosts → waiting line (pick w.hosts host).inbox ≡ Some m
-    → first_broken (taker_rules h host (pick w.hosts host).body how m (taker (pick w.hosts host).body m)) ≡ None
+    → first_broken (taker_rules h host (pick w.hosts host).body how m s (taker (pick w.hosts host).body m)) ≡ None
     → Grown (Carries h w (At host (Takes line how))) host silent (pick w.hosts host).body.endpoints (after_taking h (pick w.hosts host).body how m s (taker (pick w.hosts host).body m)).endpoints
 grown_taking h s w host line how m g waits may = go (taker (pick w.hosts host).body m) refl may
   where
@@ -281,9 +283,9 @@ grown_taking h s w host line how m g waits may = go (taker (pick w.hosts host).b
     comes : Coming
     comes = Carries h w (At host (Takes line how))
 
-    go : (t : Taker) → taker b m ≡ t → first_broken (taker_rules h host b how m t) ≡ None → Grown comes host silent b.endpoints (after_taking h b how m s t).endpoints
+    go : (t : Taker) → taker b m ≡ t → first_broken (taker_rules h host b how m s t) ≡ None → Grown comes host silent b.endpoints (after_taking h b how m s t).endpoints
     go Nobody is may = grown_not comes host silent b.endpoints (λ i. refl) (g host)
-    go (AtListener l) is may = grown_push comes host b.endpoints (child l how m s) (g host) (bare_child l how m s)
+    go (AtListener l) is may = grown_push comes host b.endpoints (child (profile_of h.initial) l how m s) (g host) (bare_child (profile_of h.initial) l how m s)
     go (AtEndpoint i e) is may = let at = taker_there b m i e is in
         grown_one comes host silent b.endpoints i (λ x. endpoint_taken h x how (as_read h.version e m) s) (g host) (λ j n. refl)
         (λ x there.
@@ -303,7 +305,7 @@ grown_taking h s w host line how m g waits may = go (taker (pick w.hosts host).b
           stands = refl;
           has = subst (λ (cs : List Cell). slice_get cs k ≡ Some c) (read_body (is_half h.version) e m) has;
         })
-        (subst (λ (y : Endpoint). first_broken (if is_syn_sent y.state then syn_sent_rules h.initial y how (as_read h.version e m) else connected_rules h b (name host i) y how (as_read h.version e m)) ≡ None) one may))
+        (subst (λ (y : Endpoint). first_broken (if is_syn_sent y.state then syn_sent_rules y how (as_read h.version e m) s else connected_rules h b (name host i) y how (as_read h.version e m) s) ≡ None) one may))
 
 -- 5. the endpoint and its peer
 
@@ -339,9 +341,9 @@ record FromPeer (me : EndpointId) (e : Endpoint) (m : Emission) : Type 0 where
 whole_case : (h : Header) → is_half h.version ≡ false → (b : Bool) → (not (is_half h.version) && not b) ≡ false → not b ≡ false
 whole_case h whole b e = subst (λ (c : Bool). (not c && not b) ≡ false) whole e
 
-from_peer : (a : Hosts) (h : Header) → is_half h.version ≡ false → (b : Body) (me : EndpointId) (e : Endpoint) (how : TakeChoice) (m : Emission) → GoodEmission a m → m.flags.rst ≡ false → first_broken (connected_rules h b me e how m) ≡ None → FromPeer me e m
-from_peer a h whole b me e how m good r may =
-    let t = none_all (connected_rules h b me e how m) may in
+from_peer : (a : Hosts) (h : Header) → is_half h.version ≡ false → (b : Body) (me : EndpointId) (e : Endpoint) (how : TakeChoice) (m : Emission) (moment : ℕ) → GoodEmission a m → m.flags.rst ≡ false → first_broken (connected_rules h b me e how m moment) ≡ None → FromPeer me e m
+from_peer a h whole b me e how m moment good r may =
+    let t = none_all (connected_rules h b me e how m moment) may in
     let plain : m.is_reset_reply ≡ false = is_not m.is_reset_reply (λ x. let y = good.resets x in cc) in
     let from = both_true (option_map_or (λ peer. same_name peer m.sender) e.stream.peer false) _ (other m.is_reset_reply plain (not_false _ (whole_case h whole (is_from_peer me e m) t.0))) in
     let acks = neither (not m.flags.ack || nat_lt (snd_max e) m.ack) _ (and_false (not m.flags.rst) _ t.1.1.1.0 (flip m.flags.rst r)) in
@@ -406,32 +408,32 @@ changes_met a h me e how m moment g good waits =
     met_una false snd_una more = λ no. no more
 
 changes_endpoint : (a : Hosts) (h : Header) → is_half h.version ≡ false → (b : Body) (me : EndpointId) (e : Endpoint) (how : TakeChoice) (m : Emission) (moment : ℕ) → GoodEnd a me e → GoodEmission a m
-    → first_broken (if is_syn_sent e.state then syn_sent_rules h.initial e how m else connected_rules h b me e how m) ≡ None → Changes a me e (endpoint_taken h e how m moment)
+    → first_broken (if is_syn_sent e.state then syn_sent_rules e how m moment else connected_rules h b me e how m moment) ≡ None → Changes a me e (endpoint_taken h e how m moment)
 changes_endpoint a h whole b me e how m moment g good may = go m.flags.rst (is_syn_sent e.state) refl refl may
   where
-    go : (r s : Bool) → m.flags.rst ≡ r → is_syn_sent e.state ≡ s → first_broken (if s then syn_sent_rules h.initial e how m else connected_rules h b me e how m) ≡ None
-        → Changes a me e (if r then was_reset e how else if s then on_syn h e how m moment else taken h e how m moment)
-    go true s is x may = changes_keeps a me e (was_reset e how) g (plain_keeps e (was_reset e how) (plain_reset e how))
+    go : (r s : Bool) → m.flags.rst ≡ r → is_syn_sent e.state ≡ s → first_broken (if s then syn_sent_rules e how m moment else connected_rules h b me e how m moment) ≡ None
+        → Changes a me e (if r then was_reset e how moment else if s then on_syn h e how m moment else taken h e how m moment)
+    go true s is x may = changes_keeps a me e (was_reset e how moment) g (plain_keeps e (was_reset e how moment) (plain_reset e how moment))
     go false true is x may = changes_met a h me e how m moment g good x
-    go false false is x may = changes_taken a h me e how m moment g good (from_peer a h whole b me e how m good is may) x
+    go false false is x may = changes_taken a h me e how m moment g good (from_peer a h whole b me e how m moment good is may) x
 
 -- at a whole case a segment is read as what it is
 reads_itself : (h : Header) → is_half h.version ≡ false → (e : Endpoint) (m : Emission) → as_read h.version e m ≡ m
 reads_itself h whole e m = ap (λ (b : Bool). if b then read_at e m else m) whole
 
 pub moves_taking : (a : Hosts) (h : Header) → is_half h.version ≡ false → (host : Host) (b : Body) (how : TakeChoice) (m : Emission) (moment : ℕ) → GoodEnds a host b.endpoints → GoodEmission a m
-    → first_broken (taker_rules h host b how m (taker b m)) ≡ None → Moves a host b.endpoints (after_taking h b how m moment (taker b m)).endpoints
+    → first_broken (taker_rules h host b how m moment (taker b m)) ≡ None → Moves a host b.endpoints (after_taking h b how m moment (taker b m)).endpoints
 moves_taking a h whole host b how m moment g good may = go (taker b m) refl may
   where
-    go : (t : Taker) → taker b m ≡ t → first_broken (taker_rules h host b how m t) ≡ None → Moves a host b.endpoints (after_taking h b how m moment t).endpoints
+    go : (t : Taker) → taker b m ≡ t → first_broken (taker_rules h host b how m moment t) ≡ None → Moves a host b.endpoints (after_taking h b how m moment t).endpoints
     go Nobody is may = moves_not a host b.endpoints g
-    go (AtListener l) is may = moves_push a host b.endpoints (child l how m moment) g (record {
+    go (AtListener l) is may = moves_push a host b.endpoints (child (profile_of h.initial) l how m moment) g (record {
       snd_una = λ more. absurd (omega arith);
-      good = λ c later. record { stream = met_good c _ m.sender (child l how m moment).stream (emission_later a c later m good).there refl refl (λ more. omega arith); waits = λ y. absurd cc };
+      good = λ c later. record { stream = met_good c _ m.sender (child (profile_of h.initial) l how m moment).stream (emission_later a c later m good).there refl refl (λ more. omega arith); waits = λ y. absurd cc };
     })
     go (AtEndpoint i e) is may = let at = taker_there b m i e is in
         moves_one a host b.endpoints i (λ x. endpoint_taken h x how (as_read h.version e m) moment) g
         (λ x there.
         let one : e ≡ x = same_Some e x (sym at ∙ there) in
         changes_endpoint a h whole b (name host i) x how (as_read h.version e m) moment (g i x there) (subst (GoodEmission a) (sym (reads_itself h whole e m)) good)
-        (subst (λ (y : Endpoint). first_broken (if is_syn_sent y.state then syn_sent_rules h.initial y how (as_read h.version e m) else connected_rules h b (name host i) y how (as_read h.version e m)) ≡ None) one may))
+        (subst (λ (y : Endpoint). first_broken (if is_syn_sent y.state then syn_sent_rules y how (as_read h.version e m) moment else connected_rules h b (name host i) y how (as_read h.version e m) moment) ≡ None) one may))

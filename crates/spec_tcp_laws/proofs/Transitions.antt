@@ -29,6 +29,8 @@ use Rattle.spec_network.specs.Tables.{pick, other, with_host, waiting}
 use Rattle.spec_network.specs.Hosts.{HostState, Turn, Idle, Called, Answered, World, Deed, Does, Expires, Makes, Sends, Gets, Hears, Takes, Drops, Answers, Step, Begin, Finish, Effect, At, Stamped, turn_of}
 use Rattle.spec_network.specs.HostRules.{aim_of, Permitted}
 use Rattle.spec_network.specs.HostSteps.{deed_after, call_after, effect_after, after, start, Lawful}
+use Rattle.window_rules.specs.declared.control.Profile.{Profile}
+use Rattle.spec_tcp.specs.Signals.{profile_of}
 use Rattle.spec_tcp.specs.declared.endpoint.EndpointId.{EndpointId}
 use Rattle.spec_tcp.specs.declared.endpoint.Endpoint.{Endpoint}
 use Rattle.spec_tcp.specs.declared.endpoint.Emission.{Emission}
@@ -298,8 +300,8 @@ taking_goes : (h : Header) (w : World tcp_shape) (step : Step tcp_shape) (me : E
     → Goes w step me e (endpoint_taken h e how r moment)
 taking_goes h w step me e how m r moment same there = go r.flags.rst (is_syn_sent e.state) same refl
   where
-    go : (b c : Bool) → b ≡ m.flags.rst → is_syn_sent e.state ≡ c → Goes w step me e (if b then was_reset e how else if c then on_syn h e how r moment else segment_taken h e how r moment)
-    go true c rst is = closed w step me e (was_reset e how) refl (level e) (ByReset m there (sym rst) refl)
+    go : (b c : Bool) → b ≡ m.flags.rst → is_syn_sent e.state ≡ c → Goes w step me e (if b then was_reset e how moment else if c then on_syn h e how r moment else segment_taken h e how r moment)
+    go true c rst is = closed w step me e (was_reset e how moment) refl (level e) (ByReset m there (sym rst) refl)
     go false true rst is = record {
       leads = BySegment m (on_syn h e how r moment).state there (sym rst) (inr (met_leads e.state is r.flags.ack)) (inl refl);
       rises = (met_una r.flags.ack e.stream.snd_una, le_refl (snd_max e), le_refl e.window.rcv_adv);
@@ -322,7 +324,7 @@ gone_taking h s w host line how m waits = go (taker (pick w.hosts host).body m) 
 
     go : (t : Taker) → taker b m ≡ t → Gone w (At host (Takes line how)) host b.endpoints (after_taking h b how m s t).endpoints
     go Nobody is = gone_not w (At host (Takes line how)) host b.endpoints
-    go (AtListener l) is = gone_push w (At host (Takes line how)) host b.endpoints (child l how m s) (inr refl)
+    go (AtListener l) is = gone_push w (At host (Takes line how)) host b.endpoints (child (profile_of h.initial) l how m s) (inr refl)
     go (AtEndpoint i e) is = gone_one w (At host (Takes line how)) host b.endpoints i (λ x. endpoint_taken h x how (as_read h.version e m) s)
         (λ x there.
         let one : e ≡ x = same_Some e x (sym (taker_there b m i e is) ∙ there) in
@@ -330,8 +332,8 @@ gone_taking h s w host line how m waits = go (taker (pick w.hosts host).body m) 
 
 gone_deed : (h : Header) (s : ℕ) (w : World tcp_shape) (host : Host) (d : Deed tcp_shape)
     → Gone w (At host d) host (pick w.hosts host).body.endpoints (deed_after (tcp h) host s (suc w.count) (pick w.hosts (other host)).wire (pick w.hosts host) d).body.endpoints
-gone_deed h s w host (Does x) = gone_at_ports w (At host (Does x)) host (pick w.hosts host).body x.lport x.rport (λ e. after_recovery e x.cwnd x.ssthresh)
-    (λ i e at. stays w (At host (Does x)) (name host i) e (after_recovery e x.cwnd x.ssthresh) refl (level e) refl)
+gone_deed h s w host (Does x) = gone_at_ports w (At host (Does x)) host (pick w.hosts host).body x.lport x.rport (λ e. after_recovery e x.cwnd x.ssthresh s)
+    (λ i e at. stays w (At host (Does x)) (name host i) e (after_recovery e x.cwnd x.ssthresh s) refl (level e) refl)
 gone_deed h s w host (Expires line x) = gone_at_ports w (At host (Expires line x)) host (pick w.hosts host).body x.lport x.rport (λ e. after_expiry e x.expired s)
     (λ i e at. expiry_goes w s host line x i e at)
 gone_deed h s w host (Makes m) = gone_at_ports w (At host (Makes m)) host (pick w.hosts host).body m.lport m.rport (λ e. after_making e m s)
@@ -407,23 +409,23 @@ gone_accept w step host b n (ListenerAt l) = go (queue_of b l)
     go [] = gone_not w step host b.endpoints
     go (c ∷ queue) = gone_one w step host b.endpoints c (λ e. record e { listener = None }) (λ e at. stays w step (name host c) e (record e { listener = None }) refl (level e) refl)
 
-gone_call : (w : World tcp_shape) (thread : ℕ) (host : Host) (call : Call) (answer : Answer) → turn_of thread w.threads ≡ Called call
-    → Gone w (Effect thread answer) host (pick w.hosts host).body.endpoints (after_call (pick w.hosts host).body call answer).endpoints
-gone_call w thread host (calls.Listen at port backlog) (answers.Given n) turn = gone_not w (Effect thread (answers.Given n)) host (pick w.hosts host).body.endpoints
-gone_call w thread host (calls.Connect at lport rport) (answers.Given n) turn = gone_push w (Effect thread (answers.Given n)) host (pick w.hosts host).body.endpoints (new_endpoint lport rport None states.SynSent) (inl refl)
-gone_call w thread host (calls.Accept h) (answers.Given n) turn = let b = (pick w.hosts host).body in let step : Step tcp_shape = Effect thread (answers.Given n) in
+gone_call : (p : Profile) (w : World tcp_shape) (thread : ℕ) (host : Host) (call : Call) (answer : Answer) → turn_of thread w.threads ≡ Called call
+    → Gone w (Effect thread answer) host (pick w.hosts host).body.endpoints (after_call p (pick w.hosts host).body call answer).endpoints
+gone_call p w thread host (calls.Listen at port backlog) (answers.Given n) turn = gone_not w (Effect thread (answers.Given n)) host (pick w.hosts host).body.endpoints
+gone_call p w thread host (calls.Connect at lport rport) (answers.Given n) turn = gone_push w (Effect thread (answers.Given n)) host (pick w.hosts host).body.endpoints (new_endpoint lport rport None states.SynSent p) (inl refl)
+gone_call p w thread host (calls.Accept h) (answers.Given n) turn = let b = (pick w.hosts host).body in let step : Step tcp_shape = Effect thread (answers.Given n) in
     map_or_cases (λ (x : Body). Gone w step host b.endpoints x.endpoints) (thing_of b h) b (after_accept b n) (λ e. gone_not w step host b.endpoints) (λ thing e. gone_accept w step host b n thing)
-gone_call w thread host (calls.Send h bytes) (answers.Given n) turn = gone_change w (Effect thread (answers.Given n)) host h (after_send bytes n) (λ i e is. stays w (Effect thread (answers.Given n)) (name host i) e (after_send bytes n e) refl (level e) refl)
-gone_call w thread host (calls.Recv h most) (answers.Bytes bytes) turn = gone_change w (Effect thread (answers.Bytes bytes)) host h (after_recv bytes) (λ i e is. stays w (Effect thread (answers.Bytes bytes)) (name host i) e (after_recv bytes e) refl (level e) refl)
-gone_call w thread host (calls.Shut h) answers.Done turn = gone_change w (Effect thread answers.Done) host h after_shut
+gone_call p w thread host (calls.Send h bytes) (answers.Given n) turn = gone_change w (Effect thread (answers.Given n)) host h (after_send bytes n) (λ i e is. stays w (Effect thread (answers.Given n)) (name host i) e (after_send bytes n e) refl (level e) refl)
+gone_call p w thread host (calls.Recv h most) (answers.Bytes bytes) turn = gone_change w (Effect thread (answers.Bytes bytes)) host h (after_recv bytes) (λ i e is. stays w (Effect thread (answers.Bytes bytes)) (name host i) e (after_recv bytes e) refl (level e) refl)
+gone_call p w thread host (calls.Shut h) answers.Done turn = gone_change w (Effect thread answers.Done) host h after_shut
     (λ i e is. shut_goes w (Effect thread answers.Done) (name host i) e (thread, answers.Done, calls.Shut h, h, refl, turn, refl, is))
-gone_call w thread host (calls.Close h) answers.Done turn = gone_gone w (Effect thread answers.Done) host h after_close
+gone_call p w thread host (calls.Close h) answers.Done turn = gone_gone w (Effect thread answers.Done) host h after_close
     (λ i e is. close_goes w (Effect thread answers.Done) (name host i) e (thread, answers.Done, calls.Close h, h, refl, turn, refl, is))
     (λ l is. (thread, answers.Done, calls.Close h, h, refl, turn, refl, is))
-gone_call w thread host (calls.Abort h) answers.Done turn = gone_gone w (Effect thread answers.Done) host h after_abort
+gone_call p w thread host (calls.Abort h) answers.Done turn = gone_gone w (Effect thread answers.Done) host h after_abort
     (λ i e is. closed w (Effect thread answers.Done) (name host i) e (after_abort e) refl (level e) (ByAbort (thread, answers.Done, calls.Abort h, h, refl, turn, refl, is) refl))
     (λ l is. (thread, answers.Done, calls.Abort h, h, refl, turn, refl, is))
-gone_call w thread host call answer turn = gone_not w (Effect thread answer) host (pick w.hosts host).body.endpoints
+gone_call p w thread host call answer turn = gone_not w (Effect thread answer) host (pick w.hosts host).body.endpoints
 
 -- 4. both hosts
 
@@ -444,7 +446,7 @@ both_step h s w (Effect t answer) = go (turn_of t w.threads) refl
   where
     by : (call : Call) (o : Option Host) → turn_of t w.threads ≡ Called call → BothGo w (Effect t answer) (call_after (tcp h) s w.hosts (Calls call answer) o)
     by call None turn = both_not w (Effect t answer)
-    by call (Some host) turn = both_host w (Effect t answer) host (record (pick w.hosts host) { body = after_call (pick w.hosts host).body call answer }) (gone_call w t host call answer turn)
+    by call (Some host) turn = both_host w (Effect t answer) host (record (pick w.hosts host) { body = after_call (profile_of h.initial) (pick w.hosts host).body call answer }) (gone_call (profile_of h.initial) w t host call answer turn)
 
     go : (u : Turn tcp_shape) → turn_of t w.threads ≡ u → BothGo w (Effect t answer) (effect_after (tcp h) s w t answer u).hosts
     go Idle is = both_not w (Effect t answer)

@@ -1,6 +1,6 @@
 -- What each step makes of the windows of endpoints.
 use Rattle.std.proofs.Common.{◌≡◌, ℕ, suc, ◌≤◌, ◌⊎◌, Bool, true, false, List, [], ◌∷◌, ◌++◌, map, Option, Some, None, refl, ap, sym, subst, ◌∙◌, inl, inr, arith}
-use Rattle.std.specs.Prelude.{if◌then◌else◌, ◌==◌, ◌||◌, nat_lt, slice_get}
+use Rattle.std.specs.Prelude.{if◌then◌else◌, ◌==◌, ◌||◌, nat_lt, not, slice_get}
 use Rattle.std.specs.Option.{option_map_or}
 use Rattle.std.proofs.lemmas.Option.{none-some, same_Some}
 use Rattle.case_forms.specs.declared.trace.Header.{Header}
@@ -16,7 +16,12 @@ use Rattle.verdict.specs.declared.rule.Rule.TheVariants as rules
 use Rattle.verdict.specs.Rules.{first_broken}
 use Rattle.verdict.proofs.RuleLemmas.{none_all}
 use Rattle.window_rules.specs.Windows.{greatest_window as greatest_value}
-use Rattle.window_rules.specs.Losses.{halved, recovery_window}
+use Rattle.window_rules.specs.Control.{after as after_it, greatest, may_recover}
+use Rattle.window_rules.specs.declared.control.Control.{Control}
+use Rattle.window_rules.specs.declared.control.Signal.{Signal}
+use Rattle.window_rules.specs.declared.control.Profile.{Profile}
+use Rattle.window_rules.specs.declared.control.Signal.TheVariants.{Other, Syn}
+use Rattle.window_rules.proofs.ControlLemmas.{chosen_cwnd, kept_ssthresh, same_profile}
 use Rattle.streams.specs.Lists.{modify}
 use Rattle.streams.proofs.Places.{get_append, all_push, all_modify}
 use Rattle.spec_network.specs.Tables.{pick, other, with_host, waiting, on}
@@ -28,7 +33,8 @@ use Rattle.spec_tcp.specs.declared.endpoint.Endpoint.{Endpoint}
 use Rattle.spec_tcp.specs.declared.endpoint.Emission.{Emission}
 use Rattle.spec_tcp.specs.declared.endpoint.SocketTarget.{SocketTarget}
 use Rattle.spec_tcp.specs.declared.endpoint.SocketTarget.TheVariants.{ListenerAt, EndpointAt}
-use Rattle.spec_tcp.specs.Endpoints.{new_endpoint, snd_max, flight}
+use Rattle.spec_tcp.specs.Endpoints.{new_endpoint, snd_max}
+use Rattle.spec_tcp.specs.Signals.{at_moment, profile_of, recovery_signal, signal_of, timeout_signal}
 use Rattle.spec_tcp.specs.Bodies.{Body, place_of, endpoint_at, endpoint_of, at_ports, with_endpoint, thing_of, queue_of, dead}
 use Rattle.case_forms.specs.States.{is_syn_sent}
 use Rattle.spec_tcp.specs.Calls.Send.{after_send}
@@ -38,9 +44,8 @@ use Rattle.spec_tcp.specs.Calls.Accept.{accepted_from, after_accept}
 use Rattle.spec_tcp.specs.Calls.{change_thing, after_call}
 use Rattle.spec_tcp.specs.Makes.{endpoint_made, after_making}
 use Rattle.case_forms.specs.declared.steps.TakeChoice.{TakeChoice}
-use Rattle.spec_tcp.specs.Arrives.OtherStates.Congestion.{greatest_window}
 use Rattle.spec_tcp.specs.Arrives.OtherStates.{connected_rules, taken as segment_taken}
-use Rattle.spec_tcp.specs.Arrives.SynSent.{syn_sent_rules, greatest_at_syn, on_syn}
+use Rattle.spec_tcp.specs.Arrives.SynSent.{syn_sent_rules, on_syn}
 use Rattle.spec_tcp.specs.Arrives.Listen.{listener_rules, child}
 use Rattle.spec_tcp.specs.Arrives.OtherStates.Reset.{was_reset}
 use Rattle.spec_tcp.specs.Arrives.{Taker, Nobody, AtListener, AtEndpoint, taker, taker_rules, endpoint_taken, after_taking}
@@ -53,7 +58,7 @@ use Rattle.spec_tcp.specs.Timeouts.{greatest_values, expiry_rules, after_expiry}
 use Rattle.spec_tcp.specs.Recovery.{recovery_rules, after_recovery}
 use Rattle.spec_tcp.specs.Machine.{Calls, Expiring, rules_at, tcp, tcp_shape, aim}
 use Rattle.spec_tcp_laws.specs.Consequences.{find}
-use Rattle.spec_tcp_laws.specs.Bounds.{greatest_reading, greatest_taking, TakesThere, TimesOut, Recovers, Leaves, WindowsFollow}
+use Rattle.spec_tcp_laws.specs.Bounds.{greatest_taking, TakesThere, TimesOut, Recovers, Leaves, WindowsFollow}
 use Rattle.spec_tcp_laws.proofs.Rules.{on_passes, on_cases, map_or_cases, neither, at_most_from}
 use Rattle.spec_tcp_laws.proofs.Later.{Hosts, name}
 use Rattle.spec_tcp_laws.proofs.Moves.{with_cases, modify_each, map_onward, map_back}
@@ -61,47 +66,47 @@ use Rattle.spec_tcp_laws.proofs.Takes.{taker_there}
 use Rattle.spec_tcp_laws.proofs.Sound.{modify_here}
 
 -- an endpoint begins so
-abbrev Begins : Endpoint → Type 0
-Begins f = (f.congestion.cwnd ≡ 0) × (f.congestion.ssthresh ≡ greatest_value)
+abbrev Begins : Profile → Endpoint → Type 0
+Begins p f = (f.control.values.cwnd ≡ 0) × (f.control.values.ssthresh ≡ greatest_value) × (f.control.profile ≡ p)
 
 -- both windows stay, or the step is of a kind that may change them
 data WindowsMove (w : World tcp_shape) (step : Step tcp_shape) (me : EndpointId) (e f : Endpoint) : Type 0 where
-  stayed : f.congestion.cwnd ≡ e.congestion.cwnd → f.congestion.ssthresh ≡ e.congestion.ssthresh → WindowsMove w step me e f
-  taken : (m : Emission) → TakesThere w step me e m → WindowsMove w step me e f
-  expired : TimesOut w step me → WindowsMove w step me e f
-  recovered : Recovers w step me → WindowsMove w step me e f
+  stayed : f.control ≡ e.control → WindowsMove w step me e f
+  taken : (m : Emission) → TakesThere w step me e m → f.control.profile ≡ e.control.profile → WindowsMove w step me e f
+  expired : TimesOut w step me → f.control.profile ≡ e.control.profile → WindowsMove w step me e f
+  recovered : Recovers w step me → f.control.profile ≡ e.control.profile → WindowsMove w step me e f
 
 -- the endpoints of a host after a step
-record Follows (w : World tcp_shape) (step : Step tcp_shape) (host : Host) (es fs : List Endpoint) : Type 0 where
+record Follows (p : Profile) (w : World tcp_shape) (step : Step tcp_shape) (host : Host) (es fs : List Endpoint) : Type 0 where
   pub onward : (i : ℕ) (e : Endpoint) → slice_get es i ≡ Some e → (f : Endpoint) × (slice_get fs i ≡ Some f) × WindowsMove w step (name host i) e f
-  pub back : (i : ℕ) (f : Endpoint) → slice_get fs i ≡ Some f → ((e : Endpoint) × (slice_get es i ≡ Some e)) ⊎ Begins f
+  pub back : (i : ℕ) (f : Endpoint) → slice_get fs i ≡ Some f → ((e : Endpoint) × (slice_get es i ≡ Some e)) ⊎ Begins p f
 
-follows_not : (w : World tcp_shape) (step : Step tcp_shape) (host : Host) (es : List Endpoint) → Follows w step host es es
-follows_not w step host es = record { onward = λ i e at. (e, at, stayed refl refl); back = λ i f at. inl (f, at) }
+follows_not : (p : Profile) (w : World tcp_shape) (step : Step tcp_shape) (host : Host) (es : List Endpoint) → Follows p w step host es es
+follows_not p w step host es = record { onward = λ i e at. (e, at, stayed refl); back = λ i f at. inl (f, at) }
 
-follows_one : (w : World tcp_shape) (step : Step tcp_shape) (host : Host) (es : List Endpoint) (i : ℕ) (f : Endpoint → Endpoint) → ((e : Endpoint) → slice_get es i ≡ Some e → WindowsMove w step (name host i) e (f e)) → Follows w step host es (modify es i f)
-follows_one w step host es i f new = record {
-  onward = modify_each (λ j. WindowsMove w step (name host j)) f es i (λ j e at n. stayed refl refl) new;
-  back = all_modify (λ j y. ((e : Endpoint) × (slice_get es j ≡ Some e)) ⊎ Begins y) f es i (λ j e x. inl (e, x)) (λ e x. inl (e, x));
+follows_one : (p : Profile) (w : World tcp_shape) (step : Step tcp_shape) (host : Host) (es : List Endpoint) (i : ℕ) (f : Endpoint → Endpoint) → ((e : Endpoint) → slice_get es i ≡ Some e → WindowsMove w step (name host i) e (f e)) → Follows p w step host es (modify es i f)
+follows_one p w step host es i f new = record {
+  onward = modify_each (λ j. WindowsMove w step (name host j)) f es i (λ j e at n. stayed refl) new;
+  back = all_modify (λ j y. ((e : Endpoint) × (slice_get es j ≡ Some e)) ⊎ Begins p y) f es i (λ j e x. inl (e, x)) (λ e x. inl (e, x));
 }
 
-follows_map : (w : World tcp_shape) (step : Step tcp_shape) (host : Host) (es : List Endpoint) (f : Endpoint → Endpoint) → ((e : Endpoint) → (f e).congestion ≡ e.congestion) → Follows w step host es (map f es)
-follows_map w step host es f same = record {
-  onward = map_onward (λ j. WindowsMove w step (name host j)) f es (λ j e at. stayed (ap (λ c. c.cwnd) (same e)) (ap (λ c. c.ssthresh) (same e)));
+follows_map : (p : Profile) (w : World tcp_shape) (step : Step tcp_shape) (host : Host) (es : List Endpoint) (f : Endpoint → Endpoint) → ((e : Endpoint) → (f e).control ≡ e.control) → Follows p w step host es (map f es)
+follows_map p w step host es f same = record {
+  onward = map_onward (λ j. WindowsMove w step (name host j)) f es (λ j e at. stayed (same e));
   back = λ j y e. let h = map_back f es j y e in inl (h.0, h.1);
 }
 
-follows_push : (w : World tcp_shape) (step : Step tcp_shape) (host : Host) (es : List Endpoint) (e : Endpoint) → Begins e → Follows w step host es (es ++ e ∷ [])
-follows_push w step host es e new = record {
-  onward = λ i x at. (x, get_append es (e ∷ []) i x at, stayed refl refl);
-  back = all_push (λ j y. ((x : Endpoint) × (slice_get es j ≡ Some x)) ⊎ Begins y) es e (λ j x at. inl (x, at)) (inr new);
+follows_push : (p : Profile) (w : World tcp_shape) (step : Step tcp_shape) (host : Host) (es : List Endpoint) (e : Endpoint) → Begins p e → Follows p w step host es (es ++ e ∷ [])
+follows_push p w step host es e new = record {
+  onward = λ i x at. (x, get_append es (e ∷ []) i x at, stayed refl);
+  back = all_push (λ j y. ((x : Endpoint) × (slice_get es j ≡ Some x)) ⊎ Begins p y) es e (λ j x at. inl (x, at)) (inr new);
 }
 
 -- the endpoint of some ports changes
-follows_at_ports : (w : World tcp_shape) (step : Step tcp_shape) (host : Host) (b : Body) (lport rport : ℕ) (f : Endpoint → Endpoint)
-    → ((i : ℕ) (e : Endpoint) → place_of b lport rport ≡ Some i → slice_get b.endpoints i ≡ Some e → WindowsMove w step (name host i) e (f e)) → Follows w step host b.endpoints (at_ports b lport rport f).endpoints
-follows_at_ports w step host b lport rport f new = map_or_cases (λ (x : Body). Follows w step host b.endpoints x.endpoints) (place_of b lport rport) b (λ i. with_endpoint b i f)
-    (λ e. follows_not w step host b.endpoints) (λ i at. follows_one w step host b.endpoints i f (λ e there. new i e at there))
+follows_at_ports : (p : Profile) (w : World tcp_shape) (step : Step tcp_shape) (host : Host) (b : Body) (lport rport : ℕ) (f : Endpoint → Endpoint)
+    → ((i : ℕ) (e : Endpoint) → place_of b lport rport ≡ Some i → slice_get b.endpoints i ≡ Some e → WindowsMove w step (name host i) e (f e)) → Follows p w step host b.endpoints (at_ports b lport rport f).endpoints
+follows_at_ports p w step host b lport rport f new = map_or_cases (λ (x : Body). Follows p w step host b.endpoints x.endpoints) (place_of b lport rport) b (λ i. with_endpoint b i f)
+    (λ e. follows_not p w step host b.endpoints) (λ i at. follows_one p w step host b.endpoints i f (λ e there. new i e at there))
 
 -- the rules on the endpoint of some ports
 rules_there : (b : Body) (lport rport i : ℕ) (e : Endpoint) (f : Endpoint → List (Rule × Bool)) → place_of b lport rport ≡ Some i → slice_get b.endpoints i ≡ Some e → first_broken (rules_at b lport rport f) ≡ None → first_broken (f e) ≡ None
@@ -110,12 +115,12 @@ rules_there b lport rport i e f at there may =
     subst (λ (o : Option Endpoint). first_broken (option_map_or f o ((rules.NoEndpoint, true) ∷ [])) ≡ None) place may
 
 -- one of two endpoints
-either_windows : (b : Bool) (x y : Endpoint) (e : Endpoint) → x.congestion ≡ e.congestion → y.congestion ≡ e.congestion → (if b then x else y).congestion ≡ e.congestion
+either_windows : (b : Bool) (x y : Endpoint) (e : Endpoint) → x.control ≡ e.control → y.control ≡ e.control → (if b then x else y).control ≡ e.control
 either_windows true x y e p q = p
 either_windows false x y e p q = q
 
-unmoved : (w : World tcp_shape) (step : Step tcp_shape) (me : EndpointId) (e f : Endpoint) → f.congestion ≡ e.congestion → WindowsMove w step me e f
-unmoved w step me e f same = stayed (ap (λ c. c.cwnd) same) (ap (λ c. c.ssthresh) same)
+unmoved : (w : World tcp_shape) (step : Step tcp_shape) (me : EndpointId) (e f : Endpoint) → f.control ≡ e.control → WindowsMove w step me e f
+unmoved w step me e f same = stayed same
 
 -- 1. what hosts do
 
@@ -124,134 +129,143 @@ expiry_moves : (w : World tcp_shape) (s : ℕ) (host : Host) (line : ℕ) (x : E
 expiry_moves w s host line x i e at = go x.expired refl
   where
     go : (t : Expired) → x.expired ≡ t → WindowsMove w (At host (Expires line x)) (name host i) e (after_expiry e t s)
-    go (Rto growth) is = expired (line, x, growth, refl, is, at)
-    go Persist is = stayed refl refl
-    go Msl2 is = stayed refl refl
-    go Giveup is = stayed refl refl
+    go (Rto growth) is = expired (line, x, growth, refl, is, at) (same_profile e.control (timeout_signal e) (at_moment e s) growth.cwnd growth.ssthresh)
+    go Persist is = stayed refl
+    go Msl2 is = stayed refl
+    go Giveup is = stayed refl
 
 -- the windows of who took a segment are those chosen
-chosen : (h : Header) (e : Endpoint) (how : TakeChoice) (m : Emission) (moment : ℕ) → ((endpoint_taken h e how m moment).congestion.cwnd ≡ how.cwnd) × ((endpoint_taken h e how m moment).congestion.ssthresh ≡ e.congestion.ssthresh)
+chosen : (h : Header) (e : Endpoint) (how : TakeChoice) (m : Emission) (moment : ℕ) → ((endpoint_taken h e how m moment).control.values.cwnd ≡ how.cwnd)
+    × ((endpoint_taken h e how m moment).control.values.ssthresh ≡ e.control.values.ssthresh) × ((endpoint_taken h e how m moment).control.profile ≡ e.control.profile)
 chosen h e how m moment = go m.flags.rst (is_syn_sent e.state)
   where
-    go : (r s : Bool) → ((if r then was_reset e how else if s then on_syn h e how m moment else segment_taken h e how m moment).congestion.cwnd ≡ how.cwnd)
-        × ((if r then was_reset e how else if s then on_syn h e how m moment else segment_taken h e how m moment).congestion.ssthresh ≡ e.congestion.ssthresh)
-    go true s = (refl, refl)
-    go false true = (refl, refl)
-    go false false = (refl, refl)
+    after_signal : (x : Signal) → ((after_it e.control x (at_moment e moment) how.cwnd e.control.values.ssthresh).values.cwnd ≡ how.cwnd)
+        × ((after_it e.control x (at_moment e moment) how.cwnd e.control.values.ssthresh).values.ssthresh ≡ e.control.values.ssthresh)
+        × ((after_it e.control x (at_moment e moment) how.cwnd e.control.values.ssthresh).profile ≡ e.control.profile)
+    after_signal x = (chosen_cwnd e.control x (at_moment e moment) how.cwnd e.control.values.ssthresh, kept_ssthresh e.control x (at_moment e moment) how.cwnd, same_profile e.control x (at_moment e moment) how.cwnd e.control.values.ssthresh)
 
-allowed : (h : Header) (b : Body) (me : EndpointId) (e : Endpoint) (how : TakeChoice) (m : Emission) → first_broken (if is_syn_sent e.state then syn_sent_rules h.initial e how m else connected_rules h b me e how m) ≡ None → how.cwnd ≤ greatest_reading h.initial e m
-allowed h b me e how m may = go (is_syn_sent e.state) may
+    go : (r s : Bool) → ((if r then was_reset e how moment else if s then on_syn h e how m moment else segment_taken h e how m moment).control.values.cwnd ≡ how.cwnd)
+        × ((if r then was_reset e how moment else if s then on_syn h e how m moment else segment_taken h e how m moment).control.values.ssthresh ≡ e.control.values.ssthresh)
+        × ((if r then was_reset e how moment else if s then on_syn h e how m moment else segment_taken h e how m moment).control.profile ≡ e.control.profile)
+    go true s = after_signal Other
+    go false true = after_signal (signal_of e m)
+    go false false = after_signal (signal_of e m)
+
+allowed : (h : Header) (b : Body) (me : EndpointId) (e : Endpoint) (how : TakeChoice) (m : Emission) (moment : ℕ) → first_broken (if is_syn_sent e.state then syn_sent_rules e how m moment else connected_rules h b me e how m moment) ≡ None
+    → how.cwnd ≤ (greatest e.control (signal_of e m) (at_moment e moment)).0
+allowed h b me e how m moment may = go (is_syn_sent e.state) may
   where
-    go : (s : Bool) → first_broken (if s then syn_sent_rules h.initial e how m else connected_rules h b me e how m) ≡ None → how.cwnd ≤ (if s then greatest_at_syn h.initial e m else greatest_window h.initial e m)
-    go true may = at_most_from (greatest_at_syn h.initial e m) how.cwnd (none_all (syn_sent_rules h.initial e how m) may).1.1.0
-    go false may = at_most_from (greatest_window h.initial e m) how.cwnd (none_all (connected_rules h b me e how m) may).1.1.1.1.1.0
+    go : (s : Bool) → first_broken (if s then syn_sent_rules e how m moment else connected_rules h b me e how m moment) ≡ None
+        → how.cwnd ≤ (greatest e.control (signal_of e m) (at_moment e moment)).0
+    go true may = at_most_from ((greatest e.control (signal_of e m) (at_moment e moment)).0) how.cwnd (none_all (syn_sent_rules e how m moment) may).1.1.0
+    go false may = at_most_from ((greatest e.control (signal_of e m) (at_moment e moment)).0) how.cwnd (none_all (connected_rules h b me e how m moment) may).1.1.1.1.1.0
 
-follows_taking : (h : Header) (s : ℕ) (w : World tcp_shape) (host : Host) (line : ℕ) (how : TakeChoice) (m : Emission) → waiting line (pick w.hosts host).inbox ≡ Some m → first_broken (taker_rules h host (pick w.hosts host).body how m (taker (pick w.hosts host).body m)) ≡ None
-    → Follows w (At host (Takes line how)) host (pick w.hosts host).body.endpoints (after_taking h (pick w.hosts host).body how m s (taker (pick w.hosts host).body m)).endpoints
+follows_taking : (h : Header) (s : ℕ) (w : World tcp_shape) (host : Host) (line : ℕ) (how : TakeChoice) (m : Emission) → waiting line (pick w.hosts host).inbox ≡ Some m → first_broken (taker_rules h host (pick w.hosts host).body how m s (taker (pick w.hosts host).body m)) ≡ None
+    → Follows (profile_of h.initial) w (At host (Takes line how)) host (pick w.hosts host).body.endpoints (after_taking h (pick w.hosts host).body how m s (taker (pick w.hosts host).body m)).endpoints
 follows_taking h s w host line how m waits may = go (taker (pick w.hosts host).body m) refl may
   where
     b : Body
     b = (pick w.hosts host).body
 
-    go : (t : Taker) → taker b m ≡ t → first_broken (taker_rules h host b how m t) ≡ None → Follows w (At host (Takes line how)) host b.endpoints (after_taking h b how m s t).endpoints
-    go Nobody is may = follows_not w (At host (Takes line how)) host b.endpoints
+    go : (t : Taker) → taker b m ≡ t → first_broken (taker_rules h host b how m s t) ≡ None → Follows (profile_of h.initial) w (At host (Takes line how)) host b.endpoints (after_taking h b how m s t).endpoints
+    go Nobody is may = follows_not (profile_of h.initial) w (At host (Takes line how)) host b.endpoints
     go (AtListener l) is may =
         let none = at_most_from 0 how.cwnd (none_all (listener_rules how m) may).1.0 in
-        follows_push w (At host (Takes line how)) host b.endpoints (child l how m s) ((let zero' : how.cwnd ≡ 0 = omega arith in zero'), refl)
-    go (AtEndpoint i e) is may = follows_one w (At host (Takes line how)) host b.endpoints i (λ x. endpoint_taken h x how (as_read h.version e m) s)
+        follows_push (profile_of h.initial) w (At host (Takes line how)) host b.endpoints (child (profile_of h.initial) l how m s) ((let zero' : how.cwnd ≡ 0 = omega arith in zero'), refl, refl)
+    go (AtEndpoint i e) is may = follows_one (profile_of h.initial) w (At host (Takes line how)) host b.endpoints i (λ x. endpoint_taken h x how (as_read h.version e m) s)
         (λ x there.
         let one : e ≡ x = same_Some e x (sym (taker_there b m i e is) ∙ there) in
-        taken m (line, how, refl, waits, is ∙ ap (λ (y : Endpoint). AtEndpoint i y) one))
+        taken m (line, how, refl, waits, is ∙ ap (λ (y : Endpoint). AtEndpoint i y) one) (chosen h x how (as_read h.version e m) s).2)
 
 follows_deed : (h : Header) (s : ℕ) (w : World tcp_shape) (host : Host) (d : Deed tcp_shape) → Permitted (tcp h) s w (At host d)
-    → Follows w (At host d) host (pick w.hosts host).body.endpoints (deed_after (tcp h) host s (suc w.count) (pick w.hosts (other host)).wire (pick w.hosts host) d).body.endpoints
+    → Follows (profile_of h.initial) w (At host d) host (pick w.hosts host).body.endpoints (deed_after (tcp h) host s (suc w.count) (pick w.hosts (other host)).wire (pick w.hosts host) d).body.endpoints
 follows_deed h s w host (Does x) may = let b = (pick w.hosts host).body in
-    follows_at_ports w (At host (Does x)) host b x.lport x.rport (λ e. after_recovery e x.cwnd x.ssthresh)
-    (λ i e at there. recovered (x, refl, at))
+    follows_at_ports (profile_of h.initial) w (At host (Does x)) host b x.lport x.rport (λ e. after_recovery e x.cwnd x.ssthresh s)
+    (λ i e at there. recovered (x, refl, at) (same_profile e.control (recovery_signal e x.ssthresh) (at_moment e s) x.cwnd x.ssthresh))
 follows_deed h s w host (Expires line x) may = let b = (pick w.hosts host).body in
-    follows_at_ports w (At host (Expires line x)) host b x.lport x.rport (λ e. after_expiry e x.expired s)
+    follows_at_ports (profile_of h.initial) w (At host (Expires line x)) host b x.lport x.rport (λ e. after_expiry e x.expired s)
     (λ i e at there. expiry_moves w s host line x i e at)
 follows_deed h s w host (Makes m) may = let b = (pick w.hosts host).body in
-    follows_at_ports w (At host (Makes m)) host b m.lport m.rport (λ e. after_making e m s)
+    follows_at_ports (profile_of h.initial) w (At host (Makes m)) host b m.lport m.rport (λ e. after_making e m s)
     (λ i e at there. unmoved w (At host (Makes m)) (name host i) e (after_making e m s) (either_windows m.flags.rst (record (shut_down (endpoint_made e m s)) { reset_due = false }) (endpoint_made e m s) e refl refl))
-follows_deed h s w host (Sends line number wire) may = follows_not w (At host (Sends line number wire)) host (pick w.hosts host).body.endpoints
-follows_deed h s w host (Gets line copied wire) may = follows_not w (At host (Gets line copied wire)) host (pick w.hosts host).body.endpoints
-follows_deed h s w host (Hears line wire) may = follows_not w (At host (Hears line wire)) host (pick w.hosts host).body.endpoints
+follows_deed h s w host (Sends line number wire) may = follows_not (profile_of h.initial) w (At host (Sends line number wire)) host (pick w.hosts host).body.endpoints
+follows_deed h s w host (Gets line copied wire) may = follows_not (profile_of h.initial) w (At host (Gets line copied wire)) host (pick w.hosts host).body.endpoints
+follows_deed h s w host (Hears line wire) may = follows_not (profile_of h.initial) w (At host (Hears line wire)) host (pick w.hosts host).body.endpoints
 follows_deed h s w host (Takes line how) may = let k = pick w.hosts host in let step : Step tcp_shape = At host (Takes line how) in
-    on_cases (λ (b : Body). Follows w step host k.body.endpoints b.endpoints) (waiting line k.inbox) k.body _ (follows_not w step host k.body.endpoints)
+    on_cases (λ (b : Body). Follows (profile_of h.initial) w step host k.body.endpoints b.endpoints) (waiting line k.inbox) k.body _ (follows_not (profile_of h.initial) w step host k.body.endpoints)
     (λ m e.
-    let t = on_passes (waiting line k.inbox) rules.Inbox (λ x. taker_rules h host k.body how x (taker k.body x)) may in
+    let t = on_passes (waiting line k.inbox) rules.Inbox (λ x. taker_rules h host k.body how x s (taker k.body x)) may in
     let one : t.0 ≡ m = same_Some t.0 m (sym t.1 ∙ e) in
-    follows_taking h s w host line how m e (subst (λ (x : Emission). first_broken (taker_rules h host k.body how x (taker k.body x)) ≡ None) one t.2))
-follows_deed h s w host (Drops line) may = follows_not w (At host (Drops line)) host (pick w.hosts host).body.endpoints
+    follows_taking h s w host line how m e (subst (λ (x : Emission). first_broken (taker_rules h host k.body how x s (taker k.body x)) ≡ None) one t.2))
+follows_deed h s w host (Drops line) may = follows_not (profile_of h.initial) w (At host (Drops line)) host (pick w.hosts host).body.endpoints
 follows_deed h s w host (Answers line) may = let k = pick w.hosts host in let step : Step tcp_shape = At host (Answers line) in
-    on_cases (λ (b : Body). Follows w step host k.body.endpoints b.endpoints) (waiting line k.inbox) k.body _ (follows_not w step host k.body.endpoints) (λ m e. follows_not w step host k.body.endpoints)
+    on_cases (λ (b : Body). Follows (profile_of h.initial) w step host k.body.endpoints b.endpoints) (waiting line k.inbox) k.body _ (follows_not (profile_of h.initial) w step host k.body.endpoints) (λ m e. follows_not (profile_of h.initial) w step host k.body.endpoints)
 
 -- 2. calls
 
-follows_same : (w : World tcp_shape) (step : Step tcp_shape) (host : Host) (b : Body) (i : ℕ) (f : Endpoint → Endpoint) → ((e : Endpoint) → (f e).congestion ≡ e.congestion) → Follows w step host b.endpoints (with_endpoint b i f).endpoints
-follows_same w step host b i f same = follows_one w step host b.endpoints i f (λ e at. unmoved w step (name host i) e (f e) (same e))
+follows_same : (p : Profile) (w : World tcp_shape) (step : Step tcp_shape) (host : Host) (b : Body) (i : ℕ) (f : Endpoint → Endpoint) → ((e : Endpoint) → (f e).control ≡ e.control) → Follows p w step host b.endpoints (with_endpoint b i f).endpoints
+follows_same p w step host b i f same = follows_one p w step host b.endpoints i f (λ e at. unmoved w step (name host i) e (f e) (same e))
 
-follows_change : (w : World tcp_shape) (step : Step tcp_shape) (host : Host) (b : Body) (n : ℕ) (f : Endpoint → Endpoint) → ((e : Endpoint) → (f e).congestion ≡ e.congestion) → Follows w step host b.endpoints (option_map_or (change_thing b f) (thing_of b n) b).endpoints
-follows_change w step host b n f same = map_or_cases (λ (x : Body). Follows w step host b.endpoints x.endpoints) (thing_of b n) b (change_thing b f) (λ e. follows_not w step host b.endpoints) (λ thing e. go thing)
+follows_change : (p : Profile) (w : World tcp_shape) (step : Step tcp_shape) (host : Host) (b : Body) (n : ℕ) (f : Endpoint → Endpoint) → ((e : Endpoint) → (f e).control ≡ e.control) → Follows p w step host b.endpoints (option_map_or (change_thing b f) (thing_of b n) b).endpoints
+follows_change p w step host b n f same = map_or_cases (λ (x : Body). Follows p w step host b.endpoints x.endpoints) (thing_of b n) b (change_thing b f) (λ e. follows_not p w step host b.endpoints) (λ thing e. go thing)
   where
-    go : (thing : SocketTarget) → Follows w step host b.endpoints (change_thing b f thing).endpoints
-    go (ListenerAt l) = follows_not w step host b.endpoints
-    go (EndpointAt i) = follows_same w step host b i f same
+    go : (thing : SocketTarget) → Follows p w step host b.endpoints (change_thing b f thing).endpoints
+    go (ListenerAt l) = follows_not p w step host b.endpoints
+    go (EndpointAt i) = follows_same p w step host b i f same
 
-follows_gone : (w : World tcp_shape) (step : Step tcp_shape) (host : Host) (b : Body) (n : ℕ) (f : Endpoint → Endpoint) → ((e : Endpoint) → (f e).congestion ≡ e.congestion)
-    → Follows w step host b.endpoints (option_map_or (λ thing. record (thing_gone b thing f) { sockets = dead b.sockets n }) (thing_of b n) b).endpoints
-follows_gone w step host b n f same = map_or_cases (λ (x : Body). Follows w step host b.endpoints x.endpoints) (thing_of b n) b (λ thing. record (thing_gone b thing f) { sockets = dead b.sockets n }) (λ e. follows_not w step host b.endpoints) (λ thing e. go thing)
+follows_gone : (p : Profile) (w : World tcp_shape) (step : Step tcp_shape) (host : Host) (b : Body) (n : ℕ) (f : Endpoint → Endpoint) → ((e : Endpoint) → (f e).control ≡ e.control)
+    → Follows p w step host b.endpoints (option_map_or (λ thing. record (thing_gone b thing f) { sockets = dead b.sockets n }) (thing_of b n) b).endpoints
+follows_gone p w step host b n f same = map_or_cases (λ (x : Body). Follows p w step host b.endpoints x.endpoints) (thing_of b n) b (λ thing. record (thing_gone b thing f) { sockets = dead b.sockets n }) (λ e. follows_not p w step host b.endpoints) (λ thing e. go thing)
   where
-    go : (thing : SocketTarget) → Follows w step host b.endpoints (thing_gone b thing f).endpoints
-    go (ListenerAt l) = follows_map w step host b.endpoints (orphaned l) (λ e. either_windows (option_map_or (λ holder. holder == l) e.listener false) (after_abort e) e e refl refl)
-    go (EndpointAt i) = follows_same w step host b i f same
+    go : (thing : SocketTarget) → Follows p w step host b.endpoints (thing_gone b thing f).endpoints
+    go (ListenerAt l) = follows_map p w step host b.endpoints (orphaned l) (λ e. either_windows (option_map_or (λ holder. holder == l) e.listener false) (after_abort e) e e refl refl)
+    go (EndpointAt i) = follows_same p w step host b i f same
 
-follows_accept : (w : World tcp_shape) (step : Step tcp_shape) (host : Host) (b : Body) (n : ℕ) (thing : SocketTarget) → Follows w step host b.endpoints (after_accept b n thing).endpoints
-follows_accept w step host b n (EndpointAt i) = follows_not w step host b.endpoints
-follows_accept w step host b n (ListenerAt l) = go (queue_of b l)
+follows_accept : (p : Profile) (w : World tcp_shape) (step : Step tcp_shape) (host : Host) (b : Body) (n : ℕ) (thing : SocketTarget) → Follows p w step host b.endpoints (after_accept b n thing).endpoints
+follows_accept p w step host b n (EndpointAt i) = follows_not p w step host b.endpoints
+follows_accept p w step host b n (ListenerAt l) = go (queue_of b l)
   where
-    go : (queue : List ℕ) → Follows w step host b.endpoints (accepted_from b l n queue).endpoints
-    go [] = follows_not w step host b.endpoints
-    go (c ∷ queue) = follows_same w step host b c (λ e. record e { listener = None }) (λ e. refl)
+    go : (queue : List ℕ) → Follows p w step host b.endpoints (accepted_from b l n queue).endpoints
+    go [] = follows_not p w step host b.endpoints
+    go (c ∷ queue) = follows_same p w step host b c (λ e. record e { listener = None }) (λ e. refl)
 
-follows_call : (w : World tcp_shape) (step : Step tcp_shape) (host : Host) (b : Body) (call : Call) (answer : Answer) → Follows w step host b.endpoints (after_call b call answer).endpoints
-follows_call w step host b (calls.Listen at port backlog) (answers.Given n) = follows_not w step host b.endpoints
-follows_call w step host b (calls.Connect at lport rport) (answers.Given n) = follows_push w step host b.endpoints (new_endpoint lport rport None states.SynSent) (refl, refl)
-follows_call w step host b (calls.Accept h) (answers.Given n) = map_or_cases (λ (x : Body). Follows w step host b.endpoints x.endpoints) (thing_of b h) b (after_accept b n) (λ e. follows_not w step host b.endpoints) (λ thing e. follows_accept w step host b n thing)
-follows_call w step host b (calls.Send h bytes) (answers.Given n) = follows_change w step host b h (after_send bytes n) (λ e. refl)
-follows_call w step host b (calls.Recv h most) (answers.Bytes bytes) = follows_change w step host b h (after_recv bytes) (λ e. refl)
-follows_call w step host b (calls.Shut h) answers.Done = follows_change w step host b h after_shut (λ e. refl)
-follows_call w step host b (calls.Close h) answers.Done = follows_gone w step host b h after_close (λ e. either_windows (is_syn_sent e.state) (shut_down (record e { stream = record e.stream { ended = true } })) (after_shut e) e refl refl)
-follows_call w step host b (calls.Abort h) answers.Done = follows_gone w step host b h after_abort (λ e. refl)
-follows_call w step host b call answer = follows_not w step host b.endpoints
+follows_call : (p : Profile) (w : World tcp_shape) (step : Step tcp_shape) (host : Host) (b : Body) (call : Call) (answer : Answer) → Follows p w step host b.endpoints (after_call p b call answer).endpoints
+follows_call p w step host b (calls.Listen at port backlog) (answers.Given n) = follows_not p w step host b.endpoints
+follows_call p w step host b (calls.Connect at lport rport) (answers.Given n) = follows_push p w step host b.endpoints (new_endpoint lport rport None states.SynSent p) (refl, refl, refl)
+follows_call p w step host b (calls.Accept h) (answers.Given n) = map_or_cases (λ (x : Body). Follows p w step host b.endpoints x.endpoints) (thing_of b h) b (after_accept b n) (λ e. follows_not p w step host b.endpoints) (λ thing e. follows_accept p w step host b n thing)
+follows_call p w step host b (calls.Send h bytes) (answers.Given n) = follows_change p w step host b h (after_send bytes n) (λ e. refl)
+follows_call p w step host b (calls.Recv h most) (answers.Bytes bytes) = follows_change p w step host b h (after_recv bytes) (λ e. refl)
+follows_call p w step host b (calls.Shut h) answers.Done = follows_change p w step host b h after_shut (λ e. refl)
+follows_call p w step host b (calls.Close h) answers.Done = follows_gone p w step host b h after_close (λ e. either_windows (is_syn_sent e.state) (shut_down (record e { stream = record e.stream { ended = true } })) (after_shut e) e refl refl)
+follows_call p w step host b (calls.Abort h) answers.Done = follows_gone p w step host b h after_abort (λ e. refl)
+follows_call p w step host b call answer = follows_not p w step host b.endpoints
 
 -- 3. both hosts
 
 -- the endpoints of both
-record BothFollow (w : World tcp_shape) (step : Step tcp_shape) (b : Hosts) : Type 0 where
-  pub all : (x : Host) → Follows w step x (pick w.hosts x).body.endpoints (pick b x).body.endpoints
+record BothFollow (p : Profile) (w : World tcp_shape) (step : Step tcp_shape) (b : Hosts) : Type 0 where
+  pub all : (x : Host) → Follows p w step x (pick w.hosts x).body.endpoints (pick b x).body.endpoints
 
-both_not : (w : World tcp_shape) (step : Step tcp_shape) → BothFollow w step w.hosts
-both_not w step = record { all = λ x. follows_not w step x (pick w.hosts x).body.endpoints }
+both_not : (p : Profile) (w : World tcp_shape) (step : Step tcp_shape) → BothFollow p w step w.hosts
+both_not p w step = record { all = λ x. follows_not p w step x (pick w.hosts x).body.endpoints }
 
-both_host : (w : World tcp_shape) (step : Step tcp_shape) (host : Host) (k : HostState tcp_shape) → Follows w step host (pick w.hosts host).body.endpoints k.body.endpoints → BothFollow w step (with_host w.hosts host k)
-both_host w step host k f = record { all = with_cases w.hosts host k (λ x y. Follows w step x (pick w.hosts x).body.endpoints y.body.endpoints) f (follows_not w step (other host) (pick w.hosts (other host)).body.endpoints) }
+both_host : (p : Profile) (w : World tcp_shape) (step : Step tcp_shape) (host : Host) (k : HostState tcp_shape) → Follows p w step host (pick w.hosts host).body.endpoints k.body.endpoints → BothFollow p w step (with_host w.hosts host k)
+both_host p w step host k f = record { all = with_cases w.hosts host k (λ x y. Follows p w step x (pick w.hosts x).body.endpoints y.body.endpoints) f (follows_not p w step (other host) (pick w.hosts (other host)).body.endpoints) }
 
-both_step : (h : Header) (s : ℕ) (w : World tcp_shape) (step : Step tcp_shape) → Permitted (tcp h) s w step → BothFollow w step (after (tcp h) s w step).hosts
-both_step h s w (Begin line t call) may = both_not w (Begin line t call)
-both_step h s w (Finish line t answer) may = both_not w (Finish line t answer)
+both_step : (h : Header) (s : ℕ) (w : World tcp_shape) (step : Step tcp_shape) → Permitted (tcp h) s w step → BothFollow (profile_of h.initial) w step (after (tcp h) s w step).hosts
+both_step h s w (Begin line t call) may = both_not (profile_of h.initial) w (Begin line t call)
+both_step h s w (Finish line t answer) may = both_not (profile_of h.initial) w (Finish line t answer)
 both_step h s w (Effect t answer) may = go (turn_of t w.threads)
   where
-    by : (call : Call) (o : Option Host) → BothFollow w (Effect t answer) (call_after (tcp h) s w.hosts (Calls call answer) o)
-    by call None = both_not w (Effect t answer)
-    by call (Some host) = both_host w (Effect t answer) host (record (pick w.hosts host) { body = after_call (pick w.hosts host).body call answer }) (follows_call w (Effect t answer) host (pick w.hosts host).body call answer)
+    by : (call : Call) (o : Option Host) → BothFollow (profile_of h.initial) w (Effect t answer) (call_after (tcp h) s w.hosts (Calls call answer) o)
+    by call None = both_not (profile_of h.initial) w (Effect t answer)
+    by call (Some host) = both_host (profile_of h.initial) w (Effect t answer) host (record (pick w.hosts host) { body = after_call (profile_of h.initial) (pick w.hosts host).body call answer }) (follows_call (profile_of h.initial) w (Effect t answer) host (pick w.hosts host).body call answer)
 
-    go : (u : Turn tcp_shape) → BothFollow w (Effect t answer) (effect_after (tcp h) s w t answer u).hosts
-    go Idle = both_not w (Effect t answer)
+    go : (u : Turn tcp_shape) → BothFollow (profile_of h.initial) w (Effect t answer) (effect_after (tcp h) s w t answer u).hosts
+    go Idle = both_not (profile_of h.initial) w (Effect t answer)
     go (Called call) = by call (aim_of (tcp h) w.hosts (aim call))
-    go (Answered x) = both_not w (Effect t answer)
-both_step h s w (At host d) may = both_host w (At host d) host (deed_after (tcp h) host s (suc w.count) (pick w.hosts (other host)).wire (pick w.hosts host) d) (follows_deed h s w host d may)
+    go (Answered x) = both_not (profile_of h.initial) w (Effect t answer)
+both_step h s w (At host d) may = both_host (profile_of h.initial) w (At host d) host (deed_after (tcp h) host s (suc w.count) (pick w.hosts (other host)).wire (pick w.hosts host) d) (follows_deed h s w host d may)
 
 -- 4. what the steps that may change windows leave
 
@@ -271,7 +285,7 @@ at_ports_there w host lport rport i e step at there =
 timeout_leaves : (h : Header) (s : ℕ) (w : World tcp_shape) (host : Host) (line : ℕ) (x : Expiring) (growth : RtoChoice) (i : ℕ) (e : Endpoint)
     → Permitted (tcp h) s w (At host (Expires line x)) → x.expired ≡ Rto growth
     → place_of (pick w.hosts host).body x.lport x.rport ≡ Some i → slice_get (pick w.hosts host).body.endpoints i ≡ Some e
-    → Leaves h s w (At host (Expires line x)) (name host i) (λ c. (c.cwnd ≤ (greatest_values e).0) × (c.ssthresh ≤ (greatest_values e).1))
+    → Leaves h s w (At host (Expires line x)) (name host i) (λ c. (c.values.cwnd ≤ (greatest_values e s).0) × (c.values.ssthresh ≤ (greatest_values e s).1))
 timeout_leaves h s w host line x growth i e may is at there = subst Bound (sym is) (after_expiry e (Rto growth) s, at_ports_there w host x.lport x.rport i e (λ e. after_expiry e (Rto growth) s) at there, bound)
   where
     b : Body
@@ -280,22 +294,22 @@ timeout_leaves h s w host line x growth i e may is at there = subst Bound (sym i
     Bound : Expired → Type 0
     Bound t = (f : Endpoint)
         × (find (with_host w.hosts host (record (pick w.hosts host) { body = at_ports b x.lport x.rport (λ e. after_expiry e t s) })) (name host i) ≡ Some f)
-        × ((f.congestion.cwnd ≤ (greatest_values e).0) × (f.congestion.ssthresh ≤ (greatest_values e).1))
+        × ((f.control.values.cwnd ≤ (greatest_values e s).0) × (f.control.values.ssthresh ≤ (greatest_values e s).1))
 
     mine : first_broken (expiry_rules h s e (Rto growth)) ≡ None
     mine = subst (λ (t : Expired). first_broken (expiry_rules h s e t) ≡ None) is (rules_there b x.lport x.rport i e (λ e. expiry_rules h s e x.expired) at there may)
 
-    bound : (growth.cwnd ≤ (greatest_values e).0) × (growth.ssthresh ≤ (greatest_values e).1)
+    bound : (growth.cwnd ≤ (greatest_values e s).0) × (growth.ssthresh ≤ (greatest_values e s).1)
     bound =
         let t = none_all (expiry_rules h s e (Rto growth)) mine in
-        let parts = neither (nat_lt ((greatest_values e).0) growth.cwnd) (nat_lt ((greatest_values e).1) growth.ssthresh) t.1.0 in
-        (at_most_from ((greatest_values e).0) growth.cwnd parts.0, at_most_from ((greatest_values e).1) growth.ssthresh parts.1)
+        let parts = neither (nat_lt ((greatest_values e s).0) growth.cwnd) (nat_lt ((greatest_values e s).1) growth.ssthresh) t.1.0 in
+        (at_most_from ((greatest_values e s).0) growth.cwnd parts.0, at_most_from ((greatest_values e s).1) growth.ssthresh parts.1)
 
 taking_leaves : (h : Header) (s : ℕ) (w : World tcp_shape) (host : Host) (line : ℕ) (how : TakeChoice) (m : Emission) (i : ℕ) (e : Endpoint)
     → Permitted (tcp h) s w (At host (Takes line how))
     → waiting line (pick w.hosts host).inbox ≡ Some m → taker (pick w.hosts host).body m ≡ AtEndpoint i e
-    → Leaves h s w (At host (Takes line how)) (name host i) (λ c. (c.cwnd ≤ greatest_taking h e m) × (c.ssthresh ≡ e.congestion.ssthresh))
-taking_leaves h s w host line how m i e may waits is = (endpoint_taken h e how r s, left, (subst (λ k. k ≤ greatest_taking h e m) (sym value.0) (allowed h b (name host i) e how r mine), value.1))
+    → Leaves h s w (At host (Takes line how)) (name host i) (λ c. (c.values.cwnd ≤ greatest_taking h s e m) × (c.values.ssthresh ≡ e.control.values.ssthresh))
+taking_leaves h s w host line how m i e may waits is = (endpoint_taken h e how r s, left, (subst (λ k. k ≤ greatest_taking h s e m) (sym value.0) (allowed h b (name host i) e how r s mine), value.1))
   where
     r : Emission
     r = as_read h.version e m
@@ -306,17 +320,17 @@ taking_leaves h s w host line how m i e may waits is = (endpoint_taken h e how r
     b : Body
     b = k.body
 
-    value : ((endpoint_taken h e how r s).congestion.cwnd ≡ how.cwnd) × ((endpoint_taken h e how r s).congestion.ssthresh ≡ e.congestion.ssthresh)
-    value = chosen h e how r s
+    value : ((endpoint_taken h e how r s).control.values.cwnd ≡ how.cwnd) × ((endpoint_taken h e how r s).control.values.ssthresh ≡ e.control.values.ssthresh)
+    value = ((chosen h e how r s).0, (chosen h e how r s).1)
 
-    passed : first_broken (taker_rules h host b how m (taker b m)) ≡ None
+    passed : first_broken (taker_rules h host b how m s (taker b m)) ≡ None
     passed =
-        let t = on_passes (waiting line k.inbox) rules.Inbox (λ x. taker_rules h host b how x (taker b x)) may in
+        let t = on_passes (waiting line k.inbox) rules.Inbox (λ x. taker_rules h host b how x s (taker b x)) may in
         let one : t.0 ≡ m = same_Some t.0 m (sym t.1 ∙ waits) in
-        subst (λ (x : Emission). first_broken (taker_rules h host b how x (taker b x)) ≡ None) one t.2
+        subst (λ (x : Emission). first_broken (taker_rules h host b how x s (taker b x)) ≡ None) one t.2
 
-    mine : first_broken (if is_syn_sent e.state then syn_sent_rules h.initial e how r else connected_rules h b (name host i) e how r) ≡ None
-    mine = subst (λ (t : Taker). first_broken (taker_rules h host b how m t) ≡ None) is passed
+    mine : first_broken (if is_syn_sent e.state then syn_sent_rules e how r s else connected_rules h b (name host i) e how r s) ≡ None
+    mine = subst (λ (t : Taker). first_broken (taker_rules h host b how m s t) ≡ None) is passed
 
     here : slice_get (after_taking h b how m s (taker b m)).endpoints i ≡ Some (endpoint_taken h e how r s)
     here = ap (λ (t : Taker). slice_get (after_taking h b how m s t).endpoints i) is
@@ -328,48 +342,58 @@ taking_leaves h s w host line how m i e may waits is = (endpoint_taken h e how r
 
 recovery_leaves : (h : Header) (s : ℕ) (w : World tcp_shape) (host : Host) (x : Recovery) (i : ℕ) (e : Endpoint) → Permitted (tcp h) s w (At host (Does x))
     → place_of (pick w.hosts host).body x.lport x.rport ≡ Some i → slice_get (pick w.hosts host).body.endpoints i ≡ Some e
-    → Leaves h s w (At host (Does x)) (name host i) (λ c. (c.ssthresh ≤ halved e.congestion (flight e)) × (c.cwnd ≤ recovery_window e.congestion c.ssthresh))
-recovery_leaves h s w host x i e may at there = (after_recovery e x.cwnd x.ssthresh, at_ports_there w host x.lport x.rport i e (λ e. after_recovery e x.cwnd x.ssthresh) at there, bound)
+    → Leaves h s w (At host (Does x)) (name host i) (λ c. (c.values.ssthresh ≤ (greatest e.control (recovery_signal e c.values.ssthresh) (at_moment e s)).1) × (c.values.cwnd ≤ (greatest e.control (recovery_signal e c.values.ssthresh) (at_moment e s)).0))
+recovery_leaves h s w host x i e may at there = (after_recovery e x.cwnd x.ssthresh s, at_ports_there w host x.lport x.rport i e (λ e. after_recovery e x.cwnd x.ssthresh s) at there, bound)
   where
-    bound : (x.ssthresh ≤ halved e.congestion (flight e)) × (x.cwnd ≤ recovery_window e.congestion x.ssthresh)
+    now : Signal
+    now = recovery_signal e x.ssthresh
+
+    bound : (x.ssthresh ≤ (greatest e.control now (at_moment e s)).1) × (x.cwnd ≤ (greatest e.control now (at_moment e s)).0)
     bound =
-        let mine = rules_there (pick w.hosts host).body x.lport x.rport i e (λ e. recovery_rules e x.cwnd x.ssthresh) at there may in
-        let t = none_all (recovery_rules e x.cwnd x.ssthresh) mine in
-        let last = neither (nat_lt e.congestion.dup 3 || e.congestion.fast || e.stream.snd_una == snd_max e || nat_lt (halved e.congestion (flight e)) x.ssthresh) (nat_lt (recovery_window e.congestion x.ssthresh) x.cwnd) t.1.1.0 in
-        let threshold = neither (nat_lt e.congestion.dup 3 || e.congestion.fast || e.stream.snd_una == snd_max e) (nat_lt (halved e.congestion (flight e)) x.ssthresh) last.0 in
-        (at_most_from (halved e.congestion (flight e)) x.ssthresh threshold.1, at_most_from (recovery_window e.congestion x.ssthresh) x.cwnd last.1)
+        let mine = rules_there (pick w.hosts host).body x.lport x.rport i e (λ e. recovery_rules e x.cwnd x.ssthresh s) at there may in
+        let t = none_all (recovery_rules e x.cwnd x.ssthresh s) mine in
+        let last = neither (not (may_recover e.control) || e.stream.snd_una == snd_max e || nat_lt ((greatest e.control now (at_moment e s)).1) x.ssthresh) (nat_lt ((greatest e.control now (at_moment e s)).0) x.cwnd) t.1.1.0 in
+        let threshold = neither (not (may_recover e.control) || e.stream.snd_una == snd_max e) (nat_lt ((greatest e.control now (at_moment e s)).1) x.ssthresh) last.0 in
+        (at_most_from ((greatest e.control now (at_moment e s)).1) x.ssthresh threshold.1, at_most_from ((greatest e.control now (at_moment e s)).0) x.cwnd last.1)
 
 -- a step of no such kind leaves both as they are
 others_stay : (h : Header) (s : ℕ) (w : World tcp_shape) (step : Step tcp_shape) (me : EndpointId) (e : Endpoint) → (f : Endpoint)
     × (find (after (tcp h) s w step).hosts me ≡ Some f) × WindowsMove w step me e f
     → ((m : Emission) → TakesThere w step me e m → ⊥) → (TimesOut w step me → ⊥) → (Recovers w step me → ⊥)
-    → Leaves h s w step me (λ c. (c.cwnd ≡ e.congestion.cwnd) × (c.ssthresh ≡ e.congestion.ssthresh))
+    → Leaves h s w step me (λ c. c ≡ e.control)
 others_stay h s w step me e x no_taking no_timeout no_recovery = (x.0, x.1, go x.2)
   where
-    go : WindowsMove w step me e x.0 → (x.0.congestion.cwnd ≡ e.congestion.cwnd) × (x.0.congestion.ssthresh ≡ e.congestion.ssthresh)
-    go (stayed c t) = (c, t)
-    go (taken m a) = absurd (no_taking m a)
-    go (expired a) = absurd (no_timeout a)
-    go (recovered a) = absurd (no_recovery a)
+    go : WindowsMove w step me e x.0 → x.0.control ≡ e.control
+    go (stayed same) = same
+    go (taken m a p) = absurd (no_taking m a)
+    go (expired a p) = absurd (no_timeout a)
+    go (recovered a p) = absurd (no_recovery a)
+
+profile_stays : (w : World tcp_shape) (step : Step tcp_shape) (me : EndpointId) (e f : Endpoint) → WindowsMove w step me e f → f.control.profile ≡ e.control.profile
+profile_stays w step me e f (stayed same) = ap (λ c. c.profile) same
+profile_stays w step me e f (taken m a p) = p
+profile_stays w step me e f (expired a p) = p
+profile_stays w step me e f (recovered a p) = p
 
 pub follow : (h : Header) (s : ℕ) (w : World tcp_shape) (step : Step tcp_shape) → Permitted (tcp h) s w step → WindowsFollow h s w step
 follow h s w step may = record {
   takes =
-      λ me e m there a. subst (λ (y : Step tcp_shape). Leaves h s w y me (λ c. (c.cwnd ≤ greatest_taking h e m) × (c.ssthresh ≡ e.congestion.ssthresh))) (sym a.2)
+      λ me e m there a. subst (λ (y : Step tcp_shape). Leaves h s w y me (λ c. (c.values.cwnd ≤ greatest_taking h s e m) × (c.values.ssthresh ≡ e.control.values.ssthresh))) (sym a.2)
       (taking_leaves h s w me.host a.0 a.1 m me.number e (subst (λ (y : Step tcp_shape). Permitted (tcp h) s w y) a.2 may) a.3 a.4);
   times_out =
-      λ me e there a. subst (λ (y : Step tcp_shape). Leaves h s w y me (λ c. (c.cwnd ≤ (greatest_values e).0) × (c.ssthresh ≤ (greatest_values e).1))) (sym a.3)
+      λ me e there a. subst (λ (y : Step tcp_shape). Leaves h s w y me (λ c. (c.values.cwnd ≤ (greatest_values e s).0) × (c.values.ssthresh ≤ (greatest_values e s).1))) (sym a.3)
       (timeout_leaves h s w me.host a.0 a.1 a.2 me.number e (subst (λ (y : Step tcp_shape). Permitted (tcp h) s w y) a.3 may) a.4 a.5 there);
   recovers =
-      λ me e there a. subst (λ (y : Step tcp_shape). Leaves h s w y me (λ c. (c.ssthresh ≤ halved e.congestion (flight e)) × (c.cwnd ≤ recovery_window e.congestion c.ssthresh))) (sym a.1)
+      λ me e there a. subst (λ (y : Step tcp_shape). Leaves h s w y me (λ c. (c.values.ssthresh ≤ (greatest e.control (recovery_signal e c.values.ssthresh) (at_moment e s)).1) × (c.values.cwnd ≤ (greatest e.control (recovery_signal e c.values.ssthresh) (at_moment e s)).0))) (sym a.1)
       (recovery_leaves h s w me.host a.0 me.number e (subst (λ (y : Step tcp_shape). Permitted (tcp h) s w y) a.1 may) a.2 there);
   stays = λ me e there no_taking no_timeout no_recovery. others_stay h s w step me e ((all me.host).onward me.number e there) no_taking no_timeout no_recovery;
+  profile = λ me e there. let x = (all me.host).onward me.number e there in (x.0, x.1, profile_stays w step me e x.0 x.2);
   begins = λ me f none at. from me f none ((all me.host).back me.number f at);
 }
   where
-    all : (x : Host) → Follows w step x (pick w.hosts x).body.endpoints (pick (after (tcp h) s w step).hosts x).body.endpoints
+    all : (x : Host) → Follows (profile_of h.initial) w step x (pick w.hosts x).body.endpoints (pick (after (tcp h) s w step).hosts x).body.endpoints
     all = (both_step h s w step may).all
 
-    from : (me : EndpointId) (f : Endpoint) → find w.hosts me ≡ None → ((e : Endpoint) × (find w.hosts me ≡ Some e)) ⊎ Begins f → Begins f
+    from : (me : EndpointId) (f : Endpoint) → find w.hosts me ≡ None → ((e : Endpoint) × (find w.hosts me ≡ Some e)) ⊎ Begins (profile_of h.initial) f → Begins (profile_of h.initial) f
     from me f none (inl e) = absurd (none-some e.0 (sym none ∙ e.1))
     from me f none (inr new) = new

@@ -3,28 +3,25 @@
 use Rattle.std.specs.Prelude.{◌≡◌, ◌<◌, ◌≤◌, ℕ, ◌+◌, if◌then◌else◌, length, None, Some}
 use Rattle.case_forms.specs.declared.trace.Header.{Header}
 use Rattle.case_forms.specs.declared.calls.Host.{Host}
-use Rattle.window_rules.specs.declared.congestion.Congestion.{Congestion}
-use Rattle.window_rules.specs.Windows.{greatest_window as greatest_value, offered_edge, congestion_edge}
-use Rattle.window_rules.specs.Losses.{halved, recovery_window}
+use Rattle.window_rules.specs.declared.control.Control.{Control}
+use Rattle.window_rules.specs.Control.{greatest, control_edge}
+use Rattle.window_rules.specs.Windows.{greatest_window as greatest_value, offered_edge}
 use Rattle.spec_network.specs.Tables.{pick, waiting}
 use Rattle.spec_network.specs.Hosts.{World, Step, At, Does, Expires, Takes}
 use Rattle.spec_network.specs.HostSteps.{after}
 use Rattle.spec_tcp.specs.declared.endpoint.EndpointId.{EndpointId}
 use Rattle.spec_tcp.specs.declared.endpoint.Endpoint.{Endpoint}
 use Rattle.spec_tcp.specs.declared.endpoint.Emission.{Emission}
-use Rattle.spec_tcp.specs.Endpoints.{snd_max, flight}
-use Rattle.case_forms.specs.States.{is_syn_sent}
+use Rattle.spec_tcp.specs.Endpoints.{snd_max}
+use Rattle.spec_tcp.specs.Signals.{at_moment, profile_of, recovery_signal, signal_of}
 use Rattle.spec_tcp.specs.Bodies.{place_of, endpoint_of}
 use Rattle.case_forms.specs.declared.steps.SegmentPlan.{SegmentPlan}
 use Rattle.case_forms.specs.declared.steps.TakeChoice.{TakeChoice}
-use Rattle.spec_tcp.specs.Arrives.OtherStates.Congestion.{greatest_window}
 use Rattle.spec_tcp.specs.Heard.{as_read}
-use Rattle.spec_tcp.specs.Arrives.SynSent.{greatest_at_syn}
 use Rattle.spec_tcp.specs.Arrives.{taker, AtEndpoint}
 use Rattle.case_forms.specs.declared.taken_line.Expired.TheVariants.{Rto}
 use Rattle.case_forms.specs.declared.timer.RtoChoice.{RtoChoice}
 use Rattle.case_forms.specs.declared.timer.Recovery.{Recovery}
-use Rattle.case_forms.specs.declared.version.Initial.{Initial}
 use Rattle.spec_tcp.specs.Timeouts.{greatest_values}
 use Rattle.spec_tcp.specs.Machine as acts
 use Rattle.spec_tcp.specs.Machine.{Expiring, act_makes, tcp, tcp_shape}
@@ -33,7 +30,7 @@ use Rattle.spec_tcp_laws.specs.Consequences.{find}
 -- bytes that end here are in both windows of the endpoint: the one that the peer offers and the congestion window
 pub record InBothWindows (e : Endpoint) (end : ℕ) : Type 0 where
   pub offered : end ≤ offered_edge e.stream.snd_una e.window.snd_wnd e.probe_due
-  pub congestion : end ≤ congestion_edge e.stream.snd_una e.congestion
+  pub congestion : end ≤ control_edge e.stream.snd_una e.control
 
 -- the endpoint of the ports is there, and where bytes of the segment stand at or above all that it made before, they
 -- end in both windows
@@ -42,13 +39,13 @@ NewDataFits w host m = (e : Endpoint) × (endpoint_of (pick w.hosts host).body m
     × ((x : Emission) → act_makes host (pick w.hosts host).body (acts.Makes m) ≡ Some x → 0 < length x.payload →
     snd_max e < x.pos + length x.payload → InBothWindows e (x.pos + length x.payload))
 
--- the greatest congestion window that a segment allows, as the endpoint has read it
-abbrev pub greatest_reading : Initial → Endpoint → Emission → ℕ
-greatest_reading initial e m = if is_syn_sent e.state then greatest_at_syn initial e m else greatest_window initial e m
+-- the greatest congestion window that taking a segment allows, as the endpoint reads it
+abbrev pub greatest_taking : Header → (moment : ℕ) → Endpoint → Emission → ℕ
+greatest_taking h moment e m = (greatest e.control (signal_of e (as_read h.version e m)) (at_moment e moment)).0
 
--- the greatest congestion window that taking a segment allows
-abbrev pub greatest_taking : Header → Endpoint → Emission → ℕ
-greatest_taking h e m = greatest_reading h.initial e (as_read h.version e m)
+-- the greatest congestion window and threshold with which fast recovery may begin, where this threshold is chosen
+abbrev pub greatest_recovering : (moment : ℕ) → Endpoint → (ssthresh : ℕ) → ℕ × ℕ
+greatest_recovering moment e ssthresh = greatest e.control (recovery_signal e ssthresh) (at_moment e moment)
 
 -- the step takes this segment, which waits for it, at the endpoint
 abbrev pub TakesThere : World tcp_shape → Step tcp_shape → EndpointId → Endpoint → Emission → Type 0
@@ -68,28 +65,39 @@ Recovers w step me =
     (x : Recovery) × (step ≡ At me.host (Does x))
     × (place_of (pick w.hosts me.host).body x.lport x.rport ≡ Some me.number)
 
--- after the step the endpoint is there, and this holds of its congestion window and slow start threshold
-abbrev pub Leaves : Header → ℕ → World tcp_shape → Step tcp_shape → EndpointId → (Congestion → Type 0) → Type 0
-Leaves h moment w step me P = (f : Endpoint) × (find (after (tcp h) moment w step).hosts me ≡ Some f) × P f.congestion
+-- after the step the endpoint is there, and this holds of its congestion control
+abbrev pub Leaves : Header → ℕ → World tcp_shape → Step tcp_shape → EndpointId → (Control → Type 0) → Type 0
+Leaves h moment w step me P = (f : Endpoint) × (find (after (tcp h) moment w step).hosts me ≡ Some f) × P f.control
 
 -- what a step makes of the windows of the endpoints that are there, and with which windows a new one begins
 pub record WindowsFollow (h : Header) (moment : ℕ) (w : World tcp_shape) (step : Step tcp_shape) : Type 0 where
   -- where a segment is taken, cwnd is at most the greatest that this allows, and ssthresh stays
   pub takes : (me : EndpointId) (e : Endpoint) (m : Emission) → find w.hosts me ≡ Some e → TakesThere w step me e m
-      → Leaves h moment w step me (λ c. (c.cwnd ≤ greatest_taking h e m) × (c.ssthresh ≡ e.congestion.ssthresh))
+      → Leaves h moment w step me (λ c. (c.values.cwnd ≤ greatest_taking h moment e m)
+      × (c.values.ssthresh ≡ e.control.values.ssthresh))
   -- where the retransmission timer expires, both are at most the greatest that a timeout allows
   pub times_out : (me : EndpointId) (e : Endpoint) → find w.hosts me ≡ Some e → TimesOut w step me
-      → Leaves h moment w step me (λ c. (c.cwnd ≤ (greatest_values e).0) × (c.ssthresh ≤ (greatest_values e).1))
-  -- where fast recovery begins, ssthresh is at most half the flight, or two segments, and cwnd at most that with a
-  -- segment more for each duplicate
+      → Leaves h moment w step me (λ c. (c.values.cwnd ≤ (greatest_values e moment).0)
+      × (c.values.ssthresh ≤ (greatest_values e moment).1))
+  -- where fast recovery begins, both are at most the greatest that this allows, cwnd by the threshold that was chosen:
+  -- by RFC 5681 half the flight, or two segments, and that threshold with a segment more for each duplicate
   pub recovers : (me : EndpointId) (e : Endpoint) → find w.hosts me ≡ Some e → Recovers w step me
-      → Leaves h moment w step me (λ c. (c.ssthresh ≤ halved e.congestion (flight e))
-      × (c.cwnd ≤ recovery_window e.congestion c.ssthresh))
-  -- every other step leaves both as they are
+      → Leaves h moment w step me (λ c. (c.values.ssthresh ≤ (greatest_recovering moment e c.values.ssthresh).1)
+      × (c.values.cwnd ≤ (greatest_recovering moment e c.values.ssthresh).0))
+  -- every other step leaves congestion control as it is
   pub stays : (me : EndpointId) (e : Endpoint) → find w.hosts me ≡ Some e
       → ((m : Emission) → TakesThere w step me e m → ⊥) → (TimesOut w step me → ⊥) → (Recovers w step me → ⊥)
-      → Leaves h moment w step me (λ c. (c.cwnd ≡ e.congestion.cwnd) × (c.ssthresh ≡ e.congestion.ssthresh))
-  -- a new endpoint begins with no congestion window and the greatest threshold
+      → Leaves h moment w step me (λ c. c ≡ e.control)
+  -- no step changes the profile
+  pub profile : (me : EndpointId) (e : Endpoint) → find w.hosts me ≡ Some e
+      → Leaves h moment w step me (λ c. c.profile ≡ e.control.profile)
+  -- a new endpoint begins with no congestion window and the greatest threshold, by the profile of the header
   pub begins : (me : EndpointId) (f : Endpoint) → find w.hosts me ≡ None
       → find (after (tcp h) moment w step).hosts me ≡ Some f
-      → (f.congestion.cwnd ≡ 0) × (f.congestion.ssthresh ≡ greatest_value)
+      → (f.control.values.cwnd ≡ 0) × (f.control.values.ssthresh ≡ greatest_value)
+      × (f.control.profile ≡ profile_of h.initial)
+
+-- the congestion control of each endpoint goes by the RFC that the header names
+abbrev pub ProfilesAreNamed : Header → World tcp_shape → Type 0
+ProfilesAreNamed h w =
+    (me : EndpointId) (e : Endpoint) → find w.hosts me ≡ Some e → e.control.profile ≡ profile_of h.initial

@@ -14,7 +14,7 @@ ghost use Rattle.spec_tcp.specs.Arrives.OtherStates.Sequence.{is_bad_number};
 ghost use Rattle.case_forms.specs.declared.steps.SegmentPlan.{SegmentPlan};
 ghost use Rattle.spec_tcp.specs.Machine.{tcp, tcp_shape};
 ghost use Rattle.spec_tcp_laws.specs.Runs.{world_at_end};
-ghost use Rattle.spec_tcp_laws.specs.Bounds.{NewDataFits, WindowsFollow};
+ghost use Rattle.spec_tcp_laws.specs.Bounds.{NewDataFits, ProfilesAreNamed, WindowsFollow};
 ghost use Rattle.spec_tcp_laws.specs.Ascending.{RulesAscend};
 ghost use Rattle.spec_tcp_laws.specs.Transitions.{StatesFollow, PositionsNeverFall};
 ghost use Rattle.spec_tcp_laws.specs.Carried.{ReadsWereCarried};
@@ -62,12 +62,17 @@ pub fn new_data_fits()
 {}
 
 /// Taking a segment, an expiry of the retransmission timer and the beginning of fast recovery leave the congestion
-/// window and
-/// the slow start threshold at or below what they allow, also where a loss lowers it; every other step leaves both as
-/// they are.
+/// window and the slow start threshold at or below what they allow by the endpoint's profile, also where a loss lowers
+/// it; every other step leaves all of congestion control as it is. No step changes a profile.
 pub fn windows_follow()
     ensures { (h : Header) (moment : ℕ) (w : World tcp_shape) (step : Step tcp_shape) → Permitted (tcp h) moment w step
         → WindowsFollow h moment w step }
+{}
+
+/// At the end of each run every endpoint's congestion control goes by the RFC that the header names.
+pub fn profiles_are_named()
+    ensures { (h : Header) (steps : List (Stamped tcp_shape)) → Lawful (tcp h) (start (tcp h)) steps
+        → ProfilesAreNamed h (world_at_end h steps) }
 {}
 
 /// A step leaves an endpoint in its state, or in one to which an arrow of RFC 9293, 3.3.2, figure 5, leads at such a

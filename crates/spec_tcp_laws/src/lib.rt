@@ -4,7 +4,7 @@
 //!
 //! - `laws`: what reads are told, what the end says, what is acknowledged, of two recorded hosts; which segments
 //!   brought what
-//!   reads are told, of every case; how far new data reaches, how windows move, how states follow each other, that
+//!   reads are told, of every case; how far new data reaches, how windows move and by which RFC, how states follow each other, that
 //!   positions never fall, that rules stand in the order of their numbers, which copies are too old, how numbers are
 //!   read of which the position isn't known
 //! - `forgetting`: what may be discarded matters to no rule, and to nothing that is kept
@@ -24,6 +24,6 @@ mod laws;
 pub use forgetting::{forgetting_is_free, runs_forget};
 pub use laws::{
     acknowledged_was_taken, end_is_whole, heard_numbers_are_read, new_data_fits,
-    old_copies_are_refused, positions_never_fall, reads_were_carried, received_is_a_prefix,
-    rules_ascend, states_follow, windows_follow,
+    old_copies_are_refused, positions_never_fall, profiles_are_named, reads_were_carried,
+    received_is_a_prefix, rules_ascend, states_follow, windows_follow,
 };

@@ -5,7 +5,8 @@ use Rattle.std.proofs.lemmas.List.{length-take}
 use Rattle.std.proofs.lemmas.Option.{none-some, same_Some}
 use Rattle.verdict.specs.declared.rule.Rule.TheVariants as rules
 use Rattle.verdict.specs.Rules.{first_broken}
-use Rattle.window_rules.specs.Windows.{offered_edge, congestion_edge}
+use Rattle.window_rules.specs.Windows.{offered_edge}
+use Rattle.window_rules.specs.Control.{control_edge}
 use Rattle.spec_network.specs.Tables.{pick}
 use Rattle.spec_tcp.specs.declared.endpoint.Endpoint.{Endpoint}
 use Rattle.spec_tcp.specs.declared.endpoint.Emission.{Emission}
@@ -31,7 +32,7 @@ fits : (e : Endpoint) (m : SegmentPlan) → MayMake e m → (n : ℕ) → n ≤ 
 fits e m t n le some above =
     let new : has_new_bytes e m ≡ true = both (nat_lt 0 m.len) (nat_lt (snd_max e) (m.pos + m.len)) (less_to 0 m.len (omega arith)) (less_to (snd_max e) (m.pos + m.len) (omega arith)) in
     let offered = at_most_from (offered_edge e.stream.snd_una e.window.snd_wnd e.probe_due) (m.pos + m.len) (and_false (has_new_bytes e m) _ t.offered new) in
-    let congestion = at_most_from (congestion_edge e.stream.snd_una e.congestion) (m.pos + m.len) (and_false (has_new_bytes e m) _ t.congestion new) in
+    let congestion = at_most_from (control_edge e.stream.snd_una e.control) (m.pos + m.len) (and_false (has_new_bytes e m) _ t.congestion new) in
     record { offered = omega arith; congestion = omega arith }
 
 pub returns : goal.returns
