@@ -24,6 +24,8 @@ use Rattle.spec_network.specs.Tables.{pick, other, with_host, waiting}
 use Rattle.spec_network.specs.Hosts.{HostState, Turn, Idle, Called, Answered, World, Deed, Does, Expires, Makes, Sends, Gets, Hears, Takes, Drops, Answers, Step, Begin, Finish, Effect, At, Stamped, turn_of}
 use Rattle.spec_network.specs.HostRules.{aim_of, Permitted}
 use Rattle.spec_network.specs.HostSteps.{deed_after, call_after, effect_after, after, after_all, start, Lawful}
+use Rattle.window_rules.specs.declared.control.Profile.{Profile}
+use Rattle.spec_tcp.specs.Signals.{profile_of}
 use Rattle.spec_tcp.specs.declared.endpoint.EndpointId.{EndpointId}
 use Rattle.spec_tcp.specs.declared.endpoint.Stream.{Stream}
 use Rattle.spec_tcp.specs.declared.endpoint.Endpoint.{Endpoint}
@@ -132,8 +134,8 @@ meets_taking : (h : Header) (s : ℕ) (w : World tcp_shape) (host : Host) (line 
     → Meets w (At host (Takes line how)) (name host i) e.stream.peer (endpoint_taken h e how r s).stream.peer
 meets_taking h s w host line how m r i e waits there is calm sender syn may = go r.flags.rst (is_syn_sent e.state) refl refl may
   where
-    go : (b t : Bool) → r.flags.rst ≡ b → is_syn_sent e.state ≡ t → first_broken (if t then syn_sent_rules h.initial e how r else connected_rules h (pick w.hosts host).body (name host i) e how r) ≡ None
-        → Meets w (At host (Takes line how)) (name host i) e.stream.peer (if b then was_reset e how else if t then on_syn h e how r s else segment_taken h e how r s).stream.peer
+    go : (b t : Bool) → r.flags.rst ≡ b → is_syn_sent e.state ≡ t → first_broken (if t then syn_sent_rules e how r s else connected_rules h (pick w.hosts host).body (name host i) e how r) ≡ None
+        → Meets w (At host (Takes line how)) (name host i) e.stream.peer (if b then was_reset e how s else if t then on_syn h e how r s else segment_taken h e how r s).stream.peer
     go true t reset sent may = inl refl
     go false true reset sent may = inr (
       (calm sent).0,
@@ -145,7 +147,7 @@ meets_taking h s w host line how m r i e waits there is calm sender syn may = go
         segment = m;
         takes = refl;
         waits = waits;
-        syn = syn ∙ syn_or_reset r.flags.syn r.flags.rst (not_false (r.flags.syn || r.flags.rst) (none_all (syn_sent_rules h.initial e how r) may).0) reset;
+        syn = syn ∙ syn_or_reset r.flags.syn r.flags.rst (not_false (r.flags.syn || r.flags.rst) (none_all (syn_sent_rules e how r s) may).0) reset;
         made = sender;
         goes = inl (e, there, is);
       },
@@ -153,19 +155,19 @@ meets_taking h s w host line how m r i e waits there is calm sender syn may = go
     go false false reset sent may = inl refl
 
 moves_taking : (h : Header) (s : ℕ) (w : World tcp_shape) (host : Host) (line : ℕ) (how : TakeChoice) (m : Emission) → Steady w.hosts → waiting line (pick w.hosts host).inbox ≡ Some m
-    → first_broken (taker_rules h host (pick w.hosts host).body how m (taker (pick w.hosts host).body m)) ≡ None
+    → first_broken (taker_rules h host (pick w.hosts host).body how m s (taker (pick w.hosts host).body m)) ≡ None
     → Moves w (At host (Takes line how)) host (pick w.hosts host).body.endpoints (after_taking h (pick w.hosts host).body how m s (taker (pick w.hosts host).body m)).endpoints
 moves_taking h s w host line how m steady waits may = go (taker (pick w.hosts host).body m) refl may
   where
     b : Body
     b = (pick w.hosts host).body
 
-    go : (t : Taker) → taker b m ≡ t → first_broken (taker_rules h host b how m t) ≡ None → Moves w (At host (Takes line how)) host b.endpoints (after_taking h b how m s t).endpoints
+    go : (t : Taker) → taker b m ≡ t → first_broken (taker_rules h host b how m s t) ≡ None → Moves w (At host (Takes line how)) host b.endpoints (after_taking h b how m s t).endpoints
     go Nobody is may = moves_not w (At host (Takes line how)) host b.endpoints
     go (AtListener l) is may =
         let first = not_false (m.flags.syn && not m.flags.ack && not m.flags.rst) (none_all (listener_rules how m) may).0 in
         let syn = (both_true m.flags.syn (not m.flags.ack) (both_true (m.flags.syn && not m.flags.ack) (not m.flags.rst) first).0).0 in
-        moves_push w (At host (Takes line how)) host b.endpoints (child l how m s)
+        moves_push w (At host (Takes line how)) host b.endpoints (child (profile_of h.initial) l how m s)
         (λ j. inr (m.sender, refl, λ none. record { line = line; how = how; segment = m; takes = refl; waits = waits; syn = syn; made = refl; goes = inr (l, none, is) }))
     go (AtEndpoint i e) is may = let r = as_read h.version e m in
         moves_one w (At host (Takes line how)) host b.endpoints i (λ x. endpoint_taken h x how r s)
@@ -176,7 +178,7 @@ moves_taking h s w host line how m steady waits may = go (taker (pick w.hosts ho
 
 moves_deed : (h : Header) (s : ℕ) (w : World tcp_shape) (host : Host) (d : Deed tcp_shape) → Steady w.hosts → Permitted (tcp h) s w (At host d)
     → Moves w (At host d) host (pick w.hosts host).body.endpoints (deed_after (tcp h) host s (suc w.count) (pick w.hosts (other host)).wire (pick w.hosts host) d).body.endpoints
-moves_deed h s w host (Does x) steady may = moves_at_ports w (At host (Does x)) host (pick w.hosts host).body x.lport x.rport (λ e. after_recovery e x.cwnd x.ssthresh) (λ e. refl)
+moves_deed h s w host (Does x) steady may = moves_at_ports w (At host (Does x)) host (pick w.hosts host).body x.lport x.rport (λ e. after_recovery e x.cwnd x.ssthresh s) (λ e. refl)
 moves_deed h s w host (Expires line x) steady may = moves_at_ports w (At host (Expires line x)) host (pick w.hosts host).body x.lport x.rport (λ e. after_expiry e x.expired s) (λ e. expiry_stream x.expired e s)
 moves_deed h s w host (Makes m) steady may = moves_at_ports w (At host (Makes m)) host (pick w.hosts host).body m.lport m.rport (λ e. after_making e m s)
     (λ e. either_stream m.flags.rst (record (shut_down (endpoint_made e m s)) { reset_due = false }) (endpoint_made e m s) e.stream refl refl)
@@ -186,9 +188,9 @@ moves_deed h s w host (Hears line wire) steady may = moves_not w (At host (Hears
 moves_deed h s w host (Takes line how) steady may = let k = pick w.hosts host in let step : Step tcp_shape = At host (Takes line how) in
     on_cases (λ (b : Body). Moves w step host k.body.endpoints b.endpoints) (waiting line k.inbox) k.body _ (moves_not w step host k.body.endpoints)
     (λ m e.
-    let t = on_passes (waiting line k.inbox) rules.Inbox (λ x. taker_rules h host k.body how x (taker k.body x)) may in
+    let t = on_passes (waiting line k.inbox) rules.Inbox (λ x. taker_rules h host k.body how x s (taker k.body x)) may in
     let one : t.0 ≡ m = same_Some t.0 m (sym t.1 ∙ e) in
-    moves_taking h s w host line how m steady e (subst (λ (x : Emission). first_broken (taker_rules h host k.body how x (taker k.body x)) ≡ None) one t.2))
+    moves_taking h s w host line how m steady e (subst (λ (x : Emission). first_broken (taker_rules h host k.body how x s (taker k.body x)) ≡ None) one t.2))
 moves_deed h s w host (Drops line) steady may = moves_not w (At host (Drops line)) host (pick w.hosts host).body.endpoints
 moves_deed h s w host (Answers line) steady may = let k = pick w.hosts host in let step : Step tcp_shape = At host (Answers line) in
     on_cases (λ (b : Body). Moves w step host k.body.endpoints b.endpoints) (waiting line k.inbox) k.body _ (moves_not w step host k.body.endpoints) (λ m e. moves_not w step host k.body.endpoints)
@@ -221,17 +223,17 @@ moves_accept w step host b n (ListenerAt l) = go (queue_of b l)
     go [] = moves_not w step host b.endpoints
     go (c ∷ queue) = moves_same w step host b c (λ e. record e { listener = None }) (λ e. refl)
 
-moves_call : (w : World tcp_shape) (step : Step tcp_shape) (host : Host) (b : Body) (call : Call) (answer : Answer) → Moves w step host b.endpoints (after_call b call answer).endpoints
-moves_call w step host b (calls.Listen at port backlog) (answers.Given n) = moves_not w step host b.endpoints
-moves_call w step host b (calls.Connect at lport rport) (answers.Given n) = moves_push w step host b.endpoints (new_endpoint lport rport None states.SynSent) (λ j. inl refl)
-moves_call w step host b (calls.Accept h) (answers.Given n) = map_or_cases (λ (x : Body). Moves w step host b.endpoints x.endpoints) (thing_of b h) b (after_accept b n) (λ e. moves_not w step host b.endpoints) (λ thing e. moves_accept w step host b n thing)
-moves_call w step host b (calls.Send h bytes) (answers.Given n) = moves_change w step host b h (after_send bytes n) (λ e. refl)
-moves_call w step host b (calls.Recv h most) (answers.Bytes bytes) = moves_change w step host b h (after_recv bytes) (λ e. refl)
-moves_call w step host b (calls.Shut h) answers.Done = moves_change w step host b h after_shut (λ e. refl)
-moves_call w step host b (calls.Close h) answers.Done = moves_gone w step host b h after_close
+moves_call : (p : Profile) (w : World tcp_shape) (step : Step tcp_shape) (host : Host) (b : Body) (call : Call) (answer : Answer) → Moves w step host b.endpoints (after_call p b call answer).endpoints
+moves_call p w step host b (calls.Listen at port backlog) (answers.Given n) = moves_not w step host b.endpoints
+moves_call p w step host b (calls.Connect at lport rport) (answers.Given n) = moves_push w step host b.endpoints (new_endpoint lport rport None states.SynSent p) (λ j. inl refl)
+moves_call p w step host b (calls.Accept h) (answers.Given n) = map_or_cases (λ (x : Body). Moves w step host b.endpoints x.endpoints) (thing_of b h) b (after_accept b n) (λ e. moves_not w step host b.endpoints) (λ thing e. moves_accept w step host b n thing)
+moves_call p w step host b (calls.Send h bytes) (answers.Given n) = moves_change w step host b h (after_send bytes n) (λ e. refl)
+moves_call p w step host b (calls.Recv h most) (answers.Bytes bytes) = moves_change w step host b h (after_recv bytes) (λ e. refl)
+moves_call p w step host b (calls.Shut h) answers.Done = moves_change w step host b h after_shut (λ e. refl)
+moves_call p w step host b (calls.Close h) answers.Done = moves_gone w step host b h after_close
     (λ e. ap (λ (s : Stream). s.peer) (either_stream (is_syn_sent e.state) (shut_down (record e { stream = record e.stream { ended = true } })) (after_shut e) (record e.stream { ended = true }) refl refl))
-moves_call w step host b (calls.Abort h) answers.Done = moves_gone w step host b h after_abort (λ e. refl)
-moves_call w step host b call answer = moves_not w step host b.endpoints
+moves_call p w step host b (calls.Abort h) answers.Done = moves_gone w step host b h after_abort (λ e. refl)
+moves_call p w step host b call answer = moves_not w step host b.endpoints
 
 -- 3. both hosts
 
@@ -252,7 +254,7 @@ both_step h s w (Effect t answer) steady may = go (turn_of t w.threads)
   where
     by : (call : Call) (o : Option Host) → BothMove w (Effect t answer) (call_after (tcp h) s w.hosts (Calls call answer) o)
     by call None = both_not w (Effect t answer)
-    by call (Some host) = both_host w (Effect t answer) host (record (pick w.hosts host) { body = after_call (pick w.hosts host).body call answer }) (moves_call w (Effect t answer) host (pick w.hosts host).body call answer)
+    by call (Some host) = both_host w (Effect t answer) host (record (pick w.hosts host) { body = after_call (profile_of h.initial) (pick w.hosts host).body call answer }) (moves_call (profile_of h.initial) w (Effect t answer) host (pick w.hosts host).body call answer)
 
     go : (u : Turn tcp_shape) → BothMove w (Effect t answer) (effect_after (tcp h) s w t answer u).hosts
     go Idle = both_not w (Effect t answer)

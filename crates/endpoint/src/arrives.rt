@@ -39,7 +39,7 @@ pub fn take_segment(
     ensures err { OnErr result (endpoint.new ≡ endpoint.old) }
 {
     if m.flags().rst {
-        was_reset(endpoint, how);
+        was_reset(endpoint, how, moment);
         return Ok(());
     }
     if endpoint.state.is_syn_sent() {

@@ -8,6 +8,7 @@
 //! - `arrives`: a segment arrives (3.10.7): in LISTEN, in SYN-SENT, and in the other states, in the order of the RFC
 //! - `timeouts`: a timer expires (3.10.8); `recovery`: fast recovery begins (RFC 5681, 3.2)
 //! - `reset`: the reset that answers a segment (3.5.2); `wire`: segments as bytes on the wire (3.1)
+//! - `signals`: what any of these is to congestion control
 //! - `same`: comparisons that the rules speak of
 //!
 //! An error is the first rule that is broken, by the order of `Rule`. An effect asks nothing again: its caller asked
@@ -21,13 +22,13 @@ mod makes;
 mod recovery;
 mod reset;
 mod same;
+mod signals;
 mod timeouts;
 mod wire;
 
 pub use arrives::listen::{admits_listening, child};
 pub use arrives::other_states::admits_connected;
-pub use arrives::other_states::congestion::greatest_window;
-pub use arrives::syn_sent::{admits_syn_sent, completes_handshake, greatest_at_syn};
+pub use arrives::syn_sent::{admits_syn_sent, completes_handshake};
 pub use arrives::take_segment;
 pub use calls::accept::{accept, listener_allows};
 pub use calls::close::{abort, close, orphan, shut};
@@ -35,7 +36,8 @@ pub use calls::endpoint_allows;
 pub use calls::receive::deliver;
 pub use calls::send::send;
 pub use makes::{admits_making, make};
-pub use recovery::{admits_recovery, recover};
+pub use recovery::{admits_recovery, greatest_at_recovery, greatest_recovery, recover};
 pub use reset::reset_of;
+pub use signals::{greatest_taking, profile_of};
 pub use timeouts::{admits_expiry, expire, greatest_values, has_more};
 pub use wire::{admits_copy, heard, matches_sent, sent};

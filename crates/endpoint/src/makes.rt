@@ -56,7 +56,7 @@ pub fn admits_making(endpoint: &Endpoint, making: &SegmentPlan) -> Result<(), Ru
     if is_congesting(endpoint, making) {
         return Err(Rule::Congestion);
     }
-    if endpoint.congestion.smss < making.len as u32 {
+    if endpoint.control.values.smss < making.len as u32 {
         return Err(Rule::Size);
     }
     Ok(())

@@ -2,20 +2,28 @@
 
 ghost use Rattle.spec_tcp.specs.Bounds.{HasRoom};
 ghost use Rattle.spec_tcp.specs.Forgetting.{forget_endpoint};
-ghost use Rattle.spec_tcp.specs.Recovery.{is_bad_recovery, recovery_rules, after_recovery};
+ghost use Rattle.spec_tcp.specs.Recovery.{is_bad_recovery, recovery_rules, after_recovery, greatest_at_recovery};
+ghost use Rattle.spec_tcp.specs.Signals.{at_moment, recovery_signal};
 ghost use Rattle.std.specs.Prelude.{◌≡◌};
 ghost use Rattle.std.specs.Result.{result_err};
 ghost use Rattle.verdict.specs.Rules.{first_broken};
+ghost use Rattle.window_rules.specs.Control.{greatest};
 
+use crate::signals::{at_moment, recovery_signal};
 use case_forms::State;
 use spec_tcp::Endpoint;
 use verdict::Rule;
-use window_rules::{on_fast, recovery_window};
+use window_rules::GREATEST_WINDOW;
 
 /// Whether fast recovery may begin at an endpoint, with this congestion window and slow start threshold (in bytes). An
 /// error is the first rule that is broken.
-pub fn admits_recovery(endpoint: &Endpoint, cwnd: u32, ssthresh: u32) -> Result<(), Rule>
-    ensures { result_err result ≡ first_broken (recovery_rules endpoint.now cwnd ssthresh) }
+pub fn admits_recovery(
+    endpoint: &Endpoint,
+    cwnd: u32,
+    ssthresh: u32,
+    moment: u64,
+) -> Result<(), Rule>
+    ensures { result_err result ≡ first_broken (recovery_rules endpoint.now cwnd ssthresh moment) }
 {
     if endpoint.state.is_closed() {
         return Err(Rule::NoEndpoint);
@@ -23,31 +31,58 @@ pub fn admits_recovery(endpoint: &Endpoint, cwnd: u32, ssthresh: u32) -> Result<
     if !endpoint.is_up() {
         return Err(Rule::State);
     }
-    if is_bad_recovery(endpoint, cwnd, ssthresh) {
+    if is_bad_recovery(endpoint, cwnd, ssthresh, moment) {
         return Err(Rule::Recovery);
     }
     Ok(())
 }
 
-fn is_bad_recovery(endpoint: &Endpoint, cwnd: u32, ssthresh: u32) -> bool
-    ensures { result ≡ is_bad_recovery endpoint.now cwnd ssthresh }
+fn is_bad_recovery(endpoint: &Endpoint, cwnd: u32, ssthresh: u32, moment: u64) -> bool
+    ensures { result ≡ is_bad_recovery endpoint.now cwnd ssthresh moment }
 {
-    let greatest = on_fast(&endpoint.congestion, endpoint.flight()).1;
-    endpoint.congestion.dup < 3
-        || endpoint.congestion.fast
+    let greatest = greatest_recovery(endpoint, ssthresh, moment);
+    !endpoint.control.may_recover()
         || endpoint.stream.snd_una == endpoint.snd_max()
-        || greatest < ssthresh as u64
-        || recovery_window(&endpoint.congestion, ssthresh) < cwnd as u64
+        || greatest.1 < ssthresh as u64
+        || greatest.0 < cwnd as u64
+}
+
+/// The greatest congestion window, if this slow start threshold is chosen, and the greatest slow start threshold with
+/// which fast recovery may begin at a moment in microseconds, all in bytes (RFC 5681, 3.2, steps 2 to 4).
+pub fn greatest_recovery(endpoint: &Endpoint, ssthresh: u32, moment: u64) -> (u64, u64)
+    ensures { result ≡ greatest endpoint.now.control (recovery_signal endpoint.now ssthresh)
+        (at_moment endpoint.now moment) }
+{
+    let signal = recovery_signal(endpoint, ssthresh);
+    endpoint
+        .control
+        .greatest(signal, at_moment(endpoint, moment))
+}
+
+/// The greatest pair with which fast recovery may begin at a moment in microseconds, in bytes: the congestion window, for
+/// the greatest slow start threshold, and that threshold.
+pub fn greatest_at_recovery(endpoint: &Endpoint, moment: u64) -> (u64, u64)
+    ensures { result ≡ greatest_at_recovery endpoint.now moment }
+{
+    let ssthresh = greatest_recovery(endpoint, 0, moment)
+        .1
+        .min(GREATEST_WINDOW);
+    (
+        greatest_recovery(endpoint, ssthresh as u32, moment).0,
+        ssthresh,
+    )
 }
 
 /// Fast recovery begins: the congestion window and the slow start threshold are these, in bytes, and all that was made
 /// may be made again (RFC 5681, 3.2, steps 2 and 3).
-pub fn recover(endpoint: &mut Endpoint, cwnd: u32, ssthresh: u32)
+pub fn recover(endpoint: &mut Endpoint, cwnd: u32, ssthresh: u32, moment: u64)
     requires { HasRoom endpoint.old }
-    ensures { endpoint.new ≡ forget_endpoint (after_recovery endpoint.old cwnd ssthresh) }
+    ensures { endpoint.new ≡ forget_endpoint (after_recovery endpoint.old cwnd ssthresh moment) }
 {
+    let signal = recovery_signal(endpoint, ssthresh);
+    let control = endpoint
+        .control
+        .after(signal, at_moment(endpoint, moment), cwnd, ssthresh);
     endpoint.recover = endpoint.snd_max();
-    endpoint.congestion.cwnd = cwnd;
-    endpoint.congestion.ssthresh = ssthresh;
-    endpoint.congestion.fast = true;
+    endpoint.control = control;
 }

@@ -11,13 +11,14 @@ ghost use Rattle.std.specs.Prelude.{◌≡◌, ◌≢◌, ◌<◌, ◌+◌, ◌^
 ghost use Rattle.std.specs.Result.{result_err};
 ghost use Rattle.timer_rules.specs.Timers.{is_early};
 ghost use Rattle.verdict.specs.Rules.{first_broken};
+ghost use Rattle.window_rules.specs.Counts.{HasCounts};
 
 use crate::calls::close::shut_down;
+use crate::signals::{at_moment, timeout_signal};
 use case_forms::{Expired, Header, RtoChoice, Timer};
 use spec_tcp::{Endpoint, Fault};
 use timer_rules::{TimerFault, Timers};
 use verdict::Rule;
-use window_rules::on_timeout;
 
 /// Whether a timer may expire at an endpoint at this moment, in microseconds; the retransmission timer with what is
 /// chosen
@@ -34,7 +35,7 @@ pub fn admits_expiry(
     if endpoint.state.is_closed() {
         return Err(Rule::NoEndpoint);
     }
-    if grows_above(endpoint, expired) {
+    if grows_above(endpoint, expired, moment) {
         return Err(Rule::Growth);
     }
     if is_off(endpoint, timer) {
@@ -47,32 +48,30 @@ pub fn admits_expiry(
 }
 
 // Whether what is chosen at the retransmission timer is above what it may be.
-fn grows_above(endpoint: &Endpoint, expired: Expired) -> bool
-    ensures { result ≡ grows_above endpoint.now expired }
+fn grows_above(endpoint: &Endpoint, expired: Expired, moment: u64) -> bool
+    ensures { result ≡ grows_above endpoint.now expired moment }
 {
     match expired {
-        Expired::Rto(growth) => is_above(endpoint, growth),
+        Expired::Rto(growth) => is_above(endpoint, growth, moment),
         Expired::Persist | Expired::Msl2 | Expired::Giveup => false,
     }
 }
 
 /// The greatest congestion window and the greatest slow start threshold, in bytes, that an endpoint may have once its
-/// retransmission timer expired (RFC 5681, 3.1).
-pub fn greatest_values(endpoint: &Endpoint) -> (u64, u64)
-    ensures { result ≡ greatest_values endpoint.now }
+/// retransmission timer expired at a moment in microseconds (RFC 5681, 3.1).
+pub fn greatest_values(endpoint: &Endpoint, moment: u64) -> (u64, u64)
+    ensures { result ≡ greatest_values endpoint.now moment }
 {
-    on_timeout(
-        &endpoint.congestion,
-        endpoint.flight(),
-        endpoint.stream.snd_una == 0,
-        0 < endpoint.backoffs,
-    )
+    let signal = timeout_signal(endpoint);
+    endpoint
+        .control
+        .greatest(signal, at_moment(endpoint, moment))
 }
 
-fn is_above(endpoint: &Endpoint, growth: RtoChoice) -> bool
-    ensures { result ≡ is_above endpoint.now growth }
+fn is_above(endpoint: &Endpoint, growth: RtoChoice, moment: u64) -> bool
+    ensures { result ≡ is_above endpoint.now growth moment }
 {
-    let greatest = greatest_values(endpoint);
+    let greatest = greatest_values(endpoint, moment);
     greatest.0 < growth.cwnd as u64 || greatest.1 < growth.ssthresh as u64
 }
 
@@ -151,14 +150,16 @@ pub fn expire(endpoint: &mut Endpoint, expired: Expired, moment: u64)
 fn expire_retransmission(endpoint: &mut Endpoint, growth: RtoChoice, moment: u64)
     requires unanswered_expiries { endpoint.old.unanswered_expiries + 1 < 2 ^ 32 }
     requires backoffs { endpoint.old.backoffs + 1 < 2 ^ 32 }
+    requires counts { HasCounts endpoint.old.control }
     ensures { endpoint.new ≡ after_rto endpoint.old growth moment }
 {
+    let signal = timeout_signal(endpoint);
+    let at = at_moment(endpoint, moment);
+    let control = endpoint
+        .control
+        .after(signal, at, growth.cwnd, growth.ssthresh);
     endpoint.recover = endpoint.snd_max();
-    endpoint.congestion.cwnd = growth.cwnd;
-    endpoint.congestion.ssthresh = growth.ssthresh;
-    endpoint.congestion.dup = 0;
-    endpoint.congestion.counted = 0;
-    endpoint.congestion.fast = false;
+    endpoint.control = control;
     endpoint.timers.back_off();
     endpoint.timers.arm(Timer::Rto, moment);
     endpoint.unanswered_expiries += 1;

@@ -15,6 +15,9 @@ use Rattle.case_forms.specs.declared.calls.State.TheVariants as states
 use Rattle.verdict.specs.Rules.{first_broken}
 use Rattle.verdict.proofs.RuleLemmas.{none_all}
 use Rattle.streams.specs.Lists.{modify}
+use Rattle.window_rules.specs.declared.control.Profile.{Profile}
+use Rattle.window_rules.proofs.ControlLemmas.{counts_began}
+use Rattle.spec_tcp.specs.Signals.{profile_of}
 use Rattle.spec_tcp.specs.declared.endpoint.Endpoint.{Endpoint}
 use Rattle.spec_tcp.specs.declared.endpoint.Emission.{Emission}
 use Rattle.spec_tcp.specs.declared.endpoint.Listener.{Listener}
@@ -174,11 +177,10 @@ listened_bounded steps b l k =
     let later = body_later steps b k in
     record { bounded = later.bounded; endpoints = later.endpoints; listeners = length_push b.listeners l steps k.listeners }
 
-opened_bounded : (lport rport steps : ℕ) → IsBounded steps (new_endpoint lport rport None states.SynSent)
-opened_bounded lport rport steps = record {
+opened_bounded : (p : Profile) (lport rport steps : ℕ) → IsBounded steps (new_endpoint lport rport None states.SynSent p)
+opened_bounded p lport rport steps = record {
   snd_una = omega arith;
-  counted = omega arith;
-  dup = omega arith;
+  counts = counts_began p steps;
   unanswered_expiries = omega arith;
   backoffs = omega arith;
   accepted = omega arith;
@@ -193,20 +195,20 @@ socket_bounded steps b c e l k = record {
   listeners = subst (λ (ls : List Listener). length ls ≤ steps) l k.listeners;
 }
 
-call_bounded : (steps : ℕ) (b : Body) (call : Call) (answer : Answer) → IsSmallAnswer answer → call_allows b call answer ≡ true → IsBoundedBody steps b → IsBoundedBody (suc steps) (after_call b call answer)
-call_bounded steps b (calls.Listen host port backlog) (answers.Given n) small allowed k =
+call_bounded : (p : Profile) (steps : ℕ) (b : Body) (call : Call) (answer : Answer) → IsSmallAnswer answer → call_allows b call answer ≡ true → IsBoundedBody steps b → IsBoundedBody (suc steps) (after_call p b call answer)
+call_bounded p steps b (calls.Listen host port backlog) (answers.Given n) small allowed k =
     let l : Listener = record { port = port; backlog = backlog; is_open = true; queue = [] } in
     socket_bounded (suc steps) (record b { listeners = b.listeners ++ l ∷ [] }) _ refl refl (listened_bounded steps b l k)
-call_bounded steps b (calls.Connect host lport rport) (answers.Given n) small allowed k =
-    let e = new_endpoint lport rport None states.SynSent in
-    socket_bounded (suc steps) (record b { endpoints = b.endpoints ++ e ∷ [] }) _ refl refl (joins_bounded steps b e (opened_bounded lport rport (suc steps)) k)
-call_bounded steps b (calls.Accept h) (answers.Given n) small allowed k = accept_bounded steps b n (thing_of b h) k
-call_bounded steps b (calls.Send h bytes) (answers.Given n) small allowed k = changed_bounded steps b h (after_send bytes n) (after_send_bounded bytes n small steps) k
-call_bounded steps b (calls.Recv h most) (answers.Bytes bytes) small allowed k = recv_bounded steps b h most bytes allowed k
-call_bounded steps b (calls.Shut h) answers.Done small allowed k = changed_bounded steps b h after_shut (after_shut_bounded steps) k
-call_bounded steps b (calls.Close h) answers.Done small allowed k = gone_bounded steps b h after_close (after_close_bounded steps) k
-call_bounded steps b (calls.Abort h) answers.Done small allowed k = gone_bounded steps b h after_abort (after_abort_bounded steps) k
-call_bounded steps b _ _ small allowed k = body_later steps b k
+call_bounded p steps b (calls.Connect host lport rport) (answers.Given n) small allowed k =
+    let e = new_endpoint lport rport None states.SynSent p in
+    socket_bounded (suc steps) (record b { endpoints = b.endpoints ++ e ∷ [] }) _ refl refl (joins_bounded steps b e (opened_bounded p lport rport (suc steps)) k)
+call_bounded p steps b (calls.Accept h) (answers.Given n) small allowed k = accept_bounded steps b n (thing_of b h) k
+call_bounded p steps b (calls.Send h bytes) (answers.Given n) small allowed k = changed_bounded steps b h (after_send bytes n) (after_send_bounded bytes n small steps) k
+call_bounded p steps b (calls.Recv h most) (answers.Bytes bytes) small allowed k = recv_bounded steps b h most bytes allowed k
+call_bounded p steps b (calls.Shut h) answers.Done small allowed k = changed_bounded steps b h after_shut (after_shut_bounded steps) k
+call_bounded p steps b (calls.Close h) answers.Done small allowed k = gone_bounded steps b h after_close (after_close_bounded steps) k
+call_bounded p steps b (calls.Abort h) answers.Done small allowed k = gone_bounded steps b h after_abort (after_abort_bounded steps) k
+call_bounded p steps b _ _ small allowed k = body_later steps b k
 
 -- 3. segments
 
@@ -220,7 +222,7 @@ length_joined b i e m = by (is_syn_received e.state && acknowledges_syn e m) e.l
 
 taking_bounded : (h : Header) (how : TakeChoice) (m : Emission) (moment steps : ℕ) (b : Body) (t : Taker) → m.ack < 2 ^ 63 → IsBoundedBody steps b → IsBoundedBody (suc steps) (after_taking h b how m moment t)
 taking_bounded h how m moment steps b Nobody small k = body_later steps b k
-taking_bounded h how m moment steps b (AtListener l) small k = joins_bounded steps b (child l how m moment) (child_bounded l how m moment (suc steps)) k
+taking_bounded h how m moment steps b (AtListener l) small k = joins_bounded steps b (child (profile_of h.initial) l how m moment) (child_bounded (profile_of h.initial) l how m moment (suc steps)) k
 taking_bounded h how m moment steps b (AtEndpoint i e) small k =
     let read = as_read h.version e m in
     let one = place_bounded steps b i (λ x. endpoint_taken h x how read moment) (λ x there. endpoint_taken_bounded h how read moment steps x (read_small h.version e m small)) k in
@@ -233,12 +235,12 @@ taking_bounded h how m moment steps b (AtEndpoint i e) small k =
 act_bounded : (h : Header) (me : Host) (moment steps : ℕ) (b : Body) (act : Act) → IsSmallAct act → first_broken (act_rules h me moment b act) ≡ None → IsBoundedBody steps b → IsBoundedBody (suc steps) (act_after h me moment b act)
 act_bounded h me moment steps b (Calls call answer) small permitted k =
     let all = none_all (act_rules h me moment b (Calls call answer)) permitted in
-    call_bounded steps b call answer small (not_false (call_allows b call answer) all.0) k
+    call_bounded (profile_of h.initial) steps b call answer small (not_false (call_allows b call answer) all.0) k
 act_bounded h me moment steps b (Makes m) small permitted k = ports_bounded steps b m.lport m.rport (λ e. after_making e m moment) (after_making_bounded m moment steps) k
 act_bounded h me moment steps b (Takes how m) small permitted k = taking_bounded h how m moment steps b (taker b m) small.ack k
 act_bounded h me moment steps b (Resets m) small permitted k = body_later steps b k
 act_bounded h me moment steps b (Expires x) small permitted k = ports_bounded steps b x.lport x.rport (λ e. after_expiry e x.expired moment) (after_expiry_bounded x.expired moment steps) k
-act_bounded h me moment steps b (Recovers x) small permitted k = ports_bounded steps b x.lport x.rport (λ e. after_recovery e x.cwnd x.ssthresh) (after_recovery_bounded x.cwnd x.ssthresh steps) k
+act_bounded h me moment steps b (Recovers x) small permitted k = ports_bounded steps b x.lport x.rport (λ e. after_recovery e x.cwnd x.ssthresh moment) (after_recovery_bounded x.cwnd x.ssthresh moment steps) k
 
 pub body_keeps : (h : Header) (me : Host) (moment steps : ℕ) (b : Body) (act : Act) → IsSmallAct act → first_broken (act_rules h me moment b act) ≡ None → IsKeptBody steps b → IsKeptBody (suc steps) (forget_body (act_after h me moment b act))
 body_keeps h me moment steps b act small permitted k =

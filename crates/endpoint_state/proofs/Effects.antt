@@ -7,6 +7,8 @@ use Rattle.case_forms.specs.declared.calls.State.{State}
 use Rattle.case_forms.specs.declared.calls.State.TheVariants as states
 use Rattle.case_forms.specs.declared.calls.Answer.TheVariants as answers
 use Rattle.streams.specs.Received as received
+use Rattle.window_rules.proofs.ControlLemmas.{counts_stay}
+use Rattle.spec_tcp.specs.Signals.{at_moment, recovery_signal, timeout_signal}
 use Rattle.spec_tcp.specs.declared.endpoint.Endpoint.{Endpoint}
 use Rattle.case_forms.specs.States.{is_closed, is_syn_sent}
 use Rattle.spec_tcp.specs.Calls.Receive.{recv_allows, after_recv}
@@ -23,7 +25,7 @@ use Rattle.endpoint_state.proofs.Forgets.{IsBounded, bounded_later}
 -- 1. calls
 
 shut : (steps : ℕ) (e : Endpoint) → IsBounded steps e → IsBounded steps (shut_down e)
-shut steps e b = record { snd_una = b.snd_una; counted = b.counted; dup = b.dup; unanswered_expiries = b.unanswered_expiries; backoffs = b.backoffs; accepted = b.accepted; met = λ sent closed. absurd cc; unmet = λ sent. absurd cc }
+shut steps e b = record { snd_una = b.snd_una; counts = b.counts; unanswered_expiries = b.unanswered_expiries; backoffs = b.backoffs; accepted = b.accepted; met = λ sent closed. absurd cc; unmet = λ sent. absurd cc }
 
 ended_sent : (s : State) → is_syn_sent (ended_state s) ≡ is_syn_sent s
 ended_sent states.Established = refl
@@ -39,8 +41,7 @@ shut_sending : (steps : ℕ) (e : Endpoint) → IsBounded steps e → IsBounded 
 shut_sending steps e b =
     record {
       snd_una = b.snd_una;
-      counted = b.counted;
-      dup = b.dup;
+      counts = b.counts;
       unanswered_expiries = b.unanswered_expiries;
       backoffs = b.backoffs;
       accepted = b.accepted;
@@ -50,14 +51,14 @@ shut_sending steps e b =
 
 -- the sending was ended, and nothing else
 ending : (steps : ℕ) (e : Endpoint) → IsBounded steps e → IsBounded steps (record e { stream = record e.stream { ended = true } })
-ending steps e b = record { snd_una = b.snd_una; counted = b.counted; dup = b.dup; unanswered_expiries = b.unanswered_expiries; backoffs = b.backoffs; accepted = b.accepted; met = b.met; unmet = b.unmet }
+ending steps e b = record { snd_una = b.snd_una; counts = b.counts; unanswered_expiries = b.unanswered_expiries; backoffs = b.backoffs; accepted = b.accepted; met = b.met; unmet = b.unmet }
 
 -- what changes here is not spoken of
 closing : (steps : ℕ) (e : Endpoint) → IsBounded steps e → IsBounded steps (record e { closed = true })
-closing steps e b = record { snd_una = b.snd_una; counted = b.counted; dup = b.dup; unanswered_expiries = b.unanswered_expiries; backoffs = b.backoffs; accepted = b.accepted; met = b.met; unmet = b.unmet }
+closing steps e b = record { snd_una = b.snd_una; counts = b.counts; unanswered_expiries = b.unanswered_expiries; backoffs = b.backoffs; accepted = b.accepted; met = b.met; unmet = b.unmet }
 
 due : (steps : ℕ) (e : Endpoint) (c : Bool) → IsBounded steps e → IsBounded steps (record e { reset_due = c })
-due steps e c b = record { snd_una = b.snd_una; counted = b.counted; dup = b.dup; unanswered_expiries = b.unanswered_expiries; backoffs = b.backoffs; accepted = b.accepted; met = b.met; unmet = b.unmet }
+due steps e c b = record { snd_una = b.snd_una; counts = b.counts; unanswered_expiries = b.unanswered_expiries; backoffs = b.backoffs; accepted = b.accepted; met = b.met; unmet = b.unmet }
 
 either : (steps : ℕ) (c : Bool) (x y : Endpoint) → IsBounded steps x → IsBounded steps y → IsBounded steps (if c then x else y)
 either steps true x y p q = p
@@ -76,7 +77,7 @@ orphan_bounded : (steps l : ℕ) (e : Endpoint) → IsBounded steps e → IsBoun
 orphan_bounded steps l e b = either steps (option_map_or (λ holder. holder == l) e.listener false) (after_abort e) e (abort_bounded steps e b) b
 
 adopted_bounded : (steps : ℕ) (e : Endpoint) → IsBounded steps e → IsBounded steps (record e { listener = None })
-adopted_bounded steps e b = record { snd_una = b.snd_una; counted = b.counted; dup = b.dup; unanswered_expiries = b.unanswered_expiries; backoffs = b.backoffs; accepted = b.accepted; met = b.met; unmet = b.unmet }
+adopted_bounded steps e b = record { snd_una = b.snd_una; counts = b.counts; unanswered_expiries = b.unanswered_expiries; backoffs = b.backoffs; accepted = b.accepted; met = b.met; unmet = b.unmet }
 
 pub after_shut_bounded : (steps : ℕ) (e : Endpoint) → IsBounded steps e → IsBounded (suc steps) (after_shut e)
 after_shut_bounded steps e b = bounded_later steps (after_shut e) (shut_sending steps e b)
@@ -99,7 +100,7 @@ after_send_bounded bytes n small steps e b =
     let both = length-append e.stream.accepted (take n bytes) in
     let some = length-take n bytes in
     let old = b.accepted in
-    record { snd_una = b.snd_una; counted = b.counted; dup = later.dup; unanswered_expiries = later.unanswered_expiries; backoffs = later.backoffs; accepted = omega arith; met = b.met; unmet = b.unmet }
+    record { snd_una = b.snd_una; counts = later.counts; unanswered_expiries = later.unanswered_expiries; backoffs = later.backoffs; accepted = omega arith; met = b.met; unmet = b.unmet }
 
 third_false : (b c : Bool) → (b && c && false) ≡ true → ⊥
 third_false true true e = cc
@@ -118,8 +119,7 @@ after_recv_bounded most bytes steps e allowed b =
     let later = bounded_later steps e b in
     record {
       snd_una = b.snd_una;
-      counted = b.counted;
-      dup = later.dup;
+      counts = later.counts;
       unanswered_expiries = later.unanswered_expiries;
       backoffs = later.backoffs;
       accepted = later.accepted;
@@ -130,7 +130,7 @@ after_recv_bounded most bytes steps e allowed b =
 -- 2. making, timers, recovery
 
 made_bounded : (m : SegmentPlan) (moment steps : ℕ) (e : Endpoint) → IsBounded steps e → IsBounded steps (endpoint_made e m moment)
-made_bounded m moment steps e b = record { snd_una = b.snd_una; counted = b.counted; dup = b.dup; unanswered_expiries = b.unanswered_expiries; backoffs = b.backoffs; accepted = b.accepted; met = b.met; unmet = b.unmet }
+made_bounded m moment steps e b = record { snd_una = b.snd_una; counts = b.counts; unanswered_expiries = b.unanswered_expiries; backoffs = b.backoffs; accepted = b.accepted; met = b.met; unmet = b.unmet }
 
 pub after_making_bounded : (m : SegmentPlan) (moment steps : ℕ) (e : Endpoint) → IsBounded steps e → IsBounded (suc steps) (after_making e m moment)
 after_making_bounded m moment steps e b =
@@ -144,17 +144,17 @@ after_expiry_bounded (Rto growth) moment steps e b =
     let later = bounded_later steps e b in
     let unanswered_expiries = b.unanswered_expiries in
     let backoffs = b.backoffs in
-    record { snd_una = b.snd_una; counted = omega arith; dup = omega arith; unanswered_expiries = omega arith; backoffs = omega arith; accepted = later.accepted; met = b.met; unmet = b.unmet }
+    record { snd_una = b.snd_una; counts = counts_stay e.control (timeout_signal e) (at_moment e moment) growth.cwnd growth.ssthresh steps e.stream.snd_una e.stream.snd_una b.counts (omega arith); unanswered_expiries = omega arith; backoffs = omega arith; accepted = later.accepted; met = b.met; unmet = b.unmet }
 after_expiry_bounded Persist moment steps e b =
     let later = bounded_later steps e b in
     let unanswered_expiries = b.unanswered_expiries in
-    record { snd_una = b.snd_una; counted = b.counted; dup = later.dup; unanswered_expiries = omega arith; backoffs = later.backoffs; accepted = later.accepted; met = b.met; unmet = b.unmet }
+    record { snd_una = b.snd_una; counts = later.counts; unanswered_expiries = omega arith; backoffs = later.backoffs; accepted = later.accepted; met = b.met; unmet = b.unmet }
 after_expiry_bounded Msl2 moment steps e b = bounded_later steps (shut_down e) (shut steps e b)
 after_expiry_bounded Giveup moment steps e b =
     let later = bounded_later steps (shut_down e) (shut steps e b) in
-    record { snd_una = b.snd_una; counted = b.counted; dup = later.dup; unanswered_expiries = later.unanswered_expiries; backoffs = later.backoffs; accepted = later.accepted; met = later.met; unmet = later.unmet }
+    record { snd_una = b.snd_una; counts = later.counts; unanswered_expiries = later.unanswered_expiries; backoffs = later.backoffs; accepted = later.accepted; met = later.met; unmet = later.unmet }
 
-pub after_recovery_bounded : (cwnd ssthresh steps : ℕ) (e : Endpoint) → IsBounded steps e → IsBounded (suc steps) (after_recovery e cwnd ssthresh)
-after_recovery_bounded cwnd ssthresh steps e b =
+pub after_recovery_bounded : (cwnd ssthresh moment steps : ℕ) (e : Endpoint) → IsBounded steps e → IsBounded (suc steps) (after_recovery e cwnd ssthresh moment)
+after_recovery_bounded cwnd ssthresh moment steps e b =
     let later = bounded_later steps e b in
-    record { snd_una = b.snd_una; counted = b.counted; dup = later.dup; unanswered_expiries = later.unanswered_expiries; backoffs = later.backoffs; accepted = later.accepted; met = b.met; unmet = b.unmet }
+    record { snd_una = b.snd_una; counts = counts_stay e.control (recovery_signal e ssthresh) (at_moment e moment) cwnd ssthresh steps e.stream.snd_una e.stream.snd_una b.counts (omega arith); unanswered_expiries = later.unanswered_expiries; backoffs = later.backoffs; accepted = later.accepted; met = b.met; unmet = b.unmet }

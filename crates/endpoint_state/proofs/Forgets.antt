@@ -5,6 +5,8 @@ use Rattle.std.proofs.lemmas.List.Elements.{All-map, All-weaker}
 use Rattle.streams.specs.Forgetting.{forgotten}
 use Rattle.streams.specs.Received as received
 use Rattle.streams.proofs.Covers.{length-covered}
+use Rattle.window_rules.specs.Counts.{IsCounted}
+use Rattle.window_rules.proofs.ControlLemmas.{counts_later}
 use Rattle.spec_tcp.specs.declared.endpoint.Endpoint.{Endpoint}
 use Rattle.spec_tcp.specs.Endpoints.{rcv_nxt}
 use Rattle.case_forms.specs.States.{is_closed, is_syn_sent}
@@ -15,8 +17,7 @@ use Rattle.spec_tcp_laws.proofs.ForgetReads.{forget-forget, rcv_nxt-forget}
 -- an endpoint after so many steps, of which something may still be discarded
 pub record IsBounded (steps : ℕ) (e : Endpoint) : Type 0 where
   pub snd_una : e.stream.snd_una < 2 ^ 63
-  pub counted : e.congestion.counted ≤ e.stream.snd_una
-  pub dup : e.congestion.dup ≤ steps
+  pub counts : IsCounted steps e.stream.snd_una e.control
   pub unanswered_expiries : e.unanswered_expiries ≤ steps
   pub backoffs : e.backoffs ≤ steps
   pub accepted : length e.stream.accepted ≤ 2 ^ 32 * steps
@@ -24,20 +25,19 @@ pub record IsBounded (steps : ℕ) (e : Endpoint) : Type 0 where
   pub unmet : is_syn_sent e.state ≡ true → e.stream.receive ≡ received.empty
 
 pub bounded : (steps : ℕ) (e : Endpoint) → IsKept steps e → IsBounded steps e
-bounded steps e k = record { snd_una = k.snd_una; counted = k.counted; dup = k.dup; unanswered_expiries = k.unanswered_expiries; backoffs = k.backoffs; accepted = k.accepted; met = k.met; unmet = k.unmet }
+bounded steps e k = record { snd_una = k.snd_una; counts = k.counts; unanswered_expiries = k.unanswered_expiries; backoffs = k.backoffs; accepted = k.accepted; met = k.met; unmet = k.unmet }
 
 pub bounded_later : (steps : ℕ) (e : Endpoint) → IsBounded steps e → IsBounded (suc steps) e
 bounded_later steps e b =
-    let dup = b.dup in
     let unanswered_expiries = b.unanswered_expiries in
     let backoffs = b.backoffs in
     let accepted = b.accepted in
-    record { snd_una = b.snd_una; counted = b.counted; dup = omega arith; unanswered_expiries = omega arith; backoffs = omega arith; accepted = omega arith; met = b.met; unmet = b.unmet }
+    record { snd_una = b.snd_una; counts = counts_later e.control steps e.stream.snd_una b.counts; unanswered_expiries = omega arith; backoffs = omega arith; accepted = omega arith; met = b.met; unmet = b.unmet }
 
 pub kept_later : (steps : ℕ) (e : Endpoint) → IsKept steps e → IsKept (suc steps) e
 kept_later steps e k =
     let b = bounded_later steps e (bounded steps e k) in
-    record { snd_una = b.snd_una; counted = b.counted; dup = b.dup; unanswered_expiries = b.unanswered_expiries; backoffs = b.backoffs; accepted = b.accepted; forgets = k.forgets; met = b.met; unmet = b.unmet }
+    record { snd_una = b.snd_una; counts = b.counts; unanswered_expiries = b.unanswered_expiries; backoffs = b.backoffs; accepted = b.accepted; forgets = k.forgets; met = b.met; unmet = b.unmet }
 
 pub is_forgotten : (e : Endpoint) → IsForgotten (forget_endpoint e)
 is_forgotten e = record {
@@ -53,8 +53,7 @@ kept_forgotten steps e b =
     let front = rcv_nxt-forget e in
     record {
       snd_una = b.snd_una;
-      counted = b.counted;
-      dup = b.dup;
+      counts = b.counts;
       unanswered_expiries = b.unanswered_expiries;
       backoffs = b.backoffs;
       accepted = omega arith;

@@ -49,13 +49,13 @@ keeps_expired e Persist moment = record { lport = refl; rport = refl; listener =
 keeps_expired e Msl2 moment = record { lport = refl; rport = refl; listener = λ l is. is }
 keeps_expired e Giveup moment = record { lport = refl; rport = refl; listener = λ l is. is }
 
-pub keeps_recovered : (e : Endpoint) (cwnd ssthresh : ℕ) → Keeps e (after_recovery e cwnd ssthresh)
-keeps_recovered e cwnd ssthresh = record { lport = refl; rport = refl; listener = λ l is. is }
+pub keeps_recovered : (e : Endpoint) (cwnd ssthresh moment : ℕ) → Keeps e (after_recovery e cwnd ssthresh moment)
+keeps_recovered e cwnd ssthresh moment = record { lport = refl; rport = refl; listener = λ l is. is }
 
 pub keeps_taken : (h : Header) (e : Endpoint) (how : TakeChoice) (m : Emission) (moment : ℕ) → Keeps e (endpoint_taken h e how m moment)
 keeps_taken h e how m moment = by m.flags.rst (is_syn_sent e.state)
   where
-    by : (b c : Bool) → Keeps e (if b then was_reset e how else if c then on_syn h e how m moment else taken h e how m moment)
+    by : (b c : Bool) → Keeps e (if b then was_reset e how moment else if c then on_syn h e how m moment else taken h e how m moment)
     by true c = record { lport = refl; rport = refl; listener = λ l is. is }
     by false true = record { lport = refl; rport = refl; listener = λ l is. is }
     by false false = record { lport = refl; rport = refl; listener = λ l is. is }

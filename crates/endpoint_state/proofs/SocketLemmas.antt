@@ -10,6 +10,7 @@ use Rattle.case_forms.specs.declared.calls.Answer.TheVariants as answers
 use Rattle.case_forms.specs.declared.calls.State.TheVariants as states
 use Rattle.streams.specs.Lists.{modify}
 use Rattle.streams.specs.Received.{starts, waiting}
+use Rattle.window_rules.specs.declared.control.Profile.{Profile}
 use Rattle.spec_tcp.specs.declared.endpoint.Endpoint.{Endpoint}
 use Rattle.spec_tcp.specs.declared.endpoint.Listener.{Listener}
 use Rattle.spec_tcp.specs.declared.endpoint.Socket.{Socket}
@@ -57,10 +58,10 @@ accepted_first b l n child es xs ss first e x s = by (queue_of b l) refl first
         (body_is es _ xs _ ss _ e (x ∙ listeners) s)
 
 -- an endpoint that is opened has nothing to discard
-pub opened : (b : Body) (n lport rport : ℕ) → All HasRoom b.endpoints
-    → with_socket (record b { endpoints = b.endpoints ++ new_endpoint lport rport None states.SynSent ∷ [] }) n (EndpointAt (length b.endpoints))
-    ≡ forget_body (with_socket (record b { endpoints = b.endpoints ++ new_endpoint lport rport None states.SynSent ∷ [] }) n (EndpointAt (length b.endpoints)))
-opened b n lport rport room = body_is _ _ b.listeners b.listeners _ _ (forgot_push b.endpoints (new_endpoint lport rport None states.SynSent) room refl) refl refl
+pub opened : (p : Profile) (b : Body) (n lport rport : ℕ) → All HasRoom b.endpoints
+    → with_socket (record b { endpoints = b.endpoints ++ new_endpoint lport rport None states.SynSent p ∷ [] }) n (EndpointAt (length b.endpoints))
+    ≡ forget_body (with_socket (record b { endpoints = b.endpoints ++ new_endpoint lport rport None states.SynSent p ∷ [] }) n (EndpointAt (length b.endpoints)))
+opened p b n lport rport room = body_is _ _ b.listeners b.listeners _ _ (forgot_push b.endpoints (new_endpoint lport rport None states.SynSent p) room refl) refl refl
 
 starts_within : (xs ys : List ℕ) → starts xs ys ≡ true → length xs ≤ length ys
 starts_within [] ys is = omega arith

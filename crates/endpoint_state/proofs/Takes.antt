@@ -1,12 +1,16 @@
 -- What is said of an endpoint's counts holds of it once it took a segment, with one step more.
-use Rattle.std.proofs.Common.{◌≡◌, ℕ, suc, ◌+◌, ◌-◌, ◌^◌, ◌<◌, ◌≤◌, Bool, true, false, max, refl, sym, ◌∙◌, arith}
+use Rattle.std.proofs.Common.{◌≡◌, ℕ, suc, ◌+◌, ◌-◌, ◌^◌, ◌<◌, ◌≤◌, Bool, true, false, None, max, refl, sym, ◌∙◌, arith}
 use Rattle.std.specs.Prelude.{◌&&◌, not, if◌then◌else◌}
 use Rattle.std.proofs.lemmas.Bool.Decides.{nat_tests}
 use Rattle.case_forms.specs.declared.trace.Header.{Header}
 use Rattle.case_forms.specs.declared.calls.State.{State}
 use Rattle.case_forms.specs.declared.calls.State.TheVariants as states
-use Rattle.window_rules.specs.declared.congestion.Congestion.{Congestion}
-use Rattle.window_rules.specs.Growth.{counted_after, fills_window, is_avoiding}
+use Rattle.window_rules.specs.declared.control.Profile.{Profile}
+use Rattle.window_rules.specs.declared.control.Signal.TheVariants.{Syn, SynAcked, NewAck, Duplicate, Other}
+use Rattle.window_rules.specs.Control.{began}
+use Rattle.window_rules.specs.Counts.{IsAcked}
+use Rattle.window_rules.proofs.ControlLemmas.{counts_met, counts_stay}
+use Rattle.spec_tcp.specs.Signals.{at_moment, signal_at_syn, signal_in_other_states, signal_of, told_smss}
 use Rattle.streams.specs.Received.{body_kept}
 use Rattle.streams.proofs.Fronts.{next_put_all}
 use Rattle.spec_tcp.specs.declared.endpoint.Endpoint.{Endpoint}
@@ -18,7 +22,7 @@ use Rattle.spec_tcp.specs.Arrives.OtherStates.Fin.{finished, keeps_fin}
 use Rattle.spec_tcp.specs.Arrives.OtherStates.Text.{kept_start, kept_bytes, state_taken}
 use Rattle.spec_tcp.specs.Arrives.OtherStates.{taken}
 use Rattle.spec_tcp.specs.Arrives.OtherStates.Reset.{was_reset}
-use Rattle.spec_tcp.specs.Arrives.SynSent.{on_syn}
+use Rattle.spec_tcp.specs.Arrives.SynSent.{on_syn, snd_una_met}
 use Rattle.spec_tcp.specs.Arrives.Listen.{child}
 use Rattle.spec_tcp.specs.Arrives.{endpoint_taken}
 use Rattle.endpoint_state.proofs.Forgets.{IsBounded, bounded_later}
@@ -77,27 +81,30 @@ taken_stays e how m =
 
 -- 2. counts
 
--- the bytes counted grow by what is acknowledged at most
-counted_grows : (c : Congestion) (n : ℕ) → counted_after c n ≤ c.counted + n
-counted_grows c n = by (is_avoiding c) (fills_window c n)
+-- what a signal acknowledges lies below the oldest position that is not acknowledged then
+acked_in_other_states : (e : Endpoint) (m : Emission) → IsAcked e.stream.snd_una (max e.stream.snd_una m.ack) (signal_in_other_states e m)
+acked_in_other_states e m = by (acknowledges_syn e m) (is_new_ack e m) (is_duplicate e m)
   where
-    by : (avoiding fills : Bool) → (if avoiding then (if fills then c.counted + n - c.cwnd else c.counted + n) else c.counted) ≤ c.counted + n
+    by : (syn new again : Bool) → IsAcked e.stream.snd_una (max e.stream.snd_una m.ack) (if syn then SynAcked e.control.values.smss e.syn_lost else if new then NewAck (acked e m) else if again then Duplicate else Other)
+    by true new again = omega arith
+    by false true again = omega arith
+    by false false true = omega arith
+    by false false false = omega arith
+
+acked_at_syn : (e : Endpoint) (m : Emission) → IsAcked e.stream.snd_una (snd_una_met e m) (signal_at_syn e m)
+acked_at_syn e m = by (not (m.flags.syn && not m.flags.rst)) m.flags.ack
+  where
+    by : (other ack : Bool) → IsAcked e.stream.snd_una (if ack then max e.stream.snd_una 1 else e.stream.snd_una) (if other then Other else if ack then SynAcked (told_smss m.mss) e.syn_lost else Syn (told_smss m.mss))
     by true true = omega arith
     by true false = omega arith
-    by false fills = omega arith
+    by false true = omega arith
+    by false false = omega arith
 
--- they stay below the oldest position that is not acknowledged
-counted_below : (fresh : Bool) (snd_una ack counted after : ℕ) → (fresh ≡ true → snd_una < ack) → counted ≤ snd_una → after ≤ counted + (ack - snd_una) → (if fresh then after else counted) ≤ max snd_una ack
-counted_below true snd_una ack counted after new old grown = let below = new refl in omega arith
-counted_below false snd_una ack counted after new old grown = omega arith
+acked_taken : (e : Endpoint) (m : Emission) → is_syn_sent e.state ≡ false → IsAcked e.stream.snd_una (max e.stream.snd_una m.ack) (signal_of e m)
+acked_taken e m unsent = rw unsent (acked_in_other_states e m)
 
-fresh_above : (e : Endpoint) (m : Emission) → (is_new_ack e m && not (acknowledges_syn e m)) ≡ true → e.stream.snd_una < m.ack
-fresh_above e m h = grind (arith, nat_tests, h)
-
-dup_grows : (new again : Bool) (dup steps : ℕ) → dup ≤ steps → (if new then 0 else if again then dup + 1 else dup) ≤ suc steps
-dup_grows true again dup steps h = omega arith
-dup_grows false true dup steps h = omega arith
-dup_grows false false dup steps h = omega arith
+acked_met : (e : Endpoint) (m : Emission) → is_syn_sent e.state ≡ true → IsAcked e.stream.snd_una (snd_una_met e m) (signal_of e m)
+acked_met e m sent = rw sent (acked_at_syn e m)
 
 zero_or : (c : Bool) (n steps : ℕ) → n ≤ steps → (if c then 0 else n) ≤ suc steps
 zero_or true n steps h = omega arith
@@ -113,8 +120,7 @@ taken_bounded h how m moment steps e small unsent b =
     let front = next_put_all e.stream.receive.taken (kept_start e m) (body_kept e.stream.receive.taken (kept_start e m) (kept_bytes e how m) (keeps_fin e how m)) in
     record {
       snd_una = omega arith;
-      counted = counted_below (is_new_ack e m && not (acknowledges_syn e m)) e.stream.snd_una m.ack e.congestion.counted (counted_after e.congestion (acked e m)) (fresh_above e m) b.counted (counted_grows e.congestion (acked e m));
-      dup = dup_grows (is_new_ack e m) (is_duplicate e m) e.congestion.dup steps b.dup;
+      counts = counts_stay e.control (signal_of e m) (at_moment e moment) how.cwnd e.control.values.ssthresh steps e.stream.snd_una (max e.stream.snd_una m.ack) b.counts (acked_taken e m unsent);
       unanswered_expiries = omega arith;
       backoffs = zero_or (is_new_ack e m) e.backoffs steps b.backoffs;
       accepted = later.accepted;
@@ -122,13 +128,12 @@ taken_bounded h how m moment steps e small unsent b =
       unmet = λ sent. let no = sym unsent ∙ (sym state.sent ∙ sent) in absurd cc;
     }
 
-met_bounded : (h : Header) (how : TakeChoice) (m : Emission) (moment steps : ℕ) (e : Endpoint) → IsBounded steps e → IsBounded (suc steps) (on_syn h e how m moment)
-met_bounded h how m moment steps e b =
+met_bounded : (h : Header) (how : TakeChoice) (m : Emission) (moment steps : ℕ) (e : Endpoint) → is_syn_sent e.state ≡ true → IsBounded steps e → IsBounded (suc steps) (on_syn h e how m moment)
+met_bounded h how m moment steps e sent b =
     let later = bounded_later steps e b in
     record {
       snd_una = below m.flags.ack;
-      counted = above m.flags.ack;
-      dup = zero_or m.flags.ack e.congestion.dup steps b.dup;
+      counts = counts_stay e.control (signal_of e m) (at_moment e moment) how.cwnd e.control.values.ssthresh steps e.stream.snd_una (snd_una_met e m) b.counts (acked_met e m sent);
       unanswered_expiries = omega arith;
       backoffs = zero_or m.flags.ack e.backoffs steps b.backoffs;
       accepted = later.accepted;
@@ -140,32 +145,27 @@ met_bounded h how m moment steps e b =
     below true = let snd_una = b.snd_una in omega arith
     below false = b.snd_una
 
-    above : (ack : Bool) → e.congestion.counted ≤ (if ack then max e.stream.snd_una 1 else e.stream.snd_una)
-    above true = let counted = b.counted in omega arith
-    above false = b.counted
-
     state : {A : Type 0} (ack : Bool) → is_syn_sent (if ack then states.Established else states.SynReceived) ≡ true → A
     state true sent = absurd cc
     state false sent = absurd cc
 
-reset_bounded : (how : TakeChoice) (steps : ℕ) (e : Endpoint) → IsBounded steps e → IsBounded (suc steps) (was_reset e how)
-reset_bounded how steps e b =
+reset_bounded : (how : TakeChoice) (moment steps : ℕ) (e : Endpoint) → IsBounded steps e → IsBounded (suc steps) (was_reset e how moment)
+reset_bounded how moment steps e b =
     let later = bounded_later steps e b in
-    record { snd_una = b.snd_una; counted = b.counted; dup = later.dup; unanswered_expiries = omega arith; backoffs = later.backoffs; accepted = later.accepted; met = λ sent closed. absurd cc; unmet = λ sent. absurd cc }
+    record { snd_una = b.snd_una; counts = counts_stay e.control Other (at_moment e moment) how.cwnd e.control.values.ssthresh steps e.stream.snd_una e.stream.snd_una b.counts (omega arith); unanswered_expiries = omega arith; backoffs = later.backoffs; accepted = later.accepted; met = λ sent closed. absurd cc; unmet = λ sent. absurd cc }
 
 pub endpoint_taken_bounded : (h : Header) (how : TakeChoice) (m : Emission) (moment steps : ℕ) (e : Endpoint) → m.ack < 2 ^ 63 → IsBounded steps e → IsBounded (suc steps) (endpoint_taken h e how m moment)
 endpoint_taken_bounded h how m moment steps e small b = by m.flags.rst (is_syn_sent e.state) refl
   where
-    by : (r s : Bool) → is_syn_sent e.state ≡ s → IsBounded (suc steps) (if r then was_reset e how else if s then on_syn h e how m moment else taken h e how m moment)
-    by true s is = reset_bounded how steps e b
-    by false true is = met_bounded h how m moment steps e b
+    by : (r s : Bool) → is_syn_sent e.state ≡ s → IsBounded (suc steps) (if r then was_reset e how moment else if s then on_syn h e how m moment else taken h e how m moment)
+    by true s is = reset_bounded how moment steps e b
+    by false true is = met_bounded h how m moment steps e is b
     by false false is = taken_bounded h how m moment steps e small is b
 
-pub child_bounded : (l : ℕ) (how : TakeChoice) (m : Emission) (moment steps : ℕ) → IsBounded steps (child l how m moment)
-child_bounded l how m moment steps = record {
+pub child_bounded : (p : Profile) (l : ℕ) (how : TakeChoice) (m : Emission) (moment steps : ℕ) → IsBounded steps (child p l how m moment)
+child_bounded p l how m moment steps = record {
   snd_una = omega arith;
-  counted = omega arith;
-  dup = omega arith;
+  counts = counts_met p (told_smss m.mss) (record { moment = moment; srtt = None }) how.cwnd ((began p).values.ssthresh) steps;
   unanswered_expiries = omega arith;
   backoffs = omega arith;
   accepted = omega arith;

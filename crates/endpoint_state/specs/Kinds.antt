@@ -74,16 +74,16 @@ abbrev pub expired_body : (moment : ℕ) → Ports → Expired → Body → Body
 expired_body moment ports e b = at_ports b ports.lport ports.rport (λ x. after_expiry x e moment)
 
 -- the same of fast recovery
-abbrev pub recovering_rules : Recovery → Body → List (Rule × Bool)
-recovering_rules r b = rules_at b r.lport r.rport (λ x. recovery_rules x r.cwnd r.ssthresh)
+abbrev pub recovering_rules : (moment : ℕ) → Recovery → Body → List (Rule × Bool)
+recovering_rules moment r b = rules_at b r.lport r.rport (λ x. recovery_rules x r.cwnd r.ssthresh moment)
 
-abbrev pub recovered_body : Recovery → Body → Body
-recovered_body r b = at_ports b r.lport r.rport (λ x. after_recovery x r.cwnd r.ssthresh)
+abbrev pub recovered_body : (moment : ℕ) → Recovery → Body → Body
+recovered_body moment r b = at_ports b r.lport r.rport (λ x. after_recovery x r.cwnd r.ssthresh moment)
 
 -- the rules of taking, dropping and answering what waits with that line
-abbrev pub taking_rules : Header → Host → (line : ℕ) → TakeChoice → HostState tcp_shape → List (Rule × Bool)
-taking_rules hd me line choice h =
-    on (waiting line h.inbox) (just rules.Inbox true) (λ m. taker_rules hd me h.body choice m (taker h.body m))
+abbrev pub taking_rules : Header → Host → (moment line : ℕ) → TakeChoice → HostState tcp_shape → List (Rule × Bool)
+taking_rules hd me moment line choice h =
+    on (waiting line h.inbox) (just rules.Inbox true) (λ m. taker_rules hd me h.body choice m moment (taker h.body m))
 
 abbrev pub dropping_rules : (line : ℕ) → HostState tcp_shape → List (Rule × Bool)
 dropping_rules line h = on (waiting line h.inbox) (just rules.Inbox true) (λ m. [])

@@ -159,14 +159,15 @@ impl Endpoints {
     }
 
     /// Fast recovery begins at the endpoint at a place, with this congestion window and slow start threshold (in
-    /// bytes).
-    pub(crate) fn recover(&mut self, place: u32, cwnd: u32, ssthresh: u32)
+    /// bytes), at a
+    /// moment in microseconds.
+    pub(crate) fn recover(&mut self, place: u32, cwnd: u32, ssthresh: u32, moment: u64)
         requires { All HasRoom self.old }
-        ensures { self.new ≡ changed self.old place (λ e. after_recovery e cwnd ssthresh) }
+        ensures { self.new ≡ changed self.old place (λ e. after_recovery e cwnd ssthresh moment) }
     {
         let place = place as usize;
         if place < self.all.len() {
-            endpoint::recover(&mut self.all[place], cwnd, ssthresh);
+            endpoint::recover(&mut self.all[place], cwnd, ssthresh, moment);
         }
     }
 

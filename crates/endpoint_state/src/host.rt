@@ -39,6 +39,7 @@ use std::alloc::Global;
 use std::marker::Model;
 use tables::Table;
 use verdict::Rule;
+use window_rules::Profile;
 
 /// What one host has: its endpoints, listeners and sockets, the segments that it made by their numbers, those that it
 /// put on the wire by their lines, and its inbox by the lines that came in, with None for one that waits no longer.
@@ -151,7 +152,7 @@ pub(crate) fn take(
     moment: u64,
 ) -> Result<(), StepFault>
     requires ready { IsReady host.old }
-    ensures fault { fault_rule result ≡ first_broken (taking_rules header.now me line how host.old) }
+    ensures fault { fault_rule result ≡ first_broken (taking_rules header.now me moment line how host.old) }
     ensures ok { OnOk result (host.new ≡ forget_host (taken_one header.now moment line how host.old)) }
     ensures err { OnErr result (host.new ≡ host.old) }
 {
@@ -215,19 +216,20 @@ pub(crate) fn expire(
 }
 
 /// Fast recovery begins. An error is the first rule that is broken; nothing is changed then.
-pub(crate) fn recover(host: &mut HostState, recovery: Recovery) -> Result<(), Rule>
+pub(crate) fn recover(host: &mut HostState, recovery: Recovery, moment: u64) -> Result<(), Rule>
     requires { IsReady host.old }
-    ensures rule { result_err result ≡ first_broken (recovering_rules recovery host.old.body) }
+    ensures rule { result_err result ≡ first_broken (recovering_rules moment recovery host.old.body) }
     ensures ok { OnOk result (host.new ≡ forget_host
-        (record host.old { body = recovered_body recovery host.old.body })) }
+        (record host.old { body = recovered_body moment recovery host.old.body })) }
     ensures err { OnErr result (host.new ≡ host.old) }
 {
-    host.body.recover(recovery)
+    host.body.recover(recovery, moment)
 }
 
 /// A call that may have this answer has its effect.
 pub(crate) fn do_call(
     alloc: Global,
+    profile: Profile,
     host: &mut HostState,
     call: &Call,
     answer: &Answer,
@@ -235,10 +237,10 @@ pub(crate) fn do_call(
     requires ready { IsReady host.old }
     requires allowed { call_allows host.old.body call.now answer.now ≡ true }
     ensures ok { OnOk result (host.new ≡ forget_host
-        (record host.old { body = after_call host.old.body call.now answer.now })) }
+        (record host.old { body = after_call profile host.old.body call.now answer.now })) }
     ensures err { OnErr result (host.new ≡ host.old) }
 {
-    host.body.do_call(alloc, call, answer)
+    host.body.do_call(alloc, profile, call, answer)
 }
 
 impl HostState {
@@ -345,14 +347,15 @@ impl HostState {
         me: Host,
         line: u64,
         how: TakeChoice,
+        moment: u64,
     ) -> Result<(), Rule>
         requires { AreReadable self.now.body.endpoints }
-        ensures { result_err result ≡ first_broken (taking_rules header.now me line how self.now) }
+        ensures { result_err result ≡ first_broken (taking_rules header.now me moment line how self.now) }
     {
         let Some(m) = waiting(&self.inbox, line) else {
             return Err(Rule::Inbox);
         };
-        self.body.admitted_taking(header, me, how, m)?;
+        self.body.admitted_taking(header, me, how, m, moment)?;
         Ok(())
     }
 
@@ -392,10 +395,10 @@ impl HostState {
     }
 
     /// Whether fast recovery may begin. An error is the first rule that is broken.
-    pub(crate) fn admits_recovery(&self, recovery: Recovery) -> Result<(), Rule>
-        ensures { result_err result ≡ first_broken (recovering_rules recovery self.now.body) }
+    pub(crate) fn admits_recovery(&self, recovery: Recovery, moment: u64) -> Result<(), Rule>
+        ensures { result_err result ≡ first_broken (recovering_rules moment recovery self.now.body) }
     {
-        self.body.admitted_recovery(recovery)?;
+        self.body.admitted_recovery(recovery, moment)?;
         Ok(())
     }
 }

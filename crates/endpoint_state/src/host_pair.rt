@@ -16,6 +16,7 @@ use segment::OutOfMemory;
 use spec_tcp::Emission;
 use std::alloc::Global;
 use std::marker::Model;
+use window_rules::Profile;
 
 /// The two hosts.
 #[derive(Drop)]
@@ -88,6 +89,7 @@ impl Hosts {
     pub(crate) fn do_call(
         &mut self,
         alloc: Global,
+        profile: Profile,
         host: Host,
         call: &Call,
         answer: &Answer,
@@ -96,10 +98,10 @@ impl Hosts {
         requires allowed { call_allows (pick self.old host).body call.now answer.now ≡ true }
         ensures ok { OnOk result (self.new
             ≡ forget_hosts (with_host self.old host (record
-            (pick self.old host) { body = after_call (pick self.old host).body call.now answer.now }))) }
+            (pick self.old host) { body = after_call profile (pick self.old host).body call.now answer.now }))) }
         ensures err { OnErr result (self.new ≡ self.old) }
     {
-        host::do_call(alloc, self.side(host), call, answer)
+        host::do_call(alloc, profile, self.side(host), call, answer)
     }
 
     /// Both hosts at the start.

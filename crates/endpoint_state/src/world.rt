@@ -235,7 +235,7 @@ impl World {
     {
         self.hosts
             .near(host)
-            .admits_taking(&self.header, host, line, how)
+            .admits_taking(&self.header, host, line, how, moment)
     }
 
     /// Whether a host may drop what came in with this line. An error is the first rule that is broken: nothing waits
@@ -275,12 +275,12 @@ impl World {
             .admits_expiry(&self.header, ports, expired, moment)
     }
 
-    /// Whether fast recovery may begin (RFC 5681, 3.2). An error is the first rule that is broken.
-    pub fn admits_recovery(&self, host: Host, recovery: Recovery) -> Result<(), Rule>
+    /// Whether fast recovery may begin at a moment in microseconds (RFC 5681, 3.2). An error is the first rule that is broken.
+    pub fn admits_recovery(&self, host: Host, moment: u64, recovery: Recovery) -> Result<(), Rule>
         ensures { result_err result ≡ first_broken
-            (step_rules (tcp self.now.header) 0 self.now.world (At host (Does recovery))) }
+            (step_rules (tcp self.now.header) moment self.now.world (At host (Does recovery))) }
     {
-        self.hosts.near(host).admits_recovery(recovery)
+        self.hosts.near(host).admits_recovery(recovery, moment)
     }
 
     /// A thread begins a call. An error is the rule that is broken, or that memory ran out; the world is then as it
@@ -494,7 +494,7 @@ impl World {
         ensures ok { OnOk result (self.new ≡ after self.old moment (At host (Does recovery))) }
         ensures err { OnErr result (self.new ≡ self.old) }
     {
-        host::recover(self.hosts.side(host), recovery)?;
+        host::recover(self.hosts.side(host), recovery, moment)?;
         self.steps += 1;
         Ok(())
     }

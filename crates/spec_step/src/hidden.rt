@@ -67,7 +67,7 @@ pub(crate) fn admits_hidden<Taken>(
         Label::T { host, line, choice } => world.admits_taking(*host, moment, *line, *choice),
         Label::K { host, line } => world.admits_dropping(*host, *line),
         Label::R { host, line } => world.admits_reset(*host, moment, *line),
-        Label::F { host, recovery } => world.admits_recovery(*host, *recovery),
+        Label::F { host, recovery } => world.admits_recovery(*host, moment, *recovery),
     }
 }
 

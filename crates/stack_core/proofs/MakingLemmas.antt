@@ -20,7 +20,8 @@ use Rattle.verdict.specs.Rules.{first_broken}
 use Rattle.verdict.proofs.RuleLemmas.{none_all, all_none}
 use Rattle.seqno.specs.declared.word.Word.{Word}
 use Rattle.streams.specs.Sent.{end_of}
-use Rattle.window_rules.specs.Windows.{offered_edge, congestion_edge}
+use Rattle.window_rules.specs.Windows.{offered_edge}
+use Rattle.window_rules.specs.Control.{control_edge}
 use Rattle.case_forms.specs.declared.steps.SegmentPlan.{SegmentPlan}
 use Rattle.spec_tcp.specs.declared.endpoint.Endpoint.{Endpoint}
 use Rattle.spec_tcp.specs.Endpoints.{snd_max, rcv_nxt, flag_count}
@@ -67,8 +68,8 @@ pub record Room (e : Endpoint) (pos len : ℕ) (fin : Bool) : Type 0 where
   pub snd_una : e.stream.snd_una ≤ pos
   pub max : pos ≤ snd_max e
   pub offered : 0 < len → snd_max e < pos + len → pos + len ≤ offered_edge e.stream.snd_una e.window.snd_wnd e.probe_due
-  pub congested : 0 < len → snd_max e < pos + len → pos + len ≤ congestion_edge e.stream.snd_una e.congestion
-  pub size : len ≤ e.congestion.smss
+  pub congested : 0 < len → snd_max e < pos + len → pos + len ≤ control_edge e.stream.snd_una e.control
+  pub size : len ≤ e.control.values.smss
 
 -- tests that are false, or true
 left_false : (a : Bool) → (a && true) ≡ false → a ≡ false
@@ -155,7 +156,7 @@ module _ (e : Endpoint) (pos len : ℕ) (ack fin : Bool) (window : ℕ) (iss : O
         max = at_most pos (snd_max e) low.1;
         offered = λ p q. at_most (pos + len) _ (then_false (nat_lt 0 len && nat_lt (snd_max e) (pos + len)) _ t.1.1.1.1.1.1.0 (fresh p q));
         congested = λ p q. at_most (pos + len) _ (then_false (nat_lt 0 len && nat_lt (snd_max e) (pos + len)) _ t.1.1.1.1.1.1.1.0 (fresh p q));
-        size = at_most len e.congestion.smss t.1.1.1.1.1.1.1.1.0;
+        size = at_most len e.control.values.smss t.1.1.1.1.1.1.1.1.0;
       }
 
 ack_good : (n : ℕ) → (if nat_le 1 n then n == 0 else nat_le 1 n) ≡ false
@@ -183,7 +184,7 @@ byte_may e pos len window fin r some new =
     let positive : 0 < pos = r.positive some in
     let accepted : pos + len ≤ end_of e.stream.accepted = r.accepted some in
     let offered : pos + len ≤ offered_edge e.stream.snd_una e.window.snd_wnd e.probe_due = r.offered some new in
-    let congested : pos + len ≤ congestion_edge e.stream.snd_una e.congestion = r.congested some new in
+    let congested : pos + len ≤ control_edge e.stream.snd_una e.control = r.congested some new in
     all_none (making_rules e (bytes_of e 1 window)) ((
       rw r.opened refl,
       (
@@ -199,9 +200,9 @@ byte_may e pos len window fin r some new =
                 (
                   rw (not_above (snd_max e + 1) (offered_edge e.stream.snd_una e.window.snd_wnd e.probe_due) (omega arith)) (no_test _),
                   (
-                    rw (not_above (snd_max e + 1) (congestion_edge e.stream.snd_una e.congestion) (omega arith)) (no_test _),
+                    rw (not_above (snd_max e + 1) (control_edge e.stream.snd_una e.control) (omega arith)) (no_test _),
                     (
-                      not_above 1 e.congestion.smss (omega arith),
+                      not_above 1 e.control.values.smss (omega arith),
                       tt,
                     ),
                   ),
@@ -235,7 +236,7 @@ fin_may e pos len window r new =
                   (
                     refl,
                     (
-                      not_above 0 e.congestion.smss (omega arith),
+                      not_above 0 e.control.values.smss (omega arith),
                       tt,
                     ),
                   ),
@@ -296,7 +297,7 @@ syn_may e pos len window w ack fin iss shift new h past =
                     (
                       refl,
                       (
-                        not_above 0 e.congestion.smss (omega arith),
+                        not_above 0 e.control.values.smss (omega arith),
                         tt,
                       ),
                     ),

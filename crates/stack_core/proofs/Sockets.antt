@@ -14,6 +14,7 @@ use Rattle.case_forms.specs.declared.trace.Header.{Header}
 use Rattle.spec_network.specs.Tables.{waiting}
 use Rattle.spec_network.specs.Hosts.{HostState, Deed, Does, Expires, Makes, Sends, Gets, Hears, Takes, Drops, Answers}
 use Rattle.spec_network.specs.HostSteps.{deed_after}
+use Rattle.window_rules.specs.declared.control.Profile.{Profile}
 use Rattle.spec_tcp.specs.declared.endpoint.Emission.{Emission}
 use Rattle.spec_tcp.specs.declared.endpoint.Endpoint.{Endpoint}
 use Rattle.spec_tcp.specs.declared.endpoint.Socket.{Socket}
@@ -77,16 +78,16 @@ accept_sockets b n (ListenerAt l) = by (queue_of b l)
     by [] = inl refl
     by (child ∷ queue) = inr (inr (n, record { thing = EndpointAt child; live = true }, refl, refl))
 
-pub call_sockets : (b : Body) (call : Call) (answer : Answer) → SocketsAfter b.sockets (after_call b call answer).sockets (gives call answer)
-call_sockets b (calls.Listen host port backlog) (answers.Given n) = inr (inr (n, record { thing = ListenerAt (length b.listeners); live = true }, refl, refl))
-call_sockets b (calls.Connect host lport rport) (answers.Given n) = inr (inr (n, record { thing = EndpointAt (length b.endpoints); live = true }, refl, refl))
-call_sockets b (calls.Accept h) (answers.Given n) = map_or_cases (λ (c : Body). SocketsAfter b.sockets c.sockets (Some n)) (thing_of b h) b (after_accept b n) (λ e. inl refl) (λ thing e. accept_sockets b n thing)
-call_sockets b (calls.Send h bytes) (answers.Given n) = inl (change_sockets b h (after_send bytes n))
-call_sockets b (calls.Recv h most) (answers.Bytes bytes) = inl (change_sockets b h (after_recv bytes))
-call_sockets b (calls.Shut h) answers.Done = inl (change_sockets b h after_shut)
-call_sockets b (calls.Close h) answers.Done = gone_sockets b h after_close
-call_sockets b (calls.Abort h) answers.Done = gone_sockets b h after_abort
-call_sockets b call answer = inl refl
+pub call_sockets : (p : Profile) (b : Body) (call : Call) (answer : Answer) → SocketsAfter b.sockets (after_call p b call answer).sockets (gives call answer)
+call_sockets p b (calls.Listen host port backlog) (answers.Given n) = inr (inr (n, record { thing = ListenerAt (length b.listeners); live = true }, refl, refl))
+call_sockets p b (calls.Connect host lport rport) (answers.Given n) = inr (inr (n, record { thing = EndpointAt (length b.endpoints); live = true }, refl, refl))
+call_sockets p b (calls.Accept h) (answers.Given n) = map_or_cases (λ (c : Body). SocketsAfter b.sockets c.sockets (Some n)) (thing_of b h) b (after_accept b n) (λ e. inl refl) (λ thing e. accept_sockets b n thing)
+call_sockets p b (calls.Send h bytes) (answers.Given n) = inl (change_sockets b h (after_send bytes n))
+call_sockets p b (calls.Recv h most) (answers.Bytes bytes) = inl (change_sockets b h (after_recv bytes))
+call_sockets p b (calls.Shut h) answers.Done = inl (change_sockets b h after_shut)
+call_sockets p b (calls.Close h) answers.Done = gone_sockets b h after_close
+call_sockets p b (calls.Abort h) answers.Done = gone_sockets b h after_abort
+call_sockets p b call answer = inl refl
 
 -- 3. how many they are
 

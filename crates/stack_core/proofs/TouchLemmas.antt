@@ -17,6 +17,8 @@ use Rattle.spec_network.specs.Tables.{Both, on, other, pick, waiting, with_host}
 use Rattle.spec_network.specs.Hosts.{HostState, Deed, Does, Expires, Makes, Sends, Gets, Hears, Takes, Drops, Answers, Turn, Idle, Called, Answered, World, Step, Begin, Finish, Effect, At, turn_of}
 use Rattle.spec_network.specs.HostRules.{aim_of}
 use Rattle.spec_network.specs.HostSteps.{after, call_after, deed_after, effect_after, start}
+use Rattle.window_rules.specs.declared.control.Profile.{Profile}
+use Rattle.spec_tcp.specs.Signals.{profile_of}
 use Rattle.spec_tcp.specs.declared.endpoint.Emission.{Emission}
 use Rattle.spec_tcp.specs.declared.endpoint.Endpoint.{Endpoint}
 use Rattle.spec_tcp.specs.declared.endpoint.SocketTarget.{SocketTarget}
@@ -160,27 +162,27 @@ accept_leaves b h n = by (thing_of b h)
     by (Some (ListenerAt l)) = queued l (queue_of b l)
     by (Some (EndpointAt i)) = leaves_same touches.Nobody b.endpoints
 
-call_leaves : (b : Body) (call : Call) (answer : Answer) → Leaves (call_touch b call) b.endpoints (after_call b call answer).endpoints
-call_leaves b (calls.Listen host port backlog) (answers.Given n) = leaves_same touches.Nobody b.endpoints
-call_leaves b (calls.Connect host lport rport) (answers.Given n) = leaves_push touches.Nobody b.endpoints _
-call_leaves b (calls.Accept h) (answers.Given n) = accept_leaves b h n
-call_leaves b (calls.Send h bytes) (answers.Given n) = change_leaves b h (after_send bytes n)
-call_leaves b (calls.Recv h most) (answers.Bytes bytes) = change_leaves b h (after_recv bytes)
-call_leaves b (calls.Shut h) answers.Done = change_leaves b h after_shut
-call_leaves b (calls.Close h) answers.Done = gone_leaves b h after_close
-call_leaves b (calls.Abort h) answers.Done = gone_leaves b h after_abort
-call_leaves b call answer = leaves_same _ b.endpoints
+call_leaves : (p : Profile) (b : Body) (call : Call) (answer : Answer) → Leaves (call_touch b call) b.endpoints (after_call p b call answer).endpoints
+call_leaves p b (calls.Listen host port backlog) (answers.Given n) = leaves_same touches.Nobody b.endpoints
+call_leaves p b (calls.Connect host lport rport) (answers.Given n) = leaves_push touches.Nobody b.endpoints _
+call_leaves p b (calls.Accept h) (answers.Given n) = accept_leaves b h n
+call_leaves p b (calls.Send h bytes) (answers.Given n) = change_leaves b h (after_send bytes n)
+call_leaves p b (calls.Recv h most) (answers.Bytes bytes) = change_leaves b h (after_recv bytes)
+call_leaves p b (calls.Shut h) answers.Done = change_leaves b h after_shut
+call_leaves p b (calls.Close h) answers.Done = gone_leaves b h after_close
+call_leaves p b (calls.Abort h) answers.Done = gone_leaves b h after_abort
+call_leaves p b call answer = leaves_same _ b.endpoints
 
 -- 4. a step
 
 abbrev pub ends : Host → World tcp_shape → List Endpoint
 ends me w = (pick w.hosts me).body.endpoints
 
-call_at : (me host : Host) (hosts : Both (HostState tcp_shape)) (call : Call) (answer : Answer) → Leaves (call_touch (pick hosts me).body call) (pick hosts me).body.endpoints (pick (with_host hosts host (record (pick hosts host) { body = after_call (pick hosts host).body call answer })) me).body.endpoints
-call_at Zero Zero hosts call answer = call_leaves hosts.zero.body call answer
-call_at Zero One hosts call answer = leaves_same _ hosts.zero.body.endpoints
-call_at One Zero hosts call answer = leaves_same _ hosts.one.body.endpoints
-call_at One One hosts call answer = call_leaves hosts.one.body call answer
+call_at : (p : Profile) (me host : Host) (hosts : Both (HostState tcp_shape)) (call : Call) (answer : Answer) → Leaves (call_touch (pick hosts me).body call) (pick hosts me).body.endpoints (pick (with_host hosts host (record (pick hosts host) { body = after_call p (pick hosts host).body call answer })) me).body.endpoints
+call_at p Zero Zero hosts call answer = call_leaves p hosts.zero.body call answer
+call_at p Zero One hosts call answer = leaves_same _ hosts.zero.body.endpoints
+call_at p One Zero hosts call answer = leaves_same _ hosts.one.body.endpoints
+call_at p One One hosts call answer = call_leaves p hosts.one.body call answer
 
 deed_at : (h : Header) (me : Host) (moment : ℕ) (w : World tcp_shape) (d : Deed tcp_shape) → Leaves (deed_touch (pick w.hosts me) d) (ends me w) (ends me (after (tcp h) moment w (At me d)))
 deed_at h Zero moment w d = deed_leaves h Zero moment (suc w.count) w.hosts.one.wire w.hosts.zero d
@@ -194,7 +196,7 @@ module _ (h : Header) (me : Host) (moment : ℕ) (w : World tcp_shape) where
     where
       by : (o : Option Host) → Leaves (call_touch (pick w.hosts me).body call) (ends me w) (pick (call_after (tcp h) moment w.hosts (acts.Calls call answer) o) me).body.endpoints
       by None = leaves_same _ (ends me w)
-      by (Some host) = call_at me host w.hosts call answer
+      by (Some host) = call_at (profile_of h.initial) me host w.hosts call answer
 
   pub step_leaves : (step : Step tcp_shape) → ((host : Host) (d : Deed tcp_shape) → step ≡ At host d → host ≡ me) → Leaves (touched me w step) (ends me w) (ends me (after (tcp h) moment w step))
   step_leaves (Begin line t call) own = leaves_same touches.Nobody (ends me w)

@@ -78,7 +78,10 @@ impl HostCore {
         Before {
             place,
             window: match endpoint {
-                Some(endpoint) => cwnd_at_arrival(self.recording.header(), endpoint, m),
+                Some(endpoint) => {
+                    let moment = self.last_tick().moment;
+                    cwnd_at_arrival(self.recording.header(), endpoint, m, moment)
+                }
                 None => 0,
             },
             seen: endpoint.map(Seen::of),
@@ -281,7 +284,7 @@ impl HostCore {
     // The greatest congestion window and slow start threshold of fast recovery.
     fn greatest_recovery(&self, ports: Ports) -> RtoChoice {
         match self.recording.body().endpoint_of(ports.lport, ports.rport) {
-            Some(endpoint) => at_recovery(endpoint),
+            Some(endpoint) => at_recovery(endpoint, self.last_tick().moment),
             None => RtoChoice {
                 cwnd: 0,
                 ssthresh: 0,

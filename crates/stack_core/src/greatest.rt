@@ -2,32 +2,27 @@
 //! permits.
 
 use case_forms::{Header, RtoChoice};
-use endpoint::{greatest_at_syn, greatest_values, greatest_window};
+use endpoint::{greatest_at_recovery, greatest_taking, greatest_values};
 use endpoint_state::Endpoint;
 use spec_tcp::{Arrived, Emission};
-use window_rules::on_fast;
 
 /// The greatest congestion window once an endpoint took a segment; 0 where the endpoint is further than positions go.
-pub(crate) fn cwnd_at_arrival(header: &Header, endpoint: &Endpoint, m: &Emission) -> u32 {
+pub(crate) fn cwnd_at_arrival(header: &Header, endpoint: &Endpoint, m: &Emission, moment: u64) -> u32 {
     if 1 << 63 <= endpoint.stream.snd_una {
         return 0;
     }
     let m = Arrived::read(header.version, endpoint, m);
-    narrowed(if endpoint.state.is_syn_sent() {
-        greatest_at_syn(header.initial, endpoint, &m)
-    } else {
-        greatest_window(header.initial, endpoint, &m)
-    })
+    narrowed(greatest_taking(endpoint, &m, moment))
 }
 
 /// The greatest congestion window and slow start threshold once fast recovery began (RFC 5681, 3.2).
-pub(crate) fn at_recovery(endpoint: &Endpoint) -> RtoChoice {
-    growth_to(on_fast(&endpoint.congestion, endpoint.flight()))
+pub(crate) fn at_recovery(endpoint: &Endpoint, moment: u64) -> RtoChoice {
+    growth_to(greatest_at_recovery(endpoint, moment))
 }
 
 /// The same once the retransmission timer expired (RFC 5681, 3.1).
-pub(crate) fn at_timeout(endpoint: &Endpoint) -> RtoChoice {
-    growth_to(greatest_values(endpoint))
+pub(crate) fn at_timeout(endpoint: &Endpoint, moment: u64) -> RtoChoice {
+    growth_to(greatest_values(endpoint, moment))
 }
 
 fn growth_to(greatest: (u64, u64)) -> RtoChoice {

@@ -8,7 +8,7 @@ use crate::send_states::{Again, SendState};
 use case_forms::{Flags, SegmentPlan, Version};
 use endpoint_state::Endpoint;
 use seqno::Word;
-use window_rules::{congestion_edge, offered_edge};
+use window_rules::offered_edge;
 
 // The greatest payload that a core lets out, in bytes: with a header and both options it fits into a segment.
 pub(crate) const GREATEST_PAYLOAD: u16 = 65_487;
@@ -131,13 +131,13 @@ fn retransmitted(
 fn edge_of(endpoint: &Endpoint) -> u64 {
     let snd_una = endpoint.stream.snd_una.min(GREATEST_POSITION);
     let offered = offered_edge(snd_una, endpoint.window.snd_wnd, endpoint.probe_due);
-    offered.min(congestion_edge(snd_una, &endpoint.congestion))
+    offered.min(endpoint.control.send_edge(snd_una))
 }
 
 // Bytes from a position on, up to that one at most.
 fn bytes_from(endpoint: &Endpoint, from: u64, edge: u64, offer: AdvertisedWindow) -> SegmentPlan {
     let end = edge.min(endpoint.stream.accepted.end());
-    let most = u64::from(endpoint.congestion.smss).min(u64::from(GREATEST_PAYLOAD));
+    let most = u64::from(endpoint.control.values.smss).min(u64::from(GREATEST_PAYLOAD));
     let len = end.saturating_sub(from).min(most).min(65_535) as u16;
     plain(endpoint, from, len, offer.window)
 }

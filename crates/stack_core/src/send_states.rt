@@ -115,7 +115,7 @@ impl Seen {
         Seen {
             snd_una: endpoint.stream.snd_una,
             snd_wnd: endpoint.window.snd_wnd,
-            fast: endpoint.congestion.fast,
+            fast: endpoint.control.values.fast,
         }
     }
 }
@@ -154,8 +154,8 @@ impl SendState {
             let partly = seen.fast && seen.snd_una < snd_una && snd_una < now.recover;
             if before.place != Some(place) {
                 self.again = None;
-            } else if (now.congestion.fast && !seen.fast) || partly {
-                let end = snd_una.saturating_add(u64::from(now.congestion.smss));
+            } else if (now.control.values.fast && !seen.fast) || partly {
+                let end = snd_una.saturating_add(u64::from(now.control.values.smss));
                 self.again = Some(Again { next: snd_una, end });
             } else if seen.snd_wnd == 0 && 0 < now.window.snd_wnd {
                 self.again = Some(all_outstanding(now));
@@ -203,7 +203,7 @@ impl SendState {
             self.read = self.read.saturating_add(bytes.len() as u64);
             let edge = now.rcv_nxt().saturating_add(self.room(now, ring));
             let least = u64::from(ring / 2)
-                .min(u64::from(now.congestion.smss))
+                .min(u64::from(now.control.values.smss))
                 .max(1);
             if now.window.rcv_adv.saturating_add(least) <= edge {
                 self.acknowledges = true;

@@ -63,7 +63,7 @@ fn describe_stream(out: &mut Vec<u8>, endpoint: &Endpoint) -> Result<(), OutOfMe
 
 fn describe_windows(out: &mut Vec<u8>, endpoint: &Endpoint) -> Result<(), OutOfMemory> {
     use Piece::{Number, Word};
-    let congestion = &endpoint.congestion;
+    let congestion = &endpoint.control.values;
     say(
         out,
         &[

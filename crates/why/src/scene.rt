@@ -43,6 +43,14 @@ pub(crate) struct Scene<'t> {
 }
 
 impl<'t> Scene<'t> {
+    /// The moment of the step.
+    pub(crate) fn moment(&self) -> u64 {
+        match self.steps.get(self.place) {
+            Some(step) => step.moment,
+            None => 0,
+        }
+    }
+
     /// The world before a step, where the steps before it are permitted.
     pub(crate) fn before(
         alloc: Global,

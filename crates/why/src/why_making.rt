@@ -8,7 +8,7 @@ use crate::words::push_flags;
 use case_forms::{Flags, Host, OutOfMemory, SegmentPlan};
 use endpoint_state::Endpoint;
 use verdict::Rule;
-use window_rules::{congestion_edge, offered_edge};
+use window_rules::offered_edge;
 
 // Positions of the world are below this.
 const POSITIONS: u64 = 1 << 63;
@@ -53,7 +53,7 @@ fn why_at(
                 Piece::Word("it holds "),
                 Piece::Number(u64::from(plan.len)),
                 Piece::Word(" bytes, SMSS is "),
-                Piece::Number(u64::from(endpoint.congestion.smss)),
+                Piece::Number(u64::from(endpoint.control.values.smss)),
             ],
         ),
     }
@@ -98,8 +98,8 @@ fn congestion(
     if snd_una >= POSITIONS {
         return Ok(());
     }
-    let edge = congestion_edge(snd_una, &endpoint.congestion);
-    let cwnd = u64::from(endpoint.congestion.cwnd);
+    let edge = endpoint.control.send_edge(snd_una);
+    let cwnd = u64::from(endpoint.control.values.cwnd);
     add(
         out,
         &[
@@ -118,7 +118,7 @@ fn congestion(
             out,
             &[
                 Piece::Word(" + two segments of "),
-                Piece::Number(u64::from(endpoint.congestion.smss)),
+                Piece::Number(u64::from(endpoint.control.values.smss)),
             ],
         )?;
     }

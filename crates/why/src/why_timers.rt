@@ -5,10 +5,9 @@ use crate::scene::Scene;
 use crate::text::{Piece, say};
 use crate::why_wire::no_endpoint;
 use case_forms::{Extras, Host, OutOfMemory, Recovery, Timer};
-use endpoint::greatest_values;
+use endpoint::{greatest_recovery, greatest_values};
 use endpoint_state::Endpoint;
 use verdict::Rule;
-use window_rules::{on_fast, recovery_window};
 
 /// What the rule compares at an expiry, at a moment.
 pub(crate) fn why_expiry(
@@ -24,7 +23,7 @@ pub(crate) fn why_expiry(
             out,
             &[Piece::Word("the endpoint is CLOSED, and has no timers")],
         ),
-        (Rule::Growth, Extras::Two(cwnd, ssthresh)) => growth(out, endpoint, cwnd, ssthresh),
+        (Rule::Growth, Extras::Two(cwnd, ssthresh)) => growth(out, endpoint, cwnd, ssthresh, asked.0),
         (Rule::TimerOff, _) => off(out, endpoint, timer),
         _ => early(out, scene, endpoint, timer, asked.0),
     }
@@ -35,8 +34,9 @@ fn growth(
     endpoint: &Endpoint,
     cwnd: u32,
     ssthresh: u32,
+    moment: u64,
 ) -> Result<(), OutOfMemory> {
-    let (most, highest) = greatest_values(endpoint);
+    let (most, highest) = greatest_values(endpoint, moment);
     say(
         out,
         &[
@@ -199,7 +199,7 @@ pub(crate) fn why_recovery(
                 Piece::Word("; both have to be 1 at least"),
             ],
         ),
-        _ => bad_recovery(out, endpoint, recovery),
+        _ => bad_recovery(out, endpoint, recovery, scene.moment()),
     }
 }
 
@@ -207,8 +207,9 @@ fn bad_recovery(
     out: &mut Vec<u8>,
     endpoint: &Endpoint,
     recovery: Recovery,
+    moment: u64,
 ) -> Result<(), OutOfMemory> {
-    let congestion = &endpoint.congestion;
+    let congestion = &endpoint.control.values;
     say(
         out,
         &[
@@ -223,8 +224,7 @@ fn bad_recovery(
             }),
         ],
     )?;
-    let (_, highest) = on_fast(congestion, endpoint.flight());
-    let most = recovery_window(congestion, recovery.ssthresh);
+    let (most, highest) = greatest_recovery(endpoint, recovery.ssthresh, moment);
     say(
         out,
         &[

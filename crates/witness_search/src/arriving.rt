@@ -7,7 +7,7 @@ use crate::expiring::saturated;
 use crate::search::Search;
 use crate::sending::{place_of, plan_of};
 use case_forms::{Event, Extras, Host, Ports, TakeChoice, Timer, Wire};
-use endpoint::{greatest_at_syn, greatest_window, matches_sent, reset_of};
+use endpoint::{greatest_taking, matches_sent, reset_of};
 use endpoint_state::{Endpoint, StepFault, World};
 use segment::Flag;
 use seqno::number;
@@ -44,19 +44,14 @@ fn as_read<'m>(world: &World, endpoint: &Endpoint, m: &'m Emission) -> Option<Ar
 }
 
 // The greatest congestion window with which a segment may be taken; 0 at a listener.
-fn greatest(world: &World, host: Host, m: &Emission) -> u32 {
-    let initial = world.header().initial;
+fn greatest(world: &World, host: Host, m: &Emission, moment: u64) -> u32 {
     let Some(endpoint) = endpoint_found(world, host, m) else {
         return 0;
     };
     let Some(m) = as_read(world, endpoint, m) else {
         return 0;
     };
-    if endpoint.state.is_syn_sent() {
-        saturated(greatest_at_syn(initial, endpoint, &m))
-    } else {
-        saturated(greatest_window(initial, endpoint, &m))
-    }
+    saturated(greatest_taking(endpoint, &m, moment))
 }
 
 // What taking a segment changes that later lines of its taker may still show as it was.
@@ -193,7 +188,7 @@ impl<'t> Search<'t> {
     fn choice(&self, host: Host, line: u64, keep: bool) -> Option<TakeChoice> {
         let m = self.world.waiting(host, line)?;
         let mut choice = TakeChoice {
-            cwnd: greatest(&self.world, host, m),
+            cwnd: greatest(&self.world, host, m, self.moment),
             keep,
             sample: true,
         };

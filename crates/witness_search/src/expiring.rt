@@ -4,9 +4,8 @@ use crate::calls::endpoint_at;
 use crate::deeds::extras_of;
 use crate::search::{Added, Search};
 use case_forms::{Expired, Host, Ports, Recovery, RtoChoice, Timer};
-use endpoint::greatest_values;
+use endpoint::{greatest_at_recovery, greatest_values};
 use endpoint_state::{Endpoint, StepFault};
-use window_rules::on_fast;
 
 /// The number, or the greatest of 32 bits where it is above.
 pub(crate) fn saturated(number: u64) -> u32 {
@@ -14,10 +13,10 @@ pub(crate) fn saturated(number: u64) -> u32 {
 }
 
 // A timer with the greatest values that may be chosen where it expires.
-fn expired_at(endpoint: &Endpoint, timer: Timer) -> Expired {
+fn expired_at(endpoint: &Endpoint, timer: Timer, moment: u64) -> Expired {
     match timer {
         Timer::Rto => {
-            let (cwnd, ssthresh) = greatest_values(endpoint);
+            let (cwnd, ssthresh) = greatest_values(endpoint, moment);
             Expired::Rto(RtoChoice {
                 cwnd: saturated(cwnd),
                 ssthresh: saturated(ssthresh),
@@ -50,7 +49,7 @@ impl Search<'_> {
 
     fn chosen(&self, host: Host, ports: Ports, timer: Timer) -> Expired {
         match self.world.body(host).endpoint_of(ports.lport, ports.rport) {
-            Some(endpoint) => expired_at(endpoint, timer),
+            Some(endpoint) => expired_at(endpoint, timer, self.moment),
             None => match timer {
                 Timer::Rto => Expired::Rto(RtoChoice {
                     cwnd: 0,
@@ -113,7 +112,7 @@ impl Search<'_> {
         let Some(endpoint) = self.world.body(host).endpoint_of(ports.lport, ports.rport) else {
             return Ok(false);
         };
-        let (cwnd, ssthresh) = on_fast(&endpoint.congestion, endpoint.flight());
+        let (cwnd, ssthresh) = greatest_at_recovery(endpoint, self.moment);
         let recovery = Recovery {
             lport: ports.lport,
             rport: ports.rport,

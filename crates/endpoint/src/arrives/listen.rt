@@ -6,11 +6,12 @@ ghost use Rattle.std.specs.Result.{result_err};
 ghost use Rattle.verdict.specs.Rules.{first_broken};
 
 use crate::arrives::other_states::window::persist_taken;
-use crate::arrives::syn_sent::told_smss;
+use crate::signals::{at_moment, told_smss};
 use case_forms::{State, TakeChoice};
 use spec_tcp::{Emission, Endpoint};
 use std::alloc::Global;
 use verdict::Rule;
+use window_rules::{Control, Profile, Signal};
 
 /// Whether a listener may take the segment: a SYN that is neither acknowledgment nor reset (RFC 9293, 3.10.7.2). An
 /// error is the first rule that is broken.
@@ -29,19 +30,43 @@ pub fn admits_listening(how: TakeChoice, m: &Emission) -> Result<(), Rule>
     Ok(())
 }
 
-/// A child of the listener at this place, which took the peer's SYN at a moment in microseconds (RFC 9293, 3.10.7.2).
-pub fn child(alloc: Global, listener: u32, how: TakeChoice, m: &Emission, moment: u64) -> Endpoint
-    ensures { result ≡ child listener how m.now moment }
+/// A child of the listener at this place, which took the peer's SYN at a moment in microseconds (RFC 9293, 3.10.7.2). Its
+/// congestion control goes by this profile.
+pub fn child(
+    alloc: Global,
+    profile: Profile,
+    listener: u32,
+    how: TakeChoice,
+    m: &Emission,
+    moment: u64,
+) -> Endpoint
+    ensures { result ≡ child profile listener how m.now moment }
 {
-    let mut child = Endpoint::new(alloc, m.rport, m.lport, Some(listener), State::SynReceived);
+    let mut child = Endpoint::new(
+        alloc,
+        m.rport,
+        m.lport,
+        Some(listener),
+        State::SynReceived,
+        profile,
+    );
+    let start = Control::start(profile);
+    let syn = Signal::Syn {
+        smss: told_smss(m.mss),
+    };
+    let control = start.after(
+        syn,
+        at_moment(&child, moment),
+        how.cwnd,
+        start.values.ssthresh,
+    );
     child.irs = Some(m.seq);
     child.peer_shift = m.scale;
     child.stream.peer = Some(m.sender);
     child.stream.receive.meet();
     child.window.snd_wnd = u32::from(m.window);
     child.window.snd_wl1 = m.pos;
-    child.congestion.cwnd = how.cwnd;
-    child.congestion.smss = told_smss(m.mss);
+    child.control = control;
     child.timers = persist_taken(child.timers, m.window, moment);
     child
 }

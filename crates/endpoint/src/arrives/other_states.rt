@@ -2,7 +2,7 @@
 //!
 //! In the order of the RFC: `sequence` (first), `reset` (second), `ack` (fifth), `text` (seventh), `fin` (eighth).
 //! Beside them
-//! `peer`: whose segment it is; `congestion`, `timers`, `window`: what these are then.
+//! `peer`: whose segment it is; `timers`, `window`: what these are then.
 
 ghost use Rattle.spec_tcp.specs.Arrives.OtherStates.{taken, rules_with_queue};
 ghost use Rattle.spec_tcp.specs.Bounds.{HasRoom, IsSmallEmission};
@@ -13,7 +13,6 @@ ghost use Rattle.std.specs.Result.{result_err};
 ghost use Rattle.verdict.specs.Rules.{first_broken};
 
 pub(crate) mod ack;
-pub(crate) mod congestion;
 pub(crate) mod fin;
 pub(crate) mod peer;
 pub(crate) mod reset;
@@ -25,13 +24,13 @@ pub(crate) mod window;
 use crate::arrives::other_states::ack::{
     acknowledged, backoffs_taken, is_bad_ack_range, may_sample, recover_taken, snd_una_taken,
 };
-use crate::arrives::other_states::congestion::{congestion_taken, greatest_window};
 use crate::arrives::other_states::fin::finished;
 use crate::arrives::other_states::peer::is_from_peer;
 use crate::arrives::other_states::sequence::{is_acceptable, is_bad_number};
 use crate::arrives::other_states::text::receive;
 use crate::arrives::other_states::timers::{state_timers, timers_before};
 use crate::arrives::other_states::window::{is_unread, probe_due_taken, window_taken};
+use crate::signals::{control_taken, greatest_taking};
 use case_forms::{Header, TakeChoice};
 use segment::OutOfMemory;
 use spec_tcp::{Arrived, Endpoint, EndpointId};
@@ -46,8 +45,9 @@ pub fn admits_connected(
     endpoint: &Endpoint,
     how: TakeChoice,
     m: &Arrived<'_>,
+    moment: u64,
 ) -> Result<(), Rule>
-    ensures { result_err result ≡ first_broken (rules_with_queue header.now full me endpoint.now how m.now) }
+    ensures { result_err result ≡ first_broken (rules_with_queue header.now full me endpoint.now how m.now moment) }
 {
     if !header.version.is_half() && !is_from_peer(me, endpoint, m) {
         return Err(Rule::NotPeer);
@@ -64,7 +64,7 @@ pub fn admits_connected(
     if full {
         return Err(Rule::QueueFull);
     }
-    if greatest_window(header.initial, endpoint, m) < how.cwnd as u64 {
+    if greatest_taking(endpoint, m, moment) < how.cwnd as u64 {
         return Err(Rule::Growth);
     }
     if how.sample && !may_sample(endpoint, m) {
@@ -94,7 +94,7 @@ pub(crate) fn taken(
     let old = endpoint.state;
     let state = acknowledged(endpoint, m);
     let window = window_taken(endpoint, m);
-    let congestion = congestion_taken(endpoint, how, m);
+    let control = control_taken(endpoint, how, m, moment);
     let recover = recover_taken(endpoint, m);
     let probe_due = probe_due_taken(endpoint, m);
     let timers = timers_before(header, endpoint, how, m, moment);
@@ -104,7 +104,7 @@ pub(crate) fn taken(
     endpoint.state = state;
     endpoint.stream.snd_una = snd_una;
     endpoint.window = window;
-    endpoint.congestion = congestion;
+    endpoint.control = control;
     endpoint.recover = recover;
     endpoint.probe_due = probe_due;
     endpoint.timers = state_timers(timers, old, state, moment);

@@ -6,35 +6,34 @@ ghost use Rattle.spec_tcp.specs.Forgetting.{forget_endpoint};
 ghost use Rattle.case_forms.specs.States.{is_syn_received};
 ghost use Rattle.spec_tcp.specs.Same.{same_word};
 ghost use Rattle.spec_tcp.specs.Arrives.SynSent.{on_syn, snd_una_met, timers_met, syn_sent_rules, answers_syn};
-ghost use Rattle.spec_tcp.specs.Arrives.SynSent.{told_smss, greatest_at_syn};
 ghost use Rattle.spec_tcp.specs.Arrives.OtherStates.Ack.{acknowledges_syn};
 ghost use Rattle.seqno.specs.Numbers.{number_of};
 ghost use Rattle.std.specs.Option.{option_map_or};
-ghost use Rattle.std.specs.Prelude.{◌≡◌, false, ◌&&◌, if◌then◌else◌};
+ghost use Rattle.std.specs.Prelude.{◌≡◌, ◌<◌, ◌^◌, false, ◌&&◌, if◌then◌else◌};
 ghost use Rattle.std.specs.Result.{result_err};
 ghost use Rattle.verdict.specs.Rules.{first_broken};
+ghost use Rattle.window_rules.specs.Counts.{HasCounts};
 
 use crate::arrives::other_states::ack::{acknowledges_syn, is_no_sample};
-use crate::arrives::other_states::congestion::first_window;
 use crate::arrives::other_states::timers::{rto_taken, timeout_taken};
 use crate::arrives::other_states::window::{is_unread, persist_taken};
 use crate::same::same_word;
-use case_forms::{Header, Initial, State, TakeChoice};
+use crate::signals::{control_taken, greatest_taking};
+use case_forms::{Header, State, TakeChoice};
 use seqno::number;
 use spec_tcp::{Arrived, Endpoint, SendWindow};
 use timer_rules::Timers;
 use verdict::Rule;
-use window_rules::Congestion;
 
 /// Whether an endpoint in SYN-SENT may take the segment (RFC 9293, 3.10.7.3). An error is the first rule that is
 /// broken.
 pub fn admits_syn_sent(
-    initial: Initial,
     endpoint: &Endpoint,
     how: TakeChoice,
     m: &Arrived<'_>,
+    moment: u64,
 ) -> Result<(), Rule>
-    ensures { result_err result ≡ first_broken (syn_sent_rules initial endpoint.now how m.now) }
+    ensures { result_err result ≡ first_broken (syn_sent_rules endpoint.now how m.now moment) }
 {
     if !(m.flags().syn || m.flags().rst) {
         return Err(Rule::State);
@@ -42,7 +41,7 @@ pub fn admits_syn_sent(
     if (m.flags().ack || m.flags().rst) && !answers_syn(endpoint, m) {
         return Err(Rule::AckRange);
     }
-    if greatest_at_syn(initial, endpoint, m) < how.cwnd as u64 {
+    if greatest_taking(endpoint, m, moment) < how.cwnd as u64 {
         return Err(Rule::Growth);
     }
     if how.sample && is_no_sample(endpoint, m) {
@@ -70,29 +69,6 @@ fn has_syn_number(endpoint: &Endpoint, m: &Arrived<'_>) -> bool
     }
 }
 
-/// The segment size that a SYN tells of, 536 where it tells of none or of 0 (RFC 9293, 3.7.1).
-pub(crate) fn told_smss(told: Option<u16>) -> u32
-    ensures { result ≡ told_smss told }
-{
-    match told {
-        Some(mss) => { if mss == 0 { 536 } else { mss as u32 } }
-        None => 536,
-    }
-}
-
-/// The greatest congestion window in bytes that an endpoint in SYN-SENT may have once it took the segment, with the
-/// segment
-/// size that the SYN brings.
-pub fn greatest_at_syn(initial: Initial, endpoint: &Endpoint, m: &Arrived<'_>) -> u64
-    ensures { result ≡ greatest_at_syn initial endpoint.now m.now }
-{
-    if m.flags().syn && !m.flags().rst && m.flags().ack {
-        first_window(initial, told_smss(m.mss()), endpoint.syn_lost)
-    } else {
-        endpoint.congestion.cwnd as u64
-    }
-}
-
 /// Whether the segment acknowledges the own SYN of a child in SYN-RECEIVED, so that the child joins its listener's
 /// queue.
 pub fn completes_handshake(endpoint: &Endpoint, m: &Arrived<'_>) -> bool
@@ -109,11 +85,13 @@ pub(crate) fn on_syn(
     m: &Arrived<'_>,
     moment: u64,
 )
-    requires { endpoint.old.stream.receive ≡ received.empty }
+    requires unmet { endpoint.old.stream.receive ≡ received.empty }
+    requires counts { HasCounts endpoint.old.control }
+    requires small { m.now.ack < 2 ^ 63 }
     ensures { endpoint.new ≡ forget_endpoint (on_syn header.now endpoint.old how m.now moment) }
 {
     let snd_una = snd_una_met(endpoint, m);
-    let congestion = congestion_met(endpoint, how, m);
+    let control = control_taken(endpoint, how, m, moment);
     let window = window_met(endpoint, m);
     let backoffs = if m.flags().ack { 0 } else { endpoint.backoffs };
     endpoint.timers = timers_met(header, endpoint, how, m, moment, snd_una);
@@ -124,7 +102,7 @@ pub(crate) fn on_syn(
     endpoint.stream.receive.meet();
     endpoint.stream.snd_una = snd_una;
     endpoint.window = window;
-    endpoint.congestion = congestion;
+    endpoint.control = control;
     endpoint.unanswered_expiries = 0;
     endpoint.backoffs = backoffs;
     endpoint.stream.accepted.forget_below(snd_una);
@@ -160,20 +138,6 @@ fn window_met(endpoint: &Endpoint, m: &Arrived<'_>) -> SendWindow
     window.snd_wl1 = m.pos();
     window.snd_wl2 = if m.flags().ack { 1 } else { 0 };
     window
-}
-
-fn congestion_met(endpoint: &Endpoint, how: TakeChoice, m: &Arrived<'_>) -> Congestion
-    ensures { result ≡ record endpoint.now.congestion {
-      cwnd = how.cwnd;
-      smss = told_smss m.now.mss;
-      dup = if m.now.flags.ack then 0 else endpoint.now.congestion.dup;
-    } }
-{
-    let mut congestion = endpoint.congestion;
-    congestion.cwnd = how.cwnd;
-    congestion.smss = told_smss(m.mss());
-    congestion.dup = if m.flags().ack { 0 } else { congestion.dup };
-    congestion
 }
 
 // The timers once the peer's SYN was taken in SYN-SENT. A round trip is that of the own SYN, while it is not

@@ -11,7 +11,7 @@ use crate::makes::payload::has_new_bytes;
 use case_forms::SegmentPlan;
 use seqno::{Word, number};
 use spec_tcp::{Endpoint, window_in};
-use window_rules::{congestion_edge, offered_edge};
+use window_rules::offered_edge;
 
 pub(crate) fn is_bad_ack(endpoint: &Endpoint, making: &SegmentPlan) -> bool
     ensures { result ≡ is_bad_ack endpoint.now making.now }
@@ -40,7 +40,7 @@ pub(crate) fn is_congesting(endpoint: &Endpoint, making: &SegmentPlan) -> bool
     requires { IsSmall endpoint.now making.now }
     ensures { result ≡ is_congesting endpoint.now making.now }
 {
-    let edge = congestion_edge(endpoint.stream.snd_una, &endpoint.congestion);
+    let edge = endpoint.control.send_edge(endpoint.stream.snd_una);
     has_new_bytes(endpoint, making) && edge < making.pos + making.len as u64
 }
 

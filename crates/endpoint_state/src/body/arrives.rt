@@ -23,12 +23,13 @@ ghost use Rattle.endpoint_state.specs.Takers.{IsOpen, joins_by, taker_found};
 use crate::body::Body;
 use crate::fault::StepFault;
 use case_forms::{Header, Host, TakeChoice};
-use endpoint::completes_handshake;
+use endpoint::{completes_handshake, profile_of};
 use segment::OutOfMemory;
 use seqno::number;
 use spec_tcp::{Arrived, Emission, Endpoint, EndpointId};
 use std::alloc::Global;
 use verdict::Rule;
+use window_rules::Profile;
 
 /// Whom a segment finds (RFC 9293, 3.10.7): the endpoint of its ports that is not CLOSED, or else the open listener on
 /// its
@@ -86,17 +87,18 @@ impl Body {
         host: Host,
         how: TakeChoice,
         m: &Emission,
+        moment: u64,
     ) -> Result<Found, Rule>
         requires { AreReadable self.now.endpoints }
         ensures rule { result_err result ≡ first_broken
-            (taker_rules header.now host self.now how m.now (taker self.now m.now)) }
+            (taker_rules header.now host self.now how m.now moment (taker self.now m.now)) }
         ensures taker { IfOk result (λ found. taker_found self.now (Some found) ≡ taker self.now m.now) }
         ensures open { IfOk result (IsOpen self.now) }
     {
         let Some(found) = self.taker(m) else {
             return Err(Rule::NoEndpoint);
         };
-        self.admits_taking_by(header, host, found, how, m)?;
+        self.admits_taking_by(header, host, found, how, m, moment)?;
         Ok(found)
     }
 
@@ -107,14 +109,15 @@ impl Body {
         found: Found,
         how: TakeChoice,
         m: &Emission,
+        moment: u64,
     ) -> Result<(), Rule>
         requires { AreReadable self.now.endpoints }
         ensures { result_err result ≡ first_broken
-            (taker_rules header.now host self.now how m.now (taker_found self.now (Some found))) }
+            (taker_rules header.now host self.now how m.now moment (taker_found self.now (Some found))) }
     {
         match found {
             Found::Listener(_) => endpoint::admits_listening(how, m),
-            Found::Endpoint(place) => self.admits_taking_at(header, host, place, how, m),
+            Found::Endpoint(place) => self.admits_taking_at(header, host, place, how, m, moment),
         }
     }
 
@@ -127,24 +130,25 @@ impl Body {
         place: u32,
         how: TakeChoice,
         m: &Emission,
+        moment: u64,
     ) -> Result<(), Rule>
         requires { AreReadable self.now.endpoints }
         ensures { result_err result ≡ first_broken
-            (taker_rules header.now host self.now how m.now (taker_found self.now (Some (found.Endpoint place)))) }
+            (taker_rules header.now host self.now how m.now moment (taker_found self.now (Some (found.Endpoint place)))) }
     {
         let Some(endpoint) = self.endpoint_at(place) else {
             return Err(Rule::NoEndpoint);
         };
         let m = Arrived::read(header.version, endpoint, m);
         if endpoint.state.is_syn_sent() {
-            return endpoint::admits_syn_sent(header.initial, endpoint, how, &m);
+            return endpoint::admits_syn_sent(endpoint, how, &m, moment);
         }
         let full = self.joins_full_queue(header, endpoint, &m);
         let me = EndpointId {
             host,
             number: place,
         };
-        endpoint::admits_connected(header, full, me, endpoint, how, &m)
+        endpoint::admits_connected(header, full, me, endpoint, how, &m, moment)
     }
 
     // The endpoint is a child that would join a full queue.
@@ -188,13 +192,20 @@ impl Body {
         requires small { IsSmallEmission m.now }
         requires endpoints { length self.old.endpoints + 1 < 2 ^ 32 }
         ensures fault { fault_rule result ≡ first_broken
-            (taker_rules header.now host self.old how m.now (taker self.old m.now)) }
+            (taker_rules header.now host self.old how m.now moment (taker self.old m.now)) }
         ensures ok { OnOk result (self.new ≡ forget_body
             (after_taking header.now self.old how m.now moment (taker self.old m.now))) }
         ensures err { OnErr result (self.new ≡ self.old) }
     {
-        match self.admitted_taking(header, host, how, m)? {
-            Found::Listener(place) => self.meet(alloc, place, how, m, moment)?,
+        match self.admitted_taking(header, host, how, m, moment)? {
+            Found::Listener(place) => self.meet(
+                alloc,
+                profile_of(header.initial),
+                place,
+                how,
+                m,
+                moment,
+            )?,
             Found::Endpoint(place) => self.take_at(header, place, how, m, moment)?,
         }
         Ok(())
@@ -204,6 +215,7 @@ impl Body {
     fn meet(
         &mut self,
         alloc: Global,
+        profile: Profile,
         place: u32,
         how: TakeChoice,
         m: &Emission,
@@ -213,11 +225,11 @@ impl Body {
         requires endpoints { length self.old.endpoints + 1 < 2 ^ 32 }
         ensures ok { OnOk result (self.new ≡ forget_body (record self.old {
           endpoints = self.old.endpoints
-              ++ child place how m.now moment ∷ [];
+              ++ child profile place how m.now moment ∷ [];
         })) }
         ensures err { OnErr result (self.new ≡ self.old) }
     {
-        let child = endpoint::child(alloc, place, how, m, moment);
+        let child = endpoint::child(alloc, profile, place, how, m, moment);
         self.endpoints.add(alloc, child)
     }
 

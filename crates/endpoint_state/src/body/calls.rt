@@ -26,6 +26,7 @@ use segment::OutOfMemory;
 use spec_tcp::{Endpoint, Listener, Queue, Socket, SocketTarget};
 use std::alloc::Global;
 use tables::Table;
+use window_rules::Profile;
 
 impl Body {
     /// Whether a call may have this answer (RFC 9293, 3.9.1 and 3.10).
@@ -105,18 +106,19 @@ impl Body {
     fn connect(
         &mut self,
         alloc: Global,
+        profile: Profile,
         number: u32,
         lport: u16,
         rport: u16,
     ) -> Result<(), OutOfMemory>
         requires room { length self.old.endpoints + 1 < 2 ^ 32 }
         ensures ok { OnOk result (self.new ≡ with_socket (record self.old {
-          endpoints = self.old.endpoints ++ new_endpoint lport rport None states.SynSent ∷ [];
+          endpoints = self.old.endpoints ++ new_endpoint lport rport None states.SynSent profile ∷ [];
         }) number (EndpointAt (length self.old.endpoints))) }
         ensures err { OnErr result (self.new ≡ self.old) }
     {
         let place = self.endpoints.len() as u32;
-        let endpoint = Endpoint::new(alloc, lport, rport, None, State::SynSent);
+        let endpoint = Endpoint::new(alloc, lport, rport, None, State::SynSent, profile);
         self.sockets.reserve(u64::from(number))?;
         self.endpoints.add(alloc, endpoint)?;
         self.sockets
@@ -247,9 +249,9 @@ impl Body {
     // What ends, once a call was answered `done`: with `shut` the sending, with `close` and `abort` what the socket
     // number names.
     #[tactic(auto, using(crate::proofs::BodyLemmas::body_same))]
-    fn end(&mut self, call: &Call)
+    fn end(&mut self, profile: Profile, call: &Call)
         requires { All HasRoom self.old.endpoints }
-        ensures { self.new ≡ forget_body (after_call self.old call.now Done) }
+        ensures { self.new ≡ forget_body (after_call profile self.old call.now Done) }
     {
         match call {
             Call::Shut(number) => self.shut(*number),
@@ -271,6 +273,7 @@ impl Body {
     pub(crate) fn do_call(
         &mut self,
         alloc: Global,
+        profile: Profile,
         call: &Call,
         answer: &Answer,
     ) -> Result<(), OutOfMemory>
@@ -278,7 +281,7 @@ impl Body {
         requires kept { All HasRoom self.old.endpoints }
         requires endpoints { length self.old.endpoints + 1 < 2 ^ 32 }
         requires listeners { length self.old.listeners + 1 < 2 ^ 32 }
-        ensures ok { OnOk result (self.new ≡ forget_body (after_call self.old call.now answer.now)) }
+        ensures ok { OnOk result (self.new ≡ forget_body (after_call profile self.old call.now answer.now)) }
         ensures err { OnErr result (self.new ≡ self.old) }
     {
         match (call, answer) {
@@ -286,7 +289,7 @@ impl Body {
                 self.listen(alloc, *number, *port, *backlog)
             }
             (Call::Connect(_, lport, rport), Answer::Given(number)) => {
-                self.connect(alloc, *number, *lport, *rport)
+                self.connect(alloc, profile, *number, *lport, *rport)
             }
             (Call::Accept(number), Answer::Given(child)) => self.accept(*number, *child),
             (Call::Send(number, bytes), Answer::Given(count)) => {
@@ -297,7 +300,7 @@ impl Body {
                 Ok(())
             }
             (call, Answer::Done) => {
-                self.end(call);
+                self.end(profile, call);
                 Ok(())
             }
             (

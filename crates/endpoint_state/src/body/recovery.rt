@@ -16,26 +16,26 @@ use verdict::Rule;
 
 impl Body {
     /// The place of the endpoint where fast recovery may begin. An error is the first rule that is broken.
-    pub(crate) fn admitted_recovery(&self, recovery: Recovery) -> Result<u32, Rule>
-        ensures rule { result_err result ≡ first_broken (recovering_rules recovery self.now) }
+    pub(crate) fn admitted_recovery(&self, recovery: Recovery, moment: u64) -> Result<u32, Rule>
+        ensures rule { result_err result ≡ first_broken (recovering_rules moment recovery self.now) }
         ensures place { IfOk result (λ place. place_of self.now recovery.lport recovery.rport ≡ Some place) }
     {
         let (place, endpoint) = self.endpoint_on(recovery.lport, recovery.rport)?;
-        admits_recovery(endpoint, recovery.cwnd, recovery.ssthresh)?;
+        admits_recovery(endpoint, recovery.cwnd, recovery.ssthresh, moment)?;
         Ok(place)
     }
 
     /// Fast recovery begins. An error is the first rule that is broken; nothing is changed then.
     #[tactic(auto, using(crate::proofs::BodyLemmas::body_same))]
-    pub(crate) fn recover(&mut self, recovery: Recovery) -> Result<(), Rule>
+    pub(crate) fn recover(&mut self, recovery: Recovery, moment: u64) -> Result<(), Rule>
         requires { All HasRoom self.old.endpoints }
-        ensures rule { result_err result ≡ first_broken (recovering_rules recovery self.old) }
-        ensures ok { OnOk result (self.new ≡ forget_body (recovered_body recovery self.old)) }
+        ensures rule { result_err result ≡ first_broken (recovering_rules moment recovery self.old) }
+        ensures ok { OnOk result (self.new ≡ forget_body (recovered_body moment recovery self.old)) }
         ensures err { OnErr result (self.new ≡ self.old) }
     {
-        let place = self.admitted_recovery(recovery)?;
+        let place = self.admitted_recovery(recovery, moment)?;
         self.endpoints
-            .recover(place, recovery.cwnd, recovery.ssthresh);
+            .recover(place, recovery.cwnd, recovery.ssthresh, moment);
         Ok(())
     }
 }

@@ -107,21 +107,6 @@ pub(crate) fn acknowledged(endpoint: &Endpoint, m: &Arrived<'_>) -> State
     }
 }
 
-pub(crate) fn dup_taken(endpoint: &Endpoint, m: &Arrived<'_>) -> u32
-    requires { endpoint.now.congestion.dup + 1 < 2 ^ 32 }
-    ensures { result ≡ (if is_new_ack endpoint.now m.now then 0
-        else if is_duplicate endpoint.now m.now then endpoint.now.congestion.dup + 1 else endpoint.now.congestion.dup) }
-{
-    let dup = endpoint.congestion.dup;
-    if is_new_ack(endpoint, m) {
-        0
-    } else if is_duplicate(endpoint, m) {
-        dup + 1
-    } else {
-        dup
-    }
-}
-
 /// Up to which position what was made may be made again: all of it, where a window above 0 ends the waiting for one.
 pub(crate) fn recover_taken(endpoint: &Endpoint, m: &Arrived<'_>) -> u64
     ensures { result ≡ (if opens_window endpoint.now m.now && is_some endpoint.now.timers.persist_armed then snd_max endpoint.now else endpoint.now.recover) }

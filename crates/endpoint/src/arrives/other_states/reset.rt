@@ -4,19 +4,30 @@ ghost use Rattle.spec_tcp.specs.Arrives.OtherStates.Reset.{reset_fault, was_rese
 ghost use Rattle.spec_tcp.specs.Bounds.{IsForgotten};
 ghost use Rattle.spec_tcp.specs.Forgetting.{forget_endpoint};
 ghost use Rattle.std.specs.Prelude.{◌≡◌};
+ghost use Rattle.window_rules.specs.Counts.{HasCounts};
 
+use crate::signals::at_moment;
 use case_forms::{State, TakeChoice};
 use spec_tcp::{Endpoint, Fault};
+use window_rules::Signal;
 
 /// The endpoint is CLOSED, and failed where a connection was wanted or stood.
-pub(crate) fn was_reset(endpoint: &mut Endpoint, how: TakeChoice)
-    requires { IsForgotten endpoint.old }
-    ensures { endpoint.new ≡ forget_endpoint (was_reset endpoint.old how) }
+pub(crate) fn was_reset(endpoint: &mut Endpoint, how: TakeChoice, moment: u64)
+    requires forgotten { IsForgotten endpoint.old }
+    requires counts { HasCounts endpoint.old.control }
+    ensures { endpoint.new ≡ forget_endpoint (was_reset endpoint.old how moment) }
 {
+    let control = &endpoint.control;
+    let control = control.after(
+        Signal::Other,
+        at_moment(endpoint, moment),
+        how.cwnd,
+        control.values.ssthresh,
+    );
     endpoint.fault = reset_fault(endpoint);
     endpoint.state = State::Closed;
     endpoint.timers.stop_all();
-    endpoint.congestion.cwnd = how.cwnd;
+    endpoint.control = control;
     endpoint.unanswered_expiries = 0;
 }
 
