@@ -13,7 +13,7 @@ use Rattle.spec_tcp.specs.Machine.{tcp_shape}
 use Rattle.spec_tcp_laws.specs.Runs.{world_at_end}
 use Rattle.spec_tcp_laws.specs.Consequences.{ReceivedIsAPrefix, EndIsWhole, AcknowledgedWasTaken}
 use Rattle.spec_tcp_laws.specs.Carried.{ReadsWereCarried}
-use Rattle.spec_tcp_laws.specs.Bounds.{NewDataFits, WindowsFollow}
+use Rattle.spec_tcp_laws.specs.Bounds.{NewDataFits, ProfilesAreNamed, WindowsFollow}
 use Rattle.spec_tcp_laws.specs.Transitions.{StatesFollow, PositionsNeverFall}
 use Rattle.checker.specs.Seen.{stamped}
 
@@ -51,9 +51,10 @@ AllAcknowledgedWasTaken t w = EachStep (steps_of t w) (λ before x. Acknowledged
 -- what a step does with windows, in the world that the steps before it left
 pub record KeepsWindows (h : Header) (before : List (Stamped tcp_shape)) (x : Stamped tcp_shape) : Type 0 where
   -- the congestion window and the slow start threshold change where a segment is taken, where a retransmission timer
-  -- expires
-  -- and where fast recovery begins alone, and stay at or below what these allow
+  -- expires and where fast recovery begins alone, and stay at or below what these allow by the endpoint's profile
   pub follow : WindowsFollow h x.moment (world_at_end h before) x.step
+  -- which is that of the RFC that the header names
+  pub named : ProfilesAreNamed h (world_at_end h before)
   -- bytes that are made for the first time end in the window that the peer offers and in the congestion window
   pub fits : (host : Host) (m : SegmentPlan) → x.step ≡ At host (Makes m) → NewDataFits (world_at_end h before) host m
 

@@ -28,8 +28,8 @@ ghost use Rattle.checker.specs.Consequences.{AllAcknowledgedWasTaken, AllReadsWe
 ghost use Rattle.checker.specs.Consequences.{AllStatesFollow, NoPositionFalls};
 
 use spec_tcp_laws::{
-    acknowledged_was_taken, end_is_whole, new_data_fits, positions_never_fall, reads_were_carried,
-    received_is_a_prefix, states_follow, windows_follow,
+    acknowledged_was_taken, end_is_whole, new_data_fits, positions_never_fall, profiles_are_named,
+    reads_were_carried, received_is_a_prefix, states_follow, windows_follow,
 };
 
 /// Where a witness explains a trace, a line that precedes another in the interval order (of one thread and with the
@@ -79,7 +79,7 @@ pub fn explained_follows()
     // In every case: what reads were told came with segments that were taken.
     ensures carried { (t : Trace) (w : Witness) → Explains t w → AllReadsWereCarried t w }
 
-    // New data ends in both windows, and windows follow their rules.
+    // New data ends in both windows, and windows follow their rules, by the RFC that the header names.
     ensures windows { (t : Trace) (w : Witness) → Explains t w → AllKeepWindows t w }
 
     // States follow each other by the arrows of RFC 9293, 3.3.2, figure 5, and positions never fall.
@@ -92,6 +92,7 @@ pub fn explained_follows()
     reads_were_carried();
     new_data_fits();
     windows_follow();
+    profiles_are_named();
     states_follow();
     positions_never_fall();
 }

@@ -11,14 +11,15 @@ ghost use Rattle.spec_merge.specs.Keys.{Books};
 ghost use Rattle.spec_merge.specs.Placing.{IsPlacedRun};
 ghost use Rattle.spec_tcp.specs.Machine.{tcp, tcp_shape};
 ghost use Rattle.case_forms.specs.declared.steps.SegmentPlan.{SegmentPlan};
-ghost use Rattle.spec_tcp_laws.specs.Bounds.{NewDataFits, WindowsFollow};
+ghost use Rattle.spec_tcp_laws.specs.Bounds.{NewDataFits, ProfilesAreNamed, WindowsFollow};
 ghost use Rattle.spec_tcp_laws.specs.Runs.{world_at_end};
 ghost use Rattle.spec_tcp_laws.specs.Consequences.{AcknowledgedWasTaken, EndIsWhole, ReceivedIsAPrefix};
 ghost use Rattle.spec_merge.specs.Recordings.{AreFirstSteps, IsKept, MayJoin, NamesSent, TcpEntry, merged};
 ghost use Rattle.spec_merge.specs.Recordings.{merged_lines, next_line, world_of};
 
 use spec_tcp_laws::{
-    acknowledged_was_taken, end_is_whole, new_data_fits, received_is_a_prefix, windows_follow,
+    acknowledged_was_taken, end_is_whole, new_data_fits, profiles_are_named, received_is_a_prefix,
+    windows_follow,
 };
 
 /// Two books beside each other, merged in the order of their keys with lines and made segments counted anew, are a run,
@@ -50,8 +51,7 @@ pub fn books_grow()
 /// steps: what reads
 /// were told is a prefix of what the peer's sends accepted, and all of these once a read was told the end; what a
 /// step leaves acknowledged, but for the SYN, the peer had taken before it; new data fits both windows; and windows
-/// change
-/// by their causes alone.
+/// change by their causes alone, by the RFC that the header names.
 pub fn merged_books_have_the_consequences()
     ensures received { (h : Header) → is_half h.version ≡ false
         → (first : ℕ) (zeros ones : List TcpEntry) (steps : List (Stamped tcp_shape)) →
@@ -69,6 +69,8 @@ pub fn merged_books_have_the_consequences()
     ensures windows { (h : Header) (first : ℕ) (zeros ones : List TcpEntry) (steps : List (Stamped tcp_shape))
         (x : Stamped tcp_shape) →
         AreFirstSteps h first zeros ones (steps ++ x ∷ []) → WindowsFollow h x.moment (world_at_end h steps) x.step }
+    ensures profiles { (h : Header) (first : ℕ) (zeros ones : List TcpEntry) (steps : List (Stamped tcp_shape)) →
+        AreFirstSteps h first zeros ones steps → ProfilesAreNamed h (world_at_end h steps) }
 {
     merged_books_are_a_run();
     received_is_a_prefix();
@@ -76,4 +78,5 @@ pub fn merged_books_have_the_consequences()
     acknowledged_was_taken();
     new_data_fits();
     windows_follow();
+    profiles_are_named();
 }

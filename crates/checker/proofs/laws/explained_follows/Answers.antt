@@ -25,11 +25,12 @@ returns-clause-carried c = λ t w e. c.reads_were_carried.ensures t.header (step
 pub returns-clause-windows : goal.returns-clause-windows
 returns-clause-windows c = λ t w e place x here.
     let before = take place (steps_of t w) in
-    let may = (run_at t.header (start (tcp t.header)) (steps_of t w) e.run place x here).1 in
+    let run = run_at t.header (start (tcp t.header)) (steps_of t w) e.run place x here in
     record {
-      follow = c.windows_follow.ensures t.header x.moment (world_at_end t.header before) x.step may;
+      follow = c.windows_follow.ensures t.header x.moment (world_at_end t.header before) x.step run.1;
+      named = c.profiles_are_named.ensures t.header before run.0;
       fits = λ host m is. c.new_data_fits.ensures t.header x.moment (world_at_end t.header before) host m
-          (subst (λ (step : Step tcp_shape). Permitted (tcp t.header) x.moment (world_at_end t.header before) step) is may);
+          (subst (λ (step : Step tcp_shape). Permitted (tcp t.header) x.moment (world_at_end t.header before) step) is run.1);
     }
 
 pub returns-clause-states : goal.returns-clause-states
