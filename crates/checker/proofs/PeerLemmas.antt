@@ -134,7 +134,8 @@ meets_taking : (h : Header) (s : ℕ) (w : World tcp_shape) (host : Host) (line 
     → Meets w (At host (Takes line how)) (name host i) e.stream.peer (endpoint_taken h e how r s).stream.peer
 meets_taking h s w host line how m r i e waits there is calm sender syn may = go r.flags.rst (is_syn_sent e.state) refl refl may
   where
-    go : (b t : Bool) → r.flags.rst ≡ b → is_syn_sent e.state ≡ t → first_broken (if t then syn_sent_rules e how r s else connected_rules h (pick w.hosts host).body (name host i) e how r) ≡ None
+    go : (b t : Bool) → r.flags.rst ≡ b → is_syn_sent e.state ≡ t
+        → first_broken (if t then syn_sent_rules e how r s else connected_rules h (pick w.hosts host).body (name host i) e how r) ≡ None
         → Meets w (At host (Takes line how)) (name host i) e.stream.peer (if b then was_reset e how s else if t then on_syn h e how r s else segment_taken h e how r s).stream.peer
     go true t reset sent may = inl refl
     go false true reset sent may = inr (
@@ -162,7 +163,8 @@ moves_taking h s w host line how m steady waits may = go (taker (pick w.hosts ho
     b : Body
     b = (pick w.hosts host).body
 
-    go : (t : Taker) → taker b m ≡ t → first_broken (taker_rules h host b how m s t) ≡ None → Moves w (At host (Takes line how)) host b.endpoints (after_taking h b how m s t).endpoints
+    go : (t : Taker) → taker b m ≡ t → first_broken (taker_rules h host b how m s t) ≡ None
+        → Moves w (At host (Takes line how)) host b.endpoints (after_taking h b how m s t).endpoints
     go Nobody is may = moves_not w (At host (Takes line how)) host b.endpoints
     go (AtListener l) is may =
         let first = not_false (m.flags.syn && not m.flags.ack && not m.flags.rst) (none_all (listener_rules how m) may).0 in
@@ -178,7 +180,8 @@ moves_taking h s w host line how m steady waits may = go (taker (pick w.hosts ho
 
 moves_deed : (h : Header) (s : ℕ) (w : World tcp_shape) (host : Host) (d : Deed tcp_shape) → Steady w.hosts → Permitted (tcp h) s w (At host d)
     → Moves w (At host d) host (pick w.hosts host).body.endpoints (deed_after (tcp h) host s (suc w.count) (pick w.hosts (other host)).wire (pick w.hosts host) d).body.endpoints
-moves_deed h s w host (Does x) steady may = moves_at_ports w (At host (Does x)) host (pick w.hosts host).body x.lport x.rport (λ e. after_recovery e x.cwnd x.ssthresh s) (λ e. refl)
+moves_deed h s w host (Does x) steady may =
+    moves_at_ports w (At host (Does x)) host (pick w.hosts host).body x.lport x.rport (λ e. after_recovery e x.cwnd x.ssthresh s) (λ e. refl)
 moves_deed h s w host (Expires line x) steady may = moves_at_ports w (At host (Expires line x)) host (pick w.hosts host).body x.lport x.rport (λ e. after_expiry e x.expired s) (λ e. expiry_stream x.expired e s)
 moves_deed h s w host (Makes m) steady may = moves_at_ports w (At host (Makes m)) host (pick w.hosts host).body m.lport m.rport (λ e. after_making e m s)
     (λ e. either_stream m.flags.rst (record (shut_down (endpoint_made e m s)) { reset_due = false }) (endpoint_made e m s) e.stream refl refl)
@@ -223,10 +226,13 @@ moves_accept w step host b n (ListenerAt l) = go (queue_of b l)
     go [] = moves_not w step host b.endpoints
     go (c ∷ queue) = moves_same w step host b c (λ e. record e { listener = None }) (λ e. refl)
 
-moves_call : (p : Profile) (w : World tcp_shape) (step : Step tcp_shape) (host : Host) (b : Body) (call : Call) (answer : Answer) → Moves w step host b.endpoints (after_call p b call answer).endpoints
+moves_call : (p : Profile) (w : World tcp_shape) (step : Step tcp_shape) (host : Host) (b : Body) (call : Call) (answer : Answer)
+    → Moves w step host b.endpoints (after_call p b call answer).endpoints
 moves_call p w step host b (calls.Listen at port backlog) (answers.Given n) = moves_not w step host b.endpoints
-moves_call p w step host b (calls.Connect at lport rport) (answers.Given n) = moves_push w step host b.endpoints (new_endpoint lport rport None states.SynSent p) (λ j. inl refl)
-moves_call p w step host b (calls.Accept h) (answers.Given n) = map_or_cases (λ (x : Body). Moves w step host b.endpoints x.endpoints) (thing_of b h) b (after_accept b n) (λ e. moves_not w step host b.endpoints) (λ thing e. moves_accept w step host b n thing)
+moves_call p w step host b (calls.Connect at lport rport) (answers.Given n) =
+    moves_push w step host b.endpoints (new_endpoint lport rport None states.SynSent p) (λ j. inl refl)
+moves_call p w step host b (calls.Accept h) (answers.Given n) =
+    map_or_cases (λ (x : Body). Moves w step host b.endpoints x.endpoints) (thing_of b h) b (after_accept b n) (λ e. moves_not w step host b.endpoints) (λ thing e. moves_accept w step host b n thing)
 moves_call p w step host b (calls.Send h bytes) (answers.Given n) = moves_change w step host b h (after_send bytes n) (λ e. refl)
 moves_call p w step host b (calls.Recv h most) (answers.Bytes bytes) = moves_change w step host b h (after_recv bytes) (λ e. refl)
 moves_call p w step host b (calls.Shut h) answers.Done = moves_change w step host b h after_shut (λ e. refl)
@@ -254,7 +260,8 @@ both_step h s w (Effect t answer) steady may = go (turn_of t w.threads)
   where
     by : (call : Call) (o : Option Host) → BothMove w (Effect t answer) (call_after (tcp h) s w.hosts (Calls call answer) o)
     by call None = both_not w (Effect t answer)
-    by call (Some host) = both_host w (Effect t answer) host (record (pick w.hosts host) { body = after_call (profile_of h.initial) (pick w.hosts host).body call answer }) (moves_call (profile_of h.initial) w (Effect t answer) host (pick w.hosts host).body call answer)
+    by call (Some host) =
+        both_host w (Effect t answer) host (record (pick w.hosts host) { body = after_call (profile_of h.initial) (pick w.hosts host).body call answer }) (moves_call (profile_of h.initial) w (Effect t answer) host (pick w.hosts host).body call answer)
 
     go : (u : Turn tcp_shape) → BothMove w (Effect t answer) (effect_after (tcp h) s w t answer u).hosts
     go Idle = both_not w (Effect t answer)

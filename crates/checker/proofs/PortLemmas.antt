@@ -224,7 +224,8 @@ making_end : (e : Endpoint) (m : SegmentPlan) (s : ℕ) → SameEnd e (after_mak
 making_end e m s = either_end m.flags.rst e (record (shut_down (endpoint_made e m s)) { reset_due = false }) (endpoint_made e m s) (plain_end e _ refl refl refl) (plain_end e _ refl refl refl)
 
 taken_end : (h : Header) (e : Endpoint) (how : TakeChoice) (r : Emission) (s : ℕ) → SameEnd e (endpoint_taken h e how r s)
-taken_end h e how r s = either_end r.flags.rst e (was_reset e how s) (if is_syn_sent e.state then on_syn h e how r s else segment_taken h e how r s) (plain_end e _ refl refl refl)
+taken_end h e how r s =
+    either_end r.flags.rst e (was_reset e how s) (if is_syn_sent e.state then on_syn h e how r s else segment_taken h e how r s) (plain_end e _ refl refl refl)
     (either_end (is_syn_sent e.state) e (on_syn h e how r s) (segment_taken h e how r s) (plain_end e _ refl refl refl) (plain_end e _ refl refl refl))
 
 -- a child that joins its listener's queue leaves the ports of listeners
@@ -237,7 +238,8 @@ joined_ports b i e m j = go (is_syn_received e.state && acknowledges_syn e m) e.
     go false o = refl
 
 moved_taking : (all : List CallDone) (a : Hosts) (h : Header) (x : Host) (b : Body) (how : TakeChoice) (m : Emission) (s : ℕ)
-    → (m.flags.syn ≡ true → (m.sender.host ≡ other x) × HasAt a m.sender m.lport m.rport) → first_broken (taker_rules h x b how m s (taker b m)) ≡ None → Moved all a x b (after_taking h b how m s (taker b m))
+    → (m.flags.syn ≡ true → (m.sender.host ≡ other x) × HasAt a m.sender m.lport m.rport) → first_broken (taker_rules h x b how m s (taker b m)) ≡ None
+    → Moved all a x b (after_taking h b how m s (taker b m))
 moved_taking all a h x b how m s from may = go (taker b m) refl may
   where
     go : (t : Taker) → taker b m ≡ t → first_broken (taker_rules h x b how m s t) ≡ None → Moved all a x b (after_taking h b how m s t)
@@ -247,7 +249,8 @@ moved_taking all a h x b how m s from may = go (taker b m) refl may
         let syn = (both_true m.flags.syn (not m.flags.ack) (both_true (m.flags.syn && not m.flags.ack) (not m.flags.rst) first).0).0 in
         record {
           ends = λ i e at. (e, get_append b.endpoints (child (profile_of h.initial) l how m s ∷ []) i e at, same_end e);
-          born = all_push (λ j y. ((e : Endpoint) × (slice_get b.endpoints j ≡ Some e)) ⊎ Born a x (after_taking h b how m s (AtListener l)) y) b.endpoints (child (profile_of h.initial) l how m s) (λ j e at. inl (e, at))
+          born =
+              all_push (λ j y. ((e : Endpoint) × (slice_get b.endpoints j ≡ Some e)) ⊎ Born a x (after_taking h b how m s (AtListener l)) y) b.endpoints (child (profile_of h.initial) l how m s) (λ j e at. inl (e, at))
               (inr (record {
                 listener = λ k same. subst (λ j. port_at b.listeners j ≡ Some m.rport) (same_Some l k same) (listener_port b m.rport l (taker_listener b m l is));
                 peer = λ q same. subst (λ (n : EndpointId). (n.host ≡ other x) × HasAt a n m.lport m.rport) (same_Some m.sender q same) (from syn);
@@ -266,7 +269,8 @@ moved_taking all a h x b how m s from may = go (taker b m) refl may
 pub moved_deed : (all : List CallDone) (h : Header) (s : ℕ) (w : World tcp_shape) (host : Host) (d : Deed tcp_shape)
     → ((n : ℕ) (m : Emission) → waiting n (pick w.hosts host).inbox ≡ Some m → m.flags.syn ≡ true → (m.sender.host ≡ other host) × HasAt w.hosts m.sender m.lport m.rport) → Permitted (tcp h) s w (At host d)
     → Moved all w.hosts host (pick w.hosts host).body (deed_after (tcp h) host s (suc w.count) (pick w.hosts (other host)).wire (pick w.hosts host) d).body
-moved_deed all h s w host (Does x) from may = moved_at_ports all w.hosts host (pick w.hosts host).body x.lport x.rport (λ e. after_recovery e x.cwnd x.ssthresh s) (λ e. plain_end e (after_recovery e x.cwnd x.ssthresh s) refl refl refl)
+moved_deed all h s w host (Does x) from may =
+    moved_at_ports all w.hosts host (pick w.hosts host).body x.lport x.rport (λ e. after_recovery e x.cwnd x.ssthresh s) (λ e. plain_end e (after_recovery e x.cwnd x.ssthresh s) refl refl refl)
 moved_deed all h s w host (Expires line x) from may = moved_at_ports all w.hosts host (pick w.hosts host).body x.lport x.rport (λ e. after_expiry e x.expired s) (λ e. expiry_end e x.expired s)
 moved_deed all h s w host (Makes m) from may = moved_at_ports all w.hosts host (pick w.hosts host).body m.lport m.rport (λ e. after_making e m s) (λ e. making_end e m s)
 moved_deed all h s w host (Sends line number wire) from may = moved_not all w.hosts host (pick w.hosts host).body
@@ -417,11 +421,13 @@ moved_accept all a x b h n known stands (ListenerAt l) is = go (queue_of b l) re
 pub moved_call : (p : Profile) (all : List CallDone) (a : Hosts) (x : Host) (b : Body) (call : Call) (answer : Answer) → Known all x b → Stands all call answer
     → ((at : Host) (port backlog : ℕ) → call ≡ calls.Listen at port backlog → at ≡ x) → ((at : Host) (lport rport : ℕ) → call ≡ calls.Connect at lport rport → at ≡ x)
     → Moved all a x b (after_call p b call answer)
-moved_call p all a x b (calls.Listen at port backlog) (answers.Given n) known stands listens opens = let k : Listener = record { port = port; backlog = backlog; is_open = true; queue = [] } in
+moved_call p all a x b (calls.Listen at port backlog) (answers.Given n) known stands listens opens =
+    let k : Listener = record { port = port; backlog = backlog; is_open = true; queue = [] } in
     with_new all a x b (record b { listeners = b.listeners ++ k ∷ [] }) n (ListenerAt (length b.listeners))
     (record { ends = λ i e there. (e, there, same_end e); born = λ i f there. inl (f, there); listeners = λ l p e. port_push b.listeners k l p e; sockets = λ m s e. inl (s, e, refl) }) refl
     (port, backlog, port_new b.listeners k, subst (λ (y : Host). Stands all (calls.Listen y port backlog) (answers.Given n)) (listens at port backlog refl) stands)
-moved_call p all a x b (calls.Connect at lport rport) (answers.Given n) known stands listens opens = let e : Endpoint = new_endpoint lport rport None states.SynSent p in
+moved_call p all a x b (calls.Connect at lport rport) (answers.Given n) known stands listens opens =
+    let e : Endpoint = new_endpoint lport rport None states.SynSent p in
     with_new all a x b (record b { endpoints = b.endpoints ++ e ∷ [] }) n (EndpointAt (length b.endpoints))
     (record {
       ends = λ i y there. (y, get_append b.endpoints (e ∷ []) i y there, same_end y);
@@ -431,10 +437,15 @@ moved_call p all a x b (calls.Connect at lport rport) (answers.Given n) known st
       sockets = λ m s at. inl (s, at, refl);
     }) refl
     (e, end_new b.endpoints e, Opened x lport rport n (subst (λ (y : Host). Stands all (calls.Connect y lport rport) (answers.Given n)) (opens at lport rport refl) stands))
-moved_call p all a x b (calls.Accept h) (answers.Given n) known stands listens opens = map_or_cases (λ (c : Body). Moved all a x b c) (thing_of b h) b (after_accept b n) (λ e. moved_not all a x b) (λ thing e. moved_accept all a x b h n known stands thing e)
-moved_call p all a x b (calls.Send h bytes) (answers.Given n) known stands listens opens = moved_change all a x b h (after_send bytes n) (λ e. plain_end e (after_send bytes n e) refl refl refl)
-moved_call p all a x b (calls.Recv h most) (answers.Bytes bytes) known stands listens opens = moved_change all a x b h (after_recv bytes) (λ e. plain_end e (after_recv bytes e) refl refl refl)
-moved_call p all a x b (calls.Shut h) answers.Done known stands listens opens = moved_change all a x b h after_shut (λ e. plain_end e (after_shut e) refl refl refl)
+moved_call p all a x b (calls.Accept h) (answers.Given n) known stands listens opens =
+    map_or_cases (λ (c : Body). Moved all a x b c) (thing_of b h) b (after_accept b n) (λ e. moved_not all a x b) (λ thing e. moved_accept all a x b h n known stands thing e)
+moved_call p all a x b (calls.Send h bytes) (answers.Given n) known stands listens opens =
+    moved_change all a x b h (after_send bytes n) (λ e. plain_end e (after_send bytes n e) refl refl refl)
+moved_call p all a x b (calls.Recv h most) (answers.Bytes bytes) known stands listens opens =
+    moved_change all a x b h (after_recv bytes) (λ e. plain_end e (after_recv bytes e) refl refl refl)
+moved_call p all a x b (calls.Shut h) answers.Done known stands listens opens =
+    moved_change all a x b h after_shut (λ e. plain_end e (after_shut e) refl refl refl)
 moved_call p all a x b (calls.Close h) answers.Done known stands listens opens = moved_gone all a x b h after_close close_end
-moved_call p all a x b (calls.Abort h) answers.Done known stands listens opens = moved_gone all a x b h after_abort (λ e. plain_end e (after_abort e) refl refl refl)
+moved_call p all a x b (calls.Abort h) answers.Done known stands listens opens =
+    moved_gone all a x b h after_abort (λ e. plain_end e (after_abort e) refl refl refl)
 moved_call p all a x b call answer known stands listens opens = moved_not all a x b

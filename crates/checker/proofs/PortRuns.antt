@@ -231,7 +231,8 @@ ported_step h both all s w (Effect t answer) steady may stands old = go (turn_of
     by : (call : Call) (o : Option Host) → aim_of (tcp h) w.hosts (aim call) ≡ o → Stands all call answer → ((me : EndpointId) → Meets w (Effect t answer) me (peer_of w.hosts me) (peer_of (call_after (tcp h) s w.hosts (Calls call answer) o) me))
         → Ported all (call_after (tcp h) s w.hosts (Calls call answer) o)
     by call None is had met = old
-    by call (Some host) is had met = ported_host all w (Effect t answer) host (record (pick w.hosts host) { body = after_call (profile_of h.initial) (pick w.hosts host).body call answer }) old
+    by call (Some host) is had met =
+        ported_host all w (Effect t answer) host (record (pick w.hosts host) { body = after_call (profile_of h.initial) (pick w.hosts host).body call answer }) old
         (moved_call (profile_of h.initial) all w.hosts host (pick w.hosts host).body call answer (record { sound = steady.sound host; numbers = old.numbers host; children = old.children host }) had
         (λ at port backlog e. same_Some at host (subst (λ (c : Call). aim_of (tcp h) w.hosts (aim c) ≡ Some host) e is))
         (λ at lport rport e. same_Some at host (subst (λ (c : Call). aim_of (tcp h) w.hosts (aim c) ≡ Some host) e is)))

@@ -59,8 +59,8 @@ pub fn greatest_recovery(endpoint: &Endpoint, ssthresh: u32, moment: u64) -> (u6
         .greatest(signal, at_moment(endpoint, moment))
 }
 
-/// The greatest pair with which fast recovery may begin at a moment in microseconds, in bytes: the congestion window, for
-/// the greatest slow start threshold, and that threshold.
+/// The greatest pair with which fast recovery may begin at a moment in microseconds, in bytes: the congestion window,
+/// for the greatest slow start threshold, and that threshold.
 pub fn greatest_at_recovery(endpoint: &Endpoint, moment: u64) -> (u64, u64)
     ensures { result ≡ greatest_at_recovery endpoint.now moment }
 {

@@ -103,7 +103,8 @@ pub(crate) fn timeout_signal(endpoint: &Endpoint) -> Signal
     }
 }
 
-/// What the beginning of fast recovery is to congestion control, with the slow start threshold that is chosen, in bytes.
+/// What the beginning of fast recovery is to congestion control, with the slow start threshold that is chosen, in
+/// bytes.
 pub(crate) fn recovery_signal(endpoint: &Endpoint, ssthresh: u32) -> Signal
     ensures value { result ≡ recovery_signal endpoint.now ssthresh }
     ensures fit { IsFit result }

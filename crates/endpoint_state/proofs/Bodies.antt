@@ -195,7 +195,8 @@ socket_bounded steps b c e l k = record {
   listeners = subst (λ (ls : List Listener). length ls ≤ steps) l k.listeners;
 }
 
-call_bounded : (p : Profile) (steps : ℕ) (b : Body) (call : Call) (answer : Answer) → IsSmallAnswer answer → call_allows b call answer ≡ true → IsBoundedBody steps b → IsBoundedBody (suc steps) (after_call p b call answer)
+call_bounded : (p : Profile) (steps : ℕ) (b : Body) (call : Call) (answer : Answer) → IsSmallAnswer answer → call_allows b call answer ≡ true
+    → IsBoundedBody steps b → IsBoundedBody (suc steps) (after_call p b call answer)
 call_bounded p steps b (calls.Listen host port backlog) (answers.Given n) small allowed k =
     let l : Listener = record { port = port; backlog = backlog; is_open = true; queue = [] } in
     socket_bounded (suc steps) (record b { listeners = b.listeners ++ l ∷ [] }) _ refl refl (listened_bounded steps b l k)
@@ -203,7 +204,8 @@ call_bounded p steps b (calls.Connect host lport rport) (answers.Given n) small 
     let e = new_endpoint lport rport None states.SynSent p in
     socket_bounded (suc steps) (record b { endpoints = b.endpoints ++ e ∷ [] }) _ refl refl (joins_bounded steps b e (opened_bounded p lport rport (suc steps)) k)
 call_bounded p steps b (calls.Accept h) (answers.Given n) small allowed k = accept_bounded steps b n (thing_of b h) k
-call_bounded p steps b (calls.Send h bytes) (answers.Given n) small allowed k = changed_bounded steps b h (after_send bytes n) (after_send_bounded bytes n small steps) k
+call_bounded p steps b (calls.Send h bytes) (answers.Given n) small allowed k =
+    changed_bounded steps b h (after_send bytes n) (after_send_bounded bytes n small steps) k
 call_bounded p steps b (calls.Recv h most) (answers.Bytes bytes) small allowed k = recv_bounded steps b h most bytes allowed k
 call_bounded p steps b (calls.Shut h) answers.Done small allowed k = changed_bounded steps b h after_shut (after_shut_bounded steps) k
 call_bounded p steps b (calls.Close h) answers.Done small allowed k = gone_bounded steps b h after_close (after_close_bounded steps) k
@@ -222,7 +224,8 @@ length_joined b i e m = by (is_syn_received e.state && acknowledges_syn e m) e.l
 
 taking_bounded : (h : Header) (how : TakeChoice) (m : Emission) (moment steps : ℕ) (b : Body) (t : Taker) → m.ack < 2 ^ 63 → IsBoundedBody steps b → IsBoundedBody (suc steps) (after_taking h b how m moment t)
 taking_bounded h how m moment steps b Nobody small k = body_later steps b k
-taking_bounded h how m moment steps b (AtListener l) small k = joins_bounded steps b (child (profile_of h.initial) l how m moment) (child_bounded (profile_of h.initial) l how m moment (suc steps)) k
+taking_bounded h how m moment steps b (AtListener l) small k =
+    joins_bounded steps b (child (profile_of h.initial) l how m moment) (child_bounded (profile_of h.initial) l how m moment (suc steps)) k
 taking_bounded h how m moment steps b (AtEndpoint i e) small k =
     let read = as_read h.version e m in
     let one = place_bounded steps b i (λ x. endpoint_taken h x how read moment) (λ x there. endpoint_taken_bounded h how read moment steps x (read_small h.version e m small)) k in
@@ -240,7 +243,8 @@ act_bounded h me moment steps b (Makes m) small permitted k = ports_bounded step
 act_bounded h me moment steps b (Takes how m) small permitted k = taking_bounded h how m moment steps b (taker b m) small.ack k
 act_bounded h me moment steps b (Resets m) small permitted k = body_later steps b k
 act_bounded h me moment steps b (Expires x) small permitted k = ports_bounded steps b x.lport x.rport (λ e. after_expiry e x.expired moment) (after_expiry_bounded x.expired moment steps) k
-act_bounded h me moment steps b (Recovers x) small permitted k = ports_bounded steps b x.lport x.rport (λ e. after_recovery e x.cwnd x.ssthresh moment) (after_recovery_bounded x.cwnd x.ssthresh moment steps) k
+act_bounded h me moment steps b (Recovers x) small permitted k =
+    ports_bounded steps b x.lport x.rport (λ e. after_recovery e x.cwnd x.ssthresh moment) (after_recovery_bounded x.cwnd x.ssthresh moment steps) k
 
 pub body_keeps : (h : Header) (me : Host) (moment steps : ℕ) (b : Body) (act : Act) → IsSmallAct act → first_broken (act_rules h me moment b act) ≡ None → IsKeptBody steps b → IsKeptBody (suc steps) (forget_body (act_after h me moment b act))
 body_keeps h me moment steps b act small permitted k =

@@ -25,7 +25,8 @@ use Rattle.endpoint_state.proofs.Forgets.{IsBounded, bounded_later}
 -- 1. calls
 
 shut : (steps : ℕ) (e : Endpoint) → IsBounded steps e → IsBounded steps (shut_down e)
-shut steps e b = record { snd_una = b.snd_una; counts = b.counts; unanswered_expiries = b.unanswered_expiries; backoffs = b.backoffs; accepted = b.accepted; met = λ sent closed. absurd cc; unmet = λ sent. absurd cc }
+shut steps e b =
+    record { snd_una = b.snd_una; counts = b.counts; unanswered_expiries = b.unanswered_expiries; backoffs = b.backoffs; accepted = b.accepted; met = λ sent closed. absurd cc; unmet = λ sent. absurd cc }
 
 ended_sent : (s : State) → is_syn_sent (ended_state s) ≡ is_syn_sent s
 ended_sent states.Established = refl
@@ -51,14 +52,17 @@ shut_sending steps e b =
 
 -- the sending was ended, and nothing else
 ending : (steps : ℕ) (e : Endpoint) → IsBounded steps e → IsBounded steps (record e { stream = record e.stream { ended = true } })
-ending steps e b = record { snd_una = b.snd_una; counts = b.counts; unanswered_expiries = b.unanswered_expiries; backoffs = b.backoffs; accepted = b.accepted; met = b.met; unmet = b.unmet }
+ending steps e b =
+    record { snd_una = b.snd_una; counts = b.counts; unanswered_expiries = b.unanswered_expiries; backoffs = b.backoffs; accepted = b.accepted; met = b.met; unmet = b.unmet }
 
 -- what changes here is not spoken of
 closing : (steps : ℕ) (e : Endpoint) → IsBounded steps e → IsBounded steps (record e { closed = true })
-closing steps e b = record { snd_una = b.snd_una; counts = b.counts; unanswered_expiries = b.unanswered_expiries; backoffs = b.backoffs; accepted = b.accepted; met = b.met; unmet = b.unmet }
+closing steps e b =
+    record { snd_una = b.snd_una; counts = b.counts; unanswered_expiries = b.unanswered_expiries; backoffs = b.backoffs; accepted = b.accepted; met = b.met; unmet = b.unmet }
 
 due : (steps : ℕ) (e : Endpoint) (c : Bool) → IsBounded steps e → IsBounded steps (record e { reset_due = c })
-due steps e c b = record { snd_una = b.snd_una; counts = b.counts; unanswered_expiries = b.unanswered_expiries; backoffs = b.backoffs; accepted = b.accepted; met = b.met; unmet = b.unmet }
+due steps e c b =
+    record { snd_una = b.snd_una; counts = b.counts; unanswered_expiries = b.unanswered_expiries; backoffs = b.backoffs; accepted = b.accepted; met = b.met; unmet = b.unmet }
 
 either : (steps : ℕ) (c : Bool) (x y : Endpoint) → IsBounded steps x → IsBounded steps y → IsBounded steps (if c then x else y)
 either steps true x y p q = p
@@ -77,7 +81,8 @@ orphan_bounded : (steps l : ℕ) (e : Endpoint) → IsBounded steps e → IsBoun
 orphan_bounded steps l e b = either steps (option_map_or (λ holder. holder == l) e.listener false) (after_abort e) e (abort_bounded steps e b) b
 
 adopted_bounded : (steps : ℕ) (e : Endpoint) → IsBounded steps e → IsBounded steps (record e { listener = None })
-adopted_bounded steps e b = record { snd_una = b.snd_una; counts = b.counts; unanswered_expiries = b.unanswered_expiries; backoffs = b.backoffs; accepted = b.accepted; met = b.met; unmet = b.unmet }
+adopted_bounded steps e b =
+    record { snd_una = b.snd_una; counts = b.counts; unanswered_expiries = b.unanswered_expiries; backoffs = b.backoffs; accepted = b.accepted; met = b.met; unmet = b.unmet }
 
 pub after_shut_bounded : (steps : ℕ) (e : Endpoint) → IsBounded steps e → IsBounded (suc steps) (after_shut e)
 after_shut_bounded steps e b = bounded_later steps (after_shut e) (shut_sending steps e b)
@@ -130,7 +135,8 @@ after_recv_bounded most bytes steps e allowed b =
 -- 2. making, timers, recovery
 
 made_bounded : (m : SegmentPlan) (moment steps : ℕ) (e : Endpoint) → IsBounded steps e → IsBounded steps (endpoint_made e m moment)
-made_bounded m moment steps e b = record { snd_una = b.snd_una; counts = b.counts; unanswered_expiries = b.unanswered_expiries; backoffs = b.backoffs; accepted = b.accepted; met = b.met; unmet = b.unmet }
+made_bounded m moment steps e b =
+    record { snd_una = b.snd_una; counts = b.counts; unanswered_expiries = b.unanswered_expiries; backoffs = b.backoffs; accepted = b.accepted; met = b.met; unmet = b.unmet }
 
 pub after_making_bounded : (m : SegmentPlan) (moment steps : ℕ) (e : Endpoint) → IsBounded steps e → IsBounded (suc steps) (after_making e m moment)
 after_making_bounded m moment steps e b =

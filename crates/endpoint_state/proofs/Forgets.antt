@@ -25,7 +25,8 @@ pub record IsBounded (steps : ℕ) (e : Endpoint) : Type 0 where
   pub unmet : is_syn_sent e.state ≡ true → e.stream.receive ≡ received.empty
 
 pub bounded : (steps : ℕ) (e : Endpoint) → IsKept steps e → IsBounded steps e
-bounded steps e k = record { snd_una = k.snd_una; counts = k.counts; unanswered_expiries = k.unanswered_expiries; backoffs = k.backoffs; accepted = k.accepted; met = k.met; unmet = k.unmet }
+bounded steps e k =
+    record { snd_una = k.snd_una; counts = k.counts; unanswered_expiries = k.unanswered_expiries; backoffs = k.backoffs; accepted = k.accepted; met = k.met; unmet = k.unmet }
 
 pub bounded_later : (steps : ℕ) (e : Endpoint) → IsBounded steps e → IsBounded (suc steps) e
 bounded_later steps e b =

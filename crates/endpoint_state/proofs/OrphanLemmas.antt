@@ -45,7 +45,8 @@ room_orphaned l e room = by (is_of l e)
   where
     by : (b : Bool) → HasRoom (if b then after_abort e else e)
     by false = room
-    by true = record { snd_una = room.snd_una; counts = room.counts; unanswered_expiries = room.unanswered_expiries; backoffs = room.backoffs; accepted = room.accepted; forgets = record { accepted = room.forgets.accepted; received = room.forgets.received; made = room.forgets.made }; met = λ sent closed. absurd (true≢false closed); unmet = λ sent. absurd (true≢false (sym sent)) }
+    by true =
+        record { snd_una = room.snd_una; counts = room.counts; unanswered_expiries = room.unanswered_expiries; backoffs = room.backoffs; accepted = room.accepted; forgets = record { accepted = room.forgets.accepted; received = room.forgets.received; made = room.forgets.made }; met = λ sent closed. absurd (true≢false closed); unmet = λ sent. absurd (true≢false (sym sent)) }
 
 pub all_modified : {X : Type 0} (P : X → Type 0) (f : X → X) → ((x : X) → P x → P (f x)) → (xs : List X) (i : ℕ) → All P xs → All P (modify xs i f)
 all_modified P f keeps [] i all = all

@@ -61,7 +61,8 @@ accepted_first b l n child es xs ss first e x s = by (queue_of b l) refl first
 pub opened : (p : Profile) (b : Body) (n lport rport : ℕ) → All HasRoom b.endpoints
     → with_socket (record b { endpoints = b.endpoints ++ new_endpoint lport rport None states.SynSent p ∷ [] }) n (EndpointAt (length b.endpoints))
     ≡ forget_body (with_socket (record b { endpoints = b.endpoints ++ new_endpoint lport rport None states.SynSent p ∷ [] }) n (EndpointAt (length b.endpoints)))
-opened p b n lport rport room = body_is _ _ b.listeners b.listeners _ _ (forgot_push b.endpoints (new_endpoint lport rport None states.SynSent p) room refl) refl refl
+opened p b n lport rport room =
+    body_is _ _ b.listeners b.listeners _ _ (forgot_push b.endpoints (new_endpoint lport rport None states.SynSent p) room refl) refl refl
 
 starts_within : (xs ys : List ℕ) → starts xs ys ≡ true → length xs ≤ length ys
 starts_within [] ys is = omega arith

@@ -85,7 +85,8 @@ taken_stays e how m =
 acked_in_other_states : (e : Endpoint) (m : Emission) → IsAcked e.stream.snd_una (max e.stream.snd_una m.ack) (signal_in_other_states e m)
 acked_in_other_states e m = by (acknowledges_syn e m) (is_new_ack e m) (is_duplicate e m)
   where
-    by : (syn new again : Bool) → IsAcked e.stream.snd_una (max e.stream.snd_una m.ack) (if syn then SynAcked e.control.values.smss e.syn_lost else if new then NewAck (acked e m) else if again then Duplicate else Other)
+    by : (syn new again : Bool)
+        → IsAcked e.stream.snd_una (max e.stream.snd_una m.ack) (if syn then SynAcked e.control.values.smss e.syn_lost else if new then NewAck (acked e m) else if again then Duplicate else Other)
     by true new again = omega arith
     by false true again = omega arith
     by false false true = omega arith
@@ -94,7 +95,8 @@ acked_in_other_states e m = by (acknowledges_syn e m) (is_new_ack e m) (is_dupli
 acked_at_syn : (e : Endpoint) (m : Emission) → IsAcked e.stream.snd_una (snd_una_met e m) (signal_at_syn e m)
 acked_at_syn e m = by (not (m.flags.syn && not m.flags.rst)) m.flags.ack
   where
-    by : (other ack : Bool) → IsAcked e.stream.snd_una (if ack then max e.stream.snd_una 1 else e.stream.snd_una) (if other then Other else if ack then SynAcked (told_smss m.mss) e.syn_lost else Syn (told_smss m.mss))
+    by : (other ack : Bool)
+        → IsAcked e.stream.snd_una (if ack then max e.stream.snd_una 1 else e.stream.snd_una) (if other then Other else if ack then SynAcked (told_smss m.mss) e.syn_lost else Syn (told_smss m.mss))
     by true true = omega arith
     by true false = omega arith
     by false true = omega arith
@@ -120,7 +122,8 @@ taken_bounded h how m moment steps e small unsent b =
     let front = next_put_all e.stream.receive.taken (kept_start e m) (body_kept e.stream.receive.taken (kept_start e m) (kept_bytes e how m) (keeps_fin e how m)) in
     record {
       snd_una = omega arith;
-      counts = counts_stay e.control (signal_of e m) (at_moment e moment) how.cwnd e.control.values.ssthresh steps e.stream.snd_una (max e.stream.snd_una m.ack) b.counts (acked_taken e m unsent);
+      counts =
+          counts_stay e.control (signal_of e m) (at_moment e moment) how.cwnd e.control.values.ssthresh steps e.stream.snd_una (max e.stream.snd_una m.ack) b.counts (acked_taken e m unsent);
       unanswered_expiries = omega arith;
       backoffs = zero_or (is_new_ack e m) e.backoffs steps b.backoffs;
       accepted = later.accepted;
@@ -128,12 +131,14 @@ taken_bounded h how m moment steps e small unsent b =
       unmet = λ sent. let no = sym unsent ∙ (sym state.sent ∙ sent) in absurd cc;
     }
 
-met_bounded : (h : Header) (how : TakeChoice) (m : Emission) (moment steps : ℕ) (e : Endpoint) → is_syn_sent e.state ≡ true → IsBounded steps e → IsBounded (suc steps) (on_syn h e how m moment)
+met_bounded : (h : Header) (how : TakeChoice) (m : Emission) (moment steps : ℕ) (e : Endpoint) → is_syn_sent e.state ≡ true → IsBounded steps e
+    → IsBounded (suc steps) (on_syn h e how m moment)
 met_bounded h how m moment steps e sent b =
     let later = bounded_later steps e b in
     record {
       snd_una = below m.flags.ack;
-      counts = counts_stay e.control (signal_of e m) (at_moment e moment) how.cwnd e.control.values.ssthresh steps e.stream.snd_una (snd_una_met e m) b.counts (acked_met e m sent);
+      counts =
+          counts_stay e.control (signal_of e m) (at_moment e moment) how.cwnd e.control.values.ssthresh steps e.stream.snd_una (snd_una_met e m) b.counts (acked_met e m sent);
       unanswered_expiries = omega arith;
       backoffs = zero_or m.flags.ack e.backoffs steps b.backoffs;
       accepted = later.accepted;
@@ -157,7 +162,8 @@ reset_bounded how moment steps e b =
 pub endpoint_taken_bounded : (h : Header) (how : TakeChoice) (m : Emission) (moment steps : ℕ) (e : Endpoint) → m.ack < 2 ^ 63 → IsBounded steps e → IsBounded (suc steps) (endpoint_taken h e how m moment)
 endpoint_taken_bounded h how m moment steps e small b = by m.flags.rst (is_syn_sent e.state) refl
   where
-    by : (r s : Bool) → is_syn_sent e.state ≡ s → IsBounded (suc steps) (if r then was_reset e how moment else if s then on_syn h e how m moment else taken h e how m moment)
+    by : (r s : Bool) → is_syn_sent e.state ≡ s
+        → IsBounded (suc steps) (if r then was_reset e how moment else if s then on_syn h e how m moment else taken h e how m moment)
     by true s is = reset_bounded how moment steps e b
     by false true is = met_bounded h how m moment steps e is b
     by false false is = taken_bounded h how m moment steps e small is b

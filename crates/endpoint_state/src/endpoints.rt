@@ -159,8 +159,7 @@ impl Endpoints {
     }
 
     /// Fast recovery begins at the endpoint at a place, with this congestion window and slow start threshold (in
-    /// bytes), at a
-    /// moment in microseconds.
+    /// bytes), at a moment in microseconds.
     pub(crate) fn recover(&mut self, place: u32, cwnd: u32, ssthresh: u32, moment: u64)
         requires { All HasRoom self.old }
         ensures { self.new ≡ changed self.old place (λ e. after_recovery e cwnd ssthresh moment) }

@@ -275,7 +275,8 @@ impl World {
             .admits_expiry(&self.header, ports, expired, moment)
     }
 
-    /// Whether fast recovery may begin at a moment in microseconds (RFC 5681, 3.2). An error is the first rule that is broken.
+    /// Whether fast recovery may begin at a moment in microseconds (RFC 5681, 3.2). An error is the first rule that is
+    /// broken.
     pub fn admits_recovery(&self, host: Host, moment: u64, recovery: Recovery) -> Result<(), Rule>
         ensures { result_err result ≡ first_broken
             (step_rules (tcp self.now.header) moment self.now.world (At host (Does recovery))) }

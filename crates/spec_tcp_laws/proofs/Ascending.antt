@@ -43,12 +43,14 @@ ascend_on : {X : Type 0} (f : X → List (Rule × Bool)) (none : List (Rule × B
 ascend_on f none None a b = a
 ascend_on f none (Some x) a b = b x
 
-ascend_taker : (h : Header) (host : Host) (b : Body) (how : TakeChoice) (m : Emission) (moment : ℕ) (t : Taker) → ascend 6 (taker_rules h host b how m moment t) ≡ true
+ascend_taker : (h : Header) (host : Host) (b : Body) (how : TakeChoice) (m : Emission) (moment : ℕ) (t : Taker)
+    → ascend 6 (taker_rules h host b how m moment t) ≡ true
 ascend_taker h host b how m moment Nobody = refl
 ascend_taker h host b how m moment (AtListener l) = refl
 ascend_taker h host b how m moment (AtEndpoint i e) = go (as_read h.version e m) (is_syn_sent e.state)
   where
-    go : (m : Emission) (s : Bool) → ascend 6 (if s then syn_sent_rules e how m moment else connected_rules h b (record { host = host; number = i }) e how m moment) ≡ true
+    go : (m : Emission) (s : Bool)
+        → ascend 6 (if s then syn_sent_rules e how m moment else connected_rules h b (record { host = host; number = i }) e how m moment) ≡ true
     go m true = refl
     go m false = refl
 

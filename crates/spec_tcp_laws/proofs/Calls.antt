@@ -230,10 +230,12 @@ bare_endpoint p lport rport = record {
   bare = λ p c e. absurd (none-some _ e);
 }
 
-pub grown_call : (p : Profile) (comes : Coming) (a : Hosts) (host : Host) (call : Call) (answer : Answer) → OwnEnds (pick a host).body.endpoints → call_allows (pick a host).body call answer ≡ true
+pub grown_call : (p : Profile) (comes : Coming) (a : Hosts) (host : Host) (call : Call) (answer : Answer) → OwnEnds (pick a host).body.endpoints
+    → call_allows (pick a host).body call answer ≡ true
     → Grown comes host (λ j. call_adds a call answer (name host j)) (pick a host).body.endpoints (after_call p (pick a host).body call answer).endpoints
 grown_call p comes a host (calls.Listen at port backlog) (answers.Given n) g may = grown_not comes host silent (pick a host).body.endpoints (λ i. refl) g
-grown_call p comes a host (calls.Connect at lport rport) (answers.Given n) g may = grown_push comes host (pick a host).body.endpoints (new_endpoint lport rport None states.SynSent p) g (bare_endpoint p lport rport)
+grown_call p comes a host (calls.Connect at lport rport) (answers.Given n) g may =
+    grown_push comes host (pick a host).body.endpoints (new_endpoint lport rport None states.SynSent p) g (bare_endpoint p lport rport)
 grown_call p comes a host (calls.Accept h) (answers.Given n) g may = let b = (pick a host).body in
     map_or_cases (λ (x : Body). Grown comes host silent b.endpoints x.endpoints) (thing_of b h) b (after_accept b n) (λ e. grown_not comes host silent b.endpoints (λ i. refl) g) (λ thing e. grown_accept comes host b n thing g)
 grown_call p comes a host (calls.Send h bytes) (answers.Given n) g may =
@@ -332,12 +334,17 @@ fresh_endpoint p a me lport rport = record {
   };
 }
 
-pub moves_call : (p : Profile) (a : Hosts) (host : Host) (b : Body) (call : Call) (answer : Answer) → GoodEnds a host b.endpoints → Moves a host b.endpoints (after_call p b call answer).endpoints
+pub moves_call : (p : Profile) (a : Hosts) (host : Host) (b : Body) (call : Call) (answer : Answer) → GoodEnds a host b.endpoints
+    → Moves a host b.endpoints (after_call p b call answer).endpoints
 moves_call p a host b (calls.Listen at port backlog) (answers.Given n) g = moves_not a host b.endpoints g
-moves_call p a host b (calls.Connect at lport rport) (answers.Given n) g = moves_push a host b.endpoints (new_endpoint lport rport None states.SynSent p) g (fresh_endpoint p a _ lport rport)
-moves_call p a host b (calls.Accept h) (answers.Given n) g = map_or_cases (λ (x : Body). Moves a host b.endpoints x.endpoints) (thing_of b h) b (after_accept b n) (λ e. moves_not a host b.endpoints g) (λ thing e. moves_accept a host b n thing g)
-moves_call p a host b (calls.Send h bytes) (answers.Given n) g = moves_change a host b h (after_send bytes n) g (λ e. record { peer = refl; taken = refl; snd_una = refl; waits = λ x. x })
-moves_call p a host b (calls.Recv h most) (answers.Bytes bytes) g = moves_change a host b h (after_recv bytes) g (λ e. record { peer = refl; taken = refl; snd_una = refl; waits = λ x. x })
+moves_call p a host b (calls.Connect at lport rport) (answers.Given n) g =
+    moves_push a host b.endpoints (new_endpoint lport rport None states.SynSent p) g (fresh_endpoint p a _ lport rport)
+moves_call p a host b (calls.Accept h) (answers.Given n) g =
+    map_or_cases (λ (x : Body). Moves a host b.endpoints x.endpoints) (thing_of b h) b (after_accept b n) (λ e. moves_not a host b.endpoints g) (λ thing e. moves_accept a host b n thing g)
+moves_call p a host b (calls.Send h bytes) (answers.Given n) g =
+    moves_change a host b h (after_send bytes n) g (λ e. record { peer = refl; taken = refl; snd_una = refl; waits = λ x. x })
+moves_call p a host b (calls.Recv h most) (answers.Bytes bytes) g =
+    moves_change a host b h (after_recv bytes) g (λ e. record { peer = refl; taken = refl; snd_una = refl; waits = λ x. x })
 moves_call p a host b (calls.Shut h) answers.Done g = moves_change a host b h after_shut g keeps_shut
 moves_call p a host b (calls.Close h) answers.Done g = moves_gone a host b h after_close g keeps_close
 moves_call p a host b (calls.Abort h) answers.Done g = moves_gone a host b h after_abort g keeps_abort

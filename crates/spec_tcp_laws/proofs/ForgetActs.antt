@@ -74,7 +74,8 @@ taker-forget b m = rw (place-forget b m.rport m.lport) (by (place_of b m.rport m
 read-forget : (h : Header) (e : Endpoint) (m : Emission) → as_read h.version (forget_endpoint e) m ≡ as_read h.version e m
 read-forget h e m = rw (rcv_nxt-forget e) refl
 
-taker_rules-forget : (h : Header) (me : Host) (b : Body) (how : TakeChoice) (m : Emission) (moment : ℕ) (t : Taker) → taker_rules h me (forget_body b) how m moment (forget_taker t) ≡ taker_rules h me b how m moment t
+taker_rules-forget : (h : Header) (me : Host) (b : Body) (how : TakeChoice) (m : Emission) (moment : ℕ) (t : Taker)
+    → taker_rules h me (forget_body b) how m moment (forget_taker t) ≡ taker_rules h me b how m moment t
 taker_rules-forget h me b how m moment Nobody = refl
 taker_rules-forget h me b how m moment (AtListener l) = refl
 taker_rules-forget h me b how m moment (AtEndpoint i e) = rw (read-forget h e m) (by (as_read h.version e m) (is_syn_sent e.state))
@@ -82,7 +83,8 @@ taker_rules-forget h me b how m moment (AtEndpoint i e) = rw (read-forget h e m)
     name : EndpointId
     name = record { host = me; number = i }
 
-    by : (m : Emission) (sent : Bool) → (if sent then syn_sent_rules (forget_endpoint e) how m moment else connected_rules h (forget_body b) name (forget_endpoint e) how m moment)
+    by : (m : Emission) (sent : Bool)
+        → (if sent then syn_sent_rules (forget_endpoint e) how m moment else connected_rules h (forget_body b) name (forget_endpoint e) how m moment)
         ≡ (if sent then syn_sent_rules e how m moment else connected_rules h b name e how m moment)
     by m true = syn_sent_rules-forget e how m moment
     by m false = connected_rules-forget h b name e how m moment
@@ -98,7 +100,8 @@ act_rules-forget h me moment b (Makes m) = rules_at-forget b m.lport m.rport (λ
 act_rules-forget h me moment b (Takes how m) = rw (taker-forget b m) (taker_rules-forget h me b how m moment (taker b m))
 act_rules-forget h me moment b (Resets m) = rw (taker-forget b m, nothing-forget m (taker b m)) refl
 act_rules-forget h me moment b (Expires x) = rules_at-forget b x.lport x.rport (λ e. expiry_rules h moment e x.expired) (λ e. expiry_rules-forget h moment e x.expired)
-act_rules-forget h me moment b (Recovers x) = rules_at-forget b x.lport x.rport (λ e. recovery_rules e x.cwnd x.ssthresh moment) (λ e. recovery_rules-forget e x.cwnd x.ssthresh moment)
+act_rules-forget h me moment b (Recovers x) =
+    rules_at-forget b x.lport x.rport (λ e. recovery_rules e x.cwnd x.ssthresh moment) (λ e. recovery_rules-forget e x.cwnd x.ssthresh moment)
 
 taking-forgets : (h : Header) (b : Body) (how : TakeChoice) (m : Emission) (moment : ℕ) (t : Taker) → forget_body (after_taking h (forget_body b) how m moment (forget_taker t)) ≡ forget_body (after_taking h b how m moment t)
 taking-forgets h b how m moment Nobody = body-forget b
@@ -111,7 +114,8 @@ act-forgets h me moment b (Makes m) = ports-forgets b m.lport m.rport (λ e. aft
 act-forgets h me moment b (Takes how m) = rw (taker-forget b m) (taking-forgets h b how m moment (taker b m))
 act-forgets h me moment b (Resets m) = body-forget b
 act-forgets h me moment b (Expires x) = ports-forgets b x.lport x.rport (λ e. after_expiry e x.expired moment) (expiry-forgets x.expired moment)
-act-forgets h me moment b (Recovers x) = ports-forgets b x.lport x.rport (λ e. after_recovery e x.cwnd x.ssthresh moment) (recovery-forgets x.cwnd x.ssthresh moment)
+act-forgets h me moment b (Recovers x) =
+    ports-forgets b x.lport x.rport (λ e. after_recovery e x.cwnd x.ssthresh moment) (recovery-forgets x.cwnd x.ssthresh moment)
 
 -- a permitted segment below the oldest position that is not acknowledged is empty
 empty_below : (e : Endpoint) (m : SegmentPlan) → is_bad_payload e m ≡ false → is_bad_place e m ≡ false → m.pos < e.stream.snd_una → m.len ≡ 0

@@ -93,9 +93,11 @@ accept-forgets b n None = body-forget b
 accept-forgets b n (Some (ListenerAt l)) = accepted-forgets b l n (queue_of b l)
 accept-forgets b n (Some (EndpointAt i)) = body-forget b
 
-pub call-forgets : (p : Profile) (b : Body) (call : Call) (answer : Answer) → forget_body (after_call p (forget_body b) call answer) ≡ forget_body (after_call p b call answer)
+pub call-forgets : (p : Profile) (b : Body) (call : Call) (answer : Answer)
+    → forget_body (after_call p (forget_body b) call answer) ≡ forget_body (after_call p b call answer)
 call-forgets p b (calls.Listen host port backlog) (answers.Given n) = rw (all-forget b.endpoints) refl
-call-forgets p b (calls.Connect host lport rport) (answers.Given n) = rw (length-map b.endpoints forget_endpoint, append-forgets b.endpoints (new_endpoint lport rport None states.SynSent p ∷ [])) refl
+call-forgets p b (calls.Connect host lport rport) (answers.Given n) =
+    rw (length-map b.endpoints forget_endpoint, append-forgets b.endpoints (new_endpoint lport rport None states.SynSent p ∷ [])) refl
 call-forgets p b (calls.Accept h) (answers.Given n) = accept-forgets b n (thing_of b h)
 call-forgets p b (calls.Send h bytes) (answers.Given n) = change-forgets b h (after_send bytes n) (send-forgets bytes n)
 call-forgets p b (calls.Recv h most) (answers.Bytes bytes) = change-forgets b h (after_recv bytes) (recv-forgets bytes)

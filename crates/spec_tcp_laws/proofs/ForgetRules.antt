@@ -38,7 +38,8 @@ recv-forget e most answers.Again = rw (ended-forget e, waiting-forget e) refl
 recv-forget e most answers.NotConn = rw (rcv_nxt-forget e) refl
 recv-forget e most _ = refl
 
-pub syn_sent_rules-forget : (e : Endpoint) (how : TakeChoice) (m : Emission) (moment : ℕ) → syn_sent_rules (forget_endpoint e) how m moment ≡ syn_sent_rules e how m moment
+pub syn_sent_rules-forget : (e : Endpoint) (how : TakeChoice) (m : Emission) (moment : ℕ)
+    → syn_sent_rules (forget_endpoint e) how m moment ≡ syn_sent_rules e how m moment
 syn_sent_rules-forget e how m moment = rw (snd_max-forget e, again-forget e 1) refl
 
 place_taken-forget : (e : Endpoint) (m : Emission) → place_taken (forget_endpoint e) m ≡ place_taken e m
@@ -51,7 +52,8 @@ acceptable-forget e m = rw (place_taken-forget e m) (by (place_taken e m))
     by None = refl
     by (Some pos) = rw (rcv_nxt-forget e) refl
 
-pub connected_rules-forget : (h : Header) (b : Body) (me : EndpointId) (e : Endpoint) (how : TakeChoice) (m : Emission) (moment : ℕ) → connected_rules h b me (forget_endpoint e) how m moment ≡ connected_rules h b me e how m moment
+pub connected_rules-forget : (h : Header) (b : Body) (me : EndpointId) (e : Endpoint) (how : TakeChoice) (m : Emission) (moment : ℕ)
+    → connected_rules h b me (forget_endpoint e) how m moment ≡ connected_rules h b me e how m moment
 connected_rules-forget h b me e how m moment = rw (acceptable-forget e m, rcv_nxt-forget e, snd_max-forget e, again-forget e m.ack) refl
 
 pub expiry_rules-forget : (h : Header) (moment : ℕ) (e : Endpoint) (x : Expired) → expiry_rules h moment (forget_endpoint e) x ≡ expiry_rules h moment e x
@@ -60,5 +62,6 @@ expiry_rules-forget h moment e Persist = rw (rcv_nxt-forget e, end_of-forget e) 
 expiry_rules-forget h moment e Msl2 = refl
 expiry_rules-forget h moment e Giveup = rw (snd_max-forget e) refl
 
-pub recovery_rules-forget : (e : Endpoint) (cwnd ssthresh moment : ℕ) → recovery_rules (forget_endpoint e) cwnd ssthresh moment ≡ recovery_rules e cwnd ssthresh moment
+pub recovery_rules-forget : (e : Endpoint) (cwnd ssthresh moment : ℕ)
+    → recovery_rules (forget_endpoint e) cwnd ssthresh moment ≡ recovery_rules e cwnd ssthresh moment
 recovery_rules-forget e cwnd ssthresh moment = rw (rcv_nxt-forget e, snd_max-forget e) refl

@@ -106,7 +106,8 @@ reset-forgets how moment = forgets (λ e. was_reset e how moment) (λ e. rw (fau
 pub endpoint-forgets : (h : Header) (how : TakeChoice) (m : Emission) (moment : ℕ) → Forgets (λ e. endpoint_taken h e how m moment)
 endpoint-forgets h how m moment e = by m.flags.rst (is_syn_sent e.state)
   where
-    by : (rst sent : Bool) → forget_endpoint (if rst then was_reset (forget_endpoint e) how moment else if sent then on_syn h (forget_endpoint e) how m moment else taken h (forget_endpoint e) how m moment)
+    by : (rst sent : Bool)
+        → forget_endpoint (if rst then was_reset (forget_endpoint e) how moment else if sent then on_syn h (forget_endpoint e) how m moment else taken h (forget_endpoint e) how m moment)
         ≡ forget_endpoint (if rst then was_reset e how moment else if sent then on_syn h e how m moment else taken h e how m moment)
     by true sent = reset-forgets how moment e
     by false true = met-forgets h how m moment e

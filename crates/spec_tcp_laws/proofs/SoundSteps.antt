@@ -141,7 +141,8 @@ late_joined h e how m moment c =
     acks states.LastAck is a = absurd cc
     acks states.TimeWait is a = absurd cc
 
-    go : (r s : Bool) → r ≡ false → s ≡ false → is_early (state_taken e how m) ≡ false → is_early (if r then was_reset e how moment else if s then on_syn h e how m moment else taken h e how m moment).state ≡ false
+    go : (r s : Bool) → r ≡ false → s ≡ false → is_early (state_taken e how m) ≡ false
+        → is_early (if r then was_reset e how moment else if s then on_syn h e how m moment else taken h e how m moment).state ≡ false
     go true s p q x = absurd cc
     go false true p q x = absurd cc
     go false false p q x = x
@@ -198,7 +199,8 @@ keeps_taking h b how m moment g = go (taker b m) refl
 
     go : (t : Taker) → taker b m ≡ t → Keeps b (after_taking h b how m moment t) None
     go Nobody is = keeps_not b g
-    go (AtListener l) is = keeps_endpoints b (b.endpoints ++ child (profile_of h.initial) l how m moment ∷ []) g (stay_push b.endpoints (child (profile_of h.initial) l how m moment))
+    go (AtListener l) is =
+        keeps_endpoints b (b.endpoints ++ child (profile_of h.initial) l how m moment ∷ []) g (stay_push b.endpoints (child (profile_of h.initial) l how m moment))
     go (AtEndpoint i e) is = let k : Emission = as_read h.version e m in by k i e (taker_there b m i e is) (is_syn_received e.state && acknowledges_syn e k) e.listener refl refl
 
 keeps_dead : (b c : Body) (n : ℕ) → Sound b → AllStay b.endpoints c.endpoints → ((l : ℕ) → queue_of c l ≡ queue_of b l) → Keeps b (record c { sockets = dead b.sockets n }) None
@@ -236,7 +238,8 @@ keeps_accept b n (ListenerAt l) g new = go (queue_of b l) refl
     go [] is = keeps_same b (Some n) g
     go (c ∷ queue) is = keeps_accepted b l n c queue g new is
 
-keeps_call : (p : Profile) (b : Body) (call : Call) (answer : Answer) → Sound b → ((n : ℕ) → gives call answer ≡ Some n → given b n ≡ false) → Keeps b (after_call p b call answer) (gives call answer)
+keeps_call : (p : Profile) (b : Body) (call : Call) (answer : Answer) → Sound b → ((n : ℕ) → gives call answer ≡ Some n → given b n ≡ false)
+    → Keeps b (after_call p b call answer) (gives call answer)
 keeps_call p b (calls.Listen host port backlog) (answers.Given n) g new =
     let wide : Body = record b { listeners = b.listeners ++ record { port = port; backlog = backlog; is_open = true; queue = [] } ∷ [] } in
     let x = keeps_listener wide n (length b.listeners) (keeps_stay b wide g (λ i e at. (e, at, stays_not e)) (λ m. refl) (λ k. queue_push b.listeners (record { port = port; backlog = backlog; is_open = true; queue = [] }) k refl)) (new n refl) in
@@ -247,7 +250,8 @@ keeps_call p b (calls.Connect host lport rport) (answers.Given n) g new =
     let x = keeps_socket wide n (length b.endpoints) e (keeps_stay b wide g (stay_push b.endpoints e) (λ m. refl) (λ k. refl)) (new n refl) (get_push b.endpoints e) refl
     (λ m own. let y = g.named m (length b.endpoints) own in let within = slice_get_within b.endpoints (length b.endpoints) y.0 y.1 in omega arith) in
     record { sound = x.sound; stays = x.stays; given = x.given }
-keeps_call p b (calls.Accept h) (answers.Given n) g new = map_or_cases (λ (c : Body). Keeps b c (Some n)) (thing_of b h) b (after_accept b n) (λ e. keeps_same b (Some n) g) (λ thing e. keeps_accept b n thing g (new n refl))
+keeps_call p b (calls.Accept h) (answers.Given n) g new =
+    map_or_cases (λ (c : Body). Keeps b c (Some n)) (thing_of b h) b (after_accept b n) (λ e. keeps_same b (Some n) g) (λ thing e. keeps_accept b n thing g (new n refl))
 keeps_call p b (calls.Send h bytes) (answers.Given n) g new = keeps_change b h (after_send bytes n) (λ e. record { listener = refl; late = λ x. x }) g
 keeps_call p b (calls.Recv h most) (answers.Bytes bytes) g new = keeps_change b h (after_recv bytes) (λ e. record { listener = refl; late = λ x. x }) g
 keeps_call p b (calls.Shut h) answers.Done g new = keeps_change b h after_shut stays_shut g
@@ -258,7 +262,8 @@ keeps_call p b call answer g new = keeps_same b (gives call answer) g
 -- 3. steps
 
 keeps_deed : (h : Header) (s : ℕ) (w : World tcp_shape) (host : Host) (d : Deed tcp_shape) → Sound (pick w.hosts host).body → Keeps (pick w.hosts host).body (deed_after (tcp h) host s (suc w.count) (pick w.hosts (other host)).wire (pick w.hosts host) d).body None
-keeps_deed h s w host (Does x) g = keeps_at_ports (pick w.hosts host).body x.lport x.rport (λ e. after_recovery e x.cwnd x.ssthresh s) g (λ e. record { listener = refl; late = λ y. y })
+keeps_deed h s w host (Does x) g =
+    keeps_at_ports (pick w.hosts host).body x.lport x.rport (λ e. after_recovery e x.cwnd x.ssthresh s) g (λ e. record { listener = refl; late = λ y. y })
 keeps_deed h s w host (Expires line x) g = keeps_at_ports (pick w.hosts host).body x.lport x.rport (λ e. after_expiry e x.expired s) g (λ e. stays_expiry e x.expired s)
 keeps_deed h s w host (Makes m) g = keeps_at_ports (pick w.hosts host).body m.lport m.rport (λ e. after_making e m s) g (λ e. stays_making e m s)
 keeps_deed h s w host (Sends line number wire) g = keeps_not (pick w.hosts host).body g

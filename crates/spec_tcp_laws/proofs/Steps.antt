@@ -184,7 +184,8 @@ adds_elsewhere a host (calls.Close n) answers.Done apart may i = ap (λ (c : Boo
     (socket_none a (other host) n i (owner_elsewhere a host n apart (live (pick a host).body n (calls.Close n) answers.Done may refl)))
 adds_elsewhere a host call answer apart may i = refl
 
-kept_call : (p : Profile) (a : Hosts) (host : Host) (call : Call) (answer : Answer) → Good a → AllLater a (with_host a host (record (pick a host) { body = after_call p (pick a host).body call answer }))
+kept_call : (p : Profile) (a : Hosts) (host : Host) (call : Call) (answer : Answer) → Good a
+    → AllLater a (with_host a host (record (pick a host) { body = after_call p (pick a host).body call answer }))
     → Kept a (with_host a host (record (pick a host) { body = after_call p (pick a host).body call answer }))
 kept_call p a host call answer g up = kept_host a host (record (pick a host) { body = after_call p (pick a host).body call answer }) g up
     (moves_call p a host (pick a host).body call answer (ends a host g)) (λ c later t. record { made = t.made; wire = t.wire; inbox = t.inbox })
@@ -217,7 +218,8 @@ effect_allowed h s hosts call answer (Some host) may = let x = none_both (fresh_
 -- endpoints by themselves, in every case
 grown_deed : (h : Header) (s : ℕ) (w : World tcp_shape) (host : Host) (d : Deed tcp_shape) → AllOwn w.hosts → Permitted (tcp h) s w (At host d)
     → Grown (Carries h w (At host d)) host silent (pick w.hosts host).body.endpoints (deed_after (tcp h) host s (suc w.count) (pick w.hosts (other host)).wire (pick w.hosts host) d).body.endpoints
-grown_deed h s w host (Does x) g may = grown_at_ports (Carries h w (At host (Does x))) host (pick w.hosts host).body x.lport x.rport (λ e. after_recovery e x.cwnd x.ssthresh s) (g host) (plain_recovery x.cwnd x.ssthresh s)
+grown_deed h s w host (Does x) g may =
+    grown_at_ports (Carries h w (At host (Does x))) host (pick w.hosts host).body x.lport x.rport (λ e. after_recovery e x.cwnd x.ssthresh s) (g host) (plain_recovery x.cwnd x.ssthresh s)
 grown_deed h s w host (Expires line x) g may = grown_at_ports (Carries h w (At host (Expires line x))) host (pick w.hosts host).body x.lport x.rport (λ e. after_expiry e x.expired s) (g host) (plain_expiry x.expired s)
 grown_deed h s w host (Makes m) g may = grown_at_ports (Carries h w (At host (Makes m))) host (pick w.hosts host).body m.lport m.rport (λ e. after_making e m s) (g host) (plain_making m s)
 grown_deed h s w host (Sends line number wire) g may = grown_not (Carries h w (At host (Sends line number wire))) host silent (pick w.hosts host).body.endpoints (λ i. refl) (g host)
@@ -242,7 +244,8 @@ grown_effect h s w t answer g apart may = go (turn_of t w.threads) may
 
     by : (call : Call) (o : Option Host) → option_map_or (λ host. call_allows (pick w.hosts host).body call answer) o (is_bad_socket answer) ≡ true → AllGrown comes (call_adds w.hosts call answer) w.hosts (call_after (tcp h) s w.hosts (Calls call answer) o)
     by call None may = all_grown_not comes w.hosts (call_adds w.hosts call answer) (λ me. stray_adds w.hosts call answer me may) g
-    by call (Some host) may = all_grown_host comes w.hosts host (record (pick w.hosts host) { body = after_call (profile_of h.initial) (pick w.hosts host).body call answer }) (call_adds w.hosts call answer) g
+    by call (Some host) may =
+        all_grown_host comes w.hosts host (record (pick w.hosts host) { body = after_call (profile_of h.initial) (pick w.hosts host).body call answer }) (call_adds w.hosts call answer) g
         (grown_call (profile_of h.initial) comes w.hosts host call answer (g host) may) (adds_elsewhere w.hosts host call answer apart may)
 
     go : (u : Turn tcp_shape) → first_broken (effect_rules (tcp h) s w.hosts u answer) ≡ None

@@ -254,14 +254,17 @@ base_there e m good = go m.is_reset_reply e.irs refl good
 
 grows_endpoint : (comes : ℕ → Cell → Type 0) (h : Header) (b : Body) (me : EndpointId) (e : Endpoint) (how : TakeChoice) (m : Emission) (moment : ℕ) → Own e
     → ((k : ℕ) (c : Cell) → how.keep ≡ true → m.flags.rst ≡ false → slice_get (body m.payload m.flags.fin) k ≡ Some c → comes (first_byte m + k) c)
-    → first_broken (if is_syn_sent e.state then syn_sent_rules e how m moment else connected_rules h b me e how m moment) ≡ None → Grows comes nothing e (endpoint_taken h e how m moment)
+    → first_broken (if is_syn_sent e.state then syn_sent_rules e how m moment else connected_rules h b me e how m moment) ≡ None
+    → Grows comes nothing e (endpoint_taken h e how m moment)
 grows_endpoint comes h b me e how m moment g new may = go m.flags.rst (is_syn_sent e.state) refl refl may
   where
-    go : (r s : Bool) → m.flags.rst ≡ r → is_syn_sent e.state ≡ s → first_broken (if s then syn_sent_rules e how m moment else connected_rules h b me e how m moment) ≡ None
+    go : (r s : Bool) → m.flags.rst ≡ r → is_syn_sent e.state ≡ s
+        → first_broken (if s then syn_sent_rules e how m moment else connected_rules h b me e how m moment) ≡ None
         → Grows comes nothing e (if r then was_reset e how moment else if s then on_syn h e how m moment else taken h e how m moment)
     go true s is x may = grows_plain comes e (was_reset e how moment) g (plain_reset e how moment)
     go false true is x may = grows_met comes h e how m moment g x
-    go false false is x may = let base = base_there e m (none_all (connected_rules h b me e how m moment) may).1.0 in grows_taken comes h e how m moment g x base.0 base.1 (λ k c keep. new k c keep is)
+    go false false is x may =
+        let base = base_there e m (none_all (connected_rules h b me e how m moment) may).1.0 in grows_taken comes h e how m moment g x base.0 base.1 (λ k c keep. new k c keep is)
 
 -- reading a segment changes neither its flags nor what it carries
 read_flags : (b : Bool) (e : Endpoint) (m : Emission) → (if b then read_at e m else m).flags ≡ m.flags
@@ -283,7 +286,8 @@ grown_taking h s w host line how m g waits may = go (taker (pick w.hosts host).b
     comes : Coming
     comes = Carries h w (At host (Takes line how))
 
-    go : (t : Taker) → taker b m ≡ t → first_broken (taker_rules h host b how m s t) ≡ None → Grown comes host silent b.endpoints (after_taking h b how m s t).endpoints
+    go : (t : Taker) → taker b m ≡ t → first_broken (taker_rules h host b how m s t) ≡ None
+        → Grown comes host silent b.endpoints (after_taking h b how m s t).endpoints
     go Nobody is may = grown_not comes host silent b.endpoints (λ i. refl) (g host)
     go (AtListener l) is may = grown_push comes host b.endpoints (child (profile_of h.initial) l how m s) (g host) (bare_child (profile_of h.initial) l how m s)
     go (AtEndpoint i e) is may = let at = taker_there b m i e is in
@@ -341,7 +345,8 @@ record FromPeer (me : EndpointId) (e : Endpoint) (m : Emission) : Type 0 where
 whole_case : (h : Header) → is_half h.version ≡ false → (b : Bool) → (not (is_half h.version) && not b) ≡ false → not b ≡ false
 whole_case h whole b e = subst (λ (c : Bool). (not c && not b) ≡ false) whole e
 
-from_peer : (a : Hosts) (h : Header) → is_half h.version ≡ false → (b : Body) (me : EndpointId) (e : Endpoint) (how : TakeChoice) (m : Emission) (moment : ℕ) → GoodEmission a m → m.flags.rst ≡ false → first_broken (connected_rules h b me e how m moment) ≡ None → FromPeer me e m
+from_peer : (a : Hosts) (h : Header) → is_half h.version ≡ false → (b : Body) (me : EndpointId) (e : Endpoint) (how : TakeChoice) (m : Emission) (moment : ℕ)
+    → GoodEmission a m → m.flags.rst ≡ false → first_broken (connected_rules h b me e how m moment) ≡ None → FromPeer me e m
 from_peer a h whole b me e how m moment good r may =
     let t = none_all (connected_rules h b me e how m moment) may in
     let plain : m.is_reset_reply ≡ false = is_not m.is_reset_reply (λ x. let y = good.resets x in cc) in
@@ -408,10 +413,12 @@ changes_met a h me e how m moment g good waits =
     met_una false snd_una more = λ no. no more
 
 changes_endpoint : (a : Hosts) (h : Header) → is_half h.version ≡ false → (b : Body) (me : EndpointId) (e : Endpoint) (how : TakeChoice) (m : Emission) (moment : ℕ) → GoodEnd a me e → GoodEmission a m
-    → first_broken (if is_syn_sent e.state then syn_sent_rules e how m moment else connected_rules h b me e how m moment) ≡ None → Changes a me e (endpoint_taken h e how m moment)
+    → first_broken (if is_syn_sent e.state then syn_sent_rules e how m moment else connected_rules h b me e how m moment) ≡ None
+    → Changes a me e (endpoint_taken h e how m moment)
 changes_endpoint a h whole b me e how m moment g good may = go m.flags.rst (is_syn_sent e.state) refl refl may
   where
-    go : (r s : Bool) → m.flags.rst ≡ r → is_syn_sent e.state ≡ s → first_broken (if s then syn_sent_rules e how m moment else connected_rules h b me e how m moment) ≡ None
+    go : (r s : Bool) → m.flags.rst ≡ r → is_syn_sent e.state ≡ s
+        → first_broken (if s then syn_sent_rules e how m moment else connected_rules h b me e how m moment) ≡ None
         → Changes a me e (if r then was_reset e how moment else if s then on_syn h e how m moment else taken h e how m moment)
     go true s is x may = changes_keeps a me e (was_reset e how moment) g (plain_keeps e (was_reset e how moment) (plain_reset e how moment))
     go false true is x may = changes_met a h me e how m moment g good x
@@ -425,11 +432,13 @@ pub moves_taking : (a : Hosts) (h : Header) → is_half h.version ≡ false → 
     → first_broken (taker_rules h host b how m moment (taker b m)) ≡ None → Moves a host b.endpoints (after_taking h b how m moment (taker b m)).endpoints
 moves_taking a h whole host b how m moment g good may = go (taker b m) refl may
   where
-    go : (t : Taker) → taker b m ≡ t → first_broken (taker_rules h host b how m moment t) ≡ None → Moves a host b.endpoints (after_taking h b how m moment t).endpoints
+    go : (t : Taker) → taker b m ≡ t → first_broken (taker_rules h host b how m moment t) ≡ None
+        → Moves a host b.endpoints (after_taking h b how m moment t).endpoints
     go Nobody is may = moves_not a host b.endpoints g
     go (AtListener l) is may = moves_push a host b.endpoints (child (profile_of h.initial) l how m moment) g (record {
       snd_una = λ more. absurd (omega arith);
-      good = λ c later. record { stream = met_good c _ m.sender (child (profile_of h.initial) l how m moment).stream (emission_later a c later m good).there refl refl (λ more. omega arith); waits = λ y. absurd cc };
+      good =
+          λ c later. record { stream = met_good c _ m.sender (child (profile_of h.initial) l how m moment).stream (emission_later a c later m good).there refl refl (λ more. omega arith); waits = λ y. absurd cc };
     })
     go (AtEndpoint i e) is may = let at = taker_there b m i e is in
         moves_one a host b.endpoints i (λ x. endpoint_taken h x how (as_read h.version e m) moment) g

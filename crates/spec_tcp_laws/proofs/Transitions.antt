@@ -300,7 +300,8 @@ taking_goes : (h : Header) (w : World tcp_shape) (step : Step tcp_shape) (me : E
     → Goes w step me e (endpoint_taken h e how r moment)
 taking_goes h w step me e how m r moment same there = go r.flags.rst (is_syn_sent e.state) same refl
   where
-    go : (b c : Bool) → b ≡ m.flags.rst → is_syn_sent e.state ≡ c → Goes w step me e (if b then was_reset e how moment else if c then on_syn h e how r moment else segment_taken h e how r moment)
+    go : (b c : Bool) → b ≡ m.flags.rst → is_syn_sent e.state ≡ c
+        → Goes w step me e (if b then was_reset e how moment else if c then on_syn h e how r moment else segment_taken h e how r moment)
     go true c rst is = closed w step me e (was_reset e how moment) refl (level e) (ByReset m there (sym rst) refl)
     go false true rst is = record {
       leads = BySegment m (on_syn h e how r moment).state there (sym rst) (inr (met_leads e.state is r.flags.ack)) (inl refl);
@@ -411,12 +412,17 @@ gone_accept w step host b n (ListenerAt l) = go (queue_of b l)
 
 gone_call : (p : Profile) (w : World tcp_shape) (thread : ℕ) (host : Host) (call : Call) (answer : Answer) → turn_of thread w.threads ≡ Called call
     → Gone w (Effect thread answer) host (pick w.hosts host).body.endpoints (after_call p (pick w.hosts host).body call answer).endpoints
-gone_call p w thread host (calls.Listen at port backlog) (answers.Given n) turn = gone_not w (Effect thread (answers.Given n)) host (pick w.hosts host).body.endpoints
-gone_call p w thread host (calls.Connect at lport rport) (answers.Given n) turn = gone_push w (Effect thread (answers.Given n)) host (pick w.hosts host).body.endpoints (new_endpoint lport rport None states.SynSent p) (inl refl)
-gone_call p w thread host (calls.Accept h) (answers.Given n) turn = let b = (pick w.hosts host).body in let step : Step tcp_shape = Effect thread (answers.Given n) in
+gone_call p w thread host (calls.Listen at port backlog) (answers.Given n) turn =
+    gone_not w (Effect thread (answers.Given n)) host (pick w.hosts host).body.endpoints
+gone_call p w thread host (calls.Connect at lport rport) (answers.Given n) turn =
+    gone_push w (Effect thread (answers.Given n)) host (pick w.hosts host).body.endpoints (new_endpoint lport rport None states.SynSent p) (inl refl)
+gone_call p w thread host (calls.Accept h) (answers.Given n) turn =
+    let b = (pick w.hosts host).body in let step : Step tcp_shape = Effect thread (answers.Given n) in
     map_or_cases (λ (x : Body). Gone w step host b.endpoints x.endpoints) (thing_of b h) b (after_accept b n) (λ e. gone_not w step host b.endpoints) (λ thing e. gone_accept w step host b n thing)
-gone_call p w thread host (calls.Send h bytes) (answers.Given n) turn = gone_change w (Effect thread (answers.Given n)) host h (after_send bytes n) (λ i e is. stays w (Effect thread (answers.Given n)) (name host i) e (after_send bytes n e) refl (level e) refl)
-gone_call p w thread host (calls.Recv h most) (answers.Bytes bytes) turn = gone_change w (Effect thread (answers.Bytes bytes)) host h (after_recv bytes) (λ i e is. stays w (Effect thread (answers.Bytes bytes)) (name host i) e (after_recv bytes e) refl (level e) refl)
+gone_call p w thread host (calls.Send h bytes) (answers.Given n) turn =
+    gone_change w (Effect thread (answers.Given n)) host h (after_send bytes n) (λ i e is. stays w (Effect thread (answers.Given n)) (name host i) e (after_send bytes n e) refl (level e) refl)
+gone_call p w thread host (calls.Recv h most) (answers.Bytes bytes) turn =
+    gone_change w (Effect thread (answers.Bytes bytes)) host h (after_recv bytes) (λ i e is. stays w (Effect thread (answers.Bytes bytes)) (name host i) e (after_recv bytes e) refl (level e) refl)
 gone_call p w thread host (calls.Shut h) answers.Done turn = gone_change w (Effect thread answers.Done) host h after_shut
     (λ i e is. shut_goes w (Effect thread answers.Done) (name host i) e (thread, answers.Done, calls.Shut h, h, refl, turn, refl, is))
 gone_call p w thread host (calls.Close h) answers.Done turn = gone_gone w (Effect thread answers.Done) host h after_close
@@ -446,7 +452,8 @@ both_step h s w (Effect t answer) = go (turn_of t w.threads) refl
   where
     by : (call : Call) (o : Option Host) → turn_of t w.threads ≡ Called call → BothGo w (Effect t answer) (call_after (tcp h) s w.hosts (Calls call answer) o)
     by call None turn = both_not w (Effect t answer)
-    by call (Some host) turn = both_host w (Effect t answer) host (record (pick w.hosts host) { body = after_call (profile_of h.initial) (pick w.hosts host).body call answer }) (gone_call (profile_of h.initial) w t host call answer turn)
+    by call (Some host) turn =
+        both_host w (Effect t answer) host (record (pick w.hosts host) { body = after_call (profile_of h.initial) (pick w.hosts host).body call answer }) (gone_call (profile_of h.initial) w t host call answer turn)
 
     go : (u : Turn tcp_shape) → turn_of t w.threads ≡ u → BothGo w (Effect t answer) (effect_after (tcp h) s w t answer u).hosts
     go Idle is = both_not w (Effect t answer)

@@ -84,19 +84,22 @@ record Follows (p : Profile) (w : World tcp_shape) (step : Step tcp_shape) (host
 follows_not : (p : Profile) (w : World tcp_shape) (step : Step tcp_shape) (host : Host) (es : List Endpoint) → Follows p w step host es es
 follows_not p w step host es = record { onward = λ i e at. (e, at, stayed refl); back = λ i f at. inl (f, at) }
 
-follows_one : (p : Profile) (w : World tcp_shape) (step : Step tcp_shape) (host : Host) (es : List Endpoint) (i : ℕ) (f : Endpoint → Endpoint) → ((e : Endpoint) → slice_get es i ≡ Some e → WindowsMove w step (name host i) e (f e)) → Follows p w step host es (modify es i f)
+follows_one : (p : Profile) (w : World tcp_shape) (step : Step tcp_shape) (host : Host) (es : List Endpoint) (i : ℕ) (f : Endpoint → Endpoint)
+    → ((e : Endpoint) → slice_get es i ≡ Some e → WindowsMove w step (name host i) e (f e)) → Follows p w step host es (modify es i f)
 follows_one p w step host es i f new = record {
   onward = modify_each (λ j. WindowsMove w step (name host j)) f es i (λ j e at n. stayed refl) new;
   back = all_modify (λ j y. ((e : Endpoint) × (slice_get es j ≡ Some e)) ⊎ Begins p y) f es i (λ j e x. inl (e, x)) (λ e x. inl (e, x));
 }
 
-follows_map : (p : Profile) (w : World tcp_shape) (step : Step tcp_shape) (host : Host) (es : List Endpoint) (f : Endpoint → Endpoint) → ((e : Endpoint) → (f e).control ≡ e.control) → Follows p w step host es (map f es)
+follows_map : (p : Profile) (w : World tcp_shape) (step : Step tcp_shape) (host : Host) (es : List Endpoint) (f : Endpoint → Endpoint)
+    → ((e : Endpoint) → (f e).control ≡ e.control) → Follows p w step host es (map f es)
 follows_map p w step host es f same = record {
   onward = map_onward (λ j. WindowsMove w step (name host j)) f es (λ j e at. stayed (same e));
   back = λ j y e. let h = map_back f es j y e in inl (h.0, h.1);
 }
 
-follows_push : (p : Profile) (w : World tcp_shape) (step : Step tcp_shape) (host : Host) (es : List Endpoint) (e : Endpoint) → Begins p e → Follows p w step host es (es ++ e ∷ [])
+follows_push : (p : Profile) (w : World tcp_shape) (step : Step tcp_shape) (host : Host) (es : List Endpoint) (e : Endpoint) → Begins p e
+    → Follows p w step host es (es ++ e ∷ [])
 follows_push p w step host es e new = record {
   onward = λ i x at. (x, get_append es (e ∷ []) i x at, stayed refl);
   back = all_push (λ j y. ((x : Endpoint) × (slice_get es j ≡ Some x)) ⊎ Begins p y) es e (λ j x at. inl (x, at)) (inr new);
@@ -104,8 +107,10 @@ follows_push p w step host es e new = record {
 
 -- the endpoint of some ports changes
 follows_at_ports : (p : Profile) (w : World tcp_shape) (step : Step tcp_shape) (host : Host) (b : Body) (lport rport : ℕ) (f : Endpoint → Endpoint)
-    → ((i : ℕ) (e : Endpoint) → place_of b lport rport ≡ Some i → slice_get b.endpoints i ≡ Some e → WindowsMove w step (name host i) e (f e)) → Follows p w step host b.endpoints (at_ports b lport rport f).endpoints
-follows_at_ports p w step host b lport rport f new = map_or_cases (λ (x : Body). Follows p w step host b.endpoints x.endpoints) (place_of b lport rport) b (λ i. with_endpoint b i f)
+    → ((i : ℕ) (e : Endpoint) → place_of b lport rport ≡ Some i → slice_get b.endpoints i ≡ Some e → WindowsMove w step (name host i) e (f e))
+    → Follows p w step host b.endpoints (at_ports b lport rport f).endpoints
+follows_at_ports p w step host b lport rport f new =
+    map_or_cases (λ (x : Body). Follows p w step host b.endpoints x.endpoints) (place_of b lport rport) b (λ i. with_endpoint b i f)
     (λ e. follows_not p w step host b.endpoints) (λ i at. follows_one p w step host b.endpoints i f (λ e there. new i e at there))
 
 -- the rules on the endpoint of some ports
@@ -142,7 +147,8 @@ chosen h e how m moment = go m.flags.rst (is_syn_sent e.state)
     after_signal : (x : Signal) → ((after_it e.control x (at_moment e moment) how.cwnd e.control.values.ssthresh).values.cwnd ≡ how.cwnd)
         × ((after_it e.control x (at_moment e moment) how.cwnd e.control.values.ssthresh).values.ssthresh ≡ e.control.values.ssthresh)
         × ((after_it e.control x (at_moment e moment) how.cwnd e.control.values.ssthresh).profile ≡ e.control.profile)
-    after_signal x = (chosen_cwnd e.control x (at_moment e moment) how.cwnd e.control.values.ssthresh, kept_ssthresh e.control x (at_moment e moment) how.cwnd, same_profile e.control x (at_moment e moment) how.cwnd e.control.values.ssthresh)
+    after_signal x =
+        (chosen_cwnd e.control x (at_moment e moment) how.cwnd e.control.values.ssthresh, kept_ssthresh e.control x (at_moment e moment) how.cwnd, same_profile e.control x (at_moment e moment) how.cwnd e.control.values.ssthresh)
 
     go : (r s : Bool) → ((if r then was_reset e how moment else if s then on_syn h e how m moment else segment_taken h e how m moment).control.values.cwnd ≡ how.cwnd)
         × ((if r then was_reset e how moment else if s then on_syn h e how m moment else segment_taken h e how m moment).control.values.ssthresh ≡ e.control.values.ssthresh)
@@ -151,28 +157,34 @@ chosen h e how m moment = go m.flags.rst (is_syn_sent e.state)
     go false true = after_signal (signal_of e m)
     go false false = after_signal (signal_of e m)
 
-allowed : (h : Header) (b : Body) (me : EndpointId) (e : Endpoint) (how : TakeChoice) (m : Emission) (moment : ℕ) → first_broken (if is_syn_sent e.state then syn_sent_rules e how m moment else connected_rules h b me e how m moment) ≡ None
+allowed : (h : Header) (b : Body) (me : EndpointId) (e : Endpoint) (how : TakeChoice) (m : Emission) (moment : ℕ)
+    → first_broken (if is_syn_sent e.state then syn_sent_rules e how m moment else connected_rules h b me e how m moment) ≡ None
     → how.cwnd ≤ (greatest e.control (signal_of e m) (at_moment e moment)).0
 allowed h b me e how m moment may = go (is_syn_sent e.state) may
   where
     go : (s : Bool) → first_broken (if s then syn_sent_rules e how m moment else connected_rules h b me e how m moment) ≡ None
         → how.cwnd ≤ (greatest e.control (signal_of e m) (at_moment e moment)).0
     go true may = at_most_from ((greatest e.control (signal_of e m) (at_moment e moment)).0) how.cwnd (none_all (syn_sent_rules e how m moment) may).1.1.0
-    go false may = at_most_from ((greatest e.control (signal_of e m) (at_moment e moment)).0) how.cwnd (none_all (connected_rules h b me e how m moment) may).1.1.1.1.1.0
+    go false may =
+        at_most_from ((greatest e.control (signal_of e m) (at_moment e moment)).0) how.cwnd (none_all (connected_rules h b me e how m moment) may).1.1.1.1.1.0
 
-follows_taking : (h : Header) (s : ℕ) (w : World tcp_shape) (host : Host) (line : ℕ) (how : TakeChoice) (m : Emission) → waiting line (pick w.hosts host).inbox ≡ Some m → first_broken (taker_rules h host (pick w.hosts host).body how m s (taker (pick w.hosts host).body m)) ≡ None
+follows_taking : (h : Header) (s : ℕ) (w : World tcp_shape) (host : Host) (line : ℕ) (how : TakeChoice) (m : Emission)
+    → waiting line (pick w.hosts host).inbox ≡ Some m
+    → first_broken (taker_rules h host (pick w.hosts host).body how m s (taker (pick w.hosts host).body m)) ≡ None
     → Follows (profile_of h.initial) w (At host (Takes line how)) host (pick w.hosts host).body.endpoints (after_taking h (pick w.hosts host).body how m s (taker (pick w.hosts host).body m)).endpoints
 follows_taking h s w host line how m waits may = go (taker (pick w.hosts host).body m) refl may
   where
     b : Body
     b = (pick w.hosts host).body
 
-    go : (t : Taker) → taker b m ≡ t → first_broken (taker_rules h host b how m s t) ≡ None → Follows (profile_of h.initial) w (At host (Takes line how)) host b.endpoints (after_taking h b how m s t).endpoints
+    go : (t : Taker) → taker b m ≡ t → first_broken (taker_rules h host b how m s t) ≡ None
+        → Follows (profile_of h.initial) w (At host (Takes line how)) host b.endpoints (after_taking h b how m s t).endpoints
     go Nobody is may = follows_not (profile_of h.initial) w (At host (Takes line how)) host b.endpoints
     go (AtListener l) is may =
         let none = at_most_from 0 how.cwnd (none_all (listener_rules how m) may).1.0 in
         follows_push (profile_of h.initial) w (At host (Takes line how)) host b.endpoints (child (profile_of h.initial) l how m s) ((let zero' : how.cwnd ≡ 0 = omega arith in zero'), refl, refl)
-    go (AtEndpoint i e) is may = follows_one (profile_of h.initial) w (At host (Takes line how)) host b.endpoints i (λ x. endpoint_taken h x how (as_read h.version e m) s)
+    go (AtEndpoint i e) is may =
+        follows_one (profile_of h.initial) w (At host (Takes line how)) host b.endpoints i (λ x. endpoint_taken h x how (as_read h.version e m) s)
         (λ x there.
         let one : e ≡ x = same_Some e x (sym (taker_there b m i e is) ∙ there) in
         taken m (line, how, refl, waits, is ∙ ap (λ (y : Endpoint). AtEndpoint i y) one) (chosen h x how (as_read h.version e m) s).2)
@@ -188,8 +200,10 @@ follows_deed h s w host (Expires line x) may = let b = (pick w.hosts host).body 
 follows_deed h s w host (Makes m) may = let b = (pick w.hosts host).body in
     follows_at_ports (profile_of h.initial) w (At host (Makes m)) host b m.lport m.rport (λ e. after_making e m s)
     (λ i e at there. unmoved w (At host (Makes m)) (name host i) e (after_making e m s) (either_windows m.flags.rst (record (shut_down (endpoint_made e m s)) { reset_due = false }) (endpoint_made e m s) e refl refl))
-follows_deed h s w host (Sends line number wire) may = follows_not (profile_of h.initial) w (At host (Sends line number wire)) host (pick w.hosts host).body.endpoints
-follows_deed h s w host (Gets line copied wire) may = follows_not (profile_of h.initial) w (At host (Gets line copied wire)) host (pick w.hosts host).body.endpoints
+follows_deed h s w host (Sends line number wire) may =
+    follows_not (profile_of h.initial) w (At host (Sends line number wire)) host (pick w.hosts host).body.endpoints
+follows_deed h s w host (Gets line copied wire) may =
+    follows_not (profile_of h.initial) w (At host (Gets line copied wire)) host (pick w.hosts host).body.endpoints
 follows_deed h s w host (Hears line wire) may = follows_not (profile_of h.initial) w (At host (Hears line wire)) host (pick w.hosts host).body.endpoints
 follows_deed h s w host (Takes line how) may = let k = pick w.hosts host in let step : Step tcp_shape = At host (Takes line how) in
     on_cases (λ (b : Body). Follows (profile_of h.initial) w step host k.body.endpoints b.endpoints) (waiting line k.inbox) k.body _ (follows_not (profile_of h.initial) w step host k.body.endpoints)
@@ -203,25 +217,32 @@ follows_deed h s w host (Answers line) may = let k = pick w.hosts host in let st
 
 -- 2. calls
 
-follows_same : (p : Profile) (w : World tcp_shape) (step : Step tcp_shape) (host : Host) (b : Body) (i : ℕ) (f : Endpoint → Endpoint) → ((e : Endpoint) → (f e).control ≡ e.control) → Follows p w step host b.endpoints (with_endpoint b i f).endpoints
+follows_same : (p : Profile) (w : World tcp_shape) (step : Step tcp_shape) (host : Host) (b : Body) (i : ℕ) (f : Endpoint → Endpoint)
+    → ((e : Endpoint) → (f e).control ≡ e.control) → Follows p w step host b.endpoints (with_endpoint b i f).endpoints
 follows_same p w step host b i f same = follows_one p w step host b.endpoints i f (λ e at. unmoved w step (name host i) e (f e) (same e))
 
-follows_change : (p : Profile) (w : World tcp_shape) (step : Step tcp_shape) (host : Host) (b : Body) (n : ℕ) (f : Endpoint → Endpoint) → ((e : Endpoint) → (f e).control ≡ e.control) → Follows p w step host b.endpoints (option_map_or (change_thing b f) (thing_of b n) b).endpoints
-follows_change p w step host b n f same = map_or_cases (λ (x : Body). Follows p w step host b.endpoints x.endpoints) (thing_of b n) b (change_thing b f) (λ e. follows_not p w step host b.endpoints) (λ thing e. go thing)
+follows_change : (p : Profile) (w : World tcp_shape) (step : Step tcp_shape) (host : Host) (b : Body) (n : ℕ) (f : Endpoint → Endpoint)
+    → ((e : Endpoint) → (f e).control ≡ e.control) → Follows p w step host b.endpoints (option_map_or (change_thing b f) (thing_of b n) b).endpoints
+follows_change p w step host b n f same =
+    map_or_cases (λ (x : Body). Follows p w step host b.endpoints x.endpoints) (thing_of b n) b (change_thing b f) (λ e. follows_not p w step host b.endpoints) (λ thing e. go thing)
   where
     go : (thing : SocketTarget) → Follows p w step host b.endpoints (change_thing b f thing).endpoints
     go (ListenerAt l) = follows_not p w step host b.endpoints
     go (EndpointAt i) = follows_same p w step host b i f same
 
-follows_gone : (p : Profile) (w : World tcp_shape) (step : Step tcp_shape) (host : Host) (b : Body) (n : ℕ) (f : Endpoint → Endpoint) → ((e : Endpoint) → (f e).control ≡ e.control)
+follows_gone : (p : Profile) (w : World tcp_shape) (step : Step tcp_shape) (host : Host) (b : Body) (n : ℕ) (f : Endpoint → Endpoint)
+    → ((e : Endpoint) → (f e).control ≡ e.control)
     → Follows p w step host b.endpoints (option_map_or (λ thing. record (thing_gone b thing f) { sockets = dead b.sockets n }) (thing_of b n) b).endpoints
-follows_gone p w step host b n f same = map_or_cases (λ (x : Body). Follows p w step host b.endpoints x.endpoints) (thing_of b n) b (λ thing. record (thing_gone b thing f) { sockets = dead b.sockets n }) (λ e. follows_not p w step host b.endpoints) (λ thing e. go thing)
+follows_gone p w step host b n f same =
+    map_or_cases (λ (x : Body). Follows p w step host b.endpoints x.endpoints) (thing_of b n) b (λ thing. record (thing_gone b thing f) { sockets = dead b.sockets n }) (λ e. follows_not p w step host b.endpoints) (λ thing e. go thing)
   where
     go : (thing : SocketTarget) → Follows p w step host b.endpoints (thing_gone b thing f).endpoints
-    go (ListenerAt l) = follows_map p w step host b.endpoints (orphaned l) (λ e. either_windows (option_map_or (λ holder. holder == l) e.listener false) (after_abort e) e e refl refl)
+    go (ListenerAt l) =
+        follows_map p w step host b.endpoints (orphaned l) (λ e. either_windows (option_map_or (λ holder. holder == l) e.listener false) (after_abort e) e e refl refl)
     go (EndpointAt i) = follows_same p w step host b i f same
 
-follows_accept : (p : Profile) (w : World tcp_shape) (step : Step tcp_shape) (host : Host) (b : Body) (n : ℕ) (thing : SocketTarget) → Follows p w step host b.endpoints (after_accept b n thing).endpoints
+follows_accept : (p : Profile) (w : World tcp_shape) (step : Step tcp_shape) (host : Host) (b : Body) (n : ℕ) (thing : SocketTarget)
+    → Follows p w step host b.endpoints (after_accept b n thing).endpoints
 follows_accept p w step host b n (EndpointAt i) = follows_not p w step host b.endpoints
 follows_accept p w step host b n (ListenerAt l) = go (queue_of b l)
   where
@@ -229,14 +250,18 @@ follows_accept p w step host b n (ListenerAt l) = go (queue_of b l)
     go [] = follows_not p w step host b.endpoints
     go (c ∷ queue) = follows_same p w step host b c (λ e. record e { listener = None }) (λ e. refl)
 
-follows_call : (p : Profile) (w : World tcp_shape) (step : Step tcp_shape) (host : Host) (b : Body) (call : Call) (answer : Answer) → Follows p w step host b.endpoints (after_call p b call answer).endpoints
+follows_call : (p : Profile) (w : World tcp_shape) (step : Step tcp_shape) (host : Host) (b : Body) (call : Call) (answer : Answer)
+    → Follows p w step host b.endpoints (after_call p b call answer).endpoints
 follows_call p w step host b (calls.Listen at port backlog) (answers.Given n) = follows_not p w step host b.endpoints
-follows_call p w step host b (calls.Connect at lport rport) (answers.Given n) = follows_push p w step host b.endpoints (new_endpoint lport rport None states.SynSent p) (refl, refl, refl)
-follows_call p w step host b (calls.Accept h) (answers.Given n) = map_or_cases (λ (x : Body). Follows p w step host b.endpoints x.endpoints) (thing_of b h) b (after_accept b n) (λ e. follows_not p w step host b.endpoints) (λ thing e. follows_accept p w step host b n thing)
+follows_call p w step host b (calls.Connect at lport rport) (answers.Given n) =
+    follows_push p w step host b.endpoints (new_endpoint lport rport None states.SynSent p) (refl, refl, refl)
+follows_call p w step host b (calls.Accept h) (answers.Given n) =
+    map_or_cases (λ (x : Body). Follows p w step host b.endpoints x.endpoints) (thing_of b h) b (after_accept b n) (λ e. follows_not p w step host b.endpoints) (λ thing e. follows_accept p w step host b n thing)
 follows_call p w step host b (calls.Send h bytes) (answers.Given n) = follows_change p w step host b h (after_send bytes n) (λ e. refl)
 follows_call p w step host b (calls.Recv h most) (answers.Bytes bytes) = follows_change p w step host b h (after_recv bytes) (λ e. refl)
 follows_call p w step host b (calls.Shut h) answers.Done = follows_change p w step host b h after_shut (λ e. refl)
-follows_call p w step host b (calls.Close h) answers.Done = follows_gone p w step host b h after_close (λ e. either_windows (is_syn_sent e.state) (shut_down (record e { stream = record e.stream { ended = true } })) (after_shut e) e refl refl)
+follows_call p w step host b (calls.Close h) answers.Done =
+    follows_gone p w step host b h after_close (λ e. either_windows (is_syn_sent e.state) (shut_down (record e { stream = record e.stream { ended = true } })) (after_shut e) e refl refl)
 follows_call p w step host b (calls.Abort h) answers.Done = follows_gone p w step host b h after_abort (λ e. refl)
 follows_call p w step host b call answer = follows_not p w step host b.endpoints
 
@@ -249,23 +274,28 @@ record BothFollow (p : Profile) (w : World tcp_shape) (step : Step tcp_shape) (b
 both_not : (p : Profile) (w : World tcp_shape) (step : Step tcp_shape) → BothFollow p w step w.hosts
 both_not p w step = record { all = λ x. follows_not p w step x (pick w.hosts x).body.endpoints }
 
-both_host : (p : Profile) (w : World tcp_shape) (step : Step tcp_shape) (host : Host) (k : HostState tcp_shape) → Follows p w step host (pick w.hosts host).body.endpoints k.body.endpoints → BothFollow p w step (with_host w.hosts host k)
-both_host p w step host k f = record { all = with_cases w.hosts host k (λ x y. Follows p w step x (pick w.hosts x).body.endpoints y.body.endpoints) f (follows_not p w step (other host) (pick w.hosts (other host)).body.endpoints) }
+both_host : (p : Profile) (w : World tcp_shape) (step : Step tcp_shape) (host : Host) (k : HostState tcp_shape)
+    → Follows p w step host (pick w.hosts host).body.endpoints k.body.endpoints → BothFollow p w step (with_host w.hosts host k)
+both_host p w step host k f =
+    record { all = with_cases w.hosts host k (λ x y. Follows p w step x (pick w.hosts x).body.endpoints y.body.endpoints) f (follows_not p w step (other host) (pick w.hosts (other host)).body.endpoints) }
 
-both_step : (h : Header) (s : ℕ) (w : World tcp_shape) (step : Step tcp_shape) → Permitted (tcp h) s w step → BothFollow (profile_of h.initial) w step (after (tcp h) s w step).hosts
+both_step : (h : Header) (s : ℕ) (w : World tcp_shape) (step : Step tcp_shape) → Permitted (tcp h) s w step
+    → BothFollow (profile_of h.initial) w step (after (tcp h) s w step).hosts
 both_step h s w (Begin line t call) may = both_not (profile_of h.initial) w (Begin line t call)
 both_step h s w (Finish line t answer) may = both_not (profile_of h.initial) w (Finish line t answer)
 both_step h s w (Effect t answer) may = go (turn_of t w.threads)
   where
     by : (call : Call) (o : Option Host) → BothFollow (profile_of h.initial) w (Effect t answer) (call_after (tcp h) s w.hosts (Calls call answer) o)
     by call None = both_not (profile_of h.initial) w (Effect t answer)
-    by call (Some host) = both_host (profile_of h.initial) w (Effect t answer) host (record (pick w.hosts host) { body = after_call (profile_of h.initial) (pick w.hosts host).body call answer }) (follows_call (profile_of h.initial) w (Effect t answer) host (pick w.hosts host).body call answer)
+    by call (Some host) =
+        both_host (profile_of h.initial) w (Effect t answer) host (record (pick w.hosts host) { body = after_call (profile_of h.initial) (pick w.hosts host).body call answer }) (follows_call (profile_of h.initial) w (Effect t answer) host (pick w.hosts host).body call answer)
 
     go : (u : Turn tcp_shape) → BothFollow (profile_of h.initial) w (Effect t answer) (effect_after (tcp h) s w t answer u).hosts
     go Idle = both_not (profile_of h.initial) w (Effect t answer)
     go (Called call) = by call (aim_of (tcp h) w.hosts (aim call))
     go (Answered x) = both_not (profile_of h.initial) w (Effect t answer)
-both_step h s w (At host d) may = both_host (profile_of h.initial) w (At host d) host (deed_after (tcp h) host s (suc w.count) (pick w.hosts (other host)).wire (pick w.hosts host) d) (follows_deed h s w host d may)
+both_step h s w (At host d) may =
+    both_host (profile_of h.initial) w (At host d) host (deed_after (tcp h) host s (suc w.count) (pick w.hosts (other host)).wire (pick w.hosts host) d) (follows_deed h s w host d may)
 
 -- 4. what the steps that may change windows leave
 
@@ -309,7 +339,8 @@ taking_leaves : (h : Header) (s : ℕ) (w : World tcp_shape) (host : Host) (line
     → Permitted (tcp h) s w (At host (Takes line how))
     → waiting line (pick w.hosts host).inbox ≡ Some m → taker (pick w.hosts host).body m ≡ AtEndpoint i e
     → Leaves h s w (At host (Takes line how)) (name host i) (λ c. (c.values.cwnd ≤ greatest_taking h s e m) × (c.values.ssthresh ≡ e.control.values.ssthresh))
-taking_leaves h s w host line how m i e may waits is = (endpoint_taken h e how r s, left, (subst (λ k. k ≤ greatest_taking h s e m) (sym value.0) (allowed h b (name host i) e how r s mine), value.1))
+taking_leaves h s w host line how m i e may waits is =
+    (endpoint_taken h e how r s, left, (subst (λ k. k ≤ greatest_taking h s e m) (sym value.0) (allowed h b (name host i) e how r s mine), value.1))
   where
     r : Emission
     r = as_read h.version e m
@@ -343,7 +374,8 @@ taking_leaves h s w host line how m i e may waits is = (endpoint_taken h e how r
 recovery_leaves : (h : Header) (s : ℕ) (w : World tcp_shape) (host : Host) (x : Recovery) (i : ℕ) (e : Endpoint) → Permitted (tcp h) s w (At host (Does x))
     → place_of (pick w.hosts host).body x.lport x.rport ≡ Some i → slice_get (pick w.hosts host).body.endpoints i ≡ Some e
     → Leaves h s w (At host (Does x)) (name host i) (λ c. (c.values.ssthresh ≤ (greatest e.control (recovery_signal e c.values.ssthresh) (at_moment e s)).1) × (c.values.cwnd ≤ (greatest e.control (recovery_signal e c.values.ssthresh) (at_moment e s)).0))
-recovery_leaves h s w host x i e may at there = (after_recovery e x.cwnd x.ssthresh s, at_ports_there w host x.lport x.rport i e (λ e. after_recovery e x.cwnd x.ssthresh s) at there, bound)
+recovery_leaves h s w host x i e may at there =
+    (after_recovery e x.cwnd x.ssthresh s, at_ports_there w host x.lport x.rport i e (λ e. after_recovery e x.cwnd x.ssthresh s) at there, bound)
   where
     now : Signal
     now = recovery_signal e x.ssthresh
@@ -369,7 +401,8 @@ others_stay h s w step me e x no_taking no_timeout no_recovery = (x.0, x.1, go x
     go (expired a p) = absurd (no_timeout a)
     go (recovered a p) = absurd (no_recovery a)
 
-profile_stays : (w : World tcp_shape) (step : Step tcp_shape) (me : EndpointId) (e f : Endpoint) → WindowsMove w step me e f → f.control.profile ≡ e.control.profile
+profile_stays : (w : World tcp_shape) (step : Step tcp_shape) (me : EndpointId) (e f : Endpoint) → WindowsMove w step me e f
+    → f.control.profile ≡ e.control.profile
 profile_stays w step me e f (stayed same) = ap (λ c. c.profile) same
 profile_stays w step me e f (taken m a p) = p
 profile_stays w step me e f (expired a p) = p
@@ -394,6 +427,7 @@ follow h s w step may = record {
     all : (x : Host) → Follows (profile_of h.initial) w step x (pick w.hosts x).body.endpoints (pick (after (tcp h) s w step).hosts x).body.endpoints
     all = (both_step h s w step may).all
 
-    from : (me : EndpointId) (f : Endpoint) → find w.hosts me ≡ None → ((e : Endpoint) × (find w.hosts me ≡ Some e)) ⊎ Begins (profile_of h.initial) f → Begins (profile_of h.initial) f
+    from : (me : EndpointId) (f : Endpoint) → find w.hosts me ≡ None → ((e : Endpoint) × (find w.hosts me ≡ Some e)) ⊎ Begins (profile_of h.initial) f
+        → Begins (profile_of h.initial) f
     from me f none (inl e) = absurd (none-some e.0 (sym none ∙ e.1))
     from me f none (inr new) = new

@@ -3,9 +3,8 @@
 //! Nothing here runs: each consequence is the contract of a call that does nothing, proved on the definitions alone.
 //!
 //! - `laws`: what reads are told, what the end says, what is acknowledged, of two recorded hosts; which segments
-//!   brought what
-//!   reads are told, of every case; how far new data reaches, how windows move and by which RFC, how states follow each other, that
-//!   positions never fall, that rules stand in the order of their numbers, which copies are too old, how numbers are
+//!   brought what reads are told, of every case; how far new data reaches, how windows move and by which RFC, how states
+//!   follow each other, that positions never fall, that rules stand in the order of their numbers, which copies are too old, how numbers are
 //!   read of which the position isn't known
 //! - `forgetting`: what may be discarded matters to no rule, and to nothing that is kept
 //!

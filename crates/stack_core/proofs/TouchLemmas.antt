@@ -178,7 +178,8 @@ call_leaves p b call answer = leaves_same _ b.endpoints
 abbrev pub ends : Host → World tcp_shape → List Endpoint
 ends me w = (pick w.hosts me).body.endpoints
 
-call_at : (p : Profile) (me host : Host) (hosts : Both (HostState tcp_shape)) (call : Call) (answer : Answer) → Leaves (call_touch (pick hosts me).body call) (pick hosts me).body.endpoints (pick (with_host hosts host (record (pick hosts host) { body = after_call p (pick hosts host).body call answer })) me).body.endpoints
+call_at : (p : Profile) (me host : Host) (hosts : Both (HostState tcp_shape)) (call : Call) (answer : Answer)
+    → Leaves (call_touch (pick hosts me).body call) (pick hosts me).body.endpoints (pick (with_host hosts host (record (pick hosts host) { body = after_call p (pick hosts host).body call answer })) me).body.endpoints
 call_at p Zero Zero hosts call answer = call_leaves p hosts.zero.body call answer
 call_at p Zero One hosts call answer = leaves_same _ hosts.zero.body.endpoints
 call_at p One Zero hosts call answer = leaves_same _ hosts.one.body.endpoints

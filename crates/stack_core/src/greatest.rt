@@ -7,7 +7,12 @@ use endpoint_state::Endpoint;
 use spec_tcp::{Arrived, Emission};
 
 /// The greatest congestion window once an endpoint took a segment; 0 where the endpoint is further than positions go.
-pub(crate) fn cwnd_at_arrival(header: &Header, endpoint: &Endpoint, m: &Emission, moment: u64) -> u32 {
+pub(crate) fn cwnd_at_arrival(
+    header: &Header,
+    endpoint: &Endpoint,
+    m: &Emission,
+    moment: u64,
+) -> u32 {
     if 1 << 63 <= endpoint.stream.snd_una {
         return 0;
     }

@@ -291,7 +291,12 @@ fn due_at(recording: &Recording, moment: u64, endpoint: &Endpoint) -> Option<Due
         ssthresh: 0,
     });
     if let Some(due) = ask(recording, moment, ports, least) {
-        return match ask(recording, moment, ports, Expired::Rto(at_timeout(endpoint, moment))) {
+        return match ask(
+            recording,
+            moment,
+            ports,
+            Expired::Rto(at_timeout(endpoint, moment)),
+        ) {
             Some(greatest) => Some(greatest),
             None => Some(due),
         };

@@ -23,7 +23,9 @@ pub(crate) fn why_expiry(
             out,
             &[Piece::Word("the endpoint is CLOSED, and has no timers")],
         ),
-        (Rule::Growth, Extras::Two(cwnd, ssthresh)) => growth(out, endpoint, cwnd, ssthresh, asked.0),
+        (Rule::Growth, Extras::Two(cwnd, ssthresh)) => growth(
+            out, endpoint, cwnd, ssthresh, asked.0,
+        ),
         (Rule::TimerOff, _) => off(out, endpoint, timer),
         _ => early(out, scene, endpoint, timer, asked.0),
     }

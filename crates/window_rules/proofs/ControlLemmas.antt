@@ -39,7 +39,8 @@ first_greatest Rfc6928 smss syn_lost = ten_greatest smss
 inflate_greatest : (c : Congestion) → IsGreatest (MayInflate c) (on_duplicate c)
 inflate_greatest = search rules
 
-hold_greatest : (c : Congestion) (flight : ℕ) (syn_pending again : Bool) → IsGreatest (MayHold c flight syn_pending again) ((on_timeout c flight syn_pending again).1)
+hold_greatest : (c : Congestion) (flight : ℕ) (syn_pending again : Bool)
+    → IsGreatest (MayHold c flight syn_pending again) ((on_timeout c flight syn_pending again).1)
 hold_greatest = search rules
 
 halve_greatest : (c : Congestion) (flight : ℕ) → IsGreatest (MayHalve c flight) (halved c flight)
@@ -83,7 +84,8 @@ lowered_ssthresh c (NewAck acked) at cwnd ssthresh loss = absurd cc
 lowered_ssthresh c Duplicate at cwnd ssthresh loss = absurd cc
 lowered_ssthresh c Other at cwnd ssthresh loss = absurd cc
 
-pub same_ssthresh : (c : Control) (s : Signal) (at : At) (cwnd ssthresh : ℕ) → is_loss s ≡ false → (after c s at cwnd ssthresh).values.ssthresh ≡ c.values.ssthresh
+pub same_ssthresh : (c : Control) (s : Signal) (at : At) (cwnd ssthresh : ℕ) → is_loss s ≡ false
+    → (after c s at cwnd ssthresh).values.ssthresh ≡ c.values.ssthresh
 same_ssthresh c (Timeout flight syn_pending again) at cwnd ssthresh loss = absurd cc
 same_ssthresh c (Recovery flight threshold) at cwnd ssthresh loss = absurd cc
 same_ssthresh c (Syn smss) at cwnd ssthresh loss = refl
@@ -133,7 +135,8 @@ counts_stay c (NewAck acked) at cwnd ssthresh steps una una_then k up =
 counts_stay c Duplicate at cwnd ssthresh steps una una_then k up = let a = k.counted in let b = k.dup in record { counted = omega arith; dup = omega arith }
 counts_stay c Other at cwnd ssthresh steps una una_then k up = let a = k.counted in let b = k.dup in record { counted = omega arith; dup = omega arith }
 counts_stay c (Timeout flight syn_pending again) at cwnd ssthresh steps una una_then k up = record { counted = omega arith; dup = omega arith }
-counts_stay c (Recovery flight threshold) at cwnd ssthresh steps una una_then k up = let a = k.counted in let b = k.dup in record { counted = omega arith; dup = omega arith }
+counts_stay c (Recovery flight threshold) at cwnd ssthresh steps una una_then k up =
+    let a = k.counted in let b = k.dup in record { counted = omega arith; dup = omega arith }
 
 pub counts_later : (c : Control) (steps una : ℕ) → IsCounted steps una c → IsCounted (suc steps) una c
 counts_later c steps una k = let b = k.dup in record { counted = k.counted; dup = omega arith }

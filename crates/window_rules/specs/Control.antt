@@ -3,7 +3,8 @@ use Rattle.std.specs.Prelude.{ℕ, ◌+◌, Bool, true, false, not, ◌&&◌, na
 use Rattle.window_rules.specs.declared.control.Profile.{Profile}
 use Rattle.window_rules.specs.declared.control.Profile.TheVariants.{Rfc5681, Rfc6928}
 use Rattle.window_rules.specs.declared.control.Signal.{Signal}
-use Rattle.window_rules.specs.declared.control.Signal.TheVariants.{Syn, SynAcked, NewAck, Duplicate, Other, Timeout, Recovery}
+use Rattle.window_rules.specs.declared.control.Signal.TheVariants.{Syn, SynAcked, NewAck}
+use Rattle.window_rules.specs.declared.control.Signal.TheVariants.{Duplicate, Other, Timeout, Recovery}
 use Rattle.window_rules.specs.declared.control.At.{At}
 use Rattle.window_rules.specs.declared.control.Control.{Control}
 use Rattle.window_rules.specs.Windows.{start, congestion_edge, initial_window, initial_window_6928}

@@ -4,7 +4,8 @@ use Rattle.std.specs.Prelude.{◌≡◌, ℕ, ◌+◌, ◌*◌, ◌≤◌, ◌�
 use Rattle.window_rules.specs.declared.control.Profile.{Profile}
 use Rattle.window_rules.specs.declared.control.Profile.TheVariants.{Rfc5681, Rfc6928}
 use Rattle.window_rules.specs.declared.control.Signal.{Signal}
-use Rattle.window_rules.specs.declared.control.Signal.TheVariants.{Syn, SynAcked, NewAck, Duplicate, Other, Timeout, Recovery}
+use Rattle.window_rules.specs.declared.control.Signal.TheVariants.{Syn, SynAcked, NewAck}
+use Rattle.window_rules.specs.declared.control.Signal.TheVariants.{Duplicate, Other, Timeout, Recovery}
 use Rattle.window_rules.specs.declared.control.At.{At}
 use Rattle.window_rules.specs.declared.control.Control.{Control}
 use Rattle.window_rules.specs.Windows.{greatest_window}
@@ -51,7 +52,8 @@ pub record ControlIsGreatest : Type 0 where
   pub threshold : (c : Control) (s : Signal) (at : At) → IsLimited c → IsGreatest (MayLower c s) ((greatest c s at).1)
   pub edge : (una : ℕ) (c : Control) (flight : ℕ) → MayFly c.values flight ↔ (una + flight ≤ control_edge una c)
 
--- after a signal the window is the one chosen; so is the threshold after a loss, and else it stays; and no signal changes
+-- after a signal the window is the one chosen; so is the threshold after a loss, and else it stays; and no signal
+-- changes
 -- the profile
 pub record ControlTakesChoice : Type 0 where
   pub cwnd : (c : Control) (s : Signal) (at : At) (cwnd ssthresh : ℕ) → (after c s at cwnd ssthresh).values.cwnd ≡ cwnd
@@ -59,7 +61,8 @@ pub record ControlTakesChoice : Type 0 where
       → (after c s at cwnd ssthresh).values.ssthresh ≡ ssthresh
   pub stays : (c : Control) (s : Signal) (at : At) (cwnd ssthresh : ℕ) → is_loss s ≡ false
       → (after c s at cwnd ssthresh).values.ssthresh ≡ c.values.ssthresh
-  pub profile : (c : Control) (s : Signal) (at : At) (cwnd ssthresh : ℕ) → (after c s at cwnd ssthresh).profile ≡ c.profile
+  pub profile : (c : Control) (s : Signal) (at : At) (cwnd ssthresh : ℕ)
+      → (after c s at cwnd ssthresh).profile ≡ c.profile
 
 -- what is counted stays small
 abbrev pub ControlCounts : Type 0

@@ -157,7 +157,8 @@ impl Control {
         then
     }
 
-    /// The position at which new data ends at most, from position `una` on, which is below 2^63 (RFC 5681, 3.1 and 3.2).
+    /// The position at which new data ends at most, from position `una` on, which is below 2^63 (RFC 5681, 3.1 and
+    /// 3.2).
     pub fn send_edge(&self, una: u64) -> u64
         requires { una < 2 ^ 63 }
         ensures { result ≡ control_edge una self.now }

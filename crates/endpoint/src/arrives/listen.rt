@@ -30,8 +30,8 @@ pub fn admits_listening(how: TakeChoice, m: &Emission) -> Result<(), Rule>
     Ok(())
 }
 
-/// A child of the listener at this place, which took the peer's SYN at a moment in microseconds (RFC 9293, 3.10.7.2). Its
-/// congestion control goes by this profile.
+/// A child of the listener at this place, which took the peer's SYN at a moment in microseconds (RFC 9293, 3.10.7.2).
+/// Its congestion control goes by this profile.
 pub fn child(
     alloc: Global,
     profile: Profile,

@@ -134,7 +134,8 @@ impl Body {
     ) -> Result<(), Rule>
         requires { AreReadable self.now.endpoints }
         ensures { result_err result ≡ first_broken
-            (taker_rules header.now host self.now how m.now moment (taker_found self.now (Some (found.Endpoint place)))) }
+            (taker_rules header.now host self.now how m.now moment
+            (taker_found self.now (Some (found.Endpoint place)))) }
     {
         let Some(endpoint) = self.endpoint_at(place) else {
             return Err(Rule::NoEndpoint);
