@@ -19,6 +19,6 @@ returns c = record {
   windows = λ h first zeros ones steps x begin.
       let fits = last_fits h steps x (run_begins h first zeros ones (steps ++ x ∷ []) begin (c.merged_books_are_a_run.ensures h first zeros ones begin.0)) in
       c.windows_follow.ensures h x.moment (world_at_end h steps) x.step fits.1;
-  profiles =
-      λ h first zeros ones steps begin. c.profiles_are_named.ensures h steps (run_begins h first zeros ones steps begin (c.merged_books_are_a_run.ensures h first zeros ones begin.0));
+  profiles = λ h first zeros ones steps begin.
+      c.profiles_are_named.ensures h steps (run_begins h first zeros ones steps begin (c.merged_books_are_a_run.ensures h first zeros ones begin.0));
 }
