@@ -12,7 +12,7 @@ use std::sync::Wait;
 use std::thread;
 
 /// Why a loop ended.
-#[derive(Clone, Copy, PartialEq, Eq, Debug)]
+#[derive(Clone, Copy)]
 pub enum LoopEnd {
     /// The recorder was stopped, its host had 10,000,000 events, or its next tick would pass the limits.
     Stopped,
