@@ -26,8 +26,8 @@ impl<T: Drop> HeldBack<T> {
         self.pumped = self.pumped.saturating_add(1);
     }
 
-    /// Holds the segment that was pumped last until so many further ones were. The error is that memory ran out, and the
-    /// segment is dropped.
+    /// Holds the segment that was pumped last until so many further ones were. The error is that memory ran out; then
+    /// the segment is dropped.
     pub fn hold(&mut self, further: u32, segment: T) -> Result<(), AllocError> {
         let due = self.pumped.saturating_add(u64::from(further));
         let pumped = self.pumped;

@@ -95,7 +95,7 @@ impl WireFate for InTurn {
     }
 }
 
-// The recording of a talk in version 1, which ended where both books also count the answers that the receipts stand for.
+// The recording of a talk in version 1. It ended only if both books count as many answers as there are receipts.
 fn talked<F: WireFate + Send + Drop, G: WireFate + Send + Drop, R: Threads + Wait + Sync>(
     rt: &R,
     alloc: Global,
