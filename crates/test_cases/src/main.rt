@@ -67,9 +67,9 @@ fn main(rt: HostRuntime) -> io::Result<ExitCode> {
     }
     let long = cases.len().saturating_sub(files).saturating_sub(others);
     println!(rt;
-        "{files} case files, {others} beginnings of two of them, {long} long lines, {pairs} pairs of texts and {rows} command \
-            lines are answered as wanted, {told} cases explained, shown or drawn as wanted, and {recorded} recordings of \
-            the kernel explained by what is found"
+        "{files} case files, {others} beginnings of two of them, {long} long lines, {pairs} pairs of texts and {rows} \
+            command lines are answered as wanted, {told} cases explained, shown or drawn as wanted, and {recorded} \
+            recordings of the kernel explained by what is found"
     )?;
     Ok(ExitCode::SUCCESS)
 }
