@@ -79,7 +79,7 @@ impl State {
 
 /// What a thread asks for (RFC 9293, 3.9.1). Ports are 1 to 65535; a socket number is any that a call was or was not
 /// given.
-#[derive(Debug, PartialEq, Eq, Drop)]
+#[derive(Debug, Drop)]
 pub enum Call {
     /// `listen h port backlog`: open a listener on a port of host h, whose queue holds `backlog` children.
     Listen(Host, u16, u16),
@@ -104,7 +104,7 @@ pub enum Call {
 }
 
 /// What a call answers.
-#[derive(Debug, PartialEq, Eq, Drop)]
+#[derive(PartialEq, Eq, Drop)]
 pub enum Answer {
     /// `ok`
     Done,

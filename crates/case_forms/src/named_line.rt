@@ -7,7 +7,7 @@ use crate::OutOfMemory;
 use crate::steps::Takes;
 
 /// The extra numbers of a step that takes a line.
-#[derive(Clone, Copy, Debug, PartialEq, Eq)]
+#[derive(Clone, Copy)]
 pub enum Extras {
     /// No extra number.
     Bare,
@@ -33,7 +33,7 @@ impl Extras {
 /// `n [x [y]]`: the line that a step takes, by its number. Any line may be named with none, one or two numbers more;
 /// which of
 /// them a line of its kind has is told by `TakenLine`.
-#[derive(Clone, Copy, Debug, PartialEq, Eq)]
+#[derive(Clone, Copy)]
 pub struct NamedLine {
     /// Its number among all lines of the trace, the header's too.
     pub number: u64,

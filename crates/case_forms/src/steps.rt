@@ -13,7 +13,7 @@ use std::alloc::Global;
 use std::marker::Model;
 
 /// The flags of a segment that is made (RFC 9293, 3.1).
-#[derive(Clone, Copy, Debug, PartialEq, Eq)]
+#[derive(Clone, Copy, PartialEq, Eq)]
 pub struct Flags {
     pub ack: bool,
     pub rst: bool,
@@ -22,7 +22,7 @@ pub struct Flags {
 }
 
 /// A segment that a host is to make (RFC 9293, 3.1).
-#[derive(Clone, Copy, Debug, PartialEq, Eq)]
+#[derive(Clone, Copy)]
 pub struct SegmentPlan {
     /// The port of its endpoint.
     pub lport: u16,
@@ -43,7 +43,7 @@ pub struct SegmentPlan {
 }
 
 /// What an endpoint chooses at a segment that it takes.
-#[derive(Clone, Copy, Debug, PartialEq, Eq)]
+#[derive(Clone, Copy)]
 pub struct TakeChoice {
     /// The congestion window from then on, in bytes (RFC 5681, 3.1).
     pub cwnd: u32,
@@ -56,7 +56,7 @@ pub struct TakeChoice {
 /// What a step does. `Taken` says how a step names the line that it takes: by its number in a witness (`NamedLine`),
 /// and by
 /// what the line tells for the machine (`TakenLine`).
-#[derive(Debug, PartialEq, Eq, Drop)]
+#[derive(Drop)]
 pub enum Label<Taken> {
     /// `L n [x [y]]`: take a line of the trace.
     L(Taken),
@@ -137,7 +137,7 @@ impl<Taken: Takes> Label<Taken> {
 }
 
 /// A step of a witness.
-#[derive(Debug, PartialEq, Eq, Drop)]
+#[derive(Drop)]
 pub struct Step {
     /// When it is done, in microseconds.
     pub moment: u64,

@@ -11,7 +11,7 @@ use crate::timer::{RtoChoice, Timer};
 use crate::trace::{Event, Line, Wire};
 
 /// A timer that expired, with what is chosen there.
-#[derive(Clone, Copy, Debug, PartialEq, Eq)]
+#[derive(Clone, Copy)]
 pub enum Expired {
     /// The congestion window and the slow start threshold are chosen (RFC 5681, 3.1).
     Rto(RtoChoice),
@@ -37,7 +37,7 @@ impl Expired {
 /// What a line tells that a step takes, with what the step adds to a line of its kind. `line` is its number among all
 /// lines
 /// of the trace, the header's too.
-#[derive(Debug, PartialEq, Eq, Drop)]
+#[derive(Drop)]
 pub enum TakenLine {
     /// The thread begins a call.
     CallBegin {

@@ -1,7 +1,7 @@
 //! The timers of an endpoint, and what is chosen where one expires or fast recovery begins.
 
 /// What may expire at an endpoint.
-#[derive(Clone, Copy, Debug, PartialEq, Eq)]
+#[derive(Clone, Copy)]
 pub enum Timer {
     /// `rto`: sent data was not acknowledged in time (RFC 6298, 5).
     Rto,
@@ -14,7 +14,7 @@ pub enum Timer {
 }
 
 /// A timer that expires, of the endpoint of these ports.
-#[derive(Clone, Copy, Debug, PartialEq, Eq)]
+#[derive(Clone, Copy)]
 pub struct Expiry {
     pub lport: u16,
     pub rport: u16,
@@ -22,7 +22,7 @@ pub struct Expiry {
 }
 
 /// What is chosen where a retransmission timer expires, both in bytes (RFC 5681, 3.1).
-#[derive(Clone, Copy, Debug, PartialEq, Eq)]
+#[derive(Clone, Copy)]
 pub struct RtoChoice {
     pub cwnd: u32,
     pub ssthresh: u32,
@@ -31,7 +31,7 @@ pub struct RtoChoice {
 /// Fast recovery of the endpoint of these ports, with the congestion window and the slow start threshold that are
 /// chosen, both
 /// in bytes (RFC 5681, 3.2).
-#[derive(Clone, Copy, Debug, PartialEq, Eq)]
+#[derive(Clone, Copy)]
 pub struct Recovery {
     pub lport: u16,
     pub rport: u16,

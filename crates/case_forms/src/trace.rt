@@ -21,7 +21,7 @@ pub struct Span {
 }
 
 /// What a trace says before its event lines. Times are microseconds.
-#[derive(Clone, Copy, Debug, PartialEq, Eq)]
+#[derive(Clone, Copy)]
 pub struct Header {
     pub version: Version,
     /// By how much a step may be later than its line, 0 to 10^9.
@@ -50,7 +50,7 @@ impl Header {
 /// A segment as it was seen: its bytes, at most 65515, and what `segment::decode` gives of them. No wire has another
 /// segment
 /// than the one that its bytes stand for: whoever makes one has to show it, and `is_segment` says it.
-#[derive(Debug, PartialEq, Eq, Drop)]
+#[derive(Drop)]
 pub struct Wire {
     pub bytes: Bytes,
     /// The segment that the bytes stand for (RFC 9293, 3.1).
@@ -90,7 +90,7 @@ impl Wire {
 }
 
 /// What a line of a trace tells.
-#[derive(Debug, PartialEq, Eq, Drop)]
+#[derive(Drop)]
 pub enum Event {
     /// `B`: the thread begins a call.
     CallBegin(Call),
@@ -122,7 +122,7 @@ impl Event {
 }
 
 /// An event line of a trace.
-#[derive(Debug, PartialEq, Eq, Drop)]
+#[derive(Drop)]
 pub struct Line {
     /// Its number among all lines of the trace, the header's too.
     pub number: u64,

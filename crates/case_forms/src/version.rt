@@ -48,7 +48,7 @@ impl Version {
 }
 
 /// Which RFC gives the first congestion window.
-#[derive(Clone, Copy, Debug, PartialEq, Eq)]
+#[derive(Clone, Copy)]
 pub enum Initial {
     /// Two to four segments, one where a SYN was lost (RFC 5681, 3.1).
     Rfc5681,

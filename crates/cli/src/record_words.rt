@@ -16,7 +16,7 @@ use std::alloc::{AllocError, Global};
 use two_hosts::Plan;
 
 /// An option of a recording.
-#[derive(Clone, Copy, Debug, PartialEq, Eq)]
+#[derive(Clone, Copy)]
 pub(crate) enum Setting {
     /// How many rounds there are.
     Rounds,
@@ -27,7 +27,7 @@ pub(crate) enum Setting {
 }
 
 /// The numbers that options told so far.
-#[derive(Clone, Copy, Debug, PartialEq, Eq)]
+#[derive(Clone, Copy)]
 pub(crate) struct GivenSettings {
     rounds: Option<u16>,
     lose: Option<u16>,

@@ -15,7 +15,7 @@ use timer_rules::Timers;
 use window_rules::{Control, Profile, scaled_window};
 
 /// An endpoint, by its host and its place in the order of creation there. A name is never given twice.
-#[derive(Clone, Copy, Debug, PartialEq, Eq)]
+#[derive(Clone, Copy, PartialEq, Eq)]
 pub struct EndpointId {
     pub host: Host,
     pub number: u32,
@@ -37,7 +37,7 @@ pub struct Stream {
 }
 
 /// The window that the peer offers, and how far own windows reached (RFC 9293, 3.3.1).
-#[derive(Clone, Copy, Debug, PartialEq, Eq)]
+#[derive(Clone, Copy, Debug)]
 pub struct SendWindow {
     /// The offered window in bytes (SND.WND).
     pub snd_wnd: u32,
@@ -50,7 +50,7 @@ pub struct SendWindow {
 }
 
 /// Why an endpoint failed.
-#[derive(Clone, Copy, Debug, PartialEq, Eq)]
+#[derive(Clone, Copy, Debug)]
 pub enum Fault {
     /// The peer refused the connection by a reset.
     Refused,
@@ -303,7 +303,7 @@ pub struct Listener {
 }
 
 /// What a socket number names.
-#[derive(Clone, Copy, Debug, PartialEq, Eq)]
+#[derive(Clone, Copy)]
 pub enum SocketTarget {
     /// The listener at this place of the host's.
     ListenerAt(u32),
@@ -312,7 +312,7 @@ pub enum SocketTarget {
 }
 
 /// A socket number that was given.
-#[derive(Clone, Copy, Debug, PartialEq, Eq)]
+#[derive(Clone, Copy)]
 pub struct Socket {
     pub thing: SocketTarget,
     /// It was not closed or aborted since.

@@ -23,7 +23,7 @@ use spec_tcp::SocketTarget;
 use spec_tcp_laws::forgetting_is_free;
 
 // What a call is about.
-#[derive(Clone, Copy, Debug, PartialEq, Eq)]
+#[derive(Clone, Copy)]
 enum Subject {
     /// No endpoint whose duties the call changes.
     Nothing,

@@ -26,7 +26,7 @@ use std::collections::VecDeque;
 use std::marker::Model;
 
 /// How a core chooses.
-#[derive(Clone, Copy, Debug, PartialEq, Eq)]
+#[derive(Clone, Copy)]
 pub struct CoreConfig {
     /// The MSS that its SYNs tell, in bytes, 1 to 65495.
     pub mss: u16,

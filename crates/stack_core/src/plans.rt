@@ -20,7 +20,7 @@ pub(crate) const GREATEST_POSITION: u64 = 1_000_000_000_000_000_000;
 pub(crate) const GREATEST_SHIFT: u8 = 14;
 
 /// What an endpoint is given with its first SYN.
-#[derive(Clone, Copy, Debug, PartialEq, Eq)]
+#[derive(Clone, Copy)]
 pub(crate) struct SynOptions {
     /// Its initial send sequence number (RFC 9293, 3.4.1).
     pub(crate) iss: Word,
@@ -29,7 +29,7 @@ pub(crate) struct SynOptions {
 }
 
 /// What an endpoint offers with its segments: the window field of a SYN, and that of others.
-#[derive(Clone, Copy, Debug, PartialEq, Eq)]
+#[derive(Clone, Copy)]
 pub(crate) struct AdvertisedWindow {
     pub(crate) opening: SynOptions,
     pub(crate) at_syn: u16,

@@ -8,14 +8,14 @@ use std::alloc::Global;
 use std::collections::VecDeque;
 
 /// Positions that are made again: from `next` on, up to `end`.
-#[derive(Clone, Copy, Debug, PartialEq, Eq)]
+#[derive(Clone, Copy)]
 pub(crate) struct Again {
     pub(crate) next: u64,
     pub(crate) end: u64,
 }
 
 /// What a core remembers of an endpoint.
-#[derive(Clone, Copy, Debug, PartialEq, Eq)]
+#[derive(Clone, Copy)]
 pub(crate) struct SendState {
     /// It owes its peer an acknowledgment.
     pub(crate) acknowledges: bool,
@@ -102,7 +102,7 @@ impl SendStates {
 }
 
 /// What is told of an endpoint before a segment comes in.
-#[derive(Clone, Copy, Debug, PartialEq, Eq)]
+#[derive(Clone, Copy)]
 pub(crate) struct Seen {
     snd_una: u64,
     snd_wnd: u32,
@@ -121,7 +121,7 @@ impl Seen {
 }
 
 /// Before a segment comes in.
-#[derive(Clone, Copy, Debug, PartialEq, Eq)]
+#[derive(Clone, Copy)]
 pub(crate) struct Before {
     /// The place of the endpoint of its ports, and what is told of that.
     pub(crate) place: Option<u32>,

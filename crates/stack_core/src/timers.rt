@@ -27,7 +27,7 @@ use spec_step::Label;
 const TRIES: u32 = 12;
 
 /// A timer that may expire, with what is chosen there.
-#[derive(Clone, Copy, Debug, PartialEq, Eq)]
+#[derive(Clone, Copy)]
 pub(crate) struct Due {
     pub(crate) ports: Ports,
     pub(crate) expired: Expired,

@@ -1,7 +1,7 @@
 //! What stands at one position (RFC 9293, 3.4).
 
 /// What stands at one position of a stream.
-#[derive(Clone, Copy, Debug, PartialEq, Eq)]
+#[derive(Clone, Copy)]
 pub enum Cell {
     /// The SYN, at position 0.
     Syn,

@@ -2,7 +2,7 @@
 //! (RFC 6298, 3).
 
 /// The making of one position.
-#[derive(Clone, Copy, Debug, PartialEq, Eq)]
+#[derive(Clone, Copy)]
 pub struct Made {
     /// The moment at which a segment with this position was made first, in microseconds.
     pub moment: u64,

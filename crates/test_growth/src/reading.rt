@@ -124,7 +124,7 @@ pub fn call_trace_reader(
         return Ok(());
     }
     report.say("answer", format!(in alloc; "{first:?}")?.as_str())?;
-    let then = reader.next();
+    let then = reader.next().map(|line| line.map(|line| line.number));
     report.say("then", format!(in alloc; "{then:?}")?.as_str())?;
     let failures = reader.into_source().failures();
     report.say("failures", format!(in alloc; "{failures}")?.as_str())?;
@@ -165,7 +165,7 @@ pub fn call_step_reader(
         return Ok(());
     }
     report.say("answer", format!(in alloc; "{first:?}")?.as_str())?;
-    let then = reader.next();
+    let then = reader.next().map(|step| step.map(|step| step.span.line));
     report.say("then", format!(in alloc; "{then:?}")?.as_str())?;
     let failures = reader.into_source().failures();
     report.say("failures", format!(in alloc; "{failures}")?.as_str())?;

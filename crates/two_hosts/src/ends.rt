@@ -7,7 +7,7 @@ use crate::plan::{CLIENT_THREAD, ROUND_BYTES, SERVER_THREAD};
 use case_forms::{Answer, Event, Line};
 
 // What is added up over answers.
-#[derive(Clone, Copy, Debug, PartialEq, Eq)]
+#[derive(Clone, Copy)]
 enum Measure {
     // The bytes that reads were told.
     Bytes,

@@ -28,7 +28,7 @@ pub(crate) const SERVER_THREAD: u32 = 3;
 pub(crate) const ROUND_BYTES: usize = 64;
 
 /// What is asked of a recording.
-#[derive(Clone, Copy, Debug, PartialEq, Eq)]
+#[derive(Clone, Copy)]
 pub struct Plan {
     /// How many rounds there are.
     pub rounds: u16,

@@ -3,7 +3,7 @@
 use recorder::LoseEach;
 
 /// The way of one host's segments to the other.
-#[derive(Clone, Copy, Debug)]
+#[derive(Clone, Copy)]
 pub struct Wire<F> {
     /// What becomes of each segment.
     pub fate: F,
@@ -22,7 +22,7 @@ impl Wire<LoseEach> {
 }
 
 /// How both hosts talk.
-#[derive(Clone, Copy, Debug)]
+#[derive(Clone, Copy)]
 pub struct Talk<F, G> {
     /// How many rounds there are.
     pub rounds: u16,

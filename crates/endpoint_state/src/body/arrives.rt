@@ -34,7 +34,7 @@ use window_rules::Profile;
 /// Whom a segment finds (RFC 9293, 3.10.7): the endpoint of its ports that is not CLOSED, or else the open listener on
 /// its
 /// destination port.
-#[derive(Clone, Copy, Debug, PartialEq, Eq)]
+#[derive(Clone, Copy)]
 pub(crate) enum Found {
     /// The listener at this place.
     Listener(u32),

@@ -1,7 +1,7 @@
 //! What becomes of segments on their way.
 
 /// What becomes of a segment.
-#[derive(Clone, Copy, Debug, PartialEq, Eq)]
+#[derive(Clone, Copy)]
 pub enum Fate {
     /// It is sent.
     Pass,
@@ -20,7 +20,7 @@ pub trait WireFate {
 }
 
 /// Each `every`-th segment is lost; none where `every` is 0.
-#[derive(Clone, Copy, Debug, PartialEq, Eq)]
+#[derive(Clone, Copy)]
 pub struct LoseEach {
     every: u32,
     left: u32,
