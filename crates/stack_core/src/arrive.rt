@@ -3,6 +3,7 @@
 ghost use Rattle.std.specs.Prelude.{◌≡◌, ◌≤◌, ◌<◌, ◌+◌, ◌*◌, ◌⊎◌, suc, true, false, nat_lt, IfOk, IfNone, OnOk, OnErr};
 ghost use Rattle.std.specs.Option.{IfSome};
 ghost use Rattle.case_forms.specs.Witnesses.{IsWithinLimits};
+ghost use Rattle.case_forms.specs.declared.calls.Ports.{Ports};
 ghost use Rattle.spec_network.specs.Hosts.{At, Takes};
 ghost use Rattle.spec_tcp.specs.Bounds.{most_steps};
 ghost use Rattle.spec_tcp.specs.Steps.{step_of};
@@ -150,7 +151,7 @@ impl HostCore {
         ensures err { OnErr result (IsSettledShort self.old line ports self.new) }
     {
         let Some(choice) = self.choice(line, window) else {
-            return self.reject(line, ports);
+            return self.reject(line);
         };
         let host = self.me();
         let touch = self.touch_at(ports.lport, ports.rport);
@@ -160,12 +161,12 @@ impl HostCore {
     }
 
     // What is not taken is answered by a reset where it may be, and else dropped.
-    fn reject(&mut self, line: u64, ports: Ports) -> Result<(), OutOfMemory>
+    fn reject(&mut self, line: u64) -> Result<(), OutOfMemory>
         requires room { steps_in self.old.recorded.entries < 4 * self.old.events }
         requires events { self.old.events ≤ 10000000 }
         requires waits { MayDrop self.old line }
         requires not_taken { MayTake self.old line → ⊥ }
-        ensures ok { OnOk result (IsSettled self.old line ports self.new) }
+        ensures ok { (ports : Ports) → OnOk result (IsSettled self.old line ports self.new) }
         ensures err { OnErr result (self.new ≡ self.old) }
     {
         let host = self.me();
