@@ -7,7 +7,6 @@ use Rattle.case_forms.specs.declared.calls.Call.{Call}
 use Rattle.case_forms.specs.declared.calls.Answer.{Answer}
 use Rattle.verdict.specs.declared.rule.Rule.TheVariants as rules
 use Rattle.verdict.specs.Rules.{first_broken}
-use Rattle.verdict.proofs.RuleLemmas.{none_both}
 use Rattle.spec_network.specs.Tables.{pick}
 use Rattle.spec_network.specs.Hosts.{World, Turn, Idle, Called, Answered, Effect, turn_of}
 use Rattle.spec_network.specs.HostRules.{Permitted, aim_of, call_rules, fresh_rules, open_rules, effect_rules, step_rules}
@@ -56,14 +55,16 @@ call_refused h moment hosts call answer (Some host) = by (gives call answer) (ca
     by None c = alone c
     by (Some n) c = numbers (given hosts.zero.body n) (given hosts.one.body n) c
 
--- a call without a broken rule is allowed by the host that it means
-pub call_is_allowed : (h : Header) (moment : ℕ) (hosts : Hosts_) (call : Call) (answer : Answer) (host : Host)
-    → first_broken (call_rules (tcp h) moment hosts call answer (Some host)) ≡ None → call_allows (pick hosts host).body call answer ≡ true
-call_is_allowed h moment hosts call answer host none = by (call_allows (pick hosts host).body call answer) ((none_both (fresh_rules (tcp h) hosts (gives call answer)) _ none).1)
+-- a call without a broken rule is allowed by the host that it means, if there is one
+pub call_is_allowed : (h : Header) (moment : ℕ) (hosts : Hosts_) (call : Call) (answer : Answer) (host : Option Host)
+    → first_broken (call_rules (tcp h) moment hosts call answer host) ≡ None → allowed_at hosts call answer host ≡ true
+call_is_allowed h moment hosts call answer host none =
+    by (gives_again hosts (gives call answer)) (allowed_at hosts call answer host) (sym (call_refused h moment hosts call answer host) ∙ none)
   where
-    by : (b : Bool) → first_broken ((rules.CallAnswer, not b) ∷ []) ≡ None → b ≡ true
-    by true e = refl
-    by false e = absurd cc
+    by : (again allowed : Bool) → (if again then Some rules.Socket else if allowed then None else Some rules.CallAnswer) ≡ None → allowed ≡ true
+    by true allowed e = absurd cc
+    by false true e = refl
+    by false false e = absurd cc
 
 -- a permitted effect is that of an open call which has no broken rule
 pub open_is_permitted : (h : Header) (w : World tcp_shape) (t : ℕ) (call : Call) (answer : Answer)

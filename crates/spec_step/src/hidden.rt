@@ -44,7 +44,7 @@ pub fn apply_hidden<Taken>(
         }
         Label::R { host, line } => world.reply_with_reset(*host, *line),
         Label::F { host, recovery } => {
-            world.recover(*host, *recovery)?;
+            world.recover(*host, *recovery, moment)?;
             Ok(())
         }
     }
@@ -64,7 +64,7 @@ pub(crate) fn admits_hidden<Taken>(
         Label::L(_) => Ok(()),
         Label::D { thread, answer } => admits_effect(world, *thread, answer),
         Label::M { host, plan } => world.admits_making(*host, plan),
-        Label::T { host, line, choice } => world.admits_taking(*host, *line, *choice),
+        Label::T { host, line, choice } => world.admits_taking(*host, moment, *line, *choice),
         Label::K { host, line } => world.admits_dropping(*host, *line),
         Label::R { host, line } => world.admits_reset(*host, *line),
         Label::F { host, recovery } => world.admits_recovery(*host, *recovery),

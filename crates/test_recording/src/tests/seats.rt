@@ -31,10 +31,11 @@ fn ends_with_both<L: Site, R: Wait>(
     };
     let Unfinished {
         recorder,
-        mut seats,
+        seats,
         cause,
     } = unfinished;
     let came_back = seats.len() == 1 && cause == Cause::SeatMissing;
+    let mut seats = seats.into_vec();
     seats.push(second).ok()?;
     Some(came_back && recorder.finish(rt, seats).is_ok())
 }
