@@ -1,7 +1,6 @@
 //! Seats that come back where a recorder is not finished.
 
-ghost use Rattle.std.specs.Prelude.{◌≡◌, ◌↔◌, ◌++◌, ◌∷◌, [], length, IfNone, IsTrue};
-ghost use Rattle.std.specs.Option.{IfSome};
+ghost use Rattle.std.specs.Prelude.{◌≡◌};
 
 use crate::seat::Seat;
 use std::marker::Model;
@@ -30,20 +29,6 @@ impl<L: Ledger> Seats<L> {
         Seats { seats }
     }
 
-    /// How many there are.
-    pub fn len(&self) -> usize
-        ensures { result ≡ length self.now }
-    {
-        self.seats.len()
-    }
-
-    /// Whether there is none.
-    pub fn is_empty(&self) -> bool
-        ensures { IsTrue result ↔ (self.now ≡ []) }
-    {
-        self.seats.is_empty()
-    }
-
     /// The seats in their order.
     pub fn as_slice(&self) -> &[Seat<L>]
         ensures { result.now ≡ self.now }
@@ -51,15 +36,7 @@ impl<L: Ledger> Seats<L> {
         self.seats.as_slice()
     }
 
-    /// Takes the last one out.
-    pub fn pop(&mut self) -> Option<Seat<L>>
-        ensures some { IfSome result (λ seat. self.old ≡ self.new ++ seat ∷ []) }
-        ensures none { IfNone result ((self.old ≡ []) × (self.new ≡ [])) }
-    {
-        self.seats.pop()
-    }
-
-    /// All of them, as they are handed in.
+    /// The seats as `Recorder::finish` takes them.
     pub fn into_vec(self) -> Vec<Seat<L>>
         ensures { result.items ≡ self }
     {
