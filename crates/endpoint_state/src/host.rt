@@ -7,6 +7,7 @@ ghost use Rattle.std.specs.Map.{lookup};
 ghost use Rattle.indexmap.specs.IndexMap.{insert_entry};
 ghost use Rattle.std.specs.Option.{IfSome, option_copied};
 ghost use Rattle.std.specs.Result.{result_err};
+ghost use Rattle.case_forms.specs.declared.trace.Header.{Header};
 ghost use Rattle.verdict.specs.Rules.{first_broken};
 ghost use Rattle.spec_network.specs.HostSteps.{empty_host};
 ghost use Rattle.spec_network.specs.Tables.{waiting};
@@ -245,8 +246,8 @@ pub(crate) fn do_call(
 
 impl HostState {
     /// A host at the start.
-    pub(crate) fn new(alloc: Global, header: &Header) -> HostState
-        ensures { result ≡ empty_host (tcp header.now) }
+    pub(crate) fn new(alloc: Global) -> HostState
+        ensures { (h : Header) → result ≡ empty_host (tcp h) }
     {
         HostState {
             body: Body::new(alloc),

@@ -2,6 +2,7 @@
 
 ghost use Rattle.std.specs.Prelude.{◌≡◌, true, OnOk, OnErr};
 ghost use Rattle.std.specs.Borrow.{sem};
+ghost use Rattle.case_forms.specs.declared.trace.Header.{Header};
 ghost use Rattle.spec_network.specs.Tables.{Both, other, pick, with_host};
 ghost use Rattle.spec_network.specs.HostSteps.{empty_host};
 ghost use Rattle.spec_tcp.specs.Machine.{tcp};
@@ -11,7 +12,7 @@ ghost use Rattle.endpoint_state.specs.Lending.{LendsSide};
 ghost use Rattle.endpoint_state.specs.Worlds.{hosts_brought};
 
 use crate::host::{self, HostState};
-use case_forms::{Answer, Call, Header, Host};
+use case_forms::{Answer, Call, Host};
 use segment::OutOfMemory;
 use spec_tcp::Emission;
 use std::alloc::Global;
@@ -105,12 +106,12 @@ impl Hosts {
     }
 
     /// Both hosts at the start.
-    pub(crate) fn new(alloc: Global, header: &Header) -> Hosts
-        ensures { result ≡ record { zero = empty_host (tcp header.now); one = empty_host (tcp header.now) } }
+    pub(crate) fn new(alloc: Global) -> Hosts
+        ensures { (h : Header) → result ≡ record { zero = empty_host (tcp h); one = empty_host (tcp h) } }
     {
         Hosts {
-            zero: HostState::new(alloc, header),
-            one: HostState::new(alloc, header),
+            zero: HostState::new(alloc),
+            one: HostState::new(alloc),
         }
     }
 }

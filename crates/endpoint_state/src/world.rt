@@ -8,12 +8,12 @@ ghost use Rattle.verdict.specs.Rules.{first_broken};
 ghost use Rattle.spec_network.specs.Tables.{pick};
 ghost use Rattle.spec_network.specs.Hosts.{At, Begin, Finish, Answers, Does, Drops, Gets, Hears, Makes, Sends, Takes};
 ghost use Rattle.spec_network.specs.Hosts.{turn_of};
-ghost use Rattle.spec_network.specs.HostRules.{step_rules};
+ghost use Rattle.spec_network.specs.HostRules.{begin_rules, step_rules};
 ghost use Rattle.spec_tcp.specs.Bounds.{greatest_position, most_steps, IsSmallEmission};
 ghost use Rattle.spec_tcp.specs.Machine.{tcp};
 ghost use Rattle.endpoint_state.specs.Faults.{fault_rule};
 ghost use Rattle.endpoint_state.specs.Kept.{IsKeptWorld};
-ghost use Rattle.endpoint_state.specs.Kinds.{expiry_of};
+ghost use Rattle.endpoint_state.specs.Kinds.{expiry_of, hearing_rules};
 ghost use Rattle.endpoint_state.specs.Turns.{pending_call};
 ghost use Rattle.endpoint_state.specs.Worlds.{after, brought, start};
 ghost use Rattle.endpoint_state.specs.Sides.{AreReady};
@@ -71,7 +71,7 @@ impl World {
         World {
             alloc,
             header: *header,
-            hosts: Hosts::new(alloc, header),
+            hosts: Hosts::new(alloc),
             threads: Table::new(alloc),
             count: 0,
             steps: 0,
@@ -148,10 +148,9 @@ impl World {
         Ok(())
     }
 
-    /// Whether a thread may begin a call: it is in no other. An error is the first rule that is broken.
-    pub fn admits_begin(&self, thread: u32, call: &Call) -> Result<(), Rule>
-        ensures { result_err result ≡ first_broken
-            (step_rules (tcp self.now.header) 0 self.now.world (Begin 0 thread call.now)) }
+    /// Whether a thread may begin a call, whichever: it is in no other. An error is the rule that is broken.
+    pub fn admits_begin(&self, thread: u32) -> Result<(), Rule>
+        ensures { result_err result ≡ first_broken (begin_rules (turn_of thread self.now.world.threads)) }
     {
         admits_begin(&self.threads, thread)
     }
@@ -196,12 +195,10 @@ impl World {
         Ok(())
     }
 
-    /// Whether a segment of the other host may come in that is no copy of a line: that host is not recorded. An error
-    /// is the rule
-    /// that is broken.
-    pub fn admits_hearing(&self, host: Host, wire: &Wire) -> Result<(), Rule>
-        ensures { result_err result ≡ first_broken
-            (step_rules (tcp self.now.header) 0 self.now.world (At host (Hears 0 wire.now))) }
+    /// Whether a segment of the other host may come in that is no copy of a line, whichever: that host is not
+    /// recorded. An error is the rule that is broken.
+    pub fn admits_hearing(&self) -> Result<(), Rule>
+        ensures { result_err result ≡ first_broken (hearing_rules self.now.header) }
     {
         if self.header.version.is_half() {
             Ok(())
@@ -247,12 +244,10 @@ impl World {
         self.hosts.near(host).admits_dropping(line)
     }
 
-    /// Whether a host may answer by a reset what came in with this line, at a moment in microseconds. An error is the
-    /// first rule
-    /// that is broken.
-    pub fn admits_reset(&self, host: Host, moment: u64, line: u64) -> Result<(), Rule>
+    /// Whether a host may answer by a reset what came in with this line. An error is the first rule that is broken.
+    pub fn admits_reset(&self, host: Host, line: u64) -> Result<(), Rule>
         ensures { result_err result ≡ first_broken
-            (step_rules (tcp self.now.header) moment self.now.world (At host (Answers line))) }
+            (step_rules (tcp self.now.header) 0 self.now.world (At host (Answers line))) }
     {
         self.hosts.near(host).admits_reset(line)
     }
@@ -396,7 +391,7 @@ impl World {
         ensures ok { OnOk result (self.new ≡ after self.old moment (At host (Hears line wire.now))) }
         ensures err { OnErr result (self.new ≡ self.old) }
     {
-        self.admits_hearing(host, wire)?;
+        self.admits_hearing()?;
         let heard = heard(self.alloc, moment, wire)?;
         host::arrive(self.alloc, self.hosts.side(host), line, heard)?;
         self.steps += 1;
@@ -432,14 +427,13 @@ impl World {
         Ok(())
     }
 
-    /// A host drops what came in with this line, at a moment in microseconds. An error is the first rule that is
-    /// broken; the world
-    /// is then as it was.
-    pub fn drop_arrival(&mut self, host: Host, line: u64, moment: u64) -> Result<(), Rule>
+    /// A host drops what came in with this line. An error is the first rule that is broken; the world is then as it
+    /// was.
+    pub fn drop_arrival(&mut self, host: Host, line: u64) -> Result<(), Rule>
         requires { self.old.steps < most_steps }
         ensures rule { result_err result ≡ first_broken
-            (step_rules (tcp self.old.header) moment self.old.world (At host (Drops line))) }
-        ensures ok { OnOk result (self.new ≡ after self.old moment (At host (Drops line))) }
+            (step_rules (tcp self.old.header) 0 self.old.world (At host (Drops line))) }
+        ensures ok { OnOk result (self.new ≡ after self.old 0 (At host (Drops line))) }
         ensures err { OnErr result (self.new ≡ self.old) }
     {
         host::drop_waiting(self.hosts.side(host), line)?;
@@ -447,14 +441,13 @@ impl World {
         Ok(())
     }
 
-    /// A host answers by a reset what came in with this line, at a moment in microseconds; the reset gets the next
-    /// number, and
-    /// goes out later. An error is the first rule that is broken, or that memory ran out; the world is then as it was.
-    pub fn reply_with_reset(&mut self, host: Host, line: u64, moment: u64) -> Result<(), StepFault>
+    /// A host answers by a reset what came in with this line; the reset gets the next number, and goes out later. An
+    /// error is the first rule that is broken, or that memory ran out; the world is then as it was.
+    pub fn reply_with_reset(&mut self, host: Host, line: u64) -> Result<(), StepFault>
         requires { self.old.steps < most_steps }
         ensures fault { fault_rule result ≡ first_broken
-            (step_rules (tcp self.old.header) moment self.old.world (At host (Answers line))) }
-        ensures ok { OnOk result (self.new ≡ after self.old moment (At host (Answers line))) }
+            (step_rules (tcp self.old.header) 0 self.old.world (At host (Answers line))) }
+        ensures ok { OnOk result (self.new ≡ after self.old 0 (At host (Answers line))) }
         ensures err { OnErr result (self.new ≡ self.old) }
     {
         let fresh = self.count + 1;

@@ -170,7 +170,7 @@ impl<L: Site> Desk<L> {
         let Some(tick) = next_tick(book, clock, 0) else {
             return Err(RecFault::Stopped);
         };
-        if !book.is_idle(thread, call) {
+        if !book.is_idle(thread) {
             return Err(RecFault::Stopped);
         }
         book.begin(thread, call, tick)?;

@@ -109,10 +109,10 @@ impl HostBook {
     }
 
     // Whether a thread is in no call.
-    pub(crate) fn is_idle(&self, thread: u32, call: &Call) -> bool
+    pub(crate) fn is_idle(&self, thread: u32) -> bool
         ensures { IsTrue result ↔ (turn_of thread (world self.now.core).threads ≡ Idle) }
     {
-        self.core.recording().admits_begin(thread, call)
+        self.core.recording().admits_begin(thread)
     }
 
     // A thread begins a call.

@@ -46,7 +46,7 @@
 //!
 //! - `site`: the host and the header of a recorder, known by a type
 //! - `host_book`: what one host recorded, with the count of its answers
-//! - `seat`, `receipt`: a thread's place, and what a call was answered
+//! - `seat`, `seats`, `receipt`: a thread's place, those that come back, and what a call was answered
 //! - `desk`: what lies under the lock
 //! - `recorder`: seats, calls, looking, stopping, finishing
 //! - `loops`: segments go out and come in, timers expire
@@ -60,6 +60,7 @@ mod loops;
 mod receipt;
 mod recorder;
 mod seat;
+mod seats;
 mod site;
 
 pub use host_book::HostBook;
@@ -69,6 +70,7 @@ pub use merging::{MergeFault, Recorded};
 pub use receipt::{Receipt, receipt_stands};
 pub use recorder::{Cause, RecFault, Recorder, Unfinished};
 pub use seat::Seat;
+pub use seats::Seats;
 pub use site::Site;
 pub use stack_core::{Answered, CoreConfig, Flying};
 pub use wire_fates::{Fate, LoseEach, WireFate};

@@ -14,6 +14,7 @@ use crate::desk::Desk;
 use crate::host_book::HostBook;
 use crate::receipt::Receipt;
 use crate::seat::Seat;
+use crate::seats::Seats;
 use crate::site::Site;
 use case_forms::{Call, Header, Host, OutOfMemory};
 use stack_core::CoreConfig;
@@ -59,7 +60,7 @@ pub enum Cause {
 #[derive(Drop)]
 pub struct Unfinished<L: Site> {
     pub recorder: Recorder<L>,
-    pub seats: Vec<Seat<L>>,
+    pub seats: Seats<L>,
     pub cause: Cause,
 }
 
@@ -149,7 +150,7 @@ impl<L: Site> Recorder<L> {
         ensures host { IfOk result (λ b. b.core.recorded.me ≡ L.host) }
         ensures header { IfOk result (λ b. b.core.recorded.header ≡ L.header) }
         ensures total { IfOk result (λ b. b.total ≡ sum_by (λ s. s.count) seats.items) }
-        ensures back { IfErr result (λ u. u.seats.items ≡ seats.items) }
+        ensures back { IfErr result (λ u. u.seats ≡ seats.items) }
         ensures cause { IfErr result (λ u. u.cause ≡ SeatMissing) }
         ensures missing { OnErr result (length seats.items < 65535) }
     {
@@ -163,7 +164,7 @@ impl<L: Site> Recorder<L> {
                     moved,
                     alloc,
                 },
-                seats,
+                seats: Seats::new(seats),
                 cause: Cause::SeatMissing,
             });
         }

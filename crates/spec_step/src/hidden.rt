@@ -1,6 +1,6 @@
 //! A step that takes no line.
 
-ghost use Rattle.std.specs.Prelude.{◌≡◌, ◌<◌, None, Some, Err, IfErr, OnOk, OnErr};
+ghost use Rattle.std.specs.Prelude.{◌≡◌, ◌<◌, ℕ, None, Some, Err, IfErr, OnOk, OnErr};
 ghost use Rattle.std.specs.Result.{result_err};
 ghost use Rattle.case_forms.specs.Witnesses.{IsWithinLimits};
 ghost use Rattle.verdict.specs.Rules.{first_broken};
@@ -35,14 +35,14 @@ pub fn apply_hidden<Taken>(
 {
     match label {
         Label::L(_) => Ok(()),
-        Label::D { thread, answer } => have_effect(world, moment, *thread, answer),
+        Label::D { thread, answer } => have_effect(world, *thread, answer),
         Label::M { host, plan } => world.make(*host, plan, moment),
         Label::T { host, line, choice } => world.take(*host, *line, *choice, moment),
         Label::K { host, line } => {
-            world.drop_arrival(*host, *line, moment)?;
+            world.drop_arrival(*host, *line)?;
             Ok(())
         }
-        Label::R { host, line } => world.reply_with_reset(*host, *line, moment),
+        Label::R { host, line } => world.reply_with_reset(*host, *line),
         Label::F { host, recovery } => {
             world.recover(*host, *recovery, moment)?;
             Ok(())
@@ -62,34 +62,29 @@ pub(crate) fn admits_hidden<Taken>(
 {
     match label {
         Label::L(_) => Ok(()),
-        Label::D { thread, answer } => admits_effect(world, moment, *thread, answer),
+        Label::D { thread, answer } => admits_effect(world, *thread, answer),
         Label::M { host, plan } => world.admits_making(*host, plan),
         Label::T { host, line, choice } => world.admits_taking(*host, moment, *line, *choice),
         Label::K { host, line } => world.admits_dropping(*host, *line),
-        Label::R { host, line } => world.admits_reset(*host, moment, *line),
+        Label::R { host, line } => world.admits_reset(*host, *line),
         Label::F { host, recovery } => world.admits_recovery(*host, moment, *recovery),
     }
 }
 
 // The same of the effect of a call, whose rules read no moment.
 #[tactic(auto, using(endpoint_state::proofs::CallLemmas::effect_at_any_moment))]
-fn admits_effect(world: &World, moment: u64, thread: u32, answer: &Answer) -> Result<(), Rule>
-    ensures { result_err result ≡ broken_by world.now moment (Effect thread answer.now) }
+fn admits_effect(world: &World, thread: u32, answer: &Answer) -> Result<(), Rule>
+    ensures { (moment : ℕ) → result_err result ≡ broken_by world.now moment (Effect thread answer.now) }
 {
     endpoint_state::admits_effect(world, thread, answer)
 }
 
 // A call has its effect, which reads no moment.
 #[tactic(auto, using(endpoint_state::proofs::CallLemmas::effect_at_any_moment, endpoint_state::proofs::CallLemmas::after_at_any_moment))]
-fn have_effect(
-    world: &mut World,
-    moment: u64,
-    thread: u32,
-    answer: &Answer,
-) -> Result<(), StepFault>
+fn have_effect(world: &mut World, thread: u32, answer: &Answer) -> Result<(), StepFault>
     requires { world.old.steps < most_steps }
-    ensures fault { fault_rule result ≡ broken_by world.old moment (Effect thread answer.now) }
-    ensures ok { OnOk result (world.new ≡ after world.old moment (Effect thread answer.now)) }
+    ensures fault { (moment : ℕ) → fault_rule result ≡ broken_by world.old moment (Effect thread answer.now) }
+    ensures ok { (moment : ℕ) → OnOk result (world.new ≡ after world.old moment (Effect thread answer.now)) }
     ensures err { OnErr result (world.new ≡ world.old) }
 {
     world.effect(thread, answer)

@@ -56,7 +56,7 @@ pub(crate) fn admits_line(world: &World, moment: u64, line: &TakenLine) -> Resul
     ensures { result_err result ≡ broken_by world.now moment (line_step line.now) }
 {
     match line {
-        TakenLine::CallBegin { thread, call, .. } => world.admits_begin(*thread, call),
+        TakenLine::CallBegin { thread, .. } => world.admits_begin(*thread),
         TakenLine::CallEnd { thread, answer, .. } => world.admits_finish(*thread, answer),
         TakenLine::Sent {
             host,
@@ -70,7 +70,7 @@ pub(crate) fn admits_line(world: &World, moment: u64, line: &TakenLine) -> Resul
             wire,
             ..
         } => world.admits_arrival(*host, moment, *copied, wire),
-        TakenLine::Heard { host, wire, .. } => world.admits_hearing(*host, wire),
+        TakenLine::Heard { .. } => world.admits_hearing(),
         TakenLine::Expired {
             host,
             ports,

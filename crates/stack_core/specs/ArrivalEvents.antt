@@ -101,10 +101,6 @@ abbrev pub IsNotLetIn : Core → Tick → Flying tcp_shape → Type 0
 IsNotLetIn c tick f =
     (f.key.host ≡ c.recorded.me) ⊎ (nat_lt (f.emission.moment + c.recorded.header.msl) tick.moment ≡ true)
 
--- it is not older than the maximum segment lifetime
-abbrev pub IsYoung : Core → Tick → Flying tcp_shape → Type 0
-IsYoung c tick f = nat_lt (f.emission.moment + c.recorded.header.msl) tick.moment ≡ false
-
 -- what memory may leave of it: the tick has passed, it was brought, came in, or was taken with its bytes too, where
 -- fast recovery was to begin
 pub data IsArrivedShort (c : Core) (tick : Tick) (f : Flying tcp_shape) (d : Core) : Type 0 where

@@ -1,14 +1,15 @@
 //! A segment arrives.
 
-ghost use Rattle.std.specs.Prelude.{◌≡◌, ◌≤◌, ◌<◌, ◌+◌, ◌*◌, ◌⊎◌, suc, true, false, nat_lt, IfOk, IfNone, OnOk, OnErr};
+ghost use Rattle.std.specs.Prelude.{◌≡◌, ◌↔◌, ◌≤◌, ◌<◌, ◌+◌, ◌*◌, ◌⊎◌, suc, true, false, nat_lt, IsTrue, IfOk, IfNone, OnOk, OnErr};
 ghost use Rattle.std.specs.Option.{IfSome};
 ghost use Rattle.case_forms.specs.Witnesses.{IsWithinLimits};
+ghost use Rattle.case_forms.specs.declared.calls.Ports.{Ports};
 ghost use Rattle.spec_network.specs.Hosts.{At, Takes};
 ghost use Rattle.spec_tcp.specs.Bounds.{most_steps};
 ghost use Rattle.spec_tcp.specs.Steps.{step_of};
 ghost use Rattle.spec_merge.specs.Books.{Bring};
 ghost use Rattle.stack_core.specs.ArrivalEvents.{IsArrival, IsArrivedShort, IsCameIn, IsChoice, IsHeld, IsRecovered};
-ghost use Rattle.stack_core.specs.ArrivalEvents.{IsRecoveryAt, IsRefusedRecovery, IsSettled, IsSettledShort, IsYoung};
+ghost use Rattle.stack_core.specs.ArrivalEvents.{IsNotLetIn, IsRecoveryAt, IsRefusedRecovery, IsSettled, IsSettledShort};
 ghost use Rattle.stack_core.specs.ArrivalEvents.{MayDrop, MayRecover, MayTake, ports_of};
 ghost use Rattle.stack_core.specs.CoreWorlds.{Leaves};
 ghost use Rattle.stack_core.specs.CoreWorlds.CoreCall.{Arrive};
@@ -27,17 +28,14 @@ use spec_tcp::Emission;
 
 impl HostCore {
     /// A segment of the other host arrives: it is brought, and comes in, which is its line. It is taken with its bytes
-    /// where it
-    /// may be, and fast recovery begins where it may; else it is answered by a reset where it may be; else it is
-    /// dropped. False,
-    /// and nothing is changed: it is this host's own, or older than the maximum segment lifetime. The error is that
-    /// memory ran
-    /// out; then the tick has passed, and a beginning of this is added.
+    /// where it may be, and fast recovery begins where it may; else it is answered by a reset where it may be; else it
+    /// is dropped. False, and nothing is changed, exactly if it is this host's own or older than the maximum segment
+    /// lifetime. The error is that memory ran out; then the tick has passed, and a beginning of this is added.
     pub fn arrive(&mut self, flying: Flying, tick: Tick) -> Result<bool, OutOfMemory>
         requires tick { IsAfter self.old.last tick }
         requires events { self.old.events < 10000000 }
         ensures ok { IfOk result (λ let_in. IsArrival self.old tick flying let_in self.new) }
-        ensures young { IfOk result (λ let_in. let_in ≡ true → IsYoung self.old tick flying) }
+        ensures let_in { IfOk result (λ let_in. IsTrue let_in ↔ (IsNotLetIn self.old tick flying → ⊥)) }
         ensures err { OnErr result (IsArrivedShort self.old tick flying self.new) }
         ensures leaves { Leaves self.old tick (Arrive flying result) self.new }
         ensures kept { IsRecorded self.new }
@@ -52,7 +50,7 @@ impl HostCore {
         requires tick { IsAfter self.old.last tick }
         requires events { self.old.events < 10000000 }
         ensures ok { IfOk result (λ let_in. IsArrival self.old tick flying let_in self.new) }
-        ensures young { IfOk result (λ let_in. let_in ≡ true → IsYoung self.old tick flying) }
+        ensures let_in { IfOk result (λ let_in. IsTrue let_in ↔ (IsNotLetIn self.old tick flying → ⊥)) }
         ensures err { OnErr result (IsArrivedShort self.old tick flying self.new) }
     {
         if self.is_own(&flying) || self.is_old(&flying, tick.moment) {
@@ -108,7 +106,7 @@ impl HostCore {
     }
 
     fn is_own(&self, flying: &Flying) -> bool
-        ensures { result ≡ true → flying.now.key.host ≡ self.now.recorded.me }
+        ensures { IsTrue result ↔ (flying.now.key.host ≡ self.now.recorded.me) }
     {
         flying.key().host == self.me()
     }
@@ -153,7 +151,7 @@ impl HostCore {
         ensures err { OnErr result (IsSettledShort self.old line ports self.new) }
     {
         let Some(choice) = self.choice(line, window) else {
-            return self.reject(line, ports);
+            return self.reject(line);
         };
         let host = self.me();
         let touch = self.touch_at(ports.lport, ports.rport);
@@ -163,12 +161,12 @@ impl HostCore {
     }
 
     // What is not taken is answered by a reset where it may be, and else dropped.
-    fn reject(&mut self, line: u64, ports: Ports) -> Result<(), OutOfMemory>
+    fn reject(&mut self, line: u64) -> Result<(), OutOfMemory>
         requires room { steps_in self.old.recorded.entries < 4 * self.old.events }
         requires events { self.old.events ≤ 10000000 }
         requires waits { MayDrop self.old line }
         requires not_taken { MayTake self.old line → ⊥ }
-        ensures ok { OnOk result (IsSettled self.old line ports self.new) }
+        ensures ok { (ports : Ports) → OnOk result (IsSettled self.old line ports self.new) }
         ensures err { OnErr result (self.new ≡ self.old) }
     {
         let host = self.me();

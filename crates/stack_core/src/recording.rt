@@ -125,11 +125,11 @@ impl Recording {
         self.world.pending_call(thread)
     }
 
-    /// Whether a thread is in no call, so that it may begin this one.
-    pub fn admits_begin(&self, thread: u32, call: &Call) -> bool
+    /// Whether a thread is in no call, so that it may begin one.
+    pub fn admits_begin(&self, thread: u32) -> bool
         ensures { IsTrue result ↔ (turn_of thread (world_left self.now).threads ≡ Idle) }
     {
-        self.world.admits_begin(thread, call).is_ok()
+        self.world.admits_begin(thread).is_ok()
     }
 
     /// How many segments were made: at most one by each step.

@@ -69,14 +69,14 @@ fn begin(core: &mut HostCore) -> Option<Result<(), OutOfMemory>> {
     match core.me() {
         Host::Zero => {
             let call = Call::Connect(Host::Zero, 4_000, 80);
-            if !core.recording().admits_begin(OPENER, &call) {
+            if !core.recording().admits_begin(OPENER) {
                 return None;
             }
             Some(core.begin(OPENER, &call, tick))
         }
         Host::One => {
             let call = Call::Listen(Host::One, 80, 4);
-            if !core.recording().admits_begin(LISTENER, &call) {
+            if !core.recording().admits_begin(LISTENER) {
                 return None;
             }
             Some(core.begin(LISTENER, &call, tick))

@@ -83,14 +83,14 @@ impl Search<'_> {
     /// A host drops the segment that came in with a line.
     pub(crate) fn drop_arrival(&mut self, host: Host, line: u64) -> Result<(), StepFault> {
         has_room(&self.world)?;
-        self.world.drop_arrival(host, line, self.moment)?;
+        self.world.drop_arrival(host, line)?;
         self.push_step(Label::K { host, line })
     }
 
     /// A host answers the segment that came in with a line by a reset. The answer is the reset's number.
     pub(crate) fn reply_with_reset(&mut self, host: Host, line: u64) -> Result<u32, StepFault> {
         has_room(&self.world)?;
-        self.world.reply_with_reset(host, line, self.moment)?;
+        self.world.reply_with_reset(host, line)?;
         self.push_step(Label::R { host, line })?;
         Ok(self.world.count())
     }

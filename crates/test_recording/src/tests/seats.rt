@@ -8,12 +8,37 @@ ghost use Rattle.test_recording.specs.Scenes.{test_header};
 use crate::tests::pair::Side;
 use crate::tests::turns::header;
 use case_forms::Host;
-use recorder::{Cause, RecFault, Recorder, Seat, Site, Unfinished};
+use recorder::{Cause, RecFault, Recorder, Seat, Seats, Site, Unfinished};
 use std::alloc::Global;
 use std::marker::Brand;
 use std::sync::Wait;
 use std::sync::ledger::Blank;
 use std::test::Fail;
+
+// The seats with one more, where one came back since another is missing. None: others came back, or memory ran out.
+fn with_second<L: Site>(seats: Seats<L>, cause: Cause, second: Seat<L>) -> Option<Vec<Seat<L>>> {
+    let mut seats = seats.into_vec();
+    if seats.len() != 1 || cause != Cause::SeatMissing {
+        return None;
+    }
+    seats.push(second).ok()?;
+    Some(seats)
+}
+
+// Whether a recorder that came back with one of its two seats ends with both.
+fn ends_then<L: Site, R: Wait>(rt: &R, unfinished: Unfinished<L>, second: Seat<L>) -> bool
+    requires { L.parts ≡ 65535 }
+{
+    let Unfinished {
+        recorder,
+        seats,
+        cause,
+    } = unfinished;
+    match with_second(seats, cause, second) {
+        Some(seats) => recorder.finish(rt, seats).is_ok(),
+        None => false,
+    }
+}
 
 // Whether a recorder of two seats comes back with the first where the second is missing, and ends with both. None:
 // memory ran out.
@@ -26,17 +51,10 @@ fn ends_with_both<L: Site, R: Wait>(
 ) -> Option<bool>
     requires { L.parts ≡ 65535 }
 {
-    let Err(unfinished) = recorder.finish(rt, vec![in alloc; first].ok()?) else {
-        return Some(false);
-    };
-    let Unfinished {
-        recorder,
-        mut seats,
-        cause,
-    } = unfinished;
-    let came_back = seats.len() == 1 && cause == Cause::SeatMissing;
-    seats.push(second).ok()?;
-    Some(came_back && recorder.finish(rt, seats).is_ok())
+    match recorder.finish(rt, vec![in alloc; first].ok()?) {
+        Ok(_) => Some(false),
+        Err(unfinished) => Some(ends_then(rt, unfinished, second)),
+    }
 }
 
 // Whether thread 2, which has a seat, gets no second one, and the threads of segments and timers get none.
