@@ -16,7 +16,7 @@ ghost use Rattle.checker.specs.Ahead.{IsAll, TraceFails, Follows, lines_after};
 use crate::case::{CaseFault, trace_fault};
 use case_forms::{Header, Line};
 use counted::Counted;
-use line_fields::ReadFault;
+use line_fields::SourceFault;
 use std::alloc::Global;
 use std::io::BufRead;
 use std::mem::replace;
@@ -86,8 +86,8 @@ impl<A: BufRead> Ahead<A> {
                 self.line = next_line(&mut self.reader)?;
                 Ok(header)
             }
-            Err(ReadFault::Text(fault)) => Err(trace_fault(fault)),
-            Err(ReadFault::Read) => Err(CaseFault::Read),
+            Err(SourceFault::Text(fault)) => Err(trace_fault(fault)),
+            Err(SourceFault::Read) => Err(CaseFault::Read),
         }
     }
 
@@ -160,7 +160,7 @@ fn next_line<A: BufRead>(reader: &mut TraceReader<A>) -> Result<Option<Line>, Ca
 {
     match reader.next() {
         Ok(item) => Ok(item),
-        Err(ReadFault::Text(fault)) => Err(trace_fault(fault)),
-        Err(ReadFault::Read) => Err(CaseFault::Read),
+        Err(SourceFault::Text(fault)) => Err(trace_fault(fault)),
+        Err(SourceFault::Read) => Err(CaseFault::Read),
     }
 }

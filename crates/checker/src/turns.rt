@@ -24,7 +24,7 @@ use crate::replay::{line_named, replay, takes_line};
 use case_forms::{Label, Step};
 use endpoint_state::World;
 use interval_order::Window;
-use line_fields::ReadFault;
+use line_fields::SourceFault;
 use std::alloc::Global;
 use std::io::BufRead;
 use verdict::Rule;
@@ -104,11 +104,11 @@ fn next_step<A: BufRead, B: BufRead>(
 {
     match steps.next() {
         Ok(item) => Ok(item),
-        Err(ReadFault::Text(fault)) => {
+        Err(SourceFault::Text(fault)) => {
             lines.drain()?;
             Err(witness_fault(fault))
         }
-        Err(ReadFault::Read) => Err(CaseFault::Read),
+        Err(SourceFault::Read) => Err(CaseFault::Read),
     }
 }
 

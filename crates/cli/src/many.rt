@@ -23,7 +23,7 @@ use crate::running::answer_bad_memory;
 use bstr::ByteSlice;
 use case_forms::OutOfMemory;
 use counted::{Counted, ReadFault};
-use line_fields::content;
+use line_fields::without_line_end;
 use parallel_check::{CaseResult, Gate, check_many_slices};
 use std::alloc::Global;
 use std::io::{BufRead, Write};
@@ -151,7 +151,7 @@ fn answers_to<H: Threads + Wait + Sync>(
 fn ends_case(raw: &[u8]) -> bool
     ensures { result ≡ ends_case raw.now }
 {
-    let (text, ended) = content(raw);
+    let (text, ended) = without_line_end(raw);
     ended && text == "end".as_bytes()
 }
 

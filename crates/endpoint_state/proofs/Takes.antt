@@ -15,7 +15,7 @@ use Rattle.case_forms.specs.States.{is_closed, is_syn_sent}
 use Rattle.case_forms.specs.declared.steps.TakeChoice.{TakeChoice}
 use Rattle.spec_tcp.specs.Arrives.OtherStates.Ack.{is_new_ack, acknowledges_syn, acked, is_duplicate, fin_acknowledged, acknowledged}
 use Rattle.spec_tcp.specs.Arrives.OtherStates.Fin.{finished, keeps_fin}
-use Rattle.spec_tcp.specs.Arrives.OtherStates.Text.{kept_start, kept_bytes, state_taken}
+use Rattle.spec_tcp.specs.Arrives.OtherStates.Text.{kept_start, kept_bytes, state_after_segment}
 use Rattle.spec_tcp.specs.Arrives.OtherStates.{taken}
 use Rattle.spec_tcp.specs.Arrives.OtherStates.Reset.{was_reset}
 use Rattle.spec_tcp.specs.Arrives.SynSent.{on_syn}
@@ -69,7 +69,7 @@ finished_stays states.Closing passed = stays states.Closing
 finished_stays states.LastAck passed = stays states.LastAck
 finished_stays states.TimeWait passed = stays states.TimeWait
 
-taken_stays : (e : Endpoint) (how : TakeChoice) (m : Emission) → Stays e.state (state_taken e how m)
+taken_stays : (e : Endpoint) (how : TakeChoice) (m : Emission) → Stays e.state (state_after_segment e how m)
 taken_stays e how m =
     let first = acknowledged_stays e.state e m in
     let second = finished_stays (acknowledged e.state e m) _ in

@@ -3,7 +3,7 @@
 ghost use Rattle.std.specs.Prelude.{◌≡◌, ◌+◌, ◌<◌, ◌^◌, ℕ, true, [], ◌∷◌, ◌++◌, None, length, slice_get, OnOk, OnErr};
 ghost use Rattle.std.specs.Prelude.{◌≤◌, false, Some, is_some, IfOk, map};
 ghost use Rattle.std.specs.Option.{option_copied, option_map, IfSome, IsSomeAnd};
-ghost use Rattle.spec_tcp.specs.Bodies.{has_ports, last_from};
+ghost use Rattle.spec_tcp.specs.HostTcp.{has_ports, last_from};
 ghost use Rattle.endpoint_state.specs.Indexes.{is_child_in};
 ghost use Rattle.std.specs.List.{All};
 ghost use Rattle.spec_tcp.specs.Bounds.{greatest_position, HasRoom, IsSmallEmission};

@@ -12,7 +12,7 @@ ghost use Rattle.spec_network.specs.HostSteps.{empty_host};
 ghost use Rattle.spec_network.specs.Tables.{waiting};
 ghost use Rattle.spec_network.specs.HostRules.{arrival_rules, sending_rules};
 ghost use Rattle.spec_tcp.specs.Wire.{in_rules, out_rules};
-ghost use Rattle.spec_tcp.specs.Bodies.{given};
+ghost use Rattle.spec_tcp.specs.HostTcp.{given};
 ghost use Rattle.spec_tcp.specs.Makes.{making_rules};
 ghost use Rattle.spec_tcp.specs.Calls.{call_allows, after_call};
 ghost use Rattle.spec_tcp.specs.Machine.{act_makes, rules_at, tcp};
@@ -26,7 +26,7 @@ ghost use Rattle.endpoint_state.specs.Kinds.{dropping_rules, expired_body, expir
 ghost use Rattle.endpoint_state.specs.Kinds.{recovering_rules, taking_rules};
 
 use crate::arriving::{Arrival, admitted_arrival, consume_arrival, waiting};
-use crate::body::Body;
+use crate::host_tcp::HostTcp;
 use crate::fault::StepFault;
 use crate::made::{Made, admitted_sending, send};
 use case_forms::{
@@ -44,7 +44,7 @@ use verdict::Rule;
 /// put on the wire by their lines, and its inbox by the lines that came in, with None for one that waits no longer.
 #[derive(Drop)]
 pub(crate) struct HostState {
-    body: Body,
+    body: HostTcp,
     made: Table<Made>,
     wire: Table<Emission>,
     inbox: Table<Option<Arrival>>,
@@ -247,7 +247,7 @@ impl HostState {
         ensures { result ≡ empty_host (tcp header.now) }
     {
         HostState {
-            body: Body::new(alloc),
+            body: HostTcp::new(alloc),
             made: Table::new(alloc),
             wire: Table::new(alloc),
             inbox: Table::new(alloc),
@@ -276,7 +276,7 @@ impl HostState {
     }
 
     /// Its endpoints, listeners and sockets.
-    pub(crate) fn body(&self) -> &Body
+    pub(crate) fn body(&self) -> &HostTcp
         ensures { result.now ≡ self.now.body }
     {
         &self.body

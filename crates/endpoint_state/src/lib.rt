@@ -34,7 +34,7 @@
 #![tactic(auto)]
 
 mod arriving;
-mod body;
+mod host_tcp;
 mod calls;
 mod endpoints;
 mod fault;
@@ -47,7 +47,7 @@ mod readings;
 mod threads;
 mod world;
 
-pub use body::Body;
+pub use host_tcp::HostTcp;
 pub use calls::{admits_effect, call_allowed, do_call};
 pub use fault::StepFault;
 pub use laws::{acts_keep, emissions_are_small, have_room, kept_longer};

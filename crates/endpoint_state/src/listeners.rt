@@ -4,7 +4,7 @@ ghost use Rattle.std.specs.Prelude.{◌≡◌, ◌+◌, ◌-◌, ◌<◌, ◌^�
 ghost use Rattle.std.specs.Prelude.{OnOk, OnErr};
 ghost use Rattle.std.specs.Option.{option_copied};
 ghost use Rattle.streams.specs.Lists.{modify};
-ghost use Rattle.spec_tcp.specs.Bodies.{last_from, listens_on};
+ghost use Rattle.spec_tcp.specs.HostTcp.{last_from, listens_on};
 
 use indexmap::IndexMap;
 use segment::OutOfMemory;

@@ -18,7 +18,7 @@ ghost use Rattle.endpoint_state.specs.Turns.{pending_call};
 ghost use Rattle.endpoint_state.specs.Worlds.{after, brought, start};
 ghost use Rattle.endpoint_state.specs.Sides.{AreReady};
 
-use crate::body::Body;
+use crate::host_tcp::HostTcp;
 use crate::fault::StepFault;
 use crate::host;
 use crate::host_pair::Hosts;
@@ -114,7 +114,7 @@ impl World {
     }
 
     /// The endpoints, listeners and sockets of a host.
-    pub fn body(&self, host: Host) -> &Body
+    pub fn body(&self, host: Host) -> &HostTcp
         ensures { result.now ≡ (pick self.now.world.hosts host).body }
     {
         self.hosts.near(host).body()

@@ -123,7 +123,7 @@ impl<T: Drop> From<AllocFailed<T>> for TextFault {
 
 /// Why a text that is read line by line cannot be read on.
 #[derive(Clone, Copy, Debug, PartialEq, Eq, Error)]
-pub enum ReadFault {
+pub enum SourceFault {
     /// What was read is at fault, or memory ran out.
     #[error("{0}")]
     Text(TextFault),
@@ -132,28 +132,28 @@ pub enum ReadFault {
     Read,
 }
 
-impl From<TextFault> for ReadFault {
-    ghost use Rattle.line_fields.specs.declared.fault.ReadFault.TheVariants.{Text};
+impl From<TextFault> for SourceFault {
+    ghost use Rattle.line_fields.specs.declared.fault.SourceFault.TheVariants.{Text};
 
     ghost from_gives = { λ e fault. fault ≡ Text e };
 
-    fn from(e: TextFault) -> ReadFault {
-        ReadFault::Text(e)
+    fn from(e: TextFault) -> SourceFault {
+        SourceFault::Text(e)
     }
 }
 
 /// The fault of a text in memory. A read of it fails only where its `Counted` made 2^50 reads before, more than any
 /// text
 /// takes that memory holds. That is told as if memory had run out.
-impl From<ReadFault> for TextFault {
+impl From<SourceFault> for TextFault {
     ghost use Rattle.line_fields.specs.Faults.{IsTextFault};
 
     ghost from_gives = { IsTextFault };
 
-    fn from(fault: ReadFault) -> TextFault {
+    fn from(fault: SourceFault) -> TextFault {
         match fault {
-            ReadFault::Text(e) => e,
-            ReadFault::Read => TextFault::out_of_memory(),
+            SourceFault::Text(e) => e,
+            SourceFault::Read => TextFault::out_of_memory(),
         }
     }
 }

@@ -29,13 +29,13 @@ mod timers;
 
 pub use answers::{answer, answer_law};
 pub use case_forms::{OutOfMemory, Span};
-pub use fault::{FaultKind, ReadFault, TextFault};
+pub use fault::{FaultKind, SourceFault, TextFault};
 pub use fields::{Fields, Token, is_text};
-pub use lines::{content, exact_line, fields_of, text_of};
+pub use lines::{without_line_end, expect_line, checked_fields, checked_line};
 pub use printing::{
     push_answer, push_end, push_hex, push_host, push_number, push_space, push_word,
 };
-pub use reading::{needed_line, next_line};
+pub use reading::{require_line, next_line};
 pub use segment::SegFault;
 pub use states::state_name;
 pub use timers::{timer, timer_name};

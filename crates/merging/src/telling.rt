@@ -19,7 +19,7 @@ use std::alloc::Global;
 
 // What a step tells: its label in a witness, and the line that it takes.
 #[derive(Drop)]
-struct Told {
+struct RecordedStep {
     label: case_forms::Label<NamedLine>,
     line: Option<Line>,
 }
@@ -36,12 +36,12 @@ fn nowhere() -> Span
 }
 
 // A line that is named with these numbers.
-fn told_line(number: u32, moment: u64, thread: u32, event: Event, extras: Extras) -> Told
+fn told_line(number: u32, moment: u64, thread: u32, event: Event, extras: Extras) -> RecordedStep
     ensures label { result.label ≡ names number extras }
     ensures line { result.line ≡ Some (said number moment thread event) }
 {
     let number = u64::from(number);
-    Told {
+    RecordedStep {
         label: case_forms::Label::L(NamedLine { number, extras }),
         line: Some(Line {
             number,
@@ -132,7 +132,7 @@ fn tell_line(
     moment: u64,
     host: Host,
     taken: &TakenLine,
-) -> Result<Told, OutOfMemory>
+) -> Result<RecordedStep, OutOfMemory>
     requires small { IsSmallStep (line_step taken.now) }
     requires lines { counts.now.lines.next ≤ 2147483647 }
     requires mades { counts.now.mades.next ≤ 2147483647 }
@@ -148,7 +148,7 @@ fn tell_line(
 }
 
 // What a step of a host tells, under new numbers.
-fn tell_step(counts: &Counts, moment: u64, host: Host, label: &Label) -> Result<Told, OutOfMemory>
+fn tell_step(counts: &Counts, moment: u64, host: Host, label: &Label) -> Result<RecordedStep, OutOfMemory>
     requires small { IsSmallStep (step_of label.now) }
     requires lines { counts.now.lines.next ≤ 2147483647 }
     requires mades { counts.now.mades.next ≤ 2147483647 }
@@ -189,7 +189,7 @@ fn tell_step(counts: &Counts, moment: u64, host: Host, label: &Label) -> Result<
             recovery: *recovery,
         },
     };
-    Ok(Told { label, line: None })
+    Ok(RecordedStep { label, line: None })
 }
 
 // A line joins, where there is one.

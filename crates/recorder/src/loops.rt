@@ -40,7 +40,7 @@ fn send<R: Wait>(rt: &R, out: &Sender<Flying, Global>, flying: Flying) -> Result
 }
 
 // Does with a segment what its fate is.
-fn meet<R: Wait>(
+fn apply_fate<R: Wait>(
     rt: &R,
     out: &Sender<Flying, Global>,
     held: &mut HeldBack<Flying>,
@@ -97,7 +97,7 @@ impl<L: Site> Recorder<L> {
             return Ok(false);
         };
         held.count();
-        meet(rt, out, held, flying, fate.next())?;
+        apply_fate(rt, out, held, flying, fate.next())?;
         for _ in 0..held.len() {
             let Some(late) = held.take_due() else {
                 break;

@@ -29,7 +29,7 @@ use Rattle.spec_tcp.specs.declared.endpoint.Emission.{Emission}
 use Rattle.spec_tcp.specs.declared.endpoint.SocketTarget.{SocketTarget}
 use Rattle.spec_tcp.specs.declared.endpoint.SocketTarget.TheVariants.{ListenerAt, EndpointAt}
 use Rattle.spec_tcp.specs.Endpoints.{new_endpoint, snd_max, flight}
-use Rattle.spec_tcp.specs.Bodies.{Body, place_of, endpoint_at, endpoint_of, at_ports, with_endpoint, thing_of, queue_of, dead}
+use Rattle.spec_tcp.specs.HostTcp.{HostTcp, place_of, endpoint_at, endpoint_of, at_ports, with_endpoint, thing_of, queue_of, dead}
 use Rattle.case_forms.specs.States.{is_syn_sent}
 use Rattle.spec_tcp.specs.Calls.Send.{after_send}
 use Rattle.spec_tcp.specs.Calls.Receive.{after_recv}
@@ -98,13 +98,13 @@ follows_push w step host es e new = record {
 }
 
 -- the endpoint of some ports changes
-follows_at_ports : (w : World tcp_shape) (step : Step tcp_shape) (host : Host) (b : Body) (lport rport : ℕ) (f : Endpoint → Endpoint)
+follows_at_ports : (w : World tcp_shape) (step : Step tcp_shape) (host : Host) (b : HostTcp) (lport rport : ℕ) (f : Endpoint → Endpoint)
     → ((i : ℕ) (e : Endpoint) → place_of b lport rport ≡ Some i → slice_get b.endpoints i ≡ Some e → WindowsMove w step (name host i) e (f e)) → Follows w step host b.endpoints (at_ports b lport rport f).endpoints
-follows_at_ports w step host b lport rport f new = map_or_cases (λ (x : Body). Follows w step host b.endpoints x.endpoints) (place_of b lport rport) b (λ i. with_endpoint b i f)
+follows_at_ports w step host b lport rport f new = map_or_cases (λ (x : HostTcp). Follows w step host b.endpoints x.endpoints) (place_of b lport rport) b (λ i. with_endpoint b i f)
     (λ e. follows_not w step host b.endpoints) (λ i at. follows_one w step host b.endpoints i f (λ e there. new i e at there))
 
 -- the rules on the endpoint of some ports
-rules_there : (b : Body) (lport rport i : ℕ) (e : Endpoint) (f : Endpoint → List (Rule × Bool)) → place_of b lport rport ≡ Some i → slice_get b.endpoints i ≡ Some e → first_broken (rules_at b lport rport f) ≡ None → first_broken (f e) ≡ None
+rules_there : (b : HostTcp) (lport rport i : ℕ) (e : Endpoint) (f : Endpoint → List (Rule × Bool)) → place_of b lport rport ≡ Some i → slice_get b.endpoints i ≡ Some e → first_broken (rules_at b lport rport f) ≡ None → first_broken (f e) ≡ None
 rules_there b lport rport i e f at there may =
     let place : endpoint_of b lport rport ≡ Some e = ap (λ (o : Option ℕ). endpoint_at b o) at ∙ there in
     subst (λ (o : Option Endpoint). first_broken (option_map_or f o ((rules.NoEndpoint, true) ∷ [])) ≡ None) place may
@@ -139,7 +139,7 @@ chosen h e how m moment = go m.flags.rst (is_syn_sent e.state)
     go false true = (refl, refl)
     go false false = (refl, refl)
 
-allowed : (h : Header) (b : Body) (me : EndpointId) (e : Endpoint) (how : TakeChoice) (m : Emission) → first_broken (if is_syn_sent e.state then syn_sent_rules h.initial e how m else connected_rules h b me e how m) ≡ None → how.cwnd ≤ greatest_reading h.initial e m
+allowed : (h : Header) (b : HostTcp) (me : EndpointId) (e : Endpoint) (how : TakeChoice) (m : Emission) → first_broken (if is_syn_sent e.state then syn_sent_rules h.initial e how m else connected_rules h b me e how m) ≡ None → how.cwnd ≤ greatest_reading h.initial e m
 allowed h b me e how m may = go (is_syn_sent e.state) may
   where
     go : (s : Bool) → first_broken (if s then syn_sent_rules h.initial e how m else connected_rules h b me e how m) ≡ None → how.cwnd ≤ (if s then greatest_at_syn h.initial e m else greatest_window h.initial e m)
@@ -150,7 +150,7 @@ follows_taking : (h : Header) (s : ℕ) (w : World tcp_shape) (host : Host) (lin
     → Follows w (At host (Takes line how)) host (pick w.hosts host).body.endpoints (after_taking h (pick w.hosts host).body how m s (taker (pick w.hosts host).body m)).endpoints
 follows_taking h s w host line how m waits may = go (taker (pick w.hosts host).body m) refl may
   where
-    b : Body
+    b : HostTcp
     b = (pick w.hosts host).body
 
     go : (t : Taker) → taker b m ≡ t → first_broken (taker_rules h host b how m t) ≡ None → Follows w (At host (Takes line how)) host b.endpoints (after_taking h b how m s t).endpoints
@@ -178,36 +178,36 @@ follows_deed h s w host (Sends line number wire) may = follows_not w (At host (S
 follows_deed h s w host (Gets line copied wire) may = follows_not w (At host (Gets line copied wire)) host (pick w.hosts host).body.endpoints
 follows_deed h s w host (Hears line wire) may = follows_not w (At host (Hears line wire)) host (pick w.hosts host).body.endpoints
 follows_deed h s w host (Takes line how) may = let k = pick w.hosts host in let step : Step tcp_shape = At host (Takes line how) in
-    on_cases (λ (b : Body). Follows w step host k.body.endpoints b.endpoints) (waiting line k.inbox) k.body _ (follows_not w step host k.body.endpoints)
+    on_cases (λ (b : HostTcp). Follows w step host k.body.endpoints b.endpoints) (waiting line k.inbox) k.body _ (follows_not w step host k.body.endpoints)
     (λ m e.
     let t = on_passes (waiting line k.inbox) rules.Inbox (λ x. taker_rules h host k.body how x (taker k.body x)) may in
     let one : t.0 ≡ m = same_Some t.0 m (sym t.1 ∙ e) in
     follows_taking h s w host line how m e (subst (λ (x : Emission). first_broken (taker_rules h host k.body how x (taker k.body x)) ≡ None) one t.2))
 follows_deed h s w host (Drops line) may = follows_not w (At host (Drops line)) host (pick w.hosts host).body.endpoints
 follows_deed h s w host (Answers line) may = let k = pick w.hosts host in let step : Step tcp_shape = At host (Answers line) in
-    on_cases (λ (b : Body). Follows w step host k.body.endpoints b.endpoints) (waiting line k.inbox) k.body _ (follows_not w step host k.body.endpoints) (λ m e. follows_not w step host k.body.endpoints)
+    on_cases (λ (b : HostTcp). Follows w step host k.body.endpoints b.endpoints) (waiting line k.inbox) k.body _ (follows_not w step host k.body.endpoints) (λ m e. follows_not w step host k.body.endpoints)
 
 -- 2. calls
 
-follows_same : (w : World tcp_shape) (step : Step tcp_shape) (host : Host) (b : Body) (i : ℕ) (f : Endpoint → Endpoint) → ((e : Endpoint) → (f e).congestion ≡ e.congestion) → Follows w step host b.endpoints (with_endpoint b i f).endpoints
+follows_same : (w : World tcp_shape) (step : Step tcp_shape) (host : Host) (b : HostTcp) (i : ℕ) (f : Endpoint → Endpoint) → ((e : Endpoint) → (f e).congestion ≡ e.congestion) → Follows w step host b.endpoints (with_endpoint b i f).endpoints
 follows_same w step host b i f same = follows_one w step host b.endpoints i f (λ e at. unmoved w step (name host i) e (f e) (same e))
 
-follows_change : (w : World tcp_shape) (step : Step tcp_shape) (host : Host) (b : Body) (n : ℕ) (f : Endpoint → Endpoint) → ((e : Endpoint) → (f e).congestion ≡ e.congestion) → Follows w step host b.endpoints (option_map_or (change_thing b f) (thing_of b n) b).endpoints
-follows_change w step host b n f same = map_or_cases (λ (x : Body). Follows w step host b.endpoints x.endpoints) (thing_of b n) b (change_thing b f) (λ e. follows_not w step host b.endpoints) (λ thing e. go thing)
+follows_change : (w : World tcp_shape) (step : Step tcp_shape) (host : Host) (b : HostTcp) (n : ℕ) (f : Endpoint → Endpoint) → ((e : Endpoint) → (f e).congestion ≡ e.congestion) → Follows w step host b.endpoints (option_map_or (change_thing b f) (thing_of b n) b).endpoints
+follows_change w step host b n f same = map_or_cases (λ (x : HostTcp). Follows w step host b.endpoints x.endpoints) (thing_of b n) b (change_thing b f) (λ e. follows_not w step host b.endpoints) (λ thing e. go thing)
   where
     go : (thing : SocketTarget) → Follows w step host b.endpoints (change_thing b f thing).endpoints
     go (ListenerAt l) = follows_not w step host b.endpoints
     go (EndpointAt i) = follows_same w step host b i f same
 
-follows_gone : (w : World tcp_shape) (step : Step tcp_shape) (host : Host) (b : Body) (n : ℕ) (f : Endpoint → Endpoint) → ((e : Endpoint) → (f e).congestion ≡ e.congestion)
+follows_gone : (w : World tcp_shape) (step : Step tcp_shape) (host : Host) (b : HostTcp) (n : ℕ) (f : Endpoint → Endpoint) → ((e : Endpoint) → (f e).congestion ≡ e.congestion)
     → Follows w step host b.endpoints (option_map_or (λ thing. record (thing_gone b thing f) { sockets = dead b.sockets n }) (thing_of b n) b).endpoints
-follows_gone w step host b n f same = map_or_cases (λ (x : Body). Follows w step host b.endpoints x.endpoints) (thing_of b n) b (λ thing. record (thing_gone b thing f) { sockets = dead b.sockets n }) (λ e. follows_not w step host b.endpoints) (λ thing e. go thing)
+follows_gone w step host b n f same = map_or_cases (λ (x : HostTcp). Follows w step host b.endpoints x.endpoints) (thing_of b n) b (λ thing. record (thing_gone b thing f) { sockets = dead b.sockets n }) (λ e. follows_not w step host b.endpoints) (λ thing e. go thing)
   where
     go : (thing : SocketTarget) → Follows w step host b.endpoints (thing_gone b thing f).endpoints
     go (ListenerAt l) = follows_map w step host b.endpoints (orphaned l) (λ e. either_windows (option_map_or (λ holder. holder == l) e.listener false) (after_abort e) e e refl refl)
     go (EndpointAt i) = follows_same w step host b i f same
 
-follows_accept : (w : World tcp_shape) (step : Step tcp_shape) (host : Host) (b : Body) (n : ℕ) (thing : SocketTarget) → Follows w step host b.endpoints (after_accept b n thing).endpoints
+follows_accept : (w : World tcp_shape) (step : Step tcp_shape) (host : Host) (b : HostTcp) (n : ℕ) (thing : SocketTarget) → Follows w step host b.endpoints (after_accept b n thing).endpoints
 follows_accept w step host b n (EndpointAt i) = follows_not w step host b.endpoints
 follows_accept w step host b n (ListenerAt l) = go (queue_of b l)
   where
@@ -215,10 +215,10 @@ follows_accept w step host b n (ListenerAt l) = go (queue_of b l)
     go [] = follows_not w step host b.endpoints
     go (c ∷ queue) = follows_same w step host b c (λ e. record e { listener = None }) (λ e. refl)
 
-follows_call : (w : World tcp_shape) (step : Step tcp_shape) (host : Host) (b : Body) (call : Call) (answer : Answer) → Follows w step host b.endpoints (after_call b call answer).endpoints
+follows_call : (w : World tcp_shape) (step : Step tcp_shape) (host : Host) (b : HostTcp) (call : Call) (answer : Answer) → Follows w step host b.endpoints (after_call b call answer).endpoints
 follows_call w step host b (calls.Listen at port backlog) (answers.Given n) = follows_not w step host b.endpoints
 follows_call w step host b (calls.Connect at lport rport) (answers.Given n) = follows_push w step host b.endpoints (new_endpoint lport rport None states.SynSent) (refl, refl)
-follows_call w step host b (calls.Accept h) (answers.Given n) = map_or_cases (λ (x : Body). Follows w step host b.endpoints x.endpoints) (thing_of b h) b (after_accept b n) (λ e. follows_not w step host b.endpoints) (λ thing e. follows_accept w step host b n thing)
+follows_call w step host b (calls.Accept h) (answers.Given n) = map_or_cases (λ (x : HostTcp). Follows w step host b.endpoints x.endpoints) (thing_of b h) b (after_accept b n) (λ e. follows_not w step host b.endpoints) (λ thing e. follows_accept w step host b n thing)
 follows_call w step host b (calls.Send h bytes) (answers.Given n) = follows_change w step host b h (after_send bytes n) (λ e. refl)
 follows_call w step host b (calls.Recv h most) (answers.Bytes bytes) = follows_change w step host b h (after_recv bytes) (λ e. refl)
 follows_call w step host b (calls.Shut h) answers.Done = follows_change w step host b h after_shut (λ e. refl)
@@ -274,7 +274,7 @@ timeout_leaves : (h : Header) (s : ℕ) (w : World tcp_shape) (host : Host) (lin
     → Leaves h s w (At host (Expires line x)) (name host i) (λ c. (c.cwnd ≤ (greatest_values e).0) × (c.ssthresh ≤ (greatest_values e).1))
 timeout_leaves h s w host line x growth i e may is at there = subst Bound (sym is) (after_expiry e (Rto growth) s, at_ports_there w host x.lport x.rport i e (λ e. after_expiry e (Rto growth) s) at there, bound)
   where
-    b : Body
+    b : HostTcp
     b = (pick w.hosts host).body
 
     Bound : Expired → Type 0
@@ -303,7 +303,7 @@ taking_leaves h s w host line how m i e may waits is = (endpoint_taken h e how r
     k : HostState tcp_shape
     k = pick w.hosts host
 
-    b : Body
+    b : HostTcp
     b = k.body
 
     value : ((endpoint_taken h e how r s).congestion.cwnd ≡ how.cwnd) × ((endpoint_taken h e how r s).congestion.ssthresh ≡ e.congestion.ssthresh)

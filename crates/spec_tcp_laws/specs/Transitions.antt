@@ -18,7 +18,7 @@ use Rattle.spec_tcp.specs.declared.endpoint.Endpoint.{Endpoint}
 use Rattle.spec_tcp.specs.declared.endpoint.Emission.{Emission}
 use Rattle.spec_tcp.specs.declared.endpoint.SocketTarget.{SocketTarget}
 use Rattle.spec_tcp.specs.declared.endpoint.SocketTarget.TheVariants.{ListenerAt, EndpointAt}
-use Rattle.spec_tcp.specs.Bodies.{place_of, thing_of}
+use Rattle.spec_tcp.specs.HostTcp.{place_of, thing_of}
 use Rattle.spec_tcp.specs.Endpoints.{snd_max, rcv_nxt}
 use Rattle.spec_tcp.specs.Machine.{Expiring, tcp, tcp_shape}
 use Rattle.spec_tcp_laws.specs.Runs.{world_at_end}

@@ -8,7 +8,7 @@ use Rattle.case_forms.specs.States.{is_fin_wait_2}
 use Rattle.spec_network.specs.Hosts.{At, Expires, Step}
 use Rattle.spec_network.specs.HostRules.{Permitted}
 use Rattle.spec_network.specs.Tables.{pick}
-use Rattle.spec_tcp.specs.Bodies.{endpoint_of}
+use Rattle.spec_tcp.specs.HostTcp.{endpoint_of}
 use Rattle.spec_tcp.specs.declared.endpoint.Endpoint.{Endpoint}
 use Rattle.spec_tcp.specs.Forgetting.{forget_body}
 use Rattle.spec_tcp.specs.Machine.{Expiring, tcp, tcp_shape}

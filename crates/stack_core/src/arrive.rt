@@ -15,7 +15,7 @@ ghost use Rattle.stack_core.specs.CoreWorlds.CoreCall.{Arrive};
 ghost use Rattle.stack_core.specs.Cores.{IsAfter, IsRecorded, MayDo, line_to_come, with_item};
 ghost use Rattle.stack_core.specs.Entries.{steps_in};
 
-use crate::deadline_queue::Touch;
+use crate::deadline_queue::Affected;
 use crate::flying::Flying;
 use crate::greatest::{at_recovery, cwnd_at_arrival};
 use crate::host_core::HostCore;
@@ -65,7 +65,7 @@ impl HostCore {
         let before = self.before(flying.emission(), ports);
         self.come_in(flying)?;
         self.resolve_arrival(line, ports, before.window)?;
-        self.note_arrival(ports, before);
+        self.update_after_arrival(ports, before);
         Ok(true)
     }
 
@@ -88,7 +88,7 @@ impl HostCore {
     }
 
     // It is remembered what an arrival asks of the endpoint of these ports.
-    fn note_arrival(&mut self, ports: Ports, before: Before)
+    fn update_after_arrival(&mut self, ports: Ports, before: Before)
         ensures { self.new ≡ self.old }
     {
         let body = self.recording.body();
@@ -136,7 +136,7 @@ impl HostCore {
             copied,
             wire,
         };
-        self.add(Label::L(line), Touch::Nobody)?;
+        self.add(Label::L(line), Affected::Nobody)?;
         Ok(())
     }
 
@@ -153,8 +153,8 @@ impl HostCore {
             return self.reject(line, ports);
         };
         let host = self.me();
-        let touch = self.touch_at(ports.lport, ports.rport);
-        self.add(Label::T { host, line, choice }, touch)?;
+        let affected = self.affected_at(ports.lport, ports.rport);
+        self.add(Label::T { host, line, choice }, affected)?;
         self.recover(ports)?;
         Ok(())
     }
@@ -171,10 +171,10 @@ impl HostCore {
         let host = self.me();
         let reset = Label::R { host, line };
         if self.admits(&reset) {
-            self.add(reset, Touch::Nobody)?;
+            self.add(reset, Affected::Nobody)?;
             return Ok(());
         }
-        self.add(Label::K { host, line }, Touch::Nobody)?;
+        self.add(Label::K { host, line }, Affected::Nobody)?;
         Ok(())
     }
 
@@ -227,8 +227,8 @@ impl HostCore {
             return Ok(());
         };
         let host = self.me();
-        let touch = self.touch_at(ports.lport, ports.rport);
-        self.add(Label::F { host, recovery }, touch)?;
+        let affected = self.affected_at(ports.lport, ports.rport);
+        self.add(Label::F { host, recovery }, affected)?;
         Ok(())
     }
 

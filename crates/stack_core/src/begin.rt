@@ -10,7 +10,7 @@ ghost use Rattle.stack_core.specs.CallEvents.{begun};
 ghost use Rattle.stack_core.specs.CoreWorlds.{Leaves};
 ghost use Rattle.stack_core.specs.CoreWorlds.CoreCall.{Begin};
 
-use crate::deadline_queue::Touch;
+use crate::deadline_queue::Affected;
 use crate::host_core::HostCore;
 use crate::tick::Tick;
 use case_forms::{Call, OutOfMemory, TakenLine};
@@ -54,6 +54,6 @@ impl HostCore {
             thread,
             call: call.copy()?,
         };
-        self.add(Label::L(line), Touch::Nobody)
+        self.add(Label::L(line), Affected::Nobody)
     }
 }

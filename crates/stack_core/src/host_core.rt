@@ -11,9 +11,9 @@ ghost use Rattle.stack_core.specs.Cores.{Fits, IsAfter, IsBelow, IsNextLine, IsO
 ghost use Rattle.stack_core.specs.Cores.{line_to_come, lines_taken, new_core, opened, with_item, with_step, world};
 ghost use Rattle.stack_core.specs.Entries.{steps_in};
 ghost use Rattle.stack_core.specs.Told.{AllTold, IsToldStep};
-ghost use Rattle.stack_core.specs.Touches.{touched};
+ghost use Rattle.stack_core.specs.Affected.{affected_by};
 
-use crate::deadline_queue::{DeadlineQueue, Touch};
+use crate::deadline_queue::{DeadlineQueue, Affected};
 use crate::flying::Flying;
 use crate::recording::Recording;
 use crate::resets::await_reset;
@@ -204,7 +204,7 @@ impl HostCore {
     // A step joins, at the moment of the last tick; these endpoints it may change, beside one that it creates. The
     // error is that
     // memory ran out, and then nothing is changed.
-    pub(crate) fn add(&mut self, label: Label, touch: Touch) -> Result<(), OutOfMemory>
+    pub(crate) fn add(&mut self, label: Label, affected: Affected) -> Result<(), OutOfMemory>
         requires room { steps_in self.old.recorded.entries < 4 * self.old.events }
         requires events { self.old.events ≤ 10000000 }
         requires limits { IsWithinLimits label }
@@ -212,7 +212,7 @@ impl HostCore {
         requires line { IsNextLine self.old (step_of label) }
         requires orderly { IsOrderly self.old.recorded.me (world self.old) (step_of label) }
         requires told { IsToldStep self.old.recorded.header.version (step_of label) }
-        requires touch { touch ≡ touched self.old.recorded.me (world self.old) (step_of label) }
+        requires affected { affected ≡ affected_by self.old.recorded.me (world self.old) (step_of label) }
         ensures ok { OnOk result (self.new ≡ with_step self.old (step_of label)) }
         ensures count { OnOk result (steps_in self.new.recorded.entries ≡ suc (steps_in self.old.recorded.entries)) }
         ensures world { OnOk result (world self.new
@@ -222,8 +222,8 @@ impl HostCore {
         let lines = lines_taken(&label);
         let tick = self.last;
         await_reset(&mut self.resets, &label, self.recording.count())?;
-        self.ready.touch(touch);
-        self.wakes.touch(touch);
+        self.ready.look_again(affected);
+        self.wakes.look_again(affected);
         self.recording.step(tick, label)?;
         self.line += lines;
         Ok(())

@@ -14,7 +14,7 @@
 //! - `host_core`: the core, and what every event asks of it
 //! - `begin`, `attempt`, `answers`, `answered`: calls, and the answer that a call has now, never `again`
 //! - `pump`, `makings`, `outgoing`: a segment is made and goes out; `resets`: those that answer a segment, and wait
-//! - `deadline_queue`, `touches`: which endpoints are to be looked at, and which a step may change
+//! - `deadline_queue`, `affected`: which endpoints are to be looked at, and which a step may change
 //! - `send_states`, `plans`, `greatest`: what a core remembers of its endpoints, what it would make at one, and its
 //!   choice of windows
 //! - `arrive`: a segment comes in, and is taken, answered or dropped
@@ -43,7 +43,7 @@ mod resets;
 mod send_states;
 mod tick;
 mod timers;
-mod touches;
+mod affected;
 
 pub use answered::Answered;
 pub use entry::Entry;

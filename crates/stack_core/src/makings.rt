@@ -24,7 +24,7 @@ use crate::plans::{
 use crate::send_states::SendStates;
 use case_forms::{Host, SegmentPlan, Version};
 use endpoint::admits_making;
-use endpoint_state::{Body, Endpoint, World};
+use endpoint_state::{HostTcp, Endpoint, World};
 
 /// A segment that may be made: at an endpoint whose duties are listed, or else at any where one may be made that takes
 /// new
@@ -137,7 +137,7 @@ fn make_at(
 }
 
 // Whether the endpoint at a place makes nothing without RST that takes new positions.
-fn is_quiet_at(body: &Body, place: u32, opening: SynOptions) -> bool
+fn is_quiet_at(body: &HostTcp, place: u32, opening: SynOptions) -> bool
     requires { AreReadable body.now.endpoints }
     ensures { result ≡ true → (e : Endpoint) → slice_get body.now.endpoints place ≡ Some e → IsQuiet e }
 {

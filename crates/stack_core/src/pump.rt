@@ -17,7 +17,7 @@ ghost use Rattle.stack_core.specs.Told.{TellsWell};
 ghost use Rattle.stack_core.specs.Flown.{HasFlown};
 ghost use Rattle.stack_core.specs.Outgoing.{GoesOut, MayGo, WaitsToGo, greatest_payload};
 
-use crate::deadline_queue::Touch;
+use crate::deadline_queue::Affected;
 use crate::flying::Flying;
 use crate::host_core::HostCore;
 use crate::makings::find_plan;
@@ -74,7 +74,7 @@ impl HostCore {
         self.open(tick);
         self.make(plan)?;
         self.spend_iss(plan);
-        self.note_making(plan);
+        self.update_after_making(plan);
         let number = self.count();
         let flying = self.send(number)?;
         Ok(Some(flying))
@@ -132,8 +132,8 @@ impl HostCore {
         ensures err { OnErr result (self.new ≡ self.old) }
     {
         let host = self.me();
-        let touch = self.touch_at(plan.lport, plan.rport);
-        self.add(Label::M { host, plan }, touch)?;
+        let affected = self.affected_at(plan.lport, plan.rport);
+        self.add(Label::M { host, plan }, affected)?;
         Ok(())
     }
 
@@ -147,7 +147,7 @@ impl HostCore {
     }
 
     // What was made is remembered.
-    fn note_making(&mut self, plan: SegmentPlan)
+    fn update_after_making(&mut self, plan: SegmentPlan)
         ensures { self.new ≡ self.old }
     {
         if let Some(place) = self.recording.body().place_of(plan.lport, plan.rport) {
@@ -171,7 +171,7 @@ impl HostCore {
             made: number,
             wire,
         };
-        self.add(Label::L(line), Touch::Nobody)?;
+        self.add(Label::L(line), Affected::Nobody)?;
         Ok(flying)
     }
 

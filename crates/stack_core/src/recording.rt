@@ -25,7 +25,7 @@ use crate::flying::Flying;
 use crate::item::Item;
 use crate::tick::Tick;
 use case_forms::{Call, Header, Host, OutOfMemory};
-use endpoint_state::{Body, Made, World};
+use endpoint_state::{HostTcp, Made, World};
 use spec_merge::books_grow;
 use spec_step::{Label, StepFault, admits, apply, bring};
 use spec_tcp::Emission;
@@ -152,7 +152,7 @@ impl Recording {
     }
 
     /// What the host has, as far as it is kept.
-    pub fn body(&self) -> &Body
+    pub fn body(&self) -> &HostTcp
         ensures { result.now ≡ forget_body (pick (world_left self.now).hosts self.now.me).body }
     {
         self.world.body(self.me)

@@ -13,14 +13,14 @@ ghost use Rattle.stack_core.specs.TimerEvents.{HasTried, IfGivesUp, IsDueAt, IsN
 ghost use Rattle.stack_core.specs.TimerEvents.{NoneDueAt};
 ghost use Rattle.stack_core.specs.Tended.{AreTimed, IsDueSince, IsSlow, IsStill, IsStillBefore, kept_ends, least};
 
-use crate::deadline_queue::{Deadline, DeadlineQueue, Touch};
+use crate::deadline_queue::{Deadline, DeadlineQueue, Affected};
 use crate::greatest::at_timeout;
 use crate::host_core::HostCore;
 use crate::recording::Recording;
 use crate::tick::Tick;
 use case_forms::{Expired, Header, OutOfMemory, Ports, RtoChoice, TakenLine};
 use endpoint::has_more;
-use endpoint_state::{Body, Endpoint};
+use endpoint_state::{HostTcp, Endpoint};
 use spec_step::Label;
 
 // A core gives up after so many expiries without an answer.
@@ -69,14 +69,14 @@ impl HostCore {
             ports: due.ports,
             expired: due.expired,
         };
-        let touch = self.touch_at(due.ports.lport, due.ports.rport);
-        self.add(Label::L(line), touch)?;
-        self.note_expiry(due);
+        let affected = self.affected_at(due.ports.lport, due.ports.rport);
+        self.add(Label::L(line), affected)?;
+        self.update_after_expiry(due);
         Ok(true)
     }
 
     // It is remembered what an expiry asks of its endpoint.
-    fn note_expiry(&mut self, due: Due)
+    fn update_after_expiry(&mut self, due: Due)
         ensures { self.new ≡ self.old }
     {
         let body = self.recording.body();
@@ -154,7 +154,7 @@ fn find_among(wakes: &mut DeadlineQueue, recording: &Recording, moment: u64) -> 
 }
 
 // The endpoint of the first entry is to be looked at when its next timer may expire. False: memory refused that.
-fn look_later(wakes: &mut DeadlineQueue, wake: Deadline, header: &Header, body: &Body) -> bool
+fn look_later(wakes: &mut DeadlineQueue, wake: Deadline, header: &Header, body: &HostTcp) -> bool
     requires first { slice_get wakes.old.entries.keys 0 ≡ Some wake }
     requires timed { AreTimed header.now wakes.old.looked wakes.old.entries.keys body.now.endpoints }
     ensures timed { AreTimed header.now wakes.new.looked wakes.new.entries.keys body.now.endpoints }
@@ -173,7 +173,7 @@ fn look_later(wakes: &mut DeadlineQueue, wake: Deadline, header: &Header, body: 
 }
 
 // The moment before which no timer of the endpoint at a place may expire. None: none may ever.
-fn next_due(header: &Header, body: &Body, place: u32) -> Option<u64>
+fn next_due(header: &Header, body: &HostTcp, place: u32) -> Option<u64>
     ensures some { IfSome result (λ m. (e : Endpoint) → slice_get body.now.endpoints place ≡ Some e
         → IsStillBefore header.now m e) }
     ensures none { IfNone result ((e : Endpoint) → slice_get body.now.endpoints place ≡ Some e → IsStill header.now e) }

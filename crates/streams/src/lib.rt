@@ -7,13 +7,11 @@
 //! - `byte_queue`: bytes that join at the end and leave in front
 //! - `cell`: what stands at one position
 //! - `receive`: what was taken of the peer, until it is delivered; `cell_queue` holds it, `placing` writes cells, and
-//!   `leading` reads
-//!   the bytes in front
+//!   `leading` reads the bytes in front
 //! - `send`: what sends accepted, until it is acknowledged
 //! - `front`: drops what stands in front of a queue
-//! - `making`, `transmissions`: when a position was made, and whether it was made again; `runs` keeps the first by
-//!   segments, `marks`
-//!   the second by ranges
+//! - `transmission`, `transmissions`: when a position was made, and whether it was made again; `runs` keeps the moments
+//!   by segments, `marks` the positions that were made again, by ranges
 //! - `laws`: that nothing reads what is forgotten, and that reads are given what the peer sent, in order
 //!
 //! Each buffer shows the whole list from position 0 on, with something fixed in the places of what it discarded. What
@@ -29,7 +27,7 @@ mod cell_queue;
 mod front;
 mod laws;
 mod leading;
-mod making;
+mod transmission;
 mod marks;
 mod placing;
 mod receive;
@@ -41,7 +39,7 @@ pub use cell::Cell;
 pub use laws::{
     forgetting_streams, forgetting_transmissions, starts_are_prefixes, streams_in_order,
 };
-pub use making::Made;
+pub use transmission::Transmission;
 pub use receive::ReceiveBuffer;
 pub use send::SendBuffer;
 pub use transmissions::Transmissions;

@@ -84,7 +84,7 @@ impl ReceiveBuffer {
     }
 
     /// Takes the SYN, where nothing was taken yet.
-    pub fn meet(&mut self)
+    pub fn take_syn(&mut self)
         requires { self.old ≡ empty }
         ensures { self.new ≡ met }
     {

@@ -31,12 +31,12 @@ pub struct Transmissions {
 
 impl Model for Transmissions {
     ghost use Rattle.std.specs.Prelude.{◌≡◌, ◌++◌, ◌+◌, ◌<◌, ◌^◌, List, length, replicate};
-    ghost use Rattle.streams.specs.declared.making.Made.{Made};
+    ghost use Rattle.streams.specs.declared.transmission.Transmission.{Transmission};
     ghost use Rattle.streams.specs.Transmissions.{once};
     ghost use Rattle.streams.specs.Marks.{IsBelow, is_marked, marked};
     ghost use Rattle.streams.specs.Views.{expand};
 
-    ghost Value = { List Made };
+    ghost Value = { List Transmission };
 
     ghost view = { λ a. marked (is_marked a.marks) 0 (replicate a.gone (once 0) ++ expand a.runs.items) };
 

@@ -10,7 +10,7 @@ ghost use Rattle.trace_reader.specs.EventLines.{line_of};
 use crate::calls::call;
 use crate::wires::wire;
 use case_forms::{Event, Host, Line, Version, Wire};
-use line_fields::{FaultKind, Fields, Span, TextFault, answer, fields_of, timer};
+use line_fields::{FaultKind, Fields, Span, TextFault, answer, checked_fields, timer};
 use std::alloc::Global;
 
 const MAX_MOMENT: u64 = 1_000_000_000_000_000_000;
@@ -106,7 +106,7 @@ pub fn event_line(
 ) -> Result<Line, TextFault>
     ensures { Gives (λ line. line) result (line_of version (before, number) raw.now) }
 {
-    let mut fields = fields_of(number, raw)?;
+    let mut fields = checked_fields(number, raw)?;
     let stop = fields.stop();
     let word = fields.next()?;
     let moment = word.number(0, MAX_MOMENT)?;

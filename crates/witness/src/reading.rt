@@ -14,7 +14,7 @@ use crate::stream::StepReader;
 use bstr::ByteSlice;
 use case_forms::{Span, Step, Steps, Version, Witness};
 use counted::Counted;
-use line_fields::{TextFault, fields_of};
+use line_fields::{TextFault, checked_fields};
 use std::alloc::Global;
 
 // The greatest moment, in microseconds.
@@ -33,7 +33,7 @@ pub fn read_step(
 ) -> Result<Step, TextFault>
     ensures { Gives (λ step. step) result (step_of version number raw.now) }
 {
-    let mut fields = fields_of(number, raw)?;
+    let mut fields = checked_fields(number, raw)?;
     let stop = fields.stop();
     let moment = fields.number(0, MAX_MOMENT)?;
     let label = label(alloc, version, &mut fields)?;

@@ -23,15 +23,15 @@ pub(crate) mod timers;
 pub(crate) mod window;
 
 use crate::arrives::other_states::ack::{
-    acknowledged, backoffs_taken, is_bad_ack_range, may_sample, recover_taken, snd_una_taken,
+    acknowledged, backoffs_after_segment, is_bad_ack_range, may_sample, recover_after_segment, snd_una_after_segment,
 };
-use crate::arrives::other_states::congestion::{congestion_taken, greatest_window};
+use crate::arrives::other_states::congestion::{congestion_after_segment, greatest_window};
 use crate::arrives::other_states::fin::finished;
 use crate::arrives::other_states::peer::is_from_peer;
 use crate::arrives::other_states::sequence::{is_acceptable, is_bad_number};
 use crate::arrives::other_states::text::receive;
 use crate::arrives::other_states::timers::{state_timers, timers_before};
-use crate::arrives::other_states::window::{is_unread, probe_due_taken, window_taken};
+use crate::arrives::other_states::window::{is_unread, probe_due_after_segment, window_after_segment};
 use case_forms::{Header, TakeChoice};
 use segment::OutOfMemory;
 use spec_tcp::{Arrived, Endpoint, EndpointId};
@@ -90,15 +90,15 @@ pub(crate) fn taken(
     ensures ok { OnOk result (endpoint.new ≡ forget_endpoint (taken header.now endpoint.old how m.now moment)) }
     ensures err { OnErr result (endpoint.new ≡ endpoint.old) }
 {
-    let snd_una = snd_una_taken(endpoint, m);
+    let snd_una = snd_una_after_segment(endpoint, m);
     let old = endpoint.state;
     let state = acknowledged(endpoint, m);
-    let window = window_taken(endpoint, m);
-    let congestion = congestion_taken(endpoint, how, m);
-    let recover = recover_taken(endpoint, m);
-    let probe_due = probe_due_taken(endpoint, m);
+    let window = window_after_segment(endpoint, m);
+    let congestion = congestion_after_segment(endpoint, how, m);
+    let recover = recover_after_segment(endpoint, m);
+    let probe_due = probe_due_after_segment(endpoint, m);
     let timers = timers_before(header, endpoint, how, m, moment);
-    let backoffs = backoffs_taken(endpoint, m);
+    let backoffs = backoffs_after_segment(endpoint, m);
     let ended = receive(endpoint, how, m)?;
     let state = finished(state, ended);
     endpoint.state = state;

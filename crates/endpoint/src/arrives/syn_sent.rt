@@ -5,7 +5,8 @@ ghost use Rattle.streams.specs.Received as received;
 ghost use Rattle.spec_tcp.specs.Forgetting.{forget_endpoint};
 ghost use Rattle.case_forms.specs.States.{is_syn_received};
 ghost use Rattle.spec_tcp.specs.Same.{same_word};
-ghost use Rattle.spec_tcp.specs.Arrives.SynSent.{on_syn, snd_una_met, timers_met, syn_sent_rules, answers_syn};
+ghost use Rattle.spec_tcp.specs.Arrives.SynSent.{on_syn, snd_una_after_syn, timers_after_syn, syn_sent_rules};
+ghost use Rattle.spec_tcp.specs.Arrives.SynSent.{answers_syn};
 ghost use Rattle.spec_tcp.specs.Arrives.SynSent.{told_smss, greatest_at_syn};
 ghost use Rattle.spec_tcp.specs.Arrives.OtherStates.Ack.{acknowledges_syn};
 ghost use Rattle.seqno.specs.Numbers.{number_of};
@@ -16,8 +17,8 @@ ghost use Rattle.verdict.specs.Rules.{first_broken};
 
 use crate::arrives::other_states::ack::{acknowledges_syn, is_no_sample};
 use crate::arrives::other_states::congestion::first_window;
-use crate::arrives::other_states::timers::{rto_taken, timeout_taken};
-use crate::arrives::other_states::window::{is_unread, persist_taken};
+use crate::arrives::other_states::timers::{rto_after_ack, timeout_after_ack};
+use crate::arrives::other_states::window::{is_unread, persist_after_window};
 use crate::same::same_word;
 use case_forms::{Header, Initial, State, TakeChoice};
 use seqno::number;
@@ -112,16 +113,16 @@ pub(crate) fn on_syn(
     requires { endpoint.old.stream.receive ≡ received.empty }
     ensures { endpoint.new ≡ forget_endpoint (on_syn header.now endpoint.old how m.now moment) }
 {
-    let snd_una = snd_una_met(endpoint, m);
-    let congestion = congestion_met(endpoint, how, m);
-    let window = window_met(endpoint, m);
+    let snd_una = snd_una_after_syn(endpoint, m);
+    let congestion = congestion_after_syn(endpoint, how, m);
+    let window = window_after_syn(endpoint, m);
     let backoffs = if m.flags().ack { 0 } else { endpoint.backoffs };
-    endpoint.timers = timers_met(header, endpoint, how, m, moment, snd_una);
-    endpoint.state = state_met(m);
+    endpoint.timers = timers_after_syn(header, endpoint, how, m, moment, snd_una);
+    endpoint.state = state_after_syn(m);
     endpoint.irs = Some(m.seq());
     endpoint.peer_shift = m.scale();
     endpoint.stream.peer = Some(m.sender());
-    endpoint.stream.receive.meet();
+    endpoint.stream.receive.take_syn();
     endpoint.stream.snd_una = snd_una;
     endpoint.window = window;
     endpoint.congestion = congestion;
@@ -131,7 +132,7 @@ pub(crate) fn on_syn(
     endpoint.transmissions.forget_below(snd_una);
 }
 
-fn state_met(m: &Arrived<'_>) -> State
+fn state_after_syn(m: &Arrived<'_>) -> State
     ensures { result ≡ (if m.now.flags.ack then states.Established else states.SynReceived) }
 {
     if m.flags().ack {
@@ -141,8 +142,8 @@ fn state_met(m: &Arrived<'_>) -> State
     }
 }
 
-fn snd_una_met(endpoint: &Endpoint, m: &Arrived<'_>) -> u64
-    ensures { result ≡ snd_una_met endpoint.now m.now }
+fn snd_una_after_syn(endpoint: &Endpoint, m: &Arrived<'_>) -> u64
+    ensures { result ≡ snd_una_after_syn endpoint.now m.now }
 {
     let snd_una = endpoint.stream.snd_una;
     if m.flags().ack {
@@ -152,7 +153,7 @@ fn snd_una_met(endpoint: &Endpoint, m: &Arrived<'_>) -> u64
     }
 }
 
-fn window_met(endpoint: &Endpoint, m: &Arrived<'_>) -> SendWindow
+fn window_after_syn(endpoint: &Endpoint, m: &Arrived<'_>) -> SendWindow
     ensures { result ≡ record endpoint.now.window { snd_wnd = m.now.window; snd_wl1 = m.now.pos; snd_wl2 = if m.now.flags.ack then 1 else 0 } }
 {
     let mut window = endpoint.window;
@@ -162,7 +163,7 @@ fn window_met(endpoint: &Endpoint, m: &Arrived<'_>) -> SendWindow
     window
 }
 
-fn congestion_met(endpoint: &Endpoint, how: TakeChoice, m: &Arrived<'_>) -> Congestion
+fn congestion_after_syn(endpoint: &Endpoint, how: TakeChoice, m: &Arrived<'_>) -> Congestion
     ensures { result ≡ record endpoint.now.congestion {
       cwnd = how.cwnd;
       smss = told_smss m.now.mss;
@@ -178,7 +179,7 @@ fn congestion_met(endpoint: &Endpoint, how: TakeChoice, m: &Arrived<'_>) -> Cong
 
 // The timers once the peer's SYN was taken in SYN-SENT. A round trip is that of the own SYN, while it is not
 // acknowledged.
-fn timers_met(
+fn timers_after_syn(
     header: &Header,
     endpoint: &Endpoint,
     how: TakeChoice,
@@ -186,11 +187,11 @@ fn timers_met(
     moment: u64,
     snd_una: u64,
 ) -> Timers
-    requires { snd_una ≡ snd_una_met endpoint.now m.now }
-    ensures { result ≡ timers_met header.now endpoint.now how m.now moment }
+    requires { snd_una ≡ snd_una_after_syn endpoint.now m.now }
+    ensures { result ≡ timers_after_syn header.now endpoint.now how m.now moment }
 {
     let sample = how.sample && m.flags().ack && endpoint.stream.snd_una == 0;
-    let measured = timeout_taken(header, endpoint, sample, 1, m.flags().ack, moment);
-    let running = rto_taken(measured, snd_una == endpoint.snd_max(), false, moment);
-    persist_taken(running, m.window(), moment)
+    let measured = timeout_after_ack(header, endpoint, sample, 1, m.flags().ack, moment);
+    let running = rto_after_ack(measured, snd_una == endpoint.snd_max(), false, moment);
+    persist_after_window(running, m.window(), moment)
 }

@@ -6,7 +6,7 @@ use Rattle.verdict.specs.declared.rule.Rule.{Rule}
 use Rattle.verdict.specs.declared.rule.Rule.TheVariants as rules
 use Rattle.streams.specs.Received.{met}
 use Rattle.spec_tcp.specs.Endpoints.{Endpoint, Emission, new_endpoint}
-use Rattle.spec_tcp.specs.Arrives.OtherStates.Window.{persist_taken}
+use Rattle.spec_tcp.specs.Arrives.OtherStates.Window.{persist_after_window}
 use Rattle.spec_tcp.specs.Arrives.SynSent.{told_smss}
 
 -- a listener takes a SYN that is neither acknowledgment nor reset (RFC 9293, 3.10.7.2)
@@ -25,5 +25,5 @@ child l how m moment =
       stream = record fresh.stream { peer = Some m.sender; receive = met };
       window = record fresh.window { snd_wnd = m.window; snd_wl1 = m.pos };
       congestion = record fresh.congestion { cwnd = how.cwnd; smss = told_smss m.mss };
-      timers = persist_taken fresh.timers m.window moment;
+      timers = persist_after_window fresh.timers m.window moment;
     }

@@ -6,7 +6,7 @@ use streams::{ReceiveBuffer, Transmissions};
 // A buffer that took the SYN.
 fn met(alloc: Global) -> ReceiveBuffer {
     let mut buffer = ReceiveBuffer::new(alloc);
-    buffer.meet();
+    buffer.take_syn();
     buffer
 }
 

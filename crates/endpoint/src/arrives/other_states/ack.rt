@@ -1,7 +1,7 @@
 //! Fifth, the ACK field.
 
 ghost use Rattle.case_forms.specs.declared.calls.State.TheVariants as states;
-ghost use Rattle.spec_tcp.specs.Arrives.OtherStates.Ack.{acknowledged, snd_una_taken, fin_acknowledged};
+ghost use Rattle.spec_tcp.specs.Arrives.OtherStates.Ack.{acknowledged, snd_una_after_segment, fin_acknowledged};
 ghost use Rattle.spec_tcp.specs.Arrives.OtherStates.Ack.{is_bad_ack_range, is_new_ack, acknowledges_syn, acked};
 ghost use Rattle.spec_tcp.specs.Arrives.OtherStates.Ack.{is_duplicate, may_sample};
 ghost use Rattle.spec_tcp.specs.Arrives.OtherStates.Window.{opens_window};
@@ -79,8 +79,8 @@ pub(crate) fn is_no_sample(endpoint: &Endpoint, m: &Arrived<'_>) -> bool
 }
 
 /// The oldest position that is not acknowledged, then.
-pub(crate) fn snd_una_taken(endpoint: &Endpoint, m: &Arrived<'_>) -> u64
-    ensures { result ≡ snd_una_taken endpoint.now m.now }
+pub(crate) fn snd_una_after_segment(endpoint: &Endpoint, m: &Arrived<'_>) -> u64
+    ensures { result ≡ snd_una_after_segment endpoint.now m.now }
 {
     endpoint.stream.snd_una.max(m.ack())
 }
@@ -107,7 +107,7 @@ pub(crate) fn acknowledged(endpoint: &Endpoint, m: &Arrived<'_>) -> State
     }
 }
 
-pub(crate) fn dup_taken(endpoint: &Endpoint, m: &Arrived<'_>) -> u32
+pub(crate) fn dup_after_segment(endpoint: &Endpoint, m: &Arrived<'_>) -> u32
     requires { endpoint.now.congestion.dup + 1 < 2 ^ 32 }
     ensures { result ≡ (if is_new_ack endpoint.now m.now then 0
         else if is_duplicate endpoint.now m.now then endpoint.now.congestion.dup + 1 else endpoint.now.congestion.dup) }
@@ -123,7 +123,7 @@ pub(crate) fn dup_taken(endpoint: &Endpoint, m: &Arrived<'_>) -> u32
 }
 
 /// Up to which position what was made may be made again: all of it, where a window above 0 ends the waiting for one.
-pub(crate) fn recover_taken(endpoint: &Endpoint, m: &Arrived<'_>) -> u64
+pub(crate) fn recover_after_segment(endpoint: &Endpoint, m: &Arrived<'_>) -> u64
     ensures { result ≡ (if opens_window endpoint.now m.now && is_some endpoint.now.timers.persist_armed then snd_max endpoint.now else endpoint.now.recover) }
 {
     if opens_window(endpoint, m) && endpoint.timers.persist_armed.is_some() {
@@ -134,7 +134,7 @@ pub(crate) fn recover_taken(endpoint: &Endpoint, m: &Arrived<'_>) -> u64
 }
 
 /// How often the retransmission timer expired since a new acknowledgment.
-pub(crate) fn backoffs_taken(endpoint: &Endpoint, m: &Arrived<'_>) -> u32
+pub(crate) fn backoffs_after_segment(endpoint: &Endpoint, m: &Arrived<'_>) -> u32
     ensures { result ≡ (if is_new_ack endpoint.now m.now then 0 else endpoint.now.backoffs) }
 {
     if is_new_ack(endpoint, m) {
@@ -160,7 +160,7 @@ fn syn_acknowledged(endpoint: &Endpoint, m: &Arrived<'_>) -> State
 fn fin_acknowledged(endpoint: &Endpoint, m: &Arrived<'_>) -> bool
     ensures { result ≡ fin_acknowledged endpoint.now m.now }
 {
-    endpoint.stream.ended && endpoint.stream.accepted.end() < snd_una_taken(endpoint, m)
+    endpoint.stream.ended && endpoint.stream.accepted.end() < snd_una_after_segment(endpoint, m)
 }
 
 pub(crate) fn opens_window(endpoint: &Endpoint, m: &Arrived<'_>) -> bool

@@ -1,12 +1,13 @@
 //! The congestion window then (RFC 5681).
 
 ghost use Rattle.spec_tcp.specs.Arrives.OtherStates.Ack.{is_new_ack, acknowledges_syn, acked};
-ghost use Rattle.spec_tcp.specs.Arrives.OtherStates.Congestion.{congestion_taken, first_window, greatest_window};
+ghost use Rattle.spec_tcp.specs.Arrives.OtherStates.Congestion.{congestion_after_segment, first_window};
+ghost use Rattle.spec_tcp.specs.Arrives.OtherStates.Congestion.{greatest_window};
 ghost use Rattle.std.specs.Prelude.{◌≡◌, ◌<◌, ◌+◌, ◌^◌, ◌&&◌, not, if◌then◌else◌};
 ghost use Rattle.window_rules.specs.Growth.{counted_after};
 
 use crate::arrives::other_states::ack::{
-    acked, acknowledges_syn, dup_taken, is_duplicate, is_new_ack,
+    acked, acknowledges_syn, dup_after_segment, is_duplicate, is_new_ack,
 };
 use case_forms::{Initial, TakeChoice};
 use spec_tcp::{Arrived, Endpoint};
@@ -43,21 +44,21 @@ pub fn greatest_window(initial: Initial, endpoint: &Endpoint, m: &Arrived<'_>) -
 
 /// Congestion control then: the window in bytes is the step's choice, the rest goes by the old one (RFC 5681, 3.1 and
 /// 3.2).
-pub(crate) fn congestion_taken(endpoint: &Endpoint, how: TakeChoice, m: &Arrived<'_>) -> Congestion
+pub(crate) fn congestion_after_segment(endpoint: &Endpoint, how: TakeChoice, m: &Arrived<'_>) -> Congestion
     requires counted { endpoint.now.congestion.counted < 2 ^ 63 }
     requires dup { endpoint.now.congestion.dup + 1 < 2 ^ 32 }
     requires ack { m.now.ack < 2 ^ 63 }
-    ensures { result ≡ congestion_taken endpoint.now how m.now }
+    ensures { result ≡ congestion_after_segment endpoint.now how m.now }
 {
     let mut congestion = endpoint.congestion;
     congestion.cwnd = how.cwnd;
-    congestion.counted = counted_taken(endpoint, m);
-    congestion.dup = dup_taken(endpoint, m);
+    congestion.counted = counted_after_segment(endpoint, m);
+    congestion.dup = dup_after_segment(endpoint, m);
     congestion.fast = endpoint.congestion.fast && !is_new_ack(endpoint, m);
     congestion
 }
 
-fn counted_taken(endpoint: &Endpoint, m: &Arrived<'_>) -> u64
+fn counted_after_segment(endpoint: &Endpoint, m: &Arrived<'_>) -> u64
     requires counted { endpoint.now.congestion.counted < 2 ^ 63 }
     requires ack { m.now.ack < 2 ^ 63 }
     ensures { result ≡ (if is_new_ack endpoint.now m.now && not (acknowledges_syn endpoint.now m.now)

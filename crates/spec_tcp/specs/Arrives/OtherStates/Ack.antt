@@ -35,12 +35,12 @@ abbrev pub may_sample : Endpoint → Emission → Bool
 may_sample e m = is_new_ack e m && not (retransmitted e.transmissions e.stream.snd_una m.ack)
 
 -- the oldest position that is not acknowledged, then
-abbrev pub snd_una_taken : Endpoint → Emission → ℕ
-snd_una_taken e m = max e.stream.snd_una m.ack
+abbrev pub snd_una_after_segment : Endpoint → Emission → ℕ
+snd_una_after_segment e m = max e.stream.snd_una m.ack
 
 -- the own FIN is acknowledged
 abbrev pub fin_acknowledged : Endpoint → Emission → Bool
-fin_acknowledged e m = e.stream.ended && nat_lt (end_of e.stream.accepted) (snd_una_taken e m)
+fin_acknowledged e m = e.stream.ended && nat_lt (end_of e.stream.accepted) (snd_una_after_segment e m)
 
 -- the state once the acknowledgment is looked at (RFC 9293, 3.10.7.4, fifth)
 abbrev pub acknowledged : State → Endpoint → Emission → State

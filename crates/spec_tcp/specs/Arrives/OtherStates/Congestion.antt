@@ -26,8 +26,8 @@ greatest_window initial e m =
 
 -- cwnd is the value chosen, up to the greatest; what is counted, duplicates and fast recovery go by the old one (RFC
 -- 5681, 3.1 and 3.2)
-abbrev pub congestion_taken : Endpoint → TakeChoice → Emission → Congestion
-congestion_taken e how m = record e.congestion {
+abbrev pub congestion_after_segment : Endpoint → TakeChoice → Emission → Congestion
+congestion_after_segment e how m = record e.congestion {
   cwnd = how.cwnd;
   counted = if is_new_ack e m && not (acknowledges_syn e m) then counted_after e.congestion (acked e m) else e.congestion.counted;
   dup = if is_new_ack e m then 0 else if is_duplicate e m then e.congestion.dup + 1 else e.congestion.dup;
