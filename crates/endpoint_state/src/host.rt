@@ -26,8 +26,8 @@ ghost use Rattle.endpoint_state.specs.Kinds.{dropping_rules, expired_body, expir
 ghost use Rattle.endpoint_state.specs.Kinds.{recovering_rules, taking_rules};
 
 use crate::arriving::{Arrival, admitted_arrival, consume_arrival, waiting};
-use crate::host_tcp::HostTcp;
 use crate::fault::StepFault;
+use crate::host_tcp::HostTcp;
 use crate::made::{Made, admitted_sending, send};
 use case_forms::{
     Answer, Call, Expired, Header, Host, Ports, Recovery, SegmentPlan, TakeChoice, Wire,

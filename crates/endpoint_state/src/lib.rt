@@ -34,12 +34,12 @@
 #![tactic(auto)]
 
 mod arriving;
-mod host_tcp;
 mod calls;
 mod endpoints;
 mod fault;
 mod host;
 mod host_pair;
+mod host_tcp;
 mod laws;
 mod listeners;
 mod made;
@@ -47,9 +47,9 @@ mod readings;
 mod threads;
 mod world;
 
-pub use host_tcp::HostTcp;
 pub use calls::{admits_effect, call_allowed, do_call};
 pub use fault::StepFault;
+pub use host_tcp::HostTcp;
 pub use laws::{acts_keep, emissions_are_small, have_room, kept_longer};
 pub use made::Made;
 pub use spec_tcp::{Endpoint, Listener};

@@ -18,10 +18,10 @@ ghost use Rattle.endpoint_state.specs.Turns.{pending_call};
 ghost use Rattle.endpoint_state.specs.Worlds.{after, brought, start};
 ghost use Rattle.endpoint_state.specs.Sides.{AreReady};
 
-use crate::host_tcp::HostTcp;
 use crate::fault::StepFault;
 use crate::host;
 use crate::host_pair::Hosts;
+use crate::host_tcp::HostTcp;
 use crate::made::Made;
 use crate::threads::{Turn, admits_begin, admits_end, begin, finish, pending_call};
 use case_forms::{

@@ -31,11 +31,11 @@ pub use answers::{answer, answer_law};
 pub use case_forms::{OutOfMemory, Span};
 pub use fault::{FaultKind, SourceFault, TextFault};
 pub use fields::{Fields, Token, is_text};
-pub use lines::{without_line_end, expect_line, checked_fields, checked_line};
+pub use lines::{checked_fields, checked_line, expect_line, without_line_end};
 pub use printing::{
     push_answer, push_end, push_hex, push_host, push_number, push_space, push_word,
 };
-pub use reading::{require_line, next_line};
+pub use reading::{next_line, require_line};
 pub use segment::SegFault;
 pub use states::state_name;
 pub use timers::{timer, timer_name};

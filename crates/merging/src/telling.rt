@@ -148,7 +148,12 @@ fn tell_line(
 }
 
 // What a step of a host tells, under new numbers.
-fn tell_step(counts: &Counts, moment: u64, host: Host, label: &Label) -> Result<RecordedStep, OutOfMemory>
+fn tell_step(
+    counts: &Counts,
+    moment: u64,
+    host: Host,
+    label: &Label,
+) -> Result<RecordedStep, OutOfMemory>
     requires small { IsSmallStep (step_of label.now) }
     requires lines { counts.now.lines.next ≤ 2147483647 }
     requires mades { counts.now.mades.next ≤ 2147483647 }

@@ -124,13 +124,13 @@ module _ (Before : ℕ → Endpoint → Type 0) (Ever : Endpoint → Type 0) whe
 
   -- a step changes what it affects
   pub affected_covered : ((e : Endpoint) → Before 0 e) → (t : Affected) (looked now : ℕ) (ks ls : List Deadline) (es fs : List Endpoint) → LooksAgain t looked ks now ls → Leaves t es fs
-    → AreCovered Before Ever looked ks es → AreCovered Before Ever now ls fs
+      → AreCovered Before Ever looked ks es → AreCovered Before Ever now ls fs
   affected_covered begins t looked now ks ls es fs (inl none) leaves are = none_covered now ls fs none
   affected_covered begins t looked now ks ls es fs (inr (same, still, affected)) leaves are =
-    subst (λ (n : ℕ). AreCovered Before Ever n ls fs) (sym same) (record {
-    within = let low = are.within in let more = leaves.count in omega arith;
-    each = λ i f less at. let low = are.within in let inside : i < length es = omega arith in by t affected i f less (leaves.back i f inside at);
-  })
+      subst (λ (n : ℕ). AreCovered Before Ever n ls fs) (sym same) (record {
+        within = let low = are.within in let more = leaves.count in omega arith;
+        each = λ i f less at. let low = are.within in let inside : i < length es = omega arith in by t affected i f less (leaves.back i f inside at);
+      })
     where
       stays : (i : ℕ) (f : Endpoint) → ((m : ℕ) × IsListed (from m i) ks × Before m f) ⊎ Ever f → ((m : ℕ) × IsListed (from m i) ls × Before m f) ⊎ Ever f
       stays i f (inl (m, listed, before)) = inl (m, still (from m i) listed, before)

@@ -13,7 +13,7 @@ ghost use Rattle.stack_core.specs.Entries.{steps_in};
 ghost use Rattle.stack_core.specs.Told.{AllTold, IsToldStep};
 ghost use Rattle.stack_core.specs.Affected.{affected_by};
 
-use crate::deadline_queue::{DeadlineQueue, Affected};
+use crate::deadline_queue::{Affected, DeadlineQueue};
 use crate::flying::Flying;
 use crate::recording::Recording;
 use crate::resets::await_reset;

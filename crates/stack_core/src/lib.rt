@@ -22,6 +22,7 @@
 //! - `laws`: what flew from a host stays on its wire, and what is brought names it; two cores record two books
 #![tactic(auto)]
 
+mod affected;
 mod answered;
 mod answers;
 mod arrive;
@@ -43,7 +44,6 @@ mod resets;
 mod send_states;
 mod tick;
 mod timers;
-mod affected;
 
 pub use answered::Answered;
 pub use entry::Entry;

@@ -24,7 +24,7 @@ use crate::plans::{
 use crate::send_states::SendStates;
 use case_forms::{Host, SegmentPlan, Version};
 use endpoint::admits_making;
-use endpoint_state::{HostTcp, Endpoint, World};
+use endpoint_state::{Endpoint, HostTcp, World};
 
 /// A segment that may be made: at an endpoint whose duties are listed, or else at any where one may be made that takes
 /// new

@@ -13,14 +13,14 @@ ghost use Rattle.stack_core.specs.TimerEvents.{HasTried, IfGivesUp, IsDueAt, IsN
 ghost use Rattle.stack_core.specs.TimerEvents.{NoneDueAt};
 ghost use Rattle.stack_core.specs.Tended.{AreTimed, IsDueSince, IsSlow, IsStill, IsStillBefore, kept_ends, least};
 
-use crate::deadline_queue::{Deadline, DeadlineQueue, Affected};
+use crate::deadline_queue::{Affected, Deadline, DeadlineQueue};
 use crate::greatest::at_timeout;
 use crate::host_core::HostCore;
 use crate::recording::Recording;
 use crate::tick::Tick;
 use case_forms::{Expired, Header, OutOfMemory, Ports, RtoChoice, TakenLine};
 use endpoint::has_more;
-use endpoint_state::{HostTcp, Endpoint};
+use endpoint_state::{Endpoint, HostTcp};
 use spec_step::Label;
 
 // A core gives up after so many expiries without an answer.

@@ -27,19 +27,19 @@ mod cell_queue;
 mod front;
 mod laws;
 mod leading;
-mod transmission;
 mod marks;
 mod placing;
 mod receive;
 mod runs;
 mod send;
+mod transmission;
 mod transmissions;
 
 pub use cell::Cell;
 pub use laws::{
     forgetting_streams, forgetting_transmissions, starts_are_prefixes, streams_in_order,
 };
-pub use transmission::Transmission;
 pub use receive::ReceiveBuffer;
 pub use send::SendBuffer;
+pub use transmission::Transmission;
 pub use transmissions::Transmissions;

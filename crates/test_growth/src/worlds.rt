@@ -1,7 +1,7 @@
 //! What a world shows of itself.
 
 use case_forms::Host;
-use endpoint_state::{HostTcp, Endpoint, World};
+use endpoint_state::{Endpoint, HostTcp, World};
 use std::alloc::{AllocError, Global};
 
 // More threads, lines and endpoints of a host than any case here has.

@@ -14,8 +14,8 @@ use bstr::ByteSlice;
 use case_forms::{Header, Initial, Version};
 use counted::Counted;
 use line_fields::{
-    FaultKind, Fields, SourceFault, Span, TextFault, without_line_end, checked_fields, is_text, require_line,
-    checked_line,
+    FaultKind, Fields, SourceFault, Span, TextFault, checked_fields, checked_line, is_text,
+    require_line, without_line_end,
 };
 use std::io::BufRead;
 
@@ -232,7 +232,10 @@ fn first_version(raw: &[u8]) -> Result<Version, TextFault>
 }
 
 // The version that the first line names.
-fn first_line<A: BufRead>(source: &mut Counted<A>, line: &mut Vec<u8>) -> Result<Version, SourceFault>
+fn first_line<A: BufRead>(
+    source: &mut Counted<A>,
+    line: &mut Vec<u8>,
+) -> Result<Version, SourceFault>
     ensures line { Reads with_rest first_line (rows_of (left_of A.remaining source.old))
         (rows_of (left_of A.remaining source.new)) result }
     ensures read { result ≡ Err SourceFault.Read → failures_of source.new ≡ one_more (failures_of source.old) }

@@ -45,7 +45,7 @@ pub use counted::Counted;
 pub use events::event_line;
 pub use header::version_named;
 pub use laws::{event_line_faults, first_event_fault, header_faults, trace_faults};
-pub use line_fields::{FaultKind, SourceFault, SegFault, Span, TextFault, Token};
+pub use line_fields::{FaultKind, SegFault, SourceFault, Span, TextFault, Token};
 pub use printing::{event_bytes, line_in_memory, print_law, print_trace, printable_law};
 pub use reading::read_trace;
 pub use stream::TraceReader;

@@ -85,7 +85,7 @@ witness_faults v text e = go (lines_of text) refl
                 let same : first ∷ rest ≡ raw ∷ raws = sym split ∙ lines in
                 let one : first ≡ raw = cc in
                 let clash : bad_line f ≡ Ok tt = sym is ∙ ap (expect_line 1 (first_text v)) (sym one)
-                    ∙ exact_again 1 (first_text v) first (first_ends v) line in
+                ∙ exact_again 1 (first_text v) first (first_ends v) line in
                 absurd cc
         by (Ok u) is = (λ same. Steps raw raws lines (exact_takes 1 (first_text v) raw u is) ((behind_err v raws e).0 same), λ g. back g)
           where

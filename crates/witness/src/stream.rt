@@ -14,7 +14,7 @@ use crate::first_line::first_text;
 use crate::reading::read_step;
 use case_forms::{Step, Version};
 use counted::Counted;
-use line_fields::{SourceFault, expect_line, require_line, next_line};
+use line_fields::{SourceFault, expect_line, next_line, require_line};
 use std::alloc::Global;
 use std::io::BufRead;
 

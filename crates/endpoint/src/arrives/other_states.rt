@@ -23,7 +23,8 @@ pub(crate) mod timers;
 pub(crate) mod window;
 
 use crate::arrives::other_states::ack::{
-    acknowledged, backoffs_after_segment, is_bad_ack_range, may_sample, recover_after_segment, snd_una_after_segment,
+    acknowledged, backoffs_after_segment, is_bad_ack_range, may_sample, recover_after_segment,
+    snd_una_after_segment,
 };
 use crate::arrives::other_states::congestion::{congestion_after_segment, greatest_window};
 use crate::arrives::other_states::fin::finished;
@@ -31,7 +32,9 @@ use crate::arrives::other_states::peer::is_from_peer;
 use crate::arrives::other_states::sequence::{is_acceptable, is_bad_number};
 use crate::arrives::other_states::text::receive;
 use crate::arrives::other_states::timers::{state_timers, timers_before};
-use crate::arrives::other_states::window::{is_unread, probe_due_after_segment, window_after_segment};
+use crate::arrives::other_states::window::{
+    is_unread, probe_due_after_segment, window_after_segment,
+};
 use case_forms::{Header, TakeChoice};
 use segment::OutOfMemory;
 use spec_tcp::{Arrived, Endpoint, EndpointId};

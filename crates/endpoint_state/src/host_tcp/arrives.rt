@@ -20,8 +20,8 @@ ghost use Rattle.endpoint_state.specs.Faults.{fault_rule};
 ghost use Rattle.endpoint_state.specs.Kept.{AreReadable};
 ghost use Rattle.endpoint_state.specs.Takers.{IsOpen, joins_by, taker_found};
 
-use crate::host_tcp::HostTcp;
 use crate::fault::StepFault;
+use crate::host_tcp::HostTcp;
 use case_forms::{Header, Host, TakeChoice};
 use endpoint::completes_handshake;
 use segment::OutOfMemory;

@@ -44,7 +44,11 @@ pub fn greatest_window(initial: Initial, endpoint: &Endpoint, m: &Arrived<'_>) -
 
 /// Congestion control then: the window in bytes is the step's choice, the rest goes by the old one (RFC 5681, 3.1 and
 /// 3.2).
-pub(crate) fn congestion_after_segment(endpoint: &Endpoint, how: TakeChoice, m: &Arrived<'_>) -> Congestion
+pub(crate) fn congestion_after_segment(
+    endpoint: &Endpoint,
+    how: TakeChoice,
+    m: &Arrived<'_>,
+) -> Congestion
     requires counted { endpoint.now.congestion.counted < 2 ^ 63 }
     requires dup { endpoint.now.congestion.dup + 1 < 2 ^ 32 }
     requires ack { m.now.ack < 2 ^ 63 }
