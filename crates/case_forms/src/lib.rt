@@ -10,9 +10,11 @@
 //! - `steps`: labels, what a segment is that is made, what is chosen at one that is taken, and a whole witness
 //! - `named_line`: the line that a step takes, by its number
 //! - `taken_line`: the same line, by what it tells
+//! - `limits`: the greatest moment, counter and position, and how many events and steps there may be
 #![tactic(auto)]
 
 mod calls;
+mod limits;
 mod named_line;
 mod steps;
 mod taken_line;
@@ -21,6 +23,9 @@ mod trace;
 mod version;
 
 pub use calls::{Answer, Call, Host, Ports, State};
+pub use limits::{
+    GREATEST_COUNTER, GREATEST_MOMENT, GREATEST_POSITION, MOST_EVENTS, MOST_STEPS, POSITIONS,
+};
 pub use named_line::{Extras, NamedLine};
 pub use segment::OutOfMemory;
 pub use steps::{Flags, Label, SegmentPlan, Step, Steps, TakeChoice, Takes, Witness};

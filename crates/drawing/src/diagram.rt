@@ -9,7 +9,7 @@ use crate::whole::{Refusal, Refused, Whole};
 use case_forms::{Answer, Call, Event, Host, Line, OutOfMemory, Timer, Wire};
 use line_fields::{TextFault, timer_name};
 use std::alloc::Global;
-use why::numbers::{Numbers, other};
+use why::numbers::Numbers;
 use why::text::{Piece, add};
 use why::words::{push_call, push_label, push_segment, push_told};
 
@@ -342,7 +342,7 @@ impl Drawing {
             return self.heard(class, host, to, wire);
         };
         let from = Point {
-            x: column(other(host)),
+            x: column(host.other()),
             y: self.row(copied),
         };
         arrow(&mut self.out, class, from, to)
@@ -366,7 +366,7 @@ impl Drawing {
             y: to.y.saturating_add(4),
         };
         begin_text(&mut self.out, side, label)?;
-        push_segment(&mut self.out, &self.numbers, other(host), &wire.seg)?;
+        push_segment(&mut self.out, &self.numbers, host.other(), &wire.seg)?;
         end_text(&mut self.out)
     }
 

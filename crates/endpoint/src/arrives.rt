@@ -4,20 +4,23 @@
 //! - `syn_sent`: in SYN-SENT, where the peer is met (3.10.7.3)
 //! - `other_states`: in any other state (3.10.7.4)
 
-ghost use Rattle.case_forms.specs.States.{is_closed};
+ghost use Rattle.case_forms.specs.States.{is_closed, is_syn_sent};
 ghost use Rattle.spec_tcp.specs.Arrives.{endpoint_taken};
+ghost use Rattle.spec_tcp.specs.Arrives.OtherStates.Congestion.{greatest_window};
+ghost use Rattle.spec_tcp.specs.Arrives.SynSent.{greatest_at_syn};
 ghost use Rattle.spec_tcp.specs.Bounds.{HasRoom, IsSmallEmission};
 ghost use Rattle.spec_tcp.specs.Forgetting.{forget_endpoint};
-ghost use Rattle.std.specs.Prelude.{◌≡◌, false, OnOk, OnErr};
+ghost use Rattle.std.specs.Prelude.{◌≡◌, false, if◌then◌else◌, OnOk, OnErr};
 
 pub(crate) mod listen;
 pub(crate) mod other_states;
 pub(crate) mod syn_sent;
 
+use crate::arrives::other_states::congestion::greatest_window;
 use crate::arrives::other_states::reset::was_reset;
 use crate::arrives::other_states::taken;
-use crate::arrives::syn_sent::on_syn;
-use case_forms::{Header, TakeChoice};
+use crate::arrives::syn_sent::{greatest_at_syn, on_syn};
+use case_forms::{Header, Initial, TakeChoice};
 use segment::OutOfMemory;
 use spec_tcp::{Arrived, Endpoint};
 
@@ -47,4 +50,17 @@ pub fn take_segment(
         return Ok(());
     }
     taken(header, endpoint, how, m, moment)
+}
+
+/// The greatest congestion window, in bytes, that an endpoint may have once it took the segment, in every state but
+/// LISTEN and CLOSED (RFC 5681, 3.1 and 3.2).
+pub fn greatest_cwnd(initial: Initial, endpoint: &Endpoint, m: &Arrived<'_>) -> u64
+    ensures { result ≡ (if is_syn_sent endpoint.now.state then greatest_at_syn initial endpoint.now m.now
+        else greatest_window initial endpoint.now m.now) }
+{
+    if endpoint.state.is_syn_sent() {
+        greatest_at_syn(initial, endpoint, m)
+    } else {
+        greatest_window(initial, endpoint, m)
+    }
 }

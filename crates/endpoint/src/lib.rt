@@ -26,9 +26,8 @@ mod wire;
 
 pub use arrives::listen::{admits_listening, child};
 pub use arrives::other_states::admits_connected;
-pub use arrives::other_states::congestion::greatest_window;
-pub use arrives::syn_sent::{admits_syn_sent, completes_handshake, greatest_at_syn};
-pub use arrives::take_segment;
+pub use arrives::syn_sent::{admits_syn_sent, completes_handshake};
+pub use arrives::{greatest_cwnd, take_segment};
 pub use calls::accept::{accept, listener_allows};
 pub use calls::close::{abort, close, orphan, shut};
 pub use calls::endpoint_allows;
@@ -38,4 +37,4 @@ pub use makes::{admits_making, make};
 pub use recovery::{admits_recovery, recover};
 pub use reset::reset_of;
 pub use timeouts::{admits_expiry, expire, greatest_values, has_more};
-pub use wire::{admits_copy, heard, matches_sent, sent};
+pub use wire::{admits_copy, heard, is_past_lifetime, matches_sent, sent};

@@ -167,7 +167,9 @@ pub fn admits_copy(header: &Header, moment: u64, wire: &Wire, m: &Emission) -> R
     Ok(())
 }
 
-fn is_past_lifetime(header: &Header, moment: u64, m: &Emission) -> bool
+/// Whether a moment, in microseconds, is more than the maximum segment lifetime after the segment was made
+/// (RFC 9293, 3.4.2).
+pub fn is_past_lifetime(header: &Header, moment: u64, m: &Emission) -> bool
     ensures { result ≡ nat_lt (m.now.moment + header.now.msl) moment }
 {
     m.moment as u128 + (header.msl as u128) < moment as u128

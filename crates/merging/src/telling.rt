@@ -14,7 +14,7 @@ use case_forms::{
     Event, Expired, Extras, Host, Line, Lines, NamedLine, OutOfMemory, Span, Step, Steps, TakenLine,
 };
 use spec_step::Label;
-use stack_core::{Entry, Item, other};
+use stack_core::{Entry, Item};
 use std::alloc::Global;
 
 // What a step tells: its label in a witness, and the line that it takes.
@@ -111,7 +111,7 @@ fn extras_of(counts: &Counts, host: Host, taken: &TakenLine) -> Extras
             Extras::Bare
         }
         TakenLine::Sent { made, .. } => Extras::One(counts.mades.number(host, u64::from(*made))),
-        TakenLine::Came { copied, .. } => Extras::One(counts.lines.number(other(host), *copied)),
+        TakenLine::Came { copied, .. } => Extras::One(counts.lines.number(host.other(), *copied)),
         TakenLine::Expired { expired, .. } => growth_of(*expired),
     }
 }

@@ -1,17 +1,14 @@
 //! A segment as the endpoint reads it that takes it.
 
-ghost use Rattle.std.specs.Prelude.{◌≡◌, ◌<◌, ◌≤◌, ◌^◌};
+ghost use Rattle.std.specs.Prelude.{◌≡◌, ◌<◌, ◌≤◌, ◌×◌, ◌^◌, IfSome, None};
 ghost use Rattle.spec_tcp.specs.Bounds.{IsSmallEmission, greatest_position};
 ghost use Rattle.spec_tcp.specs.Endpoints.{segment_length};
 ghost use Rattle.spec_tcp.specs.Heard.{as_read, position_near, readable};
 
 use crate::endpoint::{Emission, Endpoint, EndpointId};
-use case_forms::{Flags, Version};
+use case_forms::{Flags, GREATEST_POSITION, POSITIONS, Version};
 use seqno::{Word, read_near};
 use std::marker::Model;
-
-/// The greatest position that a text can name.
-const GREATEST_POSITION: u64 = 1_000_000_000_000_000_000;
 
 /// A segment with the positions that its numbers have at the endpoint that takes it. Contracts see it as a segment. It
 /// is not
@@ -60,6 +57,23 @@ impl<'a> Arrived<'a> {
             pos,
             ack,
             scaled: endpoint.is_scaling(),
+        }
+    }
+
+    /// The same, if the endpoint's positions are below 2^63, as those of a run are. None: they are not.
+    pub fn checked_read(
+        version: Version,
+        endpoint: &Endpoint,
+        m: &'a Emission,
+    ) -> Option<Arrived<'a>>
+        ensures some { IfSome result (λ r. (r ≡ as_read version endpoint.now m.now)
+            × (IsSmallEmission m.now → IsSmallEmission r)) }
+        ensures none { result ≡ None → 2 ^ 63 ≤ endpoint.now.stream.snd_una }
+    {
+        if endpoint.stream.snd_una < POSITIONS {
+            Some(Arrived::read(version, endpoint, m))
+        } else {
+            None
         }
     }
 

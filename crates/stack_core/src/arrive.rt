@@ -22,6 +22,7 @@ use crate::host_core::HostCore;
 use crate::send_states::{Before, Seen};
 use crate::tick::Tick;
 use case_forms::{OutOfMemory, Ports, Recovery, RtoChoice, TakeChoice, TakenLine};
+use endpoint::is_past_lifetime;
 use spec_step::Label;
 use spec_tcp::Emission;
 
@@ -113,7 +114,7 @@ impl HostCore {
     fn is_old(&self, flying: &Flying, moment: u64) -> bool
         ensures { result ≡ nat_lt (flying.now.emission.moment + self.now.recorded.header.msl) moment }
     {
-        flying.emission().moment as u128 + (self.recording.header().msl as u128) < moment as u128
+        is_past_lifetime(self.recording.header(), moment, flying.emission())
     }
 
     // It is brought, and comes in.

@@ -2,22 +2,17 @@
 //! permits.
 
 use case_forms::{Header, RtoChoice};
-use endpoint::{greatest_at_syn, greatest_values, greatest_window};
+use endpoint::{greatest_cwnd, greatest_values};
 use endpoint_state::Endpoint;
 use spec_tcp::{Arrived, Emission};
 use window_rules::on_fast;
 
 /// The greatest congestion window once an endpoint took a segment; 0 where the endpoint is further than positions go.
 pub(crate) fn cwnd_at_arrival(header: &Header, endpoint: &Endpoint, m: &Emission) -> u32 {
-    if 1 << 63 <= endpoint.stream.snd_una {
-        return 0;
+    match Arrived::checked_read(header.version, endpoint, m) {
+        Some(m) => narrowed(greatest_cwnd(header.initial, endpoint, &m)),
+        None => 0,
     }
-    let m = Arrived::read(header.version, endpoint, m);
-    narrowed(if endpoint.state.is_syn_sent() {
-        greatest_at_syn(header.initial, endpoint, &m)
-    } else {
-        greatest_window(header.initial, endpoint, &m)
-    })
 }
 
 /// The greatest congestion window and slow start threshold once fast recovery began (RFC 5681, 3.2).

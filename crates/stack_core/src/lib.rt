@@ -51,5 +51,5 @@ pub use flying::Flying;
 pub use host_core::{CoreConfig, HostCore};
 pub use item::Item;
 pub use laws::{core_worlds_are_books, what_flew_is_named};
-pub use recording::{Recording, other};
+pub use recording::Recording;
 pub use tick::{Key, Tick};

@@ -18,11 +18,11 @@ ghost use Rattle.stack_core.specs.Told.{MayOpen, TellsWell};
 
 use crate::deadline_queue::DeadlineQueue;
 use crate::plans::{
-    AdvertisedWindow, GREATEST_PAYLOAD, GREATEST_POSITION, GREATEST_SHIFT, SynOptions, byte_of,
-    candidate_segments, fin_of, offer_of, syn_of,
+    AdvertisedWindow, GREATEST_PAYLOAD, GREATEST_SHIFT, SynOptions, byte_of, candidate_segments,
+    fin_of, offer_of, syn_of,
 };
 use crate::send_states::SendStates;
-use case_forms::{Host, SegmentPlan, Version};
+use case_forms::{GREATEST_POSITION, Host, SegmentPlan, Version};
 use endpoint::admits_making;
 use endpoint_state::{Endpoint, HostTcp, World};
 

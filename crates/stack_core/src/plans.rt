@@ -5,16 +5,13 @@ ghost use Rattle.stack_core.specs.Makings.{bytes_of, fin_of, syn_of};
 ghost use Rattle.stack_core.specs.Told.{MayOpen};
 
 use crate::send_states::{Again, SendState};
-use case_forms::{Flags, SegmentPlan, Version};
+use case_forms::{Flags, GREATEST_POSITION, SegmentPlan, Version};
 use endpoint_state::Endpoint;
 use seqno::Word;
 use window_rules::{congestion_edge, offered_edge};
 
 // The greatest payload that a core lets out, in bytes: with a header and both options it fits into a segment.
 pub(crate) const GREATEST_PAYLOAD: u16 = 65_487;
-
-// The greatest position that a step names.
-pub(crate) const GREATEST_POSITION: u64 = 1_000_000_000_000_000_000;
 
 // The greatest shift of a window (RFC 7323, 2.3).
 pub(crate) const GREATEST_SHIFT: u8 = 14;

@@ -206,7 +206,7 @@ impl Recording {
     {
         books_grow();
         self.entries.reserve(1)?;
-        let from = other(self.me);
+        let from = self.me.other();
         bring(&mut self.world, from, flying.line, &flying.emission)?;
         self.entries.push_reserved(Entry {
             host: self.me,
@@ -214,15 +214,5 @@ impl Recording {
             item: Item::Brings(flying),
         });
         Ok(())
-    }
-}
-
-/// The other of the two hosts.
-pub fn other(host: Host) -> Host
-    ensures { result ≡ other host }
-{
-    match host {
-        Host::Zero => Host::One,
-        Host::One => Host::Zero,
     }
 }

@@ -9,11 +9,9 @@ ghost use Rattle.trace_reader.specs.EventLines.{line_of};
 
 use crate::calls::call;
 use crate::wires::wire;
-use case_forms::{Event, Host, Line, Version, Wire};
+use case_forms::{Event, GREATEST_MOMENT, Host, Line, Version, Wire};
 use line_fields::{FaultKind, Fields, Span, TextFault, answer, checked_fields, timer};
 use std::alloc::Global;
-
-const MAX_MOMENT: u64 = 1_000_000_000_000_000_000;
 
 // The letter of an event.
 #[derive(Clone, Copy)]
@@ -109,7 +107,7 @@ pub fn event_line(
     let mut fields = checked_fields(number, raw)?;
     let stop = fields.stop();
     let word = fields.next()?;
-    let moment = word.number(0, MAX_MOMENT)?;
+    let moment = word.number(0, GREATEST_MOMENT)?;
     if moment < before {
         return Err(word.fault(FaultKind::MomentFalls));
     }

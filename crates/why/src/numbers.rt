@@ -29,7 +29,7 @@ impl Numbers {
     pub fn read(&mut self, line: &Line) -> Result<(), OutOfMemory> {
         match &line.event {
             Event::Sent(host, wire) => self.see(*host, wire),
-            Event::Came(host, wire) if self.half => self.see(other(*host), wire),
+            Event::Came(host, wire) if self.half => self.see(host.other(), wire),
             _ => Ok(()),
         }
     }
@@ -50,7 +50,7 @@ impl Numbers {
 
     /// The position that a segment of a host acknowledges.
     pub fn acknowledged(&self, host: Host, seg: &Segment) -> u32 {
-        self.from(connection_key(other(host), seg.dst, seg.src), seg.ack.0)
+        self.from(connection_key(host.other(), seg.dst, seg.src), seg.ack.0)
     }
 
     fn from(&self, key: ConnectionKey, number: u32) -> u32 {
@@ -65,13 +65,5 @@ fn connection_key(host: Host, lport: u16, rport: u16) -> ConnectionKey {
     match host {
         Host::Zero => (0, lport, rport),
         Host::One => (1, lport, rport),
-    }
-}
-
-/// The other host.
-pub fn other(host: Host) -> Host {
-    match host {
-        Host::Zero => Host::One,
-        Host::One => Host::Zero,
     }
 }

@@ -5,7 +5,7 @@ use crate::text::{Piece, add, say};
 use crate::why_inbox::{describe_waiting, nothing_waits};
 use crate::why_numbers::{ack_range, number, unacceptable};
 use case_forms::{Host, OutOfMemory, TakeChoice};
-use endpoint::{greatest_at_syn, greatest_window};
+use endpoint::greatest_cwnd;
 use endpoint_state::Endpoint;
 use spec_tcp::{Arrived, Emission, EndpointId};
 use verdict::Rule;
@@ -192,12 +192,7 @@ fn growth(
     m: &Arrived<'_>,
     choice: TakeChoice,
 ) -> Result<(), OutOfMemory> {
-    let initial = scene.header.initial;
-    let greatest = if endpoint.state.is_syn_sent() {
-        greatest_at_syn(initial, endpoint, m)
-    } else {
-        greatest_window(initial, endpoint, m)
-    };
+    let greatest = greatest_cwnd(scene.header.initial, endpoint, m);
     say(
         out,
         &[

@@ -1,7 +1,6 @@
 //! The rules of the machine at a step that takes a line.
 
 use crate::described::describe;
-use crate::numbers::other;
 use crate::scene::Scene;
 use crate::text::{Piece, say};
 use crate::{why_calls, why_timers};
@@ -231,7 +230,7 @@ fn why_came(
     moment: u64,
     rule: Rule,
 ) -> Result<(), OutOfMemory> {
-    let other = other(host);
+    let other = host.other();
     let copied = u64::from(first_extra(extras));
     match scene.world.sent(other, copied) {
         None => no_emission(out, scene, other, copied),

@@ -12,13 +12,10 @@ use crate::first_line::begins_witness;
 use crate::labels::label;
 use crate::stream::StepReader;
 use bstr::ByteSlice;
-use case_forms::{Span, Step, Steps, Version, Witness};
+use case_forms::{GREATEST_MOMENT, Span, Step, Steps, Version, Witness};
 use counted::Counted;
 use line_fields::{TextFault, checked_fields};
 use std::alloc::Global;
-
-// The greatest moment, in microseconds.
-const MAX_MOMENT: u64 = 1_000_000_000_000_000_000;
 
 /// The step of the line of that number in this version, whose bytes are given with the line's end. Its span is the
 /// whole
@@ -35,7 +32,7 @@ pub fn read_step(
 {
     let mut fields = checked_fields(number, raw)?;
     let stop = fields.stop();
-    let moment = fields.number(0, MAX_MOMENT)?;
+    let moment = fields.number(0, GREATEST_MOMENT)?;
     let label = label(alloc, version, &mut fields)?;
     fields.end()?;
     let span = Span {

@@ -7,7 +7,7 @@ use crate::expiring::saturated;
 use crate::search::Search;
 use crate::sending::{place_of, plan_of};
 use case_forms::{Event, Extras, Host, Ports, TakeChoice, Timer, Wire};
-use endpoint::{greatest_at_syn, greatest_window, matches_sent, reset_of};
+use endpoint::{greatest_cwnd, matches_sent, reset_of};
 use endpoint_state::{Endpoint, StepFault, World};
 use segment::Flag;
 use seqno::number;
@@ -16,13 +16,6 @@ use verdict::Rule;
 
 // How many lines with the same bytes are tried for a copy, where those before are too old.
 const SENDINGS: usize = 16;
-
-fn other(host: Host) -> Host {
-    match host {
-        Host::Zero => Host::One,
-        Host::One => Host::Zero,
-    }
-}
 
 // The endpoint that a segment finds, where it is not CLOSED.
 fn endpoint_found<'w>(world: &'w World, host: Host, m: &Emission) -> Option<&'w Endpoint> {
@@ -36,11 +29,7 @@ fn endpoint_found<'w>(world: &'w World, host: Host, m: &Emission) -> Option<&'w 
 
 // A segment as the endpoint reads it. None: the endpoint is further than positions go.
 fn as_read<'m>(world: &World, endpoint: &Endpoint, m: &'m Emission) -> Option<Arrived<'m>> {
-    if endpoint.stream.snd_una < 1 << 63 {
-        Some(Arrived::read(world.header().version, endpoint, m))
-    } else {
-        None
-    }
+    Arrived::checked_read(world.header().version, endpoint, m)
 }
 
 // The greatest congestion window with which a segment may be taken; 0 at a listener.
@@ -52,11 +41,7 @@ fn greatest(world: &World, host: Host, m: &Emission) -> u32 {
     let Some(m) = as_read(world, endpoint, m) else {
         return 0;
     };
-    if endpoint.state.is_syn_sent() {
-        saturated(greatest_at_syn(initial, endpoint, &m))
-    } else {
-        saturated(greatest_window(initial, endpoint, &m))
-    }
+    saturated(greatest_cwnd(initial, endpoint, &m))
 }
 
 // What taking a segment changes that later lines of its taker may still show as it was.
@@ -134,7 +119,7 @@ impl<'t> Search<'t> {
         let copied = self.copied(host, wire)?;
         self.push_line_step(Extras::One(saturated(copied)))?;
         self.arrive_in_world(host, copied, wire)?;
-        self.copies.pass(other(host), wire.bytes.as_slice());
+        self.copies.pass(host.other(), wire.bytes.as_slice());
         self.resolve_arrival(host, line)
     }
 
@@ -142,19 +127,19 @@ impl<'t> Search<'t> {
     fn copied(&mut self, host: Host, wire: &'t Wire) -> Result<u64, StepFault> {
         let bytes = wire.bytes.as_slice();
         for _ in 0..SENDINGS {
-            let Some(line) = self.copies.first(other(host), bytes) else {
+            let Some(line) = self.copies.first(host.other(), bytes) else {
                 return Ok(0);
             };
             match self.world.admits_arrival(host, self.moment, line, wire) {
                 Err(Rule::Lifetime) => {
-                    if !self.copies.pass(other(host), bytes) {
+                    if !self.copies.pass(host.other(), bytes) {
                         return Ok(line);
                     }
                 }
                 _ => return Ok(line),
             }
         }
-        Ok(self.copies.first(other(host), bytes).unwrap_or(0))
+        Ok(self.copies.first(host.other(), bytes).unwrap_or(0))
     }
 
     // What came in is taken, answered or dropped.

@@ -84,7 +84,7 @@ pub(crate) fn told_smss(told: Option<u16>) -> u32
 /// The greatest congestion window in bytes that an endpoint in SYN-SENT may have once it took the segment, with the
 /// segment
 /// size that the SYN brings.
-pub fn greatest_at_syn(initial: Initial, endpoint: &Endpoint, m: &Arrived<'_>) -> u64
+pub(crate) fn greatest_at_syn(initial: Initial, endpoint: &Endpoint, m: &Arrived<'_>) -> u64
     ensures { result ≡ greatest_at_syn initial endpoint.now m.now }
 {
     if m.flags().syn && !m.flags().rst && m.flags().ack {

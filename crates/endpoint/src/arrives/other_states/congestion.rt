@@ -27,7 +27,7 @@ pub(crate) fn first_window(initial: Initial, smss: u32, syn_lost: bool) -> u64
 
 /// The greatest congestion window in bytes that an endpoint may have once it took the segment, in all states but
 /// SYN-SENT.
-pub fn greatest_window(initial: Initial, endpoint: &Endpoint, m: &Arrived<'_>) -> u64
+pub(crate) fn greatest_window(initial: Initial, endpoint: &Endpoint, m: &Arrived<'_>) -> u64
     ensures { result ≡ greatest_window initial endpoint.now m.now }
 {
     if acknowledges_syn(endpoint, m) {
