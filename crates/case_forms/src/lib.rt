@@ -1,7 +1,7 @@
 //! What a case says, as values: the header and the event lines of its trace, and the steps of its witness.
 //!
 //! The texts that spell these values are read and printed by `trace_reader` and `witness`; what the values mean is
-//! told by `interval_order` (the order of lines), `endpoint_state` and `spec_step` (the machine), and `checker`.
+//! defined by `interval_order` (the order of lines), `endpoint_state` and `spec_step` (the machine), and `checker`.
 //!
 //! - `calls`: hosts, socket calls, their answers, and the states of an endpoint (RFC 9293, 3.3.2)
 //! - `version`: the versions of the texts, and which RFC gives the first congestion window

@@ -31,8 +31,7 @@ impl Extras {
 }
 
 /// `n [x [y]]`: the line that a step takes, by its number. Any line may be named with none, one or two numbers more;
-/// which of
-/// them a line of its kind has is told by `TakenLine`.
+/// which of them a line of its kind has is given by `TakenLine`.
 #[derive(Clone, Copy, Debug, PartialEq, Eq)]
 pub struct NamedLine {
     /// Its number among all lines of the trace, the header's too.

@@ -54,8 +54,7 @@ pub struct TakeChoice {
 }
 
 /// What a step does. `Taken` says how a step names the line that it takes: by its number in a witness (`NamedLine`),
-/// and by
-/// what the line tells for the machine (`TakenLine`).
+/// and by what the line tells for the machine (`TakenLine`).
 #[derive(Debug, PartialEq, Eq, Drop)]
 pub enum Label<Taken> {
     /// `L n [x [y]]`: take a line of the trace.

@@ -29,8 +29,7 @@ pub struct RtoChoice {
 }
 
 /// Fast recovery of the endpoint of these ports, with the congestion window and the slow start threshold that are
-/// chosen, both
-/// in bytes (RFC 5681, 3.2).
+/// chosen, both in bytes (RFC 5681, 3.2).
 #[derive(Clone, Copy, Debug, PartialEq, Eq)]
 pub struct Recovery {
     pub lport: u16,

@@ -39,7 +39,7 @@ pub struct Header {
 }
 
 impl Header {
-    /// The number of the first event line, which stands behind the lines of the header.
+    /// The number of the first event line, which stands after the lines of the header.
     pub fn first_event_line(&self) -> u64
         ensures { result ≡ first_event_line self.now }
     {
@@ -48,8 +48,7 @@ impl Header {
 }
 
 /// A segment as it was seen: its bytes, at most 65515, and what `segment::decode` gives of them. No wire has another
-/// segment
-/// than the one that its bytes stand for: whoever makes one has to show it, and `is_segment` says it.
+/// segment than the one that its bytes stand for: whoever makes one has to show it, and `is_segment` says it.
 #[derive(Debug, PartialEq, Eq, Drop)]
 pub struct Wire {
     pub bytes: Bytes,

@@ -94,8 +94,7 @@ abbrev pub ended : Trace → List Step → ℕ → Bool
 ended t steps socket = list_any (λ d. is_ended socket d.call d.answer) (calls_done t steps)
 
 -- what was told on a socket number in these steps is a prefix of what was accepted on the peer's; where the end was
--- told it is
--- all of it, and the peer's sending was ended
+-- told it is all of it, and the peer's sending was ended
 pub record ReceivesFrom (t : Trace) (steps : List Step) (socket peer : ℕ) : Type 0 where
   pub prefix : IsPrefixOf (told t steps socket) (accepted t steps peer)
   pub whole : told_end t steps socket ≡ true → (told t steps socket ≡ accepted t steps peer)
@@ -128,8 +127,7 @@ pub record AreOpposite (all : List CallDone) (socket peer : ℕ) : Type 0 where
   pub there : HasPorts all (other host) rport lport peer
 
 -- the headline: a socket number either receives nothing in the whole witness, or there is one opposite to it from which
--- it receives
--- at each moment, after the first `place` steps
+-- it receives at each moment, after the first `place` steps
 abbrev pub ReceivesBeginSends : Trace → Witness → Type 0
 ReceivesBeginSends t w = (socket : ℕ) → ReceivesNothing t w.steps socket
     ⊎ ((peer : ℕ) × AreOpposite (calls_done t w.steps) socket peer

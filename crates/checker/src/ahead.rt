@@ -42,7 +42,7 @@ impl<A> Ahead<A> {
         }
     }
 
-    /// The source, of which what was asked for is read, one line more, and nothing behind it.
+    /// The source, of which what was requested is read, one line more, and nothing after it.
     pub(crate) fn into_source(self) -> Counted<A>
         ensures { result ≡ source_ahead self }
     {
@@ -68,7 +68,7 @@ impl<A> Ahead<A> {
 }
 
 impl<A: BufRead> Ahead<A> {
-    /// The header, which is read before any line, and the first line behind it.
+    /// The header, which is read before any line, and the first line after it.
     pub(crate) fn begin(&mut self) -> Result<Header, CaseFault>
         requires { IsUnread self.old }
         ensures ahead { IfOk result (λ header. IsAhead self.new) }
@@ -91,7 +91,7 @@ impl<A: BufRead> Ahead<A> {
         }
     }
 
-    /// The line that was read ahead; the one behind it is read.
+    /// The line that was read ahead; the one after it is read.
     #[inline(always)]
     pub(crate) fn next(&mut self) -> Result<Option<Line>, CaseFault>
         requires { IsAhead self.old }

@@ -55,7 +55,7 @@ pub(crate) struct StepCounts {
 pub(crate) enum ReplayOutcome {
     /// Each step is done.
     All(StepCounts),
-    /// Behind so many steps one that names this line breaks this rule.
+    /// After so many steps one that names this line breaks this rule.
     Refused(u64, u64, Rule),
 }
 
@@ -80,7 +80,7 @@ impl StepCounts {
     }
 }
 
-// The next step. A fault of the witness comes behind all faults of the trace.
+// The next step. A fault of the witness comes after all faults of the trace.
 fn next_step<A: BufRead, B: BufRead>(
     lines: &mut Ahead<A>,
     steps: &mut StepReader<B>,

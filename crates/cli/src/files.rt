@@ -15,10 +15,9 @@ use std::io::{BufRead, Write};
 use verdict::Verdict;
 
 /// Answers a case whose trace and witness stand in two texts: writes the line of the trace's fault, else of the
-/// witness's,
-/// else of the verdict, and answers its status, as `run` does for a case in one text. Both are read while the case is
-/// judged, and the readers are given back. The three counts of failures have to be below 2^50 before, as those of new
-/// ends are.
+/// witness's, else of the verdict, and answers its status, as `run` does for a case in one text. Both are read while
+/// the case is judged, and the readers are given back. The three counts of failures have to be below 2^50 before, as
+/// those of new ends are.
 pub fn run_files<A: BufRead, B: BufRead, W: Write>(
     alloc: Global,
     a: Counted<A>,
@@ -46,8 +45,7 @@ pub fn run_files<A: BufRead, B: BufRead, W: Write>(
 }
 
 /// Answers that a device failed, as where a file cannot be opened or read: one line, and the status 5. The count of
-/// failures has to
-/// be below 2^50 before.
+/// failures has to be below 2^50 before.
 pub fn answer_bad_device<W: Write>(w: &mut Counted<W>) -> u8
     requires { failures_of w.old < 2 ^ 50 }
     ensures status { result ≡ 5 }

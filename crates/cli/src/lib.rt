@@ -1,6 +1,6 @@
 //! What the program does with its words, its reader and its writer.
 //!
-//! `main` hands in the words behind the program's name and both ends, and `run` answers the status with which the
+//! `main` hands in the words after the program's name and both ends, and `run` answers the status with which the
 //! process ends. Each answer is one line of output.
 //!
 //! - `given`: the words of the command line, as text (`specs/GivenWords`)
@@ -16,7 +16,7 @@
 //!   (`specs/RecordWords`)
 //! - `many_laws`: what the cutting of an input into cases means (`specs/ManyLaw`)
 //!
-//! What a case is answered is told by `checker`, and what is counted as a failure by `counted`.
+//! Which answer a case has is defined by `checker`, and what counts as a failure by `counted`.
 #![tactic(auto)]
 
 mod argument;

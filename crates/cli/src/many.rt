@@ -30,15 +30,11 @@ use std::io::{BufRead, Write};
 use std::sync::Wait;
 use std::thread::Threads;
 
-/// Does what the words behind the program's name ask for: where they ask for many cases, those of the input are checked
-/// by
-/// so many threads, a line is written for each in their order, and the greatest of their statuses is answered, 0 for
-/// none.
-/// Where they ask for a recording, two hosts talk, and what was recorded is written as a case; the status is 0 where
-/// all rounds
-/// ended, and 1 where a limit was met. For all other words it is `run`. Both counts of failures have to be below 2^50
-/// before, as
-/// those of new ends are.
+/// Does what the words after the program's name ask for: where they ask for many cases, those of the input are checked
+/// by so many threads, a line is written for each in their order, and the greatest of their statuses is answered, 0 for
+/// none. Where they ask for a recording, two hosts talk, and what was recorded is written as a case; the status is 0
+/// where all rounds ended, and 1 where a limit was met. For all other words it is `run`. Both counts of failures have
+/// to be below 2^50 before, as those of new ends are.
 pub fn run_all<R: BufRead, W: Write, H: Threads + Wait + Sync>(
     rt: &H,
     alloc: Global,
@@ -67,8 +63,7 @@ pub fn run_all<R: BufRead, W: Write, H: Threads + Wait + Sync>(
         → ((n : ℕ) → ¬ AsksMany (map (λ word. word.now) words.now) n) → r.new ≡ r.old }
 
     // But for a recording, which may also find no thread, the status is 5 only where a count of failures grew. That is
-    // said where
-    // no write failed.
+    // said where no write failed.
     ensures device { ((plan : Plan) → ¬ AsksRecord (map (λ word. word.now) words.now) plan) → result ≡ 5 →
         (failures_of r.old < failures_of r.new) ⊎ (failures_of w.old < failures_of w.new) }
     ensures told { result ≡ 5 → failures_of w.new ≡ failures_of w.old → Appends (left_of W.contents w.old) (left_of W.contents w.new) (codes "bad device\n") }

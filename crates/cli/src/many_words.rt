@@ -22,7 +22,7 @@ fn make_workers<'a>(alloc: Global) -> Arg<'a>
         .value_parser(clap::value_parser!(u64).range(1..=64))
 }
 
-// What is read behind the word `many`.
+// What is read after the word `many`.
 fn make_many<'a>(alloc: Global) -> Result<Command<'a>, AllocError>
     ensures { IfOk result (λ command. app_of command ≡ many) }
 {
@@ -32,7 +32,7 @@ fn make_many<'a>(alloc: Global) -> Result<Command<'a>, AllocError>
     Ok(whole)
 }
 
-// The words behind `many`, as `clap` reads them.
+// The words after `many`, as `clap` reads them.
 fn parse<'a>(alloc: Global, words: &'a [&'a str]) -> Result<ArgMatches<'a>, Error>
     ensures ok { IfOk result (λ matches. rows_of (found_of matches)
         ≡ matches_of many (map (λ word. word.now) words.now)) }

@@ -29,7 +29,7 @@ use std::sync::Wait;
 use std::thread::Threads;
 use two_hosts::{Plan, RecordFault, Recording, record};
 
-/// Does what the words behind the program's name ask for, where they don't ask for many cases: a recording, or what
+/// Does what the words after the program's name ask for, where they don't ask for many cases: a recording, or what
 /// `run` does.
 pub(crate) fn record_or_run<R: BufRead, W: Write, H: Threads + Wait + Sync>(
     rt: &H,

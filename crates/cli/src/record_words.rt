@@ -26,7 +26,7 @@ pub(crate) enum Setting {
     Format,
 }
 
-/// The numbers that options told so far.
+/// The numbers that options gave so far.
 #[derive(Clone, Copy, Debug, PartialEq, Eq)]
 pub(crate) struct GivenSettings {
     rounds: Option<u16>,
@@ -71,7 +71,7 @@ fn parse<'a>(alloc: Global, setting: Setting, words: &'a [&'a str]) -> Result<Ar
     option.try_get_matches_from(words)
 }
 
-// The option of which a word is the name, behind two dashes.
+// The option of which a word is the name, after two dashes.
 fn named(word: &str) -> Option<Setting>
     ensures { result ≡ named word.now }
 {
@@ -118,7 +118,7 @@ fn first_option(words: &[&str]) -> Option<(Setting, usize)>
 }
 
 impl GivenSettings {
-    // The option tells this number; None where it told one before.
+    // The option gives this number; None if it gave one before.
     fn with(self, setting: Setting, number: u16) -> Option<GivenSettings>
         ensures fresh { number_of setting self ≡ None → result ≡ Some (telling setting number self) }
         ensures again { IfSome (number_of setting self) (λ _. result ≡ None) }
@@ -193,7 +193,7 @@ fn number_told<'a>(
     }
 }
 
-// What the options in these words ask for beside the numbers that were told before them.
+// What the options in these words ask for beside the numbers that were given before them.
 fn plan_told<'a>(
     alloc: Global,
     words: &'a [&'a str],

@@ -19,7 +19,7 @@ use counted::{Counted, ReadFault};
 use std::alloc::Global;
 use std::io::{BufRead, Write};
 
-/// Does what the words behind the program's name ask for, and answers the status: 0 where the case is explained or the
+/// Does what the words after the program's name ask for, and answers the status: 0 where the case is explained or the
 /// segment is printed, 1 where the case is not explained, 2 where its text or the segment is refused, 3 where the words
 /// are neither `check` alone nor `segment` with one word that begins with no dash, 4 where memory ran out, and 5 where
 /// a read or a write failed, or `Counted` refused it. One line is written, which says the same; only `check` reads. To

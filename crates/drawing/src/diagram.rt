@@ -30,8 +30,7 @@ const ROW: u64 = 20;
 const LINES: u64 = 400;
 
 /// Which lines of the trace are drawn, by their numbers, both ends with them. Where one end is None there are at most
-/// 400 lines,
-/// from the other end on; where both are, the first 400.
+/// 400 lines, from the other end on; where both are, the first 400.
 #[derive(Clone, Copy)]
 pub struct Range {
     pub from: Option<u64>,

@@ -1,7 +1,6 @@
 //! What one endpoint does at each event of RFC 9293, 3.10. In each file the rules of an event and its effect stand
-//! beside each
-//! other; the definitions that their contracts cite stand in the crate `spec_tcp`, in files of the same names in
-//! `specs/`.
+//! beside each other; the definitions that their contracts cite stand in the crate `spec_tcp`, in files of the same
+//! names in `specs/`.
 //!
 //! - `calls`: what socket calls may be answered, and what they do (3.10.1 to 3.10.6)
 //! - `makes`: a segment is made (3.8, 3.10)
@@ -10,9 +9,8 @@
 //! - `reset`: the reset that answers a segment (3.5.2); `wire`: segments as bytes on the wire (3.1)
 //! - `same`: comparisons that the rules speak of
 //!
-//! An error is the first rule that is broken, by the order of `Rule`. An effect asks nothing again: its caller asked
-//! the rules.
-//! How endpoints are found, and what is under numbers of lines and of made segments, is `endpoint_state`'s.
+//! An error is the first rule that is broken, by the order of `Rule`. An effect tests nothing again: its caller tested
+//! the rules. How endpoints are found, and what is under numbers of lines and of made segments, is `endpoint_state`'s.
 #![tactic(auto)]
 
 mod arrives;

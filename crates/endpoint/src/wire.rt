@@ -103,8 +103,7 @@ pub fn sent(moment: u64, wire: &Wire, m: &Emission) -> Result<Emission, OutOfMem
 }
 
 /// What is heard of a host that is not recorded, at a moment in microseconds: a segment as its bytes tell it. An error:
-/// memory
-/// ran out.
+/// memory ran out.
 pub fn heard(alloc: Global, moment: u64, wire: &Wire) -> Result<Emission, OutOfMemory>
     ensures heard { IfOk result (λ m. m ≡ heard moment wire.now) }
     ensures small { IfOk result IsSmallEmission }
@@ -153,8 +152,7 @@ fn told_flags(segment: &Segment) -> Flags
 }
 
 /// Whether what comes in at a moment, in microseconds, is a copy of a segment that went out, at most the maximum
-/// segment
-/// lifetime later (RFC 9293, 3.4.2). An error is the first rule that is broken.
+/// segment lifetime later (RFC 9293, 3.4.2). An error is the first rule that is broken.
 pub fn admits_copy(header: &Header, moment: u64, wire: &Wire, m: &Emission) -> Result<(), Rule>
     ensures { result_err result ≡ first_broken (in_rules header.now moment wire.now m.now) }
 {

@@ -215,8 +215,7 @@ impl Endpoints {
     }
 
     /// The endpoint at a place takes a segment as it reads it, and which it may take, at a moment in microseconds.
-    /// Where memory
-    /// runs out nothing is changed.
+    /// Where memory runs out nothing is changed.
     pub(crate) fn take(
         &mut self,
         header: &Header,

@@ -1,6 +1,5 @@
 //! What one host has, and what it does. Moments are in microseconds, windows and thresholds in bytes. Where memory runs
-//! out
-//! nothing is changed.
+//! out nothing is changed.
 
 ghost use Rattle.std.specs.Prelude.{◌≡◌, ◌≤◌, true, [], Some, nat_eq, IfOk, OnOk, OnErr};
 ghost use Rattle.std.specs.Map.{lookup};
@@ -60,8 +59,7 @@ impl Model for HostState {
 }
 
 /// A segment is made under this number, and waits to go out. An error is the first rule that is broken, or that memory
-/// ran
-/// out; nothing is changed then.
+/// ran out; nothing is changed then.
 pub(crate) fn make(
     alloc: Global,
     me: Host,
@@ -129,8 +127,7 @@ pub(crate) fn arrive(
 }
 
 /// A segment of elsewhere stands on the host's wire under this line, in place of one that stood there. Where memory
-/// runs out
-/// nothing is changed.
+/// runs out nothing is changed.
 pub(crate) fn bring(host: &mut HostState, line: u64, emission: &Emission) -> Result<(), OutOfMemory>
     ensures ok { OnOk result (host.new ≡ record host.old { wire = insert_entry nat_eq host.old.wire line emission.now }) }
     ensures err { OnErr result (host.new ≡ host.old) }
@@ -175,8 +172,7 @@ pub(crate) fn drop_waiting(host: &mut HostState, line: u64) -> Result<(), Rule>
 }
 
 /// The segment that waits under this line is answered by a reset, which gets this number. An error is the first rule
-/// that is
-/// broken, or that memory ran out; nothing is changed then.
+/// that is broken, or that memory ran out; nothing is changed then.
 pub(crate) fn reply_with_reset(
     alloc: Global,
     host: &mut HostState,

@@ -1,6 +1,6 @@
 //! What one host has, and how it is found.
 //!
-//! In its folder each event, asked and done:
+//! In its folder each event, its test and its effect:
 //!
 //! - `calls`: socket calls
 //! - `makes`: a segment is made

@@ -135,10 +135,8 @@ impl World {
     }
 
     /// A segment of elsewhere stands on a host's wire under this line, in place of one that stood there. It is no step,
-    /// and
-    /// nothing else is changed: a copy that came in stays as it was. The error is that memory ran out, and then nothing
-    /// is
-    /// changed.
+    /// and nothing else is changed: a copy that came in stays as it was. The error is that memory ran out, and then
+    /// nothing is changed.
     pub fn bring(&mut self, host: Host, line: u64, emission: &Emission) -> Result<(), OutOfMemory>
         requires small { IsSmallEmission emission.now }
         ensures ok { OnOk result (self.new ≡ brought self.old host line emission.now) }
@@ -166,8 +164,7 @@ impl World {
     }
 
     /// Whether the segment that a host made under this number may go out so: it looks so, and didn't go out before. An
-    /// error is
-    /// the first rule that is broken.
+    /// error is the first rule that is broken.
     pub fn admits_sending(&self, host: Host, number: u32, wire: &Wire) -> Result<(), Rule>
         ensures { result_err result ≡ first_broken
             (step_rules (tcp self.now.header) 0 self.now.world (At host (Sends 0 number wire.now))) }
@@ -178,8 +175,7 @@ impl World {
     }
 
     /// Whether a copy of the other host's line `copied` may come in so, at a moment in microseconds. An error is the
-    /// first
-    /// rule that is broken.
+    /// first rule that is broken.
     pub fn admits_arrival(
         &self,
         host: Host,
@@ -197,8 +193,7 @@ impl World {
     }
 
     /// Whether a segment of the other host may come in that is no copy of a line: that host is not recorded. An error
-    /// is the rule
-    /// that is broken.
+    /// is the rule that is broken.
     pub fn admits_hearing(&self, host: Host, wire: &Wire) -> Result<(), Rule>
         ensures { result_err result ≡ first_broken
             (step_rules (tcp self.now.header) 0 self.now.world (At host (Hears 0 wire.now))) }
@@ -221,8 +216,7 @@ impl World {
     }
 
     /// Whether a host may take the segment that came in with this line, at a moment in microseconds. An error is the
-    /// first rule
-    /// that is broken: nothing waits under this line (`Inbox`), or a later one.
+    /// first rule that is broken: nothing waits under this line (`Inbox`), or a later one.
     pub fn admits_taking(
         &self,
         host: Host,
@@ -248,8 +242,7 @@ impl World {
     }
 
     /// Whether a host may answer by a reset what came in with this line, at a moment in microseconds. An error is the
-    /// first rule
-    /// that is broken.
+    /// first rule that is broken.
     pub fn admits_reset(&self, host: Host, moment: u64, line: u64) -> Result<(), Rule>
         ensures { result_err result ≡ first_broken
             (step_rules (tcp self.now.header) moment self.now.world (At host (Answers line))) }
@@ -258,8 +251,7 @@ impl World {
     }
 
     /// Whether a timer of the host's endpoint of these ports may expire at a moment in microseconds. An error is the
-    /// first rule
-    /// that is broken.
+    /// first rule that is broken.
     pub fn admits_expiry(
         &self,
         host: Host,
@@ -312,8 +304,7 @@ impl World {
     }
 
     /// A host makes a segment, at a moment in microseconds; it gets the next number. An error is the first rule that is
-    /// broken,
-    /// or that memory ran out; the world is then as it was.
+    /// broken, or that memory ran out; the world is then as it was.
     pub fn make(&mut self, host: Host, plan: &SegmentPlan, moment: u64) -> Result<(), StepFault>
         requires steps { self.old.steps < most_steps }
         requires small { plan.now.pos ≤ greatest_position }
@@ -330,8 +321,7 @@ impl World {
     }
 
     /// The segment that a host made under this number goes out with this line, at a moment in microseconds. An error is
-    /// the first
-    /// rule that is broken, or that memory ran out; the world is then as it was.
+    /// the first rule that is broken, or that memory ran out; the world is then as it was.
     pub fn send(
         &mut self,
         host: Host,
@@ -359,8 +349,7 @@ impl World {
     }
 
     /// A copy of the other host's line `copied` comes in with this line, at a moment in microseconds, and waits in the
-    /// inbox. An
-    /// error is the first rule that is broken, or that memory ran out; the world is then as it was.
+    /// inbox. An error is the first rule that is broken, or that memory ran out; the world is then as it was.
     pub fn arrive(
         &mut self,
         host: Host,
@@ -386,8 +375,7 @@ impl World {
     }
 
     /// A segment of the host that is not recorded comes in with this line, at a moment in microseconds, and waits in
-    /// the inbox. An
-    /// error is the rule that is broken, or that memory ran out; the world is then as it was.
+    /// the inbox. An error is the rule that is broken, or that memory ran out; the world is then as it was.
     pub fn hear(&mut self, host: Host, line: u64, wire: &Wire, moment: u64) -> Result<(), StepFault>
         requires { self.old.steps < most_steps }
         ensures fault { fault_rule result ≡ first_broken
@@ -403,8 +391,7 @@ impl World {
     }
 
     /// A host takes what came in with this line, at a moment in microseconds. An error is the first rule that is
-    /// broken, or that
-    /// memory ran out; the world is then as it was.
+    /// broken, or that memory ran out; the world is then as it was.
     pub fn take(
         &mut self,
         host: Host,
@@ -432,8 +419,7 @@ impl World {
     }
 
     /// A host drops what came in with this line, at a moment in microseconds. An error is the first rule that is
-    /// broken; the world
-    /// is then as it was.
+    /// broken; the world is then as it was.
     pub fn drop_arrival(&mut self, host: Host, line: u64, moment: u64) -> Result<(), Rule>
         requires { self.old.steps < most_steps }
         ensures rule { result_err result ≡ first_broken
@@ -447,8 +433,8 @@ impl World {
     }
 
     /// A host answers by a reset what came in with this line, at a moment in microseconds; the reset gets the next
-    /// number, and
-    /// goes out later. An error is the first rule that is broken, or that memory ran out; the world is then as it was.
+    /// number, and goes out later. An error is the first rule that is broken, or that memory ran out; the world is then
+    /// as it was.
     pub fn reply_with_reset(&mut self, host: Host, line: u64, moment: u64) -> Result<(), StepFault>
         requires { self.old.steps < most_steps }
         ensures fault { fault_rule result ≡ first_broken
@@ -464,8 +450,7 @@ impl World {
     }
 
     /// A timer of the host's endpoint of these ports expires, at a moment in microseconds. An error is the first rule
-    /// that is
-    /// broken; the world is then as it was.
+    /// that is broken; the world is then as it was.
     pub fn expire(
         &mut self,
         host: Host,
@@ -485,8 +470,7 @@ impl World {
     }
 
     /// Fast recovery begins, at a moment in microseconds (RFC 5681, 3.2). An error is the first rule that is broken;
-    /// the world is
-    /// then as it was.
+    /// the world is then as it was.
     pub fn recover(&mut self, host: Host, recovery: Recovery, moment: u64) -> Result<(), Rule>
         requires { self.old.steps < most_steps }
         ensures rule { result_err result ≡ first_broken

@@ -54,7 +54,7 @@ impl FaultKind {
     }
 }
 
-// The name of a segment's fault, behind a word.
+// The name of a segment's fault, after a word.
 fn segment_fault_name(fault: SegFault) -> &'static str
     ensures { result.now ≡ kind_name (FaultKind.Segment fault) }
 {
@@ -143,8 +143,7 @@ impl From<TextFault> for SourceFault {
 }
 
 /// The fault of a text in memory. A read of it fails only where its `Counted` made 2^50 reads before, more than any
-/// text
-/// takes that memory holds. That is told as if memory had run out.
+/// text takes that memory holds. That is reported as if memory had run out.
 impl From<SourceFault> for TextFault {
     ghost use Rattle.line_fields.specs.Faults.{IsTextFault};
 

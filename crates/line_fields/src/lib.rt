@@ -1,11 +1,10 @@
 //! What the texts of a trace and of a witness have in common: lines, fields, answers, and what is wrong with them.
 //!
-//! A text is read line by line; here a line's bytes become a cursor over its fields, each with its columns. A
-//! reader of some value takes fields from the cursor, and answers the first fault with its place. Each reader is stated
-//! as a function on the list of the fields that are left (specs/Reading.antt), and what it reads is spelled as
+//! A text is read line by line; here a line's bytes become a cursor over its fields, each with its columns. A reader of
+//! some value takes fields from the cursor, and answers the first fault with its place. Each reader is stated as a
+//! function on the list of the fields that are left (specs/Reading.antt), and what it reads is spelled as
 //! specs/Spelling.antt and specs/Answers.antt say: each field is a text that stands as it is, or bytes in hex, whose
-//! digits
-//! may be of either case.
+//! digits may be of either case.
 //!
 //! - `fault`: why a text can't be read, and where
 //! - `digits`: numbers in decimal and bytes in hex, digit by digit

@@ -28,8 +28,7 @@ pub fn without_line_end(raw: &[u8]) -> (&[u8], bool)
 }
 
 /// The text of the line of that number, whose bytes are given with the line's end. LineTooLong, Cut and TooManyLines
-/// are
-/// asked in this order, each at the whole line.
+/// are tested in this order, each at the whole line.
 #[tactic(auto, unfolding(crate::specs::Lines::line_text))]
 pub fn checked_line(number: u64, raw: &[u8]) -> Result<&[u8], TextFault>
     ensures { Gives (λ text. text.now) result (line_text number raw.now) }

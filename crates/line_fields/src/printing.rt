@@ -67,7 +67,7 @@ pub fn push_end(out: &mut Vec<u8>) -> Result<(), OutOfMemory>
     Ok(())
 }
 
-/// Writes the fields of an answer, each behind a space.
+/// Writes the fields of an answer, each after a space.
 pub fn push_answer(out: &mut Vec<u8>, answer: &Answer) -> Result<(), OutOfMemory>
     ensures { OnOk result (out.new.items ≡ out.old.items ++ printed_behind (answer_pieces answer.now)) }
 {

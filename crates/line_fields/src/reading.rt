@@ -1,4 +1,4 @@
-//! The next line of a text that is read as its lines are asked for.
+//! The next line of a text that is read as its lines are requested.
 
 ghost use Rattle.std.specs.Prelude.{◌≡◌, ◌≢◌, Err, true, false, OnOk};
 ghost use Rattle.counted.specs.Counting.{left_of, failures_of, one_more};

@@ -207,7 +207,7 @@ fn push_told(line: Option<Line>, lines: &mut Lines) -> Result<(), OutOfMemory>
     Ok(())
 }
 
-// One entry more is told.
+// One more entry is written.
 fn tell_entry(
     counts: &Counts,
     entry: &Entry,

@@ -13,7 +13,7 @@ use std::sync::{Mutex, Wait};
 use std::thread;
 use std::thread::Threads;
 
-/// Is told of each case by the worker that checks it.
+/// Is called for each case by the worker that checks it.
 pub trait Gate {
     /// Called before the case with this number is checked. Cases are numbered from 0.
     fn before(&self, case: usize);
@@ -122,8 +122,7 @@ fn check_named<C: Cases + Send + Sync, G: Gate + Sync, H: Threads + Wait + Sync>
 }
 
 /// Checks all cases by this many threads, 1 to 64 of them. Where a thread can't be started this one does its work. A
-/// case
-/// for which memory runs out is answered so, and the others as ever; `Err` says that memory ran out for the list
+/// case for which memory runs out is answered so, and the others as ever; `Err` says that memory ran out for the list
 /// itself.
 pub fn check_many_slices<G: Gate + Sync, H: Threads + Wait + Sync>(
     rt: &H,

@@ -108,8 +108,7 @@ impl<L: Site> Recorder<L> {
     }
 
     /// Lets the host's segments go out and sends each as its fate is, in so many turns. A turn without a segment ends
-    /// by
-    /// yielding. The sender is dropped as the loop ends.
+    /// by yielding. The sender is dropped as the loop ends.
     pub fn pump_loop_by<R: Wait, F: WireFate + Drop>(
         &self,
         rt: &R,

@@ -60,8 +60,7 @@ abbrev pub NamesAt : (k : Kernel) → List (Stamped k.shape) → ℕ → ℕ →
 NamesAt k steps p number = (x : Stamped k.shape) × (slice_get steps p ≡ Some x) × (step_line k x.step ≡ Some number)
 
 -- steps are a placement of lines that are numbered from the first on: moments don't fall, each line is taken in time,
--- once, no
--- other line is, the lines in their order, and in each thread calls take turns
+-- once, no other line is, the lines in their order, and in each thread calls take turns
 pub record Placement (k : Kernel) (skew first : ℕ) (lines : List (Line k.shape)) (steps : List (Stamped k.shape)) : Type 0 where
   pub moments : MomentsRise k 0 steps
   pub taken : (i : ℕ) (line : Line k.shape) → slice_get lines i ≡ Some line → (p : ℕ)

@@ -1,6 +1,5 @@
 -- What the sums and the counts of code need. Counts that grow by one in a step are at most the steps done, positions
--- stay below a limit,
--- and nothing is kept that may be discarded.
+-- stay below a limit, and nothing is kept that may be discarded.
 use Rattle.std.specs.Prelude.{◌≡◌, ◌≤◌, ◌<◌, ℕ, ◌+◌, ◌*◌, ◌^◌, true, false, length}
 use Rattle.std.specs.List.{All}
 use Rattle.case_forms.specs.States.{is_closed, is_syn_sent}

@@ -11,8 +11,7 @@ use seqno::{Word, read_near};
 use std::marker::Model;
 
 /// A segment with the positions that its numbers have at the endpoint that takes it. Contracts see it as a segment. It
-/// is not
-/// copied: a rule takes no memory.
+/// is not copied: a rule takes no memory.
 #[derive(Drop)]
 pub struct Arrived<'a> {
     made: &'a Emission,
@@ -31,8 +30,7 @@ impl<'a> Model for Arrived<'a> {
 
 impl<'a> Arrived<'a> {
     /// The segment as the endpoint reads it: what a recorded host made has the positions at making; of what is heard of
-    /// a host
-    /// that is not recorded the numbers are read near those that the endpoint awaits.
+    /// a host that is not recorded the numbers are read near those that the endpoint awaits.
     pub fn read(version: Version, endpoint: &Endpoint, m: &'a Emission) -> Arrived<'a>
         requires { endpoint.now.stream.snd_una < 2 ^ 63 }
         ensures value { result ≡ as_read version endpoint.now m.now }

@@ -33,8 +33,7 @@ close_leads states.CloseWait states.LastAck = true
 close_leads state _ = false
 
 -- those at a SYN and at an acknowledgment. From SYN-RECEIVED to FIN-WAIT-1 the figure leads at CLOSE: here CLOSE ends
--- the
--- sending, and the state follows with the acknowledgment of the SYN (this profile's own)
+-- the sending, and the state follows with the acknowledgment of the SYN (this profile's own)
 abbrev pub segment_leads : State → State → Bool
 segment_leads states.SynSent states.SynReceived = true
 segment_leads states.SynSent states.Established = true

@@ -2,20 +2,16 @@
 //!
 //! Nothing here runs: each consequence is the contract of a call that does nothing, proved on the definitions alone.
 //!
-//! - `laws`: what reads are told, what the end says, what is acknowledged, of two recorded hosts; which segments
-//!   brought what
-//!   reads are told, of every case; how far new data reaches, how windows move, how states follow each other, that
+//! - `laws`: what reads return, what the end says, what is acknowledged, of two recorded hosts; which segments brought
+//!   what reads return, of every case; how far new data reaches, how windows move, how states follow each other, that
 //!   positions never fall, that rules stand in the order of their numbers, which copies are too old, how numbers are
 //!   read of which the position isn't known
 //! - `forgetting`: what may be discarded matters to no rule, and to nothing that is kept
 //!
 //! What is said of it stands in specs/: `Runs` has what the steps of a run say by themselves, `Consequences` what
-//! follows from
-//! streams between two recorded hosts, `Carried` what follows from one host's reads in every case, `Bounds` what
-//! follows from
-//! windows, `Transitions` how states and positions change, `Ascending` the rules' numbers, `HeardNumbers` how a number
-//! is read,
-//! and `ForgettingLaws` what may be discarded.
+//! follows from streams between two recorded hosts, `Carried` what follows from one host's reads in every case,
+//! `Bounds` what follows from windows, `Transitions` how states and positions change, `Ascending` the rules' numbers,
+//! `HeardNumbers` how a number is read, and `ForgettingLaws` what may be discarded.
 #![tactic(auto)]
 
 mod forgetting;

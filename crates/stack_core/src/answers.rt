@@ -19,8 +19,7 @@ use spec_tcp::SocketTarget;
 use std::alloc::Global;
 
 /// The answer of a call at the host that it means, which may give the next socket number. A send is answered by as many
-/// bytes
-/// as the ring has room for, at least one. None: the call waits. The error is that memory ran out.
+/// bytes as the ring has room for, at least one. None: the call waits. The error is that memory ran out.
 pub(crate) fn choose(
     alloc: Global,
     body: &HostTcp,

@@ -28,12 +28,9 @@ use spec_tcp::Emission;
 
 impl HostCore {
     /// A segment of the other host arrives: it is brought, and comes in, which is its line. It is taken with its bytes
-    /// where it
-    /// may be, and fast recovery begins where it may; else it is answered by a reset where it may be; else it is
-    /// dropped. False,
-    /// and nothing is changed: it is this host's own, or older than the maximum segment lifetime. The error is that
-    /// memory ran
-    /// out; then the tick has passed, and a beginning of this is added.
+    /// where it may be, and fast recovery begins where it may; else it is answered by a reset where it may be; else it
+    /// is dropped. False, and nothing is changed: it is this host's own, or older than the maximum segment lifetime.
+    /// The error is that memory ran out; then the tick has passed, and a beginning of this is added.
     pub fn arrive(&mut self, flying: Flying, tick: Tick) -> Result<bool, OutOfMemory>
         requires tick { IsAfter self.old.last tick }
         requires events { self.old.events < 10000000 }
@@ -70,7 +67,7 @@ impl HostCore {
         Ok(true)
     }
 
-    // What is told of an endpoint before a segment comes in for its ports.
+    // What is remembered of an endpoint before a segment comes in for its ports.
     fn before(&self, m: &Emission, ports: Ports) -> Before {
         let asks = !m.flags.rst && 0 < m.length();
         let body = self.recording.body();

@@ -35,12 +35,9 @@ enum Subject {
 
 impl HostCore {
     /// The open call of a thread of this host has its effect, and ends with that answer: its line. A socket number that
-    /// it gives
-    /// is the next one. None, and nothing is changed: the thread has no open call without effect, or the call waits
-    /// (for `send`:
-    /// before the handshake is done, or while the ring is full). The error is that memory ran out; then the tick has
-    /// passed, and
-    /// the effect may stand without the end.
+    /// it gives is the next one. None, and nothing is changed: the thread has no open call without effect, or the call
+    /// waits (for `send`: before the handshake is done, or while the ring is full). The error is that memory ran out;
+    /// then the tick has passed, and the effect may stand without the end.
     pub fn attempt(&mut self, thread: u32, tick: Tick) -> Result<Option<Answered>, OutOfMemory>
         requires tick { IsAfter self.old.last tick }
         requires events { self.old.events < 10000000 }

@@ -18,8 +18,7 @@ use spec_step::Label;
 
 impl HostCore {
     /// A thread of this host, which is in no call, begins one that means this host or a socket number of its own: the
-    /// line of
-    /// the call. The error is that memory ran out; then the tick has passed, and nothing is added.
+    /// line of the call. The error is that memory ran out; then the tick has passed, and nothing is added.
     pub fn begin(&mut self, thread: u32, call: &Call, tick: Tick) -> Result<(), OutOfMemory>
         requires tick { IsAfter self.old.last tick }
         requires events { self.old.events < 10000000 }

@@ -1,8 +1,7 @@
 //! Which endpoints of a host are to be looked at, and when. Moments are microseconds.
 //!
 //! An agenda has a place up to which all endpoints were looked at once, and entries of those among them that are to be
-//! looked at
-//! again. So an endpoint below that place with no entry stays as it was found: nothing is to be done there.
+//! looked at again. So an endpoint below that place with no entry stays as it was found: nothing is to be done there.
 
 ghost use Rattle.std.specs.Prelude.{◌≡◌, ◌+◌, ◌<◌, ◌≤◌, ◌^◌, true, false, [], drop, length, slice_get};
 ghost use Rattle.std.specs.Option.{IfSome};

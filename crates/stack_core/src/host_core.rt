@@ -35,8 +35,7 @@ pub struct CoreConfig {
     /// The initial send sequence number of its first endpoint. Each later one's is 65,536 more.
     pub first_iss: u32,
     /// By how many bits its endpoints shift the windows that they offer, where the header's version scales windows;
-    /// above 14 as
-    /// 14 (RFC 7323, 2.3). None: they tell no shift.
+    /// above 14 as 14 (RFC 7323, 2.3). None: they tell no shift.
     pub shift: Option<u8>,
 }
 
@@ -112,10 +111,8 @@ impl HostCore {
     }
 
     /// A text can tell what it recorded: each segment is made at a position that a text names, with a payload that fits
-    /// into one,
-    /// and with a shift only beside an initial number, where the version scales windows; and nothing stands behind the
-    /// last tick.
-    /// A call that does nothing, whose contract says it.
+    /// into one, and with a shift only beside an initial number, where the version scales windows; and nothing stands
+    /// after the last tick. A call that does nothing, whose contract says it.
     pub fn can_be_told(&self)
         ensures told { AllTold self.now.recorded.header.version self.now.recorded.entries }
         ensures below { EachEntry (tcp self.now.recorded.header)
@@ -202,8 +199,7 @@ impl HostCore {
     }
 
     // A step joins, at the moment of the last tick; these endpoints it may change, beside one that it creates. The
-    // error is that
-    // memory ran out, and then nothing is changed.
+    // error is that memory ran out, and then nothing is changed.
     pub(crate) fn add(&mut self, label: Label, affected: Affected) -> Result<(), OutOfMemory>
         requires room { steps_in self.old.recorded.entries < 4 * self.old.events }
         requires events { self.old.events ≤ 10000000 }

@@ -33,12 +33,9 @@ use spec_tcp_laws::forgetting_is_free;
 
 impl HostCore {
     /// A segment goes out, and flies: its line. First a reset that waits and answers a segment; else a segment is made:
-    /// a reset
-    /// that is due, what seems lost, new bytes, or an acknowledgment that is owed. None, and nothing is changed: no
-    /// reset waits,
-    /// and no segment without RST may be made that takes new positions. The error is that memory ran out; then the tick
-    /// has
-    /// passed, and the segment may be made and not gone out.
+    /// a reset that is due, what seems lost, new bytes, or an acknowledgment that is owed. None, and nothing is
+    /// changed: no reset waits, and no segment without RST may be made that takes new positions. The error is that
+    /// memory ran out; then the tick has passed, and the segment may be made and not gone out.
     pub fn pump(&mut self, tick: Tick) -> Result<Option<Flying>, OutOfMemory>
         requires tick { IsAfter self.old.last tick }
         requires events { self.old.events < 10000000 }

@@ -35,9 +35,8 @@ pub(crate) struct Due {
 
 impl HostCore {
     /// A timer that is due expires: its line. False, and nothing is changed: no line of a retransmission timer, a
-    /// persist timer
-    /// or a wait in TIME-WAIT is permitted. The error is that memory ran out; then the tick has passed, and nothing is
-    /// added.
+    /// persist timer or a wait in TIME-WAIT is permitted. The error is that memory ran out; then the tick has passed,
+    /// and nothing is added.
     pub fn timers(&mut self, tick: Tick) -> Result<bool, OutOfMemory>
         requires tick { IsAfter self.old.last tick }
         requires events { self.old.events < 10000000 }
@@ -105,8 +104,7 @@ impl HostCore {
 }
 
 // A timer that may expire at a moment, at an endpoint that is to be looked at by then. None: no retransmission timer,
-// persist
-// timer or wait in TIME-WAIT may.
+// persist timer or wait in TIME-WAIT may.
 fn find_due(wakes: &mut DeadlineQueue, recording: &Recording, moment: u64) -> Option<Due>
     requires steps { steps_in recording.now.entries < most_steps }
     requires timed { AreTimed recording.now.header wakes.old.looked wakes.old.entries.keys (kept_ends recording.now) }
@@ -250,8 +248,7 @@ fn least(one: Option<u64>, other: Option<u64>) -> Option<u64>
 }
 
 // A timer that may expire at a moment, at any endpoint: this goes over all of them, where memory is refused for a list
-// of those
-// that are to be looked at. None: no retransmission timer, persist timer or wait in TIME-WAIT may.
+// of those that are to be looked at. None: no retransmission timer, persist timer or wait in TIME-WAIT may.
 fn find_any_due(recording: &Recording, moment: u64) -> Option<Due>
     requires steps { steps_in recording.now.entries < most_steps }
     ensures some { IfSome result (λ due. IsDueAt recording.now moment due.ports due.expired) }

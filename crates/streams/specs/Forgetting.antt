@@ -1,6 +1,5 @@
 -- What may be discarded: bytes that were delivered, and bytes and transmissions below the oldest position that is not
--- acknowledged (RFC 9293,
--- 3.3.1: SND.UNA). Something fixed stands in their places.
+-- acknowledged (RFC 9293, 3.3.1: SND.UNA). Something fixed stands in their places.
 use Rattle.std.specs.Prelude.{◌≡◌, ℕ, zero, suc, ◌-◌, ◌≤◌, Bool, List, [], ◌∷◌, ◌++◌, length, Option, None, Some}
 use Rattle.streams.specs.declared.cell.Cell.{Cell}
 use Rattle.streams.specs.declared.cell.Cell.TheVariants.{Syn, Byte, Fin}

@@ -41,7 +41,7 @@ impl SendBuffer {
         }
     }
 
-    /// The position behind the last byte that was accepted.
+    /// The position after the last byte that was accepted.
     pub fn end(&self) -> u64
         ensures { result ≡ end_of self.now }
     {

@@ -11,9 +11,8 @@ use std::alloc::{AllocError, Global};
 use std::collections::VecDeque;
 use std::marker::Model;
 
-/// Items numbered one after the other, of which some were taken out. Behind the first item that is left one that was
-/// taken
-/// out keeps its slot, so an item is found at once by its number.
+/// Items numbered one after the other, of which some were taken out. After the first item that is left one that was
+/// taken out keeps its slot, so an item is found at once by its number.
 #[derive(Drop)]
 pub struct Queue<V> {
     /// The number of the first slot.

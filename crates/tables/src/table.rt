@@ -94,8 +94,7 @@ impl<V: Drop> Table<V> {
     }
 
     /// The value of a number becomes this one: an entry that is there keeps its place, and a new one goes last. Where
-    /// memory
-    /// runs out nothing is changed; it doesn't where there is an entry of the number, or room for it.
+    /// memory runs out nothing is changed; it doesn't where there is an entry of the number, or room for it.
     #[inline(always)]
     pub fn insert(&mut self, number: u64, value: V) -> Result<(), AllocError>
         ensures ok { OnOk result (self.new.entries ≡ insert_entry nat_eq self.old.entries number value) }

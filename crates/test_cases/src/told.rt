@@ -5,9 +5,8 @@ use std::alloc::{AllocError, Global};
 use std::{fs, io};
 use why::explain;
 
-/// Asks for each text of a table: a line `== WORD NAME` with the word of `tcpwit_lab` and the name of a case, and
-/// behind it the
-/// text that is wanted. Answers how many texts there are.
+/// Asks for each text of a table: a line `== WORD NAME` with the word of `tcpwit_lab` and the name of a case, and after
+/// it the text that is wanted. Answers how many texts there are.
 pub fn ask_told(
     rt: &HostRuntime,
     alloc: Global,

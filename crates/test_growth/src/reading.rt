@@ -133,7 +133,7 @@ pub fn call_trace_reader(
     report.say("again", format!(in alloc; "{again:?}")?.as_str())
 }
 
-// How many lines a trace has behind its header.
+// How many lines a trace has after its header.
 fn count_lines(reader: &mut TraceReader<&[u8]>) -> Result<u32, SourceFault>
     requires { IsFresh reader.old }
     ensures { IsBegun reader.new }

@@ -1,7 +1,6 @@
 //! Finds a witness for each recording of the Linux kernel in `data/`, and holds the verdict on it to its line of
 //! `data/expected.txt`. Where all is as wanted one line is printed; else each trace that differs has a line on standard
-//! error,
-//! and the program ends with status 1.
+//! error, and the program ends with status 1.
 #![tactic(auto)]
 
 use checker::check_case;

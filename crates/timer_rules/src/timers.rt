@@ -16,8 +16,7 @@ pub const LONGEST_RTO: u64 = 60_000_000;
 /// The timers of an endpoint. All times and moments are microseconds.
 ///
 /// These are the retransmission timer, the persist timer and the wait in TIME-WAIT. `Timer::Giveup` is no timer that is
-/// armed,
-/// so the calls that name a timer take each but that one.
+/// armed, so the calls that name a timer take each but that one.
 #[derive(Clone, Copy, Debug, PartialEq, Eq)]
 pub struct Timers {
     /// The smoothed round trip time; None before the first sample.
@@ -103,11 +102,9 @@ impl Timers {
     }
 
     /// Lets a timer, any but `Giveup`, expire at a moment in microseconds. An expiry of the retransmission timer
-    /// doubles the
-    /// timeout and arms the timer anew (RFC 6298, 5.5 and 5.6), one of the persist timer arms it anew, and the wait in
-    /// TIME-WAIT
-    /// is then over.
-    /// `Off` where the timer is not armed, else `Early` where the moment is before the earliest.
+    /// doubles the timeout and arms the timer anew (RFC 6298, 5.5 and 5.6), one of the persist timer arms it anew, and
+    /// the wait in TIME-WAIT is then over. `Off` where the timer is not armed, else `Early` where the moment is before
+    /// the earliest.
     pub fn expire(&mut self, timer: Timer, moment: u64, header: &Header) -> Result<(), TimerFault>
         requires { timer ≢ Giveup }
         ensures exact { result_err result ≡ refusal self.old timer moment header.now }

@@ -65,7 +65,7 @@ pub fn version_named(text: &[u8]) -> Version
     }
 }
 
-// The fields of a line behind its name, of which there is one at least, and the fault of another count of fields. It is
+// The fields of a line after its name, of which there is one at least, and the fault of another count of fields. It is
 // Header at the whole line, as another name is.
 #[tactic(auto, unfolding(crate::specs::Headers::named_rest))]
 fn named_rest<'a>(
@@ -172,7 +172,7 @@ fn next_initial<A: BufRead>(
     Ok(initial)
 }
 
-// The RFC of the first congestion window, and behind it the line `half 0`, which says that host 0 alone is recorded.
+// The RFC of the first congestion window, and after it the line `half 0`, which says that host 0 alone is recorded.
 fn half_initial<A: BufRead>(
     source: &mut Counted<A>,
     line: &mut Vec<u8>,

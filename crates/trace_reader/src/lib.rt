@@ -8,7 +8,7 @@
 //!
 //! - `Trace`, `Header`, `Line`, `Event`, `Call`, `Answer`, `Wire`: what a trace says
 //! - `read_trace`: a whole text; `TextFault`, `FaultKind`, `Span`: the first fault, and where it stands
-//! - `TraceReader`: a text whose lines are read as they are asked for; `SourceFault`: a fault, or a read that failed
+//! - `TraceReader`: a text whose lines are read as they are requested; `SourceFault`: a fault, or a read that failed
 //! - `print_trace`: the text of a trace
 //!
 //! A text is six lines of a header, seven in version 2 and eight in version 3, and after them event lines.
@@ -19,7 +19,7 @@
 //! Private modules:
 //!
 //! - `reading`: the reader of a whole text, by the reader of `stream`
-//! - `stream`: the reader of a text whose lines are read as they are asked for
+//! - `stream`: the reader of a text whose lines are read as they are requested
 //! - `header`: the header's lines
 //! - `events`: events, and event lines, each read alone
 //! - `calls`: the calls that a thread may begin

@@ -1,4 +1,4 @@
-//! The reader of a trace whose lines are read as they are asked for.
+//! The reader of a trace whose lines are read as they are requested.
 
 ghost use Rattle.std.specs.Prelude.{◌≡◌, ◌≢◌, IfOk, IfSome, Some, None, Err};
 ghost use Rattle.counted.specs.Counting.{one_more};
@@ -18,7 +18,7 @@ use line_fields::{SourceFault, next_line};
 use std::alloc::Global;
 use std::io::BufRead;
 
-/// A trace whose lines are read as they are asked for, first its header. Of the text one line is kept in memory. After
+/// A trace whose lines are read as they are requested, first its header. Of the text one line is kept in memory. After
 /// a fault each later call answers that fault.
 #[derive(Drop)]
 pub struct TraceReader<A> {
@@ -53,7 +53,7 @@ impl<A> TraceReader<A> {
         }
     }
 
-    /// The source, of which what was asked for is read, and no more.
+    /// The source, of which what was requested is read, and no more.
     pub fn into_source(self) -> Counted<A>
         ensures { result ≡ source_of self }
     {

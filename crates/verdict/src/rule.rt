@@ -1,4 +1,4 @@
-//! The rules that a step may break, by name, in the order in which they are asked.
+//! The rules that a step may break, by name, in the order in which they are tested.
 
 ghost use Rattle.std.specs.Prelude.{◌≡◌, ◌≤◌, Some, length};
 ghost use Rattle.verdict.specs.Rules.{rule_name};

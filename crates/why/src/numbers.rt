@@ -24,8 +24,7 @@ impl Numbers {
     }
 
     /// A line is seen: a SYN that goes out tells its host's initial sequence number; in a half case one that comes in
-    /// tells
-    /// the other host's.
+    /// tells the other host's.
     pub fn read(&mut self, line: &Line) -> Result<(), OutOfMemory> {
         match &line.event {
             Event::Sent(host, wire) => self.see(*host, wire),

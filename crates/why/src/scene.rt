@@ -91,7 +91,7 @@ impl<'t> Scene<'t> {
         self.lines.get(usize::try_from(place).ok()?)
     }
 
-    /// The step that is refused. None: the fault shows behind the last one.
+    /// The step that is refused. None: the fault shows after the last one.
     pub(crate) fn step(&self) -> Option<&'t Step> {
         self.steps.get(self.place)
     }

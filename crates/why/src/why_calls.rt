@@ -13,7 +13,7 @@ use spec_tcp::SocketTarget;
 use std::alloc::Global;
 use verdict::Rule;
 
-// Data of more bytes than these is told by its length.
+// Data of more bytes than these is shown by its length.
 const SHOWN: usize = 60;
 
 /// What is known of a thread's call whose effect is refused.

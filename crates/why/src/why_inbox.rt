@@ -8,7 +8,7 @@ use crate::words::push_flags;
 use case_forms::{Event, Host, Label, OutOfMemory};
 use spec_tcp::Emission;
 
-/// A segment that waits. In a half case it has no positions where nobody reads it: then its numbers are told.
+/// A segment that waits. In a half case it has no positions where nobody reads it: then its numbers are printed.
 pub(crate) fn describe_waiting(
     out: &mut Vec<u8>,
     scene: &Scene<'_>,

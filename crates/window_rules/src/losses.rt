@@ -10,8 +10,7 @@ use crate::windows::capped;
 
 /// The greatest cwnd and ssthresh in bytes after an expiry of the retransmission timer: one segment, and half of the
 /// flight or two segments. `syn_pending` means that the SYN is not acknowledged, `again` that the timer expired before
-/// and nothing new was
-/// acknowledged since: both keep the old ssthresh.
+/// and nothing new was acknowledged since: both keep the old ssthresh.
 pub fn on_timeout(
     congestion: &Congestion,
     flight: u64,

@@ -18,8 +18,7 @@ use line_fields::{TextFault, checked_fields};
 use std::alloc::Global;
 
 /// The step of the line of that number in this version, whose bytes are given with the line's end. Its span is the
-/// whole
-/// line.
+/// whole line.
 #[tactic(auto, unfolding(crate::specs::Steps::step_of))]
 #[inline(always)]
 pub fn read_step(
@@ -71,8 +70,7 @@ fn version_named(text: &[u8]) -> Version
 }
 
 /// The witness that a text stands for, whichever version it is of, or the text's first fault. A first line that names
-/// no
-/// version is Header. No fault says that moments fall.
+/// no version is Header. No fault says that moments fall.
 pub fn read_witness(alloc: Global, text: &[u8]) -> Result<Witness, TextFault>
     // What is read is spelled so.
     ensures found { IfOk result (λ w. IsWitnessText w text.now) }
@@ -87,8 +85,7 @@ pub fn read_witness(alloc: Global, text: &[u8]) -> Result<Witness, TextFault>
 }
 
 /// The witness that a text stands for to a trace of this version, or the text's first fault. A witness of another
-/// version
-/// has the fault of its first line, Header.
+/// version has the fault of its first line, Header.
 pub fn read_witness_for(alloc: Global, version: Version, text: &[u8]) -> Result<Witness, TextFault>
     // What is read is spelled so, and of this version.
     ensures found { IfOk result (λ w. (w.version ≡ version) × IsWitnessText w text.now) }

@@ -1,4 +1,4 @@
-//! The reader of a witness whose steps are read as they are asked for.
+//! The reader of a witness whose steps are read as they are requested.
 
 ghost use Rattle.std.specs.Prelude.{◌≡◌, ◌≢◌, IfOk, OnOk, IfSome, Some, None, Err};
 ghost use Rattle.counted.specs.Counting.{left_of, failures_of, one_more};
@@ -21,9 +21,8 @@ use std::io::BufRead;
 // The number of the line of the first step.
 const FIRST_STEP: u64 = 2;
 
-/// A witness of some version, whose steps are read as they are asked for. Of the text one line is kept in memory. After
-/// a
-/// fault each later call answers that fault.
+/// A witness of some version, whose steps are read as they are requested. Of the text one line is kept in memory. After
+/// a fault each later call answers that fault.
 #[derive(Drop)]
 pub struct StepReader<B> {
     alloc: Global,
@@ -54,8 +53,7 @@ fn first_line<B: BufRead>(
 
 impl<B> StepReader<B> {
     /// A reader of a whole text for a trace of this version, of which nothing is read yet. A witness of another version
-    /// has
-    /// the fault of its first line, Header.
+    /// has the fault of its first line, Header.
     pub fn new(alloc: Global, version: Version, source: Counted<B>) -> StepReader<B>
         ensures source { source_of result ≡ source }
         ensures version { version_of result ≡ version }
@@ -72,7 +70,7 @@ impl<B> StepReader<B> {
         }
     }
 
-    /// The source, of which what was asked for is read, and no more.
+    /// The source, of which what was requested is read, and no more.
     pub fn into_source(self) -> Counted<B>
         ensures { result ≡ source_of self }
     {

@@ -84,8 +84,7 @@ fn is_before(endpoint: &Endpoint, changes: &Changes, m: &Arrived<'_>, wire: &Wir
 }
 
 // Whether a segment was made before its sender took another one, and whether that shows in what it acknowledges. None:
-// it was made
-// behind it, or that can't be told.
+// it was made after it, or that can't be told.
 fn needs_earlier(world: &World, host: Host, m: &Emission, wire: &Wire) -> Option<bool> {
     let endpoint = endpoint_found(world, host, m)?;
     let read = as_read(world, endpoint, m)?;

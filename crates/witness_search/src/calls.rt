@@ -55,7 +55,7 @@ impl Waiting {
         }
     }
 
-    // A call waits behind all others.
+    // A call waits after all others.
     fn put(&mut self, meant: Meant, pending: Pending) -> Result<(), OutOfMemory> {
         if let Some(queue) = self.queues.get_mut(&meant) {
             queue.push_back(pending)?;

@@ -1,8 +1,7 @@
 //! A segment arrives in any other state (RFC 9293, 3.10.7.4).
 //!
 //! In the order of the RFC: `sequence` (first), `reset` (second), `ack` (fifth), `text` (seventh), `fin` (eighth).
-//! Beside them
-//! `peer`: whose segment it is; `congestion`, `timers`, `window`: what these are then.
+//! Beside them `peer`: whose segment it is; `congestion`, `timers`, `window`: what these are then.
 
 ghost use Rattle.spec_tcp.specs.Arrives.OtherStates.{taken, rules_with_queue};
 ghost use Rattle.spec_tcp.specs.Bounds.{HasRoom, IsSmallEmission};

@@ -71,7 +71,7 @@ fn has_syn_number(endpoint: &Endpoint, m: &Arrived<'_>) -> bool
     }
 }
 
-/// The segment size that a SYN tells of, 536 where it tells of none or of 0 (RFC 9293, 3.7.1).
+/// The segment size that a SYN carries, 536 where it tells of none or of 0 (RFC 9293, 3.7.1).
 pub(crate) fn told_smss(told: Option<u16>) -> u32
     ensures { result ≡ told_smss told }
 {
@@ -82,8 +82,7 @@ pub(crate) fn told_smss(told: Option<u16>) -> u32
 }
 
 /// The greatest congestion window in bytes that an endpoint in SYN-SENT may have once it took the segment, with the
-/// segment
-/// size that the SYN brings.
+/// segment size that the SYN brings.
 pub(crate) fn greatest_at_syn(initial: Initial, endpoint: &Endpoint, m: &Arrived<'_>) -> u64
     ensures { result ≡ greatest_at_syn initial endpoint.now m.now }
 {

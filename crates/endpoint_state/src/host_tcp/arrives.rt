@@ -31,8 +31,7 @@ use std::alloc::Global;
 use verdict::Rule;
 
 /// Whom a segment finds (RFC 9293, 3.10.7): the endpoint of its ports that is not CLOSED, or else the open listener on
-/// its
-/// destination port.
+/// its destination port.
 #[derive(Clone, Copy, Debug, PartialEq, Eq)]
 pub(crate) enum Found {
     /// The listener at this place.
@@ -172,8 +171,7 @@ impl HostTcp {
     }
 
     /// This host takes a segment that came in, at a moment in microseconds (RFC 9293, 3.10.7). An error is the first
-    /// rule that
-    /// is broken, or that memory ran out; nothing is changed then.
+    /// rule that is broken, or that memory ran out; nothing is changed then.
     #[tactic(auto, using(crate::proofs::BodyLemmas::body_same, crate::proofs::Readable::room_reads))]
     pub(crate) fn take(
         &mut self,

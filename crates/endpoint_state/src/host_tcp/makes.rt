@@ -21,8 +21,7 @@ use verdict::Rule;
 
 impl HostTcp {
     /// The place of the endpoint that may make this segment (RFC 9293, 3.8 and 3.10). An error is the first rule that
-    /// is
-    /// broken.
+    /// is broken.
     pub(crate) fn admitted_making(&self, plan: &SegmentPlan) -> Result<u32, Rule>
         requires kept { All HasRoom self.now.endpoints }
         requires small { plan.now.pos ≤ greatest_position }

@@ -16,8 +16,7 @@ use verdict::Rule;
 
 impl HostTcp {
     /// The place of the endpoint of these ports whose timer may expire at this moment, in microseconds. An error is the
-    /// first
-    /// rule that is broken.
+    /// first rule that is broken.
     pub(crate) fn admitted_expiry(
         &self,
         header: &Header,
@@ -34,8 +33,7 @@ impl HostTcp {
     }
 
     /// The timer of the endpoint of these ports expires, at a moment in microseconds. An error is the first rule that
-    /// is
-    /// broken; nothing is changed then.
+    /// is broken; nothing is changed then.
     #[tactic(auto, using(crate::proofs::BodyLemmas::body_same))]
     pub(crate) fn expire(
         &mut self,

@@ -1,4 +1,4 @@
-//! Traces and witnesses whose lines are read as they are asked for: in pieces, and up to the call that fails.
+//! Traces and witnesses whose lines are read as they are requested: in pieces, and up to the call that fails.
 
 ghost use Rattle.trace_reader.specs.TraceLeft.{IsBegun, IsFresh};
 
@@ -131,8 +131,8 @@ fn trace_read(alloc: Global, lines: &str, fails_at: u32) -> Result<String, Alloc
     Ok(told)
 }
 
-// Six calls read the header, one a line, and one the end: nothing is read ahead, and behind a failure or a fault
-// nothing at all.
+// Six calls read the header, one a line, and one the end: nothing is read ahead, and after a failure or a fault nothing
+// at all.
 #[test]
 fn a_trace_is_read_up_to_a_failure(rt: HostRuntime) -> Result<(), Fail> {
     for (lines, fails_at, wanted) in [
@@ -161,7 +161,7 @@ fn witness_read(alloc: Global, text: &[u8], fails_at: u32) -> Result<String, All
     Ok(told)
 }
 
-// One call reads the first line, one a step, and one the end; behind a failure or a fault nothing is read.
+// One call reads the first line, one a step, and one the end; after a failure or a fault nothing is read.
 #[test]
 fn a_witness_is_read_up_to_a_failure(rt: HostRuntime) -> Result<(), Fail> {
     let table: [(&[u8], u32, &str); 5] = [

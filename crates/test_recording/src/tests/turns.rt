@@ -340,7 +340,7 @@ fn stranger<R: Wait>(rt: &R, alloc: Global) -> Option<u64> {
     }
 }
 
-// Host 0's lines are the call, its answer, the SYN that goes out, and behind it what comes in.
+// Host 0's lines are the call, its answer, the SYN that goes out, and after it what comes in.
 #[test]
 fn books_of_two_runs_are_strangers(rt: HostRuntime) -> Result<(), Fail> {
     assert_eq!(rt; stranger(&rt, rt.alloc()), Some(10));

@@ -54,8 +54,7 @@ fn is_near(near: u64, pos: u64) -> bool
 
 /// Whether the segment is acceptable: its first or its last position lies in the receive window; at a window of 0 it
 /// begins at the next position. In SYN-RECEIVED the peer's SYN is let in again with its acknowledgment (RFC 9293, 3.5);
-/// no
-/// other segment with a SYN is, but for a reset.
+/// no other segment with a SYN is, but for a reset.
 pub(crate) fn is_acceptable(endpoint: &Endpoint, m: &Arrived<'_>) -> bool
     ensures { result ≡ is_acceptable endpoint.now m.now }
 {

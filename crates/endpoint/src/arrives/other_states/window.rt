@@ -43,7 +43,7 @@ pub(crate) fn window_after_segment(endpoint: &Endpoint, m: &Arrived<'_>) -> Send
     window
 }
 
-/// Whether a byte behind a window of 0 is still to be made.
+/// Whether a byte beyond a window of 0 is still to be made.
 pub(crate) fn probe_due_after_segment(endpoint: &Endpoint, m: &Arrived<'_>) -> bool
     ensures { result ≡ endpoint.now.probe_due && not (opens_window endpoint.now m.now) }
 {

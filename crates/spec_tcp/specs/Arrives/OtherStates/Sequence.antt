@@ -38,8 +38,7 @@ is_acceptable_at e m pos =
     else is_in_window e pos || nat_lt 0 (segment_length m) && is_in_window e (pos + segment_length m - 1)
 
 -- in SYN-RECEIVED the SYN of the peer is let in again with its acknowledgment (simultaneous open; RFC 9293, 3.5); any
--- other
--- segment with SYN and without RST is not acceptable
+-- other segment with SYN and without RST is not acceptable
 abbrev pub is_acceptable : Endpoint → Emission → Bool
 is_acceptable e m =
     is_syn_received e.state && m.flags.syn && m.flags.ack && m.pos == 0 && not m.is_reset_reply
