@@ -47,7 +47,8 @@ last_begun t thread (s ∷ earlier) = option_or (begins t thread s.label) (last_
 
 -- what a D step does: the last call that its thread began, with the step's answer
 abbrev pub does : Trace → List Step → Label NamedLine → List CallDone
-does t earlier (labels.D thread answer) = option_map_or (λ call. record { call = call; answer = answer } ∷ []) (last_begun t thread earlier) []
+does t earlier (labels.D thread answer) =
+    option_map_or (λ call. record { call = call; answer = answer } ∷ []) (last_begun t thread earlier) []
 does t earlier label = []
 
 abbrev pub done_from : Trace → List Step → List Step → List CallDone

@@ -33,4 +33,6 @@ pub record WritesCase (plan : Plan) (status : ℕ) (old new : Option (List ℕ))
 
 -- a run that records ends with this status: all rounds ended, a limit was met, or memory ran out, which is said alone
 abbrev pub EndsRecord : Plan → ℕ → Option (List ℕ) → Option (List ℕ) → Type 0
-EndsRecord plan status old new = ((status ≡ 0 ⊎ status ≡ 1) × WritesCase plan status old new) ⊎ ((status ≡ 4) × Appends old new (codes "bad memory\n"))
+EndsRecord plan status old new =
+    ((status ≡ 0 ⊎ status ≡ 1) × WritesCase plan status old new)
+    ⊎ ((status ≡ 4) × Appends old new (codes "bad memory\n"))

@@ -34,7 +34,8 @@ pub fn run_files<A: BufRead, B: BufRead, W: Write>(
     // The status is 5 only where a count of failures grew. That is said where no write failed.
     ensures device { result.0 ≡ 5 → (failures_of a < failures_of result.1) ⊎ (failures_of b < failures_of result.2)
         ⊎ (failures_of w.old < failures_of w.new) }
-    ensures told { result.0 ≡ 5 → failures_of w.new ≡ failures_of w.old → Appends (left_of W.contents w.old) (left_of W.contents w.new) (codes "bad device\n") }
+    ensures told { result.0 ≡ 5 → failures_of w.new ≡ failures_of w.old →
+        Appends (left_of W.contents w.old) (left_of W.contents w.new) (codes "bad device\n") }
     ensures quiet_trace { result.0 ≢ 5 → failures_of result.1 ≡ failures_of a }
     ensures quiet_witness { result.0 ≢ 5 → failures_of result.2 ≡ failures_of b }
     ensures quiet_writer { result.0 ≢ 5 → failures_of w.new ≡ failures_of w.old }
@@ -49,7 +50,8 @@ pub fn run_files<A: BufRead, B: BufRead, W: Write>(
 pub fn answer_bad_device<W: Write>(w: &mut Counted<W>) -> u8
     requires { failures_of w.old < 2 ^ 50 }
     ensures status { result ≡ 5 }
-    ensures told { failures_of w.new ≡ failures_of w.old → Appends (left_of W.contents w.old) (left_of W.contents w.new) (codes "bad device\n") }
+    ensures told { failures_of w.new ≡ failures_of w.old →
+        Appends (left_of W.contents w.old) (left_of W.contents w.new) (codes "bad device\n") }
 {
     let _ = say(w, b"bad device\n", DEVICE);
     DEVICE

@@ -66,7 +66,8 @@ pub fn run_all<R: BufRead, W: Write, H: Threads + Wait + Sync>(
     // said where no write failed.
     ensures device { ((plan : Plan) → ¬ AsksRecord (map (λ word. word.now) words.now) plan) → result ≡ 5 →
         (failures_of r.old < failures_of r.new) ⊎ (failures_of w.old < failures_of w.new) }
-    ensures told { result ≡ 5 → failures_of w.new ≡ failures_of w.old → Appends (left_of W.contents w.old) (left_of W.contents w.new) (codes "bad device\n") }
+    ensures told { result ≡ 5 → failures_of w.new ≡ failures_of w.old →
+        Appends (left_of W.contents w.old) (left_of W.contents w.new) (codes "bad device\n") }
     ensures quiet { result ≢ 5 → (failures_of r.new ≡ failures_of r.old) × (failures_of w.new ≡ failures_of w.old) }
 {
     match asked_workers(alloc, words) {
@@ -89,7 +90,8 @@ fn many<R: BufRead, W: Write, H: Threads + Wait + Sync>(
         IfSome (left_of R.remaining r.old) (λ text. EndsMany (cases_of text) result (left_of W.contents w.old)
         (left_of W.contents w.new)) }
     ensures device { result ≡ 5 → (failures_of r.old < failures_of r.new) ⊎ (failures_of w.old < failures_of w.new) }
-    ensures told { result ≡ 5 → failures_of w.new ≡ failures_of w.old → Appends (left_of W.contents w.old) (left_of W.contents w.new) (codes "bad device\n") }
+    ensures told { result ≡ 5 → failures_of w.new ≡ failures_of w.old →
+        Appends (left_of W.contents w.old) (left_of W.contents w.new) (codes "bad device\n") }
     ensures quiet { result ≢ 5 → (failures_of r.new ≡ failures_of r.old) × (failures_of w.new ≡ failures_of w.old) }
 {
     let mut text = Vec::new(alloc);

@@ -57,9 +57,11 @@ impl Model for World {
 
     ghost Value = { Progress };
 
-    ghost view = { λ a. record { header = a.header; world = record { hosts = a.hosts; threads = a.threads.entries; count = a.count }; steps = a.steps } };
+    ghost view = { λ a. record { header = a.header; steps = a.steps;
+        world = record { hosts = a.hosts; threads = a.threads.entries; count = a.count } } };
 
-    ghost invariant = { λ a. IsKeptWorld a.steps (record { hosts = a.hosts; threads = a.threads.entries; count = a.count }) };
+    ghost invariant = { λ a. IsKeptWorld a.steps
+        (record { hosts = a.hosts; threads = a.threads.entries; count = a.count }) };
 }
 
 impl World {

@@ -62,7 +62,8 @@ line_rest number raw = line_text number raw >>= λ text. Ok (rest_of number text
 
 -- a text that is exactly this one, else Header
 abbrev pub exact_text : ℕ → List ℕ → List ℕ → Result (Unit {0}) TextFault
-exact_text number wanted text = if bytes_eq text wanted then Ok tt else Err (record { kind = Header; span = whole_line number text })
+exact_text number wanted text =
+    if bytes_eq text wanted then Ok tt else Err (record { kind = Header; span = whole_line number text })
 
 -- a line whose text is exactly this one
 unfoldable pub expect_line : ℕ → List ℕ → List ℕ → Result (Unit {0}) TextFault

@@ -42,7 +42,8 @@ event_of k (At host d) = deed_event k host d
 -- the lines that these steps take, each at its step's moment
 abbrev pub lines_of : (k : Kernel) → List (Stamped k.shape) → List (Line k.shape)
 lines_of k [] = []
-lines_of k (x ∷ xs) = on (event_of k x.step) (lines_of k xs) (λ e. record { moment = x.moment; event = e } ∷ lines_of k xs)
+lines_of k (x ∷ xs) =
+    on (event_of k x.step) (lines_of k xs) (λ e. record { moment = x.moment; event = e } ∷ lines_of k xs)
 
 -- the moments of these steps don't fall, and none is below m
 abbrev pub MomentsRise : (k : Kernel) → ℕ → List (Stamped k.shape) → Type 0

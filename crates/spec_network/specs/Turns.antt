@@ -8,7 +8,8 @@ abbrev pub TakesTurn : (k : Kernel) → ℕ → Turn k.shape → Step k.shape �
 TakesTurn k t turn (Begin line u c) rest = (t ≡ u → turn ≡ Idle) × rest (if t == u then Called c else turn)
 TakesTurn k t turn (Finish line u a) rest =
     (t ≡ u → (b : k.shape.Answer) × (turn ≡ Answered b) × (k.differs b a ≡ false)) × rest (if t == u then Idle else turn)
-TakesTurn k t turn (Effect u a) rest = (t ≡ u → (c : k.shape.Call) × (turn ≡ Called c)) × rest (if t == u then Answered a else turn)
+TakesTurn k t turn (Effect u a) rest =
+    (t ≡ u → (c : k.shape.Call) × (turn ≡ Called c)) × rest (if t == u then Answered a else turn)
 TakesTurn k t turn (At host d) rest = rest turn
 
 -- in thread t calls begin, have one effect and end, in turns, from this turn on

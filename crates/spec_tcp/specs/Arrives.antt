@@ -48,7 +48,9 @@ taker_rules h me b how m (AtListener l) = listener_rules how m
 taker_rules h me b how m (AtEndpoint i e) = endpoint_rules h me b how (as_read h.version e m) i e
 
 abbrev pub endpoint_taken : Header → Endpoint → TakeChoice → Emission → ℕ → Endpoint
-endpoint_taken h e how m moment = if m.flags.rst then was_reset e how else if is_syn_sent e.state then on_syn h e how m moment else taken h e how m moment
+endpoint_taken h e how m moment =
+    if m.flags.rst then was_reset e how else if is_syn_sent e.state then on_syn h e how m moment
+    else taken h e how m moment
 
 -- a child whose SYN is acknowledged joins its listener's queue
 abbrev pub joined : HostTcp → ℕ → Endpoint → Emission → List Listener

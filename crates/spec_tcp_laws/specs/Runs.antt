@@ -47,7 +47,8 @@ call_told_end _ _ socket = false
 
 -- the first bytes of a `send`, as many as it accepted, for this endpoint
 abbrev pub call_accepted : Both (HostState tcp_shape) → Call → Answer → EndpointId → List ℕ
-call_accepted hosts (calls.Send n bytes) (answers.Given count) me = if is_socket_of hosts n me then take count bytes else []
+call_accepted hosts (calls.Send n bytes) (answers.Given count) me =
+    if is_socket_of hosts n me then take count bytes else []
 call_accepted hosts _ _ me = []
 
 -- a `shut` or a `close` ended this endpoint's sending

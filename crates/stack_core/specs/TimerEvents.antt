@@ -18,7 +18,8 @@ use Rattle.stack_core.specs.Recordings.{Recorded, world_left}
 
 -- the line of a timer that expires
 abbrev pub expiry_step : Host → ℕ → Ports → Expired → Step tcp_shape
-expiry_step me line ports expired = At me (Expires line (record { lport = ports.lport; rport = ports.rport; expired = expired }))
+expiry_step me line ports expired =
+    At me (Expires line (record { lport = ports.lport; rport = ports.rport; expired = expired }))
 
 -- that timer may expire there at this moment, with any line
 abbrev pub IsDueAt : Recorded → ℕ → Ports → Expired → Type 0

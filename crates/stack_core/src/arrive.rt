@@ -198,7 +198,8 @@ impl HostCore {
         ensures some { IfSome result (λ choice. (choice.keep ≡ true)
             × MayDo self.now (At self.now.recorded.me (Takes line choice))) }
         ensures same { IfSome result (λ choice. choice ≡ record { cwnd = cwnd; keep = true; sample = sample }) }
-        ensures none { IfNone result (MayDo self.now (At self.now.recorded.me (Takes line (record { cwnd = cwnd; keep = true; sample = sample }))) → ⊥) }
+        ensures none { IfNone result (MayDo self.now
+            (At self.now.recorded.me (Takes line (record { cwnd = cwnd; keep = true; sample = sample }))) → ⊥) }
     {
         let choice = TakeChoice {
             cwnd,

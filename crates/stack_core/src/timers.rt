@@ -272,7 +272,8 @@ fn due_at(recording: &Recording, moment: u64, endpoint: &Endpoint) -> Option<Due
     requires steps { steps_in recording.now.entries < most_steps }
     ensures some { IfSome result (λ due. IsDueAt recording.now moment due.ports due.expired) }
     ensures tried { IfSome result (λ due. IfGivesUp recording.now due.ports due.expired) }
-    ensures none { IfNone result (IsRefused recording.now moment (record { lport = endpoint.now.lport; rport = endpoint.now.rport })) }
+    ensures none { IfNone result (IsRefused recording.now moment
+        (record { lport = endpoint.now.lport; rport = endpoint.now.rport })) }
 {
     let ports = Ports {
         lport: endpoint.lport,

@@ -38,7 +38,8 @@ impl Model for Transmissions {
 
     ghost view = { λ a. marked (is_marked a.marks) 0 (replicate a.gone (once 0) ++ expand a.runs.items) };
 
-    ghost invariant = { λ a. (a.end ≡ a.gone + length (expand a.runs.items)) × (a.end < 2 ^ 63) × IsBelow a.end a.marks };
+    ghost invariant = { λ a. (a.end ≡ a.gone + length (expand a.runs.items)) × (a.end < 2 ^ 63)
+        × IsBelow a.end a.marks };
 }
 
 impl Transmissions {

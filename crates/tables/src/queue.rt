@@ -31,7 +31,8 @@ impl<V> Model for Queue<V> {
 
     ghost view = { λ q. record { entries = standing q.first q.slots.items; next = q.first + length q.slots.items } };
 
-    ghost invariant = { λ q. (q.count ≡ length (standing q.first q.slots.items)) × (q.first + length q.slots.items < 2 ^ 64) × IsTrimmed q.slots.items };
+    ghost invariant = { λ q. (q.count ≡ length (standing q.first q.slots.items))
+        × (q.first + length q.slots.items < 2 ^ 64) × IsTrimmed q.slots.items };
 }
 
 impl<V: Drop> Queue<V> {
@@ -50,7 +51,8 @@ impl<V: Drop> Queue<V> {
     /// One more item, whose number is the next one. Where memory runs out nothing is changed.
     pub fn push(&mut self, item: V) -> Result<(), AllocError>
         requires { self.old.next + 1 < 2 ^ 64 }
-        ensures ok { OnOk result (self.new ≡ record { entries = self.old.entries ++ (self.old.next, item) ∷ []; next = self.old.next + 1 }) }
+        ensures ok { OnOk result (self.new ≡ record {
+            entries = self.old.entries ++ (self.old.next, item) ∷ []; next = self.old.next + 1 }) }
         ensures err { OnErr result (self.new ≡ self.old) }
     {
         self.slots.push_back(Some(item))?;

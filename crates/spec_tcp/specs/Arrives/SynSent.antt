@@ -29,7 +29,9 @@ told_smss told = option_map_or (λ mss. if mss == 0 then 536 else mss) told 536
 
 -- the greatest congestion window in SYN-SENT, with the segment size that the SYN brings
 abbrev pub greatest_at_syn : Initial → Endpoint → Emission → ℕ
-greatest_at_syn initial e m = if m.flags.syn && not m.flags.rst && m.flags.ack then first_window initial (told_smss m.mss) e.syn_lost else e.congestion.cwnd
+greatest_at_syn initial e m =
+    if m.flags.syn && not m.flags.rst && m.flags.ack then first_window initial (told_smss m.mss) e.syn_lost
+    else e.congestion.cwnd
 
 -- in SYN-SENT: a SYN or a reset, where it acknowledges, of the own SYN (RFC 9293, 3.10.7.3)
 abbrev pub syn_sent_rules : Initial → Endpoint → TakeChoice → Emission → List (Rule × Bool)

@@ -124,7 +124,8 @@ pub(crate) fn dup_after_segment(endpoint: &Endpoint, m: &Arrived<'_>) -> u32
 
 /// Up to which position what was made may be made again: all of it, where a window above 0 ends the waiting for one.
 pub(crate) fn recover_after_segment(endpoint: &Endpoint, m: &Arrived<'_>) -> u64
-    ensures { result ≡ (if opens_window endpoint.now m.now && is_some endpoint.now.timers.persist_armed then snd_max endpoint.now else endpoint.now.recover) }
+    ensures { result ≡ (if opens_window endpoint.now m.now && is_some endpoint.now.timers.persist_armed
+        then snd_max endpoint.now else endpoint.now.recover) }
 {
     if opens_window(endpoint, m) && endpoint.timers.persist_armed.is_some() {
         endpoint.snd_max()

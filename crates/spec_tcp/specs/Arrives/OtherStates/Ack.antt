@@ -44,7 +44,9 @@ fin_acknowledged e m = e.stream.ended && nat_lt (end_of e.stream.accepted) (snd_
 
 -- the state once the acknowledgment is looked at (RFC 9293, 3.10.7.4, fifth)
 abbrev pub acknowledged : State → Endpoint → Emission → State
-acknowledged states.SynReceived e m = if acknowledges_syn e m then (if e.stream.ended then states.FinWait1 else states.Established) else states.SynReceived
+acknowledged states.SynReceived e m =
+    if acknowledges_syn e m then (if e.stream.ended then states.FinWait1 else states.Established)
+    else states.SynReceived
 acknowledged states.FinWait1 e m = if fin_acknowledged e m then states.FinWait2 else states.FinWait1
 acknowledged states.Closing e m = if fin_acknowledged e m then states.TimeWait else states.Closing
 acknowledged states.LastAck e m = if fin_acknowledged e m then states.Closed else states.LastAck

@@ -11,7 +11,8 @@ use Rattle.spec_tcp.specs.Same.{same_word}
 
 -- where the segment begins: its true position; of a reset that answers, what its number reads as near the next position
 abbrev pub read_position : Endpoint → Emission → Option ℕ
-read_position e m = if m.is_reset_reply then option_map_or (λ irs. near_position (rcv_nxt e) irs m.seq) e.irs None else Some m.pos
+read_position e m =
+    if m.is_reset_reply then option_map_or (λ irs. near_position (rcv_nxt e) irs m.seq) e.irs None else Some m.pos
 
 -- the number reads as this position, near another (RFC 9293, 3.4)
 abbrev pub reads_as : ℕ → Option Word → Word → ℕ → Bool
