@@ -6,7 +6,7 @@
 //! - `calls`: hosts, socket calls, their answers, and the states of an endpoint (RFC 9293, 3.3.2)
 //! - `version`: the versions of the texts, and which RFC gives the first congestion window
 //! - `trace`: spans, the header, segments as they were seen, event lines, and a whole trace
-//! - `timer`: the timers of an endpoint, and what is chosen where one expires or fast recovery begins
+//! - `timer`: the timers of an endpoint, and what is chosen if one expires or fast recovery begins
 //! - `steps`: labels, what a segment is that is made, what is chosen at one that is taken, and a whole witness
 //! - `named_line`: the line that a step takes, by its number
 //! - `taken_line`: the same line, by what it tells

@@ -183,7 +183,7 @@ impl Steps {
         }
     }
 
-    /// One more step at the end. Where memory runs out the steps are as they were.
+    /// One more step at the end. If memory runs out, the steps are as they were.
     pub fn push(&mut self, step: Step) -> Result<(), OutOfMemory>
         ensures ok { OnOk result (self.new ≡ self.old ++ step ∷ []) }
         ensures err { OnErr result (self.new ≡ self.old) }

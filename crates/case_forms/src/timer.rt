@@ -1,4 +1,4 @@
-//! The timers of an endpoint, and what is chosen where one expires or fast recovery begins.
+//! The timers of an endpoint, and what is chosen if one expires or fast recovery begins.
 
 /// What may expire at an endpoint.
 #[derive(Clone, Copy, Debug, PartialEq, Eq)]

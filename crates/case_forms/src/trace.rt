@@ -173,7 +173,7 @@ impl Lines {
         }
     }
 
-    /// One more line at the end. Where memory runs out the lines are as they were.
+    /// One more line at the end. If memory runs out, the lines are as they were.
     pub fn push(&mut self, line: Line) -> Result<(), OutOfMemory>
         ensures ok { OnOk result (self.new ≡ self.old ++ line ∷ []) }
         ensures err { OnErr result (self.new ≡ self.old) }

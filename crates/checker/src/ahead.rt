@@ -112,7 +112,7 @@ impl<A: BufRead> Ahead<A> {
         Ok(replace(&mut self.line, next))
     }
 
-    // Passes the line that was read ahead. False where there is none.
+    // Passes the line that was read ahead. False if there is none.
     fn skip(&mut self) -> Result<bool, CaseFault>
         requires { IsAhead self.old }
         ensures ahead { IfOk result (λ more. IsAhead self.new) }

@@ -64,7 +64,7 @@ pub fn receives_begin_sends()
 
 /// What follows for streams, windows and states where the witness explains the trace.
 pub fn explained_follows()
-    // Where both hosts are recorded: what reads returned is a prefix of what the peer's sends accepted.
+    // If both hosts are recorded: what reads returned is a prefix of what the peer's sends accepted.
     ensures received { (t : Trace) (w : Witness) → Explains t w → AreBothRecorded t → ReadsBeginWhatWasSent t w }
 
     // Reads that returned the end returned all of them.
@@ -95,7 +95,7 @@ pub fn explained_follows()
 
 /// What follows for streams holds at each moment of the witness, for what was returned and accepted by then.
 pub fn streams_at_each_moment()
-    // Where both hosts are recorded: what reads returned by then is a prefix of what the peer's sends accepted by then.
+    // If both hosts are recorded: what reads returned by then is a prefix of what the peer's sends accepted by then.
     ensures received { (t : Trace) (w : Witness) → Explains t w → AreBothRecorded t → (place : ℕ)
         → ReceivedIsAPrefix t.header (take place (steps_of t w)) }
 

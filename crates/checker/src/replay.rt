@@ -44,9 +44,9 @@ pub fn check(alloc: Global, trace: &Trace, witness: &Witness) -> Result<Verdict,
     requires witness { IsWitness witness.now }
     requires versions { trace.now.header.version ≡ witness.now.version }
 
-    // What follows from a yes where both hosts are recorded, by the lines of the trace and the steps of the witness
-    // alone: what receives on a socket number returned is a prefix of what sends on one of the other host accepted, at
-    // each moment; once one returned the end, it is all of it.
+    // What follows from a yes if both hosts are recorded, by the lines of the trace and the steps of the witness alone:
+    // what receives on a socket number returned is a prefix of what sends on one of the other host accepted, at each
+    // moment; once one returned the end, it is all of it.
     ensures heard { IfOk result (λ v. IsYes v → AreBothRecorded trace.now → ReceivesBeginSends trace.now witness.now) }
 
     // The verdict is that of the definition.
@@ -98,7 +98,7 @@ fn judge(
     replay_all(&mut window, &mut world, steps)
 }
 
-// The verdict on these steps, where the window holds all lines and the world is that before the first step.
+// The verdict on these steps, if the window holds all lines and the world is that before the first step.
 fn replay_all(
     window: &mut Window,
     world: &mut World,

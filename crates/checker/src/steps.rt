@@ -23,7 +23,7 @@ pub(crate) fn drain_steps<B: BufRead>(steps: &mut StepReader<B>) -> Result<(), C
     Ok(())
 }
 
-// Passes a step. False where there is none.
+// Passes a step. False if there is none.
 fn skip_step<B: BufRead>(steps: &mut StepReader<B>) -> Result<bool, CaseFault>
     requires { fault_of steps.old ≡ None }
     ensures next { IfOk result (λ more. Skips more (steps_left B.remaining steps.old)

@@ -47,9 +47,9 @@ pub fn check_streams<A: BufRead, B: BufRead>(
     a: Counted<A>,
     b: Counted<B>,
 ) -> (Result<Verdict, CaseFault>, Counted<A>, Counted<B>)
-    // What follows from a yes where both hosts are recorded, by the lines of the trace and the steps of the witness
-    // that the texts stand for: what receives on a socket number returned is a prefix of what sends on one of the other
-    // host accepted, at each moment; once one returned the end, it is all of it.
+    // What follows from a yes if both hosts are recorded, by the lines of the trace and the steps of the witness that
+    // the texts stand for: what receives on a socket number returned is a prefix of what sends on one of the other host
+    // accepted, at each moment; once one returned the end, it is all of it.
     ensures heard { (t : Trace) (w : Witness) → AreOf (left_of A.remaining a) (left_of B.remaining b) t w →
         IfOk result.0 (λ v. IsYes v → AreBothRecorded t → ReceivesBeginSends t w) }
 
@@ -141,7 +141,7 @@ fn judge<A: BufRead, B: BufRead>(
     judge_in(alloc, &mut window, &mut world, lines, steps)
 }
 
-// The same, where no line was offered to the window and the world is that before the first step.
+// The same, if no line was offered to the window and the world is that before the first step.
 fn judge_in<A: BufRead, B: BufRead>(
     alloc: Global,
     window: &mut Window,

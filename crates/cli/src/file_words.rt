@@ -15,7 +15,7 @@ const TRACE: &str = "--trace";
 const WITNESS: &str = "--witness";
 
 /// The names of the trace's file and of the witness's, where the words are `check` and both options, each once and in
-/// either order; None where they are other words, also where a name has a NUL, as a word that was no UTF-8 has
+/// either order; None if they are other words, also where a name has a NUL, as a word that was no UTF-8 has
 /// (`given_words`). An option and its name are two words, of which the name begins with no dash, or one word with a `=`
 /// between. An error means that memory ran out.
 pub fn file_names(alloc: Global, words: &[&str]) -> Result<Option<(String, String)>, OutOfMemory>

@@ -31,7 +31,7 @@ pub fn run_files<A: BufRead, B: BufRead, W: Write>(
         Ends (status_of (texts_result xs ys)) (line_of (texts_result xs ys)) result.0 (left_of W.contents w.old)
         (left_of W.contents w.new))) }
 
-    // The status is 5 only where a count of failures grew. That is said where no write failed.
+    // The status is 5 only where a count of failures grew. That is said if no write failed.
     ensures device { result.0 ≡ 5 → (failures_of a < failures_of result.1) ⊎ (failures_of b < failures_of result.2)
         ⊎ (failures_of w.old < failures_of w.new) }
     ensures told { result.0 ≡ 5 → failures_of w.new ≡ failures_of w.old →

@@ -8,7 +8,7 @@
 //! - `lines`: the line and the status of a case's answer (`specs/Output`)
 //! - `argument`: the segment that a hex text stands for (`specs/HexText`)
 //! - `segment_line`: the line and the status of a segment (`specs/SegmentText`)
-//! - `running`: the whole run, and the answer where memory ran out before it
+//! - `running`: the whole run, and the answer if memory ran out before it
 //! - `file_words`, `files`: the words that ask for a case in two files (`specs/FileWords`), and the run on them
 //! - `many_words`, `many`: the words that ask for many cases, and the run that serves them too (`specs/ManyWords`,
 //!   `specs/Many`); it alone starts threads

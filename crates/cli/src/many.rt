@@ -63,7 +63,7 @@ pub fn run_all<R: BufRead, W: Write, H: Threads + Wait + Sync>(
         → ((n : ℕ) → ¬ AsksMany (map (λ word. word.now) words.now) n) → r.new ≡ r.old }
 
     // But for a recording, which may also find no thread, the status is 5 only where a count of failures grew. That is
-    // said where no write failed.
+    // said if no write failed.
     ensures device { ((plan : Plan) → ¬ AsksRecord (map (λ word. word.now) words.now) plan) → result ≡ 5 →
         (failures_of r.old < failures_of r.new) ⊎ (failures_of w.old < failures_of w.new) }
     ensures told { result ≡ 5 → failures_of w.new ≡ failures_of w.old →
@@ -174,7 +174,7 @@ fn cut_cases<'a>(alloc: Global, text: &'a [u8]) -> Result<Vec<&'a [u8]>, OutOfMe
     Ok(cases)
 }
 
-// Writes a line for each answer, and gives the greatest status; where there is no memory for the lines, that alone is
+// Writes a line for each answer, and gives the greatest status; if there is no memory for the lines, that alone is
 // said.
 fn tell<W: Write>(alloc: Global, answers: &[CaseResult], w: &mut Counted<W>) -> u8
     requires { failures_of w.old < 2 ^ 50 }

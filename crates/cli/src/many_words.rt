@@ -60,7 +60,7 @@ fn is_option(option: &str, text: &str) -> bool
     option == "--workers" && !text.as_bytes().starts_with(b"-")
 }
 
-/// The number of workers, where the words ask for many cases; None where they do not.
+/// The number of workers, where the words ask for many cases; None if they do not.
 pub(crate) fn asked_workers<'a>(
     alloc: Global,
     words: &'a [&'a str],

@@ -140,7 +140,7 @@ impl GivenSettings {
         }
     }
 
-    // What these numbers ask for; None where one is missing, or each segment would be lost.
+    // What these numbers ask for; None if one is missing, or each segment would be lost.
     fn plan(self) -> Option<Plan>
         ensures { MatchOption result ((plan : Plan) → ¬ AsksPlan self plan) (AsksPlan self) }
     {
@@ -218,7 +218,7 @@ fn plan_told<'a>(
     plan_told(alloc, rest, told)
 }
 
-/// What is recorded, where the words ask for a recording; None where they do not.
+/// What is recorded, where the words ask for a recording; None if they do not.
 pub(crate) fn asked_plan<'a>(
     alloc: Global,
     words: &'a [&'a str],

@@ -148,7 +148,7 @@ fn letter(flag: Flag) -> &'static str
     }
 }
 
-// Appends an MSS after its name, or a dash where there is none.
+// Appends an MSS after its name, or a dash if there is none.
 fn push_mss(line: &mut Vec<u8>, mss: Option<u16>) -> Result<(), OutOfMemory>
     ensures { IfOk result (λ _. line.new.items ≡ line.old.items ++ (codes " mss " ++ mss_text mss)) }
 {

@@ -286,7 +286,7 @@ impl Drawing {
         }
     }
 
-    // The label of a segment that goes out, and its end where no line copies it.
+    // The label of a segment that goes out, and its end if no line copies it.
     fn sent(&mut self, number: u64, host: Host, wire: &Wire) -> Result<(), OutOfMemory> {
         if !self.is_drawn(number) {
             return Ok(());

@@ -24,8 +24,8 @@ const FAR_NAME: EndpointId = EndpointId {
 /// No segment carries more bytes.
 const MOST_BYTES: usize = 65_535;
 
-// Whether the segment's fields are those of the made one: the acknowledgment number where there is one, the window of
-// all but a reset that answers.
+// Whether the segment's fields are those of the made one: the acknowledgment number if there is one, the window of all
+// but a reset that answers.
 fn header_matches(segment: &Segment, m: &Emission) -> bool
     ensures { result ≡ header_matches segment.now m.now }
 {
@@ -66,7 +66,7 @@ fn shift_matches(segment: &Segment, m: &Emission) -> bool
     }
 }
 
-/// Whether the segment on the wire is the made one. Shifts are looked at where windows may be scaled.
+/// Whether the segment on the wire is the made one. Shifts are looked at if windows may be scaled.
 pub fn matches_sent(header: &Header, wire: &Wire, m: &Emission) -> bool
     ensures { result ≡ matches_sent header.now wire.now m.now }
 {

@@ -1,5 +1,5 @@
-//! What one host has, and what it does. Moments are in microseconds, windows and thresholds in bytes. Where memory runs
-//! out nothing is changed.
+//! What one host has, and what it does. Moments are in microseconds, windows and thresholds in bytes. If memory runs
+//! out, nothing is changed.
 
 ghost use Rattle.std.specs.Prelude.{◌≡◌, ◌≤◌, true, [], Some, nat_eq, IfOk, OnOk, OnErr};
 ghost use Rattle.std.specs.Map.{lookup};
@@ -113,7 +113,7 @@ pub(crate) fn send_made(
     )
 }
 
-/// A segment joins the inbox with this line. Where memory runs out nothing is changed.
+/// A segment joins the inbox with this line. If memory runs out, nothing is changed.
 pub(crate) fn arrive(
     alloc: Global,
     host: &mut HostState,
@@ -127,8 +127,8 @@ pub(crate) fn arrive(
     Ok(())
 }
 
-/// A segment of elsewhere stands on the host's wire under this line, in place of one that stood there. Where memory
-/// runs out nothing is changed.
+/// A segment of elsewhere stands on the host's wire under this line, in place of one that stood there. If memory runs
+/// out, nothing is changed.
 pub(crate) fn bring(host: &mut HostState, line: u64, emission: &Emission) -> Result<(), OutOfMemory>
     ensures ok { OnOk result (host.new ≡ record host.old { wire = insert_entry nat_eq host.old.wire line emission.now }) }
     ensures err { OnErr result (host.new ≡ host.old) }

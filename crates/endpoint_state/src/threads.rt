@@ -151,7 +151,7 @@ pub(crate) fn finish(
     Ok(())
 }
 
-/// A thread's call has its effect, with this answer. Where memory runs out nothing is changed; a thread that called
+/// A thread's call has its effect, with this answer. If memory runs out, nothing is changed; a thread that called
 /// before takes none.
 pub(crate) fn answered(
     threads: &mut Table<Turn>,

@@ -76,7 +76,7 @@ impl Window {
 
     /// One more line of the trace, at its end: its number is the next one, `first_event_line` of the header for the
     /// first line and one more for each after it, up to 2^64 - 2, and its moment is not below that of any line that
-    /// waits. Where memory runs out the window is as it was.
+    /// waits. If memory runs out, the window is as it was.
     pub fn offer(&mut self, line: Line) -> Result<(), OutOfMemory>
         requires number { line.number ≡ self.old.next }
         requires room { self.old.next + 1 < 2 ^ 64 }
@@ -135,8 +135,8 @@ impl Window {
         self.waiting.len()
     }
 
-    /// The number of the first line that may not wait until this moment, if there is one. Where there is none, and no
-    /// line that waits has a later moment, each has one that is at most the skew earlier.
+    /// The number of the first line that may not wait until this moment, if there is one. If there is none, and no line
+    /// that waits has a later moment, each has one that is at most the skew earlier.
     pub fn overdue(&self, moment: u64) -> Option<u64>
         ensures first { result ≡ first_overdue self.now moment }
         ensures current { result ≡ None → All (λ e. e.1.moment ≤ moment) self.now.held

@@ -67,7 +67,7 @@ fn segment_fault_name(fault: SegFault) -> &'static str
     }
 }
 
-/// The first fault of a text, and its place. Where memory ran out the place says nothing.
+/// The first fault of a text, and its place. If memory ran out the place says nothing.
 #[derive(Clone, Copy, Debug, PartialEq, Eq, Error)]
 #[error("line {}, columns {} to {}: {kind:?}", .span.line, .span.start, .span.stop)]
 pub struct TextFault {
@@ -90,7 +90,7 @@ impl TextFault {
         }
     }
 
-    /// No line is at fault where memory runs out.
+    /// No line is at fault if memory runs out.
     pub fn out_of_memory() -> TextFault
         ensures { result.kind ≡ FaultKind.OutOfMemory }
     {

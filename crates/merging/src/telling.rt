@@ -197,7 +197,7 @@ fn tell_step(
     Ok(RecordedStep { label, line: None })
 }
 
-// A line joins, where there is one.
+// A line joins, if there is one.
 fn push_told(line: Option<Line>, lines: &mut Lines) -> Result<(), OutOfMemory>
     ensures { OnOk result (lines.new ≡ lines.old ++ on line [] (λ l. l ∷ [])) }
 {

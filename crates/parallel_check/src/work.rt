@@ -76,8 +76,7 @@ fn take_next<H: Wait>(rt: &H, next: &Mutex<usize>, count: usize) -> Option<usize
     Some(index)
 }
 
-// What one worker does. It finds room for an answer before it takes the case; where there is none it takes no further
-// one.
+// What one worker does. It finds room for an answer before it takes the case; if there is none it takes no further one.
 fn work<C: Cases, G: Gate, H: Wait>(
     rt: &H,
     alloc: Global,

@@ -171,7 +171,7 @@ impl<L: Site> Desk<L> {
         Ok(())
     }
 
-    /// Ends the seat's open call where it may have its effect.
+    /// Ends the seat's open call if it may have its effect.
     pub(crate) fn attempt(&mut self, seat: &mut Seat<L>) -> Result<Option<Receipt>, RecFault>
         requires lane { lane seat.old.thread ≡ L.host }
         ensures some { IfOk result (λ o. IfSome o (λ r.
@@ -247,7 +247,7 @@ impl<L: Site> Desk<L> {
         Ok(book.timers(tick)?)
     }
 
-    /// The book, where all seats are handed in.
+    /// The book, if all seats are handed in.
     pub(crate) fn close(self, seats: Vec<Seat<L>>) -> HostBook
         requires parts { L.parts ≡ 65535 }
         requires all { 65535 ≤ length seats.items + self.left }

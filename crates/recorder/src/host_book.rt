@@ -96,7 +96,7 @@ impl HostBook {
     }
 
     /// A text can tell what it recorded: each segment is made at a position that a text names, with a payload that fits
-    /// into one, and with a shift only beside an initial number, where the version scales windows. A call that does
+    /// into one, and with a shift only beside an initial number, if the version scales windows. A call that does
     /// nothing, whose contract says it.
     pub fn can_be_told(&self)
         ensures { AllTold self.now.core.recorded.header.version self.now.core.recorded.entries }

@@ -51,7 +51,7 @@ fn apply_fate<R: Wait>(
         Fate::Pass => send(rt, out, flying),
         Fate::Lose => Ok(()),
         Fate::Twice => {
-            // Where memory refuses the copy, it goes once.
+            // If memory refuses the copy, it goes once.
             if let Ok(copy) = flying.copy() {
                 send(rt, out, copy)?;
             }

@@ -28,9 +28,9 @@ use spec_tcp::Emission;
 
 impl HostCore {
     /// A segment of the other host arrives: it is brought, and comes in, which is its line. It is taken with its bytes
-    /// where it may be, and fast recovery begins where it may; else it is answered by a reset where it may be; else it
-    /// is dropped. False, and nothing is changed: it is this host's own, or older than the maximum segment lifetime.
-    /// The error is that memory ran out; then the tick has passed, and a beginning of this is added.
+    /// if it may be, and fast recovery begins if it may; else it is answered by a reset if it may be; else it is
+    /// dropped. False, and nothing is changed: it is this host's own, or older than the maximum segment lifetime. The
+    /// error is that memory ran out; then the tick has passed, and a beginning of this is added.
     pub fn arrive(&mut self, flying: Flying, tick: Tick) -> Result<bool, OutOfMemory>
         requires tick { IsAfter self.old.last tick }
         requires events { self.old.events < 10000000 }
@@ -157,7 +157,7 @@ impl HostCore {
         Ok(())
     }
 
-    // What is not taken is answered by a reset where it may be, and else dropped.
+    // What is not taken is answered by a reset if it may be, and else dropped.
     fn reject(&mut self, line: u64, ports: Ports) -> Result<(), OutOfMemory>
         requires room { steps_in self.old.recorded.entries < 4 * self.old.events }
         requires events { self.old.events ≤ 10000000 }
@@ -214,7 +214,7 @@ impl HostCore {
         }
     }
 
-    // Fast recovery begins at the endpoint of these ports, where it may.
+    // Fast recovery begins at the endpoint of these ports, if it may.
     fn recover(&mut self, ports: Ports) -> Result<(), OutOfMemory>
         requires room { steps_in self.old.recorded.entries < 4 * self.old.events }
         requires events { self.old.events ≤ 10000000 }

@@ -64,7 +64,7 @@ impl DeadlineQueue {
         }
     }
 
-    /// A step may change these endpoints: they are to be looked at, at once. Where memory refuses that, all are.
+    /// A step may change these endpoints: they are to be looked at, at once. If memory refuses that, all are.
     pub(crate) fn look_again(&mut self, affected: Affected)
         ensures { LooksAgain affected self.old.looked self.old.entries.keys self.new.looked self.new.entries.keys }
     {

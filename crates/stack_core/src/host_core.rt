@@ -111,7 +111,7 @@ impl HostCore {
     }
 
     /// A text can tell what it recorded: each segment is made at a position that a text names, with a payload that fits
-    /// into one, and with a shift only beside an initial number, where the version scales windows; and nothing stands
+    /// into one, and with a shift only beside an initial number, if the version scales windows; and nothing stands
     /// after the last tick. A call that does nothing, whose contract says it.
     pub fn can_be_told(&self)
         ensures told { AllTold self.now.recorded.header.version self.now.recorded.entries }

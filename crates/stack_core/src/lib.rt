@@ -3,11 +3,11 @@
 //!
 //! A core has a world of its host alone, which it changes by steps and by segments of the other host that are brought.
 //! Contracts see its entries, its ring, its last tick and the count of its events: the world is the one to which the
-//! entries lead. Each event says exactly what it adds (`specs/*Events`), and what it leaves where memory ran out.
-//! Whatever is added may join what is there, so the entries are a run of the host after every event (`IsRecorded`).
-//! What two cores recorded of each other, after any events (`specs/CoreWorlds`), are two books beside each other;
-//! merged they are a run of both and a placement of its lines (crate `spec_merge`). What a core chooses among the
-//! permitted steps is no contract's matter, but for what `docs/STACK.md` says of it.
+//! entries lead. Each event says exactly what it adds (`specs/*Events`), and what it leaves if memory ran out. Whatever
+//! is added may join what is there, so the entries are a run of the host after every event (`IsRecorded`). What two
+//! cores recorded of each other, after any events (`specs/CoreWorlds`), are two books beside each other; merged they
+//! are a run of both and a placement of its lines (crate `spec_merge`). What a core chooses among the permitted steps
+//! is no contract's matter, but for what `docs/STACK.md` says of it.
 //!
 //! - `tick`, `flying`, `item`, `entry`: when events are, segments on their way, and what a recording has
 //! - `recording`: the entries of one host, with the world that they leave

@@ -264,7 +264,7 @@ fn try_candidates(
     None
 }
 
-// A segment that may be made, at any endpoint: this goes over all of them, where memory is refused for a list of those
+// A segment that may be made, at any endpoint: this goes over all of them, if memory is refused for a list of those
 // that are to be looked at. None: no segment without RST may be made that takes new positions.
 #[tactic(auto, using(crate::proofs::MakingLemmas::short_host))]
 fn find_making(

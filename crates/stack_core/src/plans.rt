@@ -63,8 +63,8 @@ pub(crate) fn offer_of(
     }
 }
 
-/// What a core would make at an endpoint, in this order, where it may: a reset that is due; what seems lost; its SYN;
-/// new bytes, as many as fit, with the FIN after the last; these without it; an acknowledgment that it owes.
+/// What a core would make at an endpoint, in this order, if it may: a reset that is due; what seems lost; its SYN; new
+/// bytes, as many as fit, with the FIN after the last; these without it; an acknowledgment that it owes.
 pub(crate) fn candidate_segments(
     endpoint: &Endpoint,
     send_state: SendState,

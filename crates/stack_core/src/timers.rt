@@ -247,8 +247,8 @@ fn least(one: Option<u64>, other: Option<u64>) -> Option<u64>
     }
 }
 
-// A timer that may expire at a moment, at any endpoint: this goes over all of them, where memory is refused for a list
-// of those that are to be looked at. None: no retransmission timer, persist timer or wait in TIME-WAIT may.
+// A timer that may expire at a moment, at any endpoint: this goes over all of them, if memory is refused for a list of
+// those that are to be looked at. None: no retransmission timer, persist timer or wait in TIME-WAIT may.
 fn find_any_due(recording: &Recording, moment: u64) -> Option<Due>
     requires steps { steps_in recording.now.entries < most_steps }
     ensures some { IfSome result (λ due. IsDueAt recording.now moment due.ports due.expired) }

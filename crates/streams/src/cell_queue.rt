@@ -98,9 +98,9 @@ impl CellQueue {
         Ok(bytes)
     }
 
-    /// Takes these bytes from this place on, which is not in front of the first gap, and a FIN after them where there
-    /// is one. What was taken at a place before stays; nothing is taken at or after a FIN that was taken, and no FIN at
-    /// or below a place that was.
+    /// Takes these bytes from this place on, which is not in front of the first gap, and a FIN after them if there is
+    /// one. What was taken at a place before stays; nothing is taken at or after a FIN that was taken, and no FIN at or
+    /// below a place that was.
     pub(crate) fn keep(&mut self, at: usize, bytes: &[u8], fin: bool) -> Result<(), AllocError>
         requires at { length (front self.old) ≤ at }
         requires small { at + length bytes.now + 1 < 2 ^ 63 }
@@ -132,7 +132,7 @@ impl CellQueue {
     }
 }
 
-// These bytes join the others, and a FIN stands after them where there is one, where no cell did.
+// These bytes join the others, and a FIN stands after them if there is one, if no cell did.
 fn append(
     bytes: &mut ByteQueue,
     rest: &mut VecDeque<Option<Cell>>,

@@ -35,7 +35,7 @@ impl Marks {
         }
     }
 
-    /// The positions from `from` to before `upto` were made again. Where memory runs out none of them is marked.
+    /// The positions from `from` to before `upto` were made again. If memory runs out none of them is marked.
     pub(crate) fn add(&mut self, from: u64, upto: u64) -> Result<(), AllocError>
         ensures marked { OnOk result ((position : ℕ) → is_marked self.new position
             ≡ (is_marked self.old position || (nat_le from position && nat_lt position upto))) }

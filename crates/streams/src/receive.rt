@@ -89,9 +89,9 @@ impl ReceiveBuffer {
         self.gone = 1;
     }
 
-    /// Takes these bytes from this position on, which is not below the next, and a FIN after them where there is one.
-    /// What was taken at a position before stays; nothing is taken at or after a FIN that was taken, and no FIN at or
-    /// below a position that was.
+    /// Takes these bytes from this position on, which is not below the next, and a FIN after them if there is one. What
+    /// was taken at a position before stays; nothing is taken at or after a FIN that was taken, and no FIN at or below
+    /// a position that was.
     pub fn keep(&mut self, position: u64, bytes: &[u8], fin: bool) -> Result<(), AllocError>
         requires met { 1 ≤ next self.old }
         requires next { next self.old ≤ position }

@@ -19,7 +19,7 @@ pub(crate) struct Run {
     pub(crate) moment: u64,
 }
 
-/// So many positions are made at the end, where there is room for a run.
+/// So many positions are made at the end, if there is room for a run.
 pub(crate) fn grow(runs: &mut VecDeque<Run>, count: u64, moment: u64)
     requires { deque_len runs.old < deque_capacity runs.old }
     ensures { expand runs.new.items ≡ expand runs.old.items ++ replicate count (once moment) }

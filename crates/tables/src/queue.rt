@@ -48,7 +48,7 @@ impl<V: Drop> Queue<V> {
         }
     }
 
-    /// One more item, whose number is the next one. Where memory runs out nothing is changed.
+    /// One more item, whose number is the next one. If memory runs out, nothing is changed.
     pub fn push(&mut self, item: V) -> Result<(), AllocError>
         requires { self.old.next + 1 < 2 ^ 64 }
         ensures ok { OnOk result (self.new ≡ record {

@@ -23,8 +23,7 @@ const MEMORY: u8 = 4;
 const DEVICE: u8 = 5;
 
 /// Does what the words after the program's name ask for, and answers the status: 0 where it is done, 2 where the text
-/// is refused, 3 where the words are none of the program's, 4 where memory ran out, and 5 where a read or a write
-/// failed.
+/// is refused, 3 where the words are none of the program's, 4 if memory ran out, and 5 where a read or a write failed.
 pub(crate) fn run<R: BufRead, W: Write>(
     alloc: Global,
     words: &[&str],

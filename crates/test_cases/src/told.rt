@@ -31,7 +31,7 @@ pub fn ask_told(
     Ok(count)
 }
 
-// What a word says of a case; nothing where the word is another one, or the trace can't be read.
+// What a word says of a case; nothing if the word is another one, or the trace can't be read.
 fn told(alloc: Global, word: &str, case: &[u8]) -> Result<Vec<u8>, AllocError> {
     let range = Range {
         from: None,

@@ -25,11 +25,11 @@ pub struct Timers {
     pub rttvar: u64,
     /// The retransmission timeout, at most 60,000,000.
     pub rto: u64,
-    /// Since when the retransmission timer is armed; None where it is off.
+    /// Since when the retransmission timer is armed; None if it is off.
     pub rto_armed: Option<u64>,
-    /// Since when the persist timer is armed; None where it is off.
+    /// Since when the persist timer is armed; None if it is off.
     pub persist_armed: Option<u64>,
-    /// Since when the wait in TIME-WAIT lasts; None where it is off.
+    /// Since when the wait in TIME-WAIT lasts; None if it is off.
     pub msl_armed: Option<u64>,
 }
 
@@ -60,7 +60,7 @@ impl Timers {
         self.rto = timeout(header, srtt, rttvar);
     }
 
-    /// Arms a timer, any but `Giveup`, at a moment in microseconds, anew where it is armed.
+    /// Arms a timer, any but `Giveup`, at a moment in microseconds, anew if it is armed.
     pub fn arm(&mut self, timer: Timer, moment: u64)
         requires { timer ≢ Giveup }
         ensures { self.new ≡ armed self.old timer moment }
@@ -141,7 +141,7 @@ impl Timers {
         }
     }
 
-    /// Since when a timer, any but `Giveup`, is armed, in microseconds; None where it is off.
+    /// Since when a timer, any but `Giveup`, is armed, in microseconds; None if it is off.
     pub fn armed_since(&self, timer: Timer) -> Option<u64>
         requires { timer ≢ Giveup }
         ensures { result ≡ armed_since self.now timer }

@@ -90,8 +90,8 @@ fn event(alloc: Global, version: Version, fields: &mut Fields) -> Result<Event, 
 }
 
 /// The event line of that number in a text of this version, whose bytes are given with the line's end. `before` is the
-/// moment of the event line before it, in microseconds, or 0 where there is none; a moment below it is MomentFalls at
-/// its field. Fields are looked at from left to right, and a field too many last.
+/// moment of the event line before it, in microseconds, or 0 if there is none; a moment below it is MomentFalls at its
+/// field. Fields are looked at from left to right, and a field too many last.
 #[tactic(auto, unfolding(crate::specs::EventLines::line_of))]
 #[inline(always)]
 pub fn event_line(

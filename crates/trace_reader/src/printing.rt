@@ -199,7 +199,7 @@ pub fn print_law()
     ensures { (t : Trace) (text : List ℕ) → IsTraceText t text → IsTraceText t (trace_text t) }
 {}
 
-/// A trace is printed as a text that stands for it, with the spans of that text, exactly where it is within the limits.
+/// A trace is printed as a text that stands for it, with the spans of that text, exactly if it is within the limits.
 pub fn printable_law()
     ensures printed { (t : Trace) → IsPrintableTrace t → IsTraceText (with_columns t) (trace_text t) }
     ensures read { (t : Trace) → IsPrintableTrace t → trace_of (trace_text t) ≡ Ok (with_columns t) }

@@ -134,7 +134,7 @@ impl<A: BufRead> TraceReader<A> {
         self.keep_fault(read)
     }
 
-    // The next event line, where no fault was met.
+    // The next event line, if no fault was met.
     #[inline(always)]
     fn read(&mut self) -> Result<Option<Line>, SourceFault>
         ensures next { IfOk result (Yields (lines_left A.remaining self.old) (lines_left A.remaining self.new)) }

@@ -75,7 +75,7 @@ pub enum Rule {
     QueueFull,
     /// The congestion window or the slow start threshold is above the greatest that is allowed.
     Growth,
-    /// A round trip time is sampled where it may not be (RFC 6298, 3).
+    /// A round trip time is sampled if it may not be (RFC 6298, 3).
     Sample,
     /// The timer is not armed, or what it waits for is not there.
     TimerOff,

@@ -42,7 +42,7 @@ impl Numbers {
         Ok(())
     }
 
-    /// The position of a segment of a host, modulo 2^32; its number where no SYN was seen.
+    /// The position of a segment of a host, modulo 2^32; its number if no SYN was seen.
     pub fn position(&self, host: Host, seg: &Segment) -> u32 {
         self.from(connection_key(host, seg.src, seg.dst), seg.seq.0)
     }

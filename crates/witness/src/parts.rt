@@ -56,8 +56,8 @@ pub(crate) fn extras(fields: &mut Fields) -> Result<Extras, TextFault>
     Ok(Extras::Two(first, second))
 }
 
-// The initial send sequence number after a segment's window, where there is a further field, and where windows may be
-// scaled the shift, where there is one more. These fields are always numbers.
+// The initial send sequence number after a segment's window, if there is a further field, and if windows may be scaled
+// the shift, if there is one more. These fields are always numbers.
 #[tactic(auto, unfolding(crate::specs::Parts::start_field))]
 pub(crate) fn start(
     version: Version,

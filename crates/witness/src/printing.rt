@@ -79,7 +79,7 @@ fn push_segment(out: &mut Vec<u8>, plan: SegmentPlan) -> Result<(), OutOfMemory>
     Ok(())
 }
 
-// Writes an initial send sequence number and a shift, where there are, each after a space.
+// Writes an initial send sequence number and a shift, if there are, each after a space.
 fn push_start(out: &mut Vec<u8>, iss: Option<Word>, shift: Option<u8>) -> Result<(), OutOfMemory>
     ensures { OnOk result (out.new.items ≡ out.old.items ++ printed_behind (iss_pieces iss ++ shift_pieces shift)) }
 {
@@ -167,8 +167,7 @@ pub fn print_law()
         → IsWitnessText v (witness_text w) }
 {}
 
-/// A witness is printed as a text that stands for it, with the spans of that text, exactly where it is within the
-/// limits.
+/// A witness is printed as a text that stands for it, with the spans of that text, exactly if it is within the limits.
 pub fn printable_law()
     ensures printed { (w : Witness) → IsPrintableWitness w → IsWitnessText (with_columns w) (witness_text w) }
     ensures read { (w : Witness) → IsPrintableWitness w → witness_of (witness_text w) ≡ Ok (with_columns w) }

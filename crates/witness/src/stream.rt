@@ -125,7 +125,7 @@ impl<B: BufRead> StepReader<B> {
         self.keep_fault(read)
     }
 
-    // The next step, where no fault was met.
+    // The next step, if no fault was met.
     #[inline(always)]
     fn read(&mut self) -> Result<Option<Step>, SourceFault>
         ensures next { IfOk result (Yields (steps_left B.remaining self.old) (steps_left B.remaining self.new)) }

@@ -17,7 +17,7 @@ use verdict::Rule;
 // How many lines with the same bytes are tried for a copy, where those before are too old.
 const SENDINGS: usize = 16;
 
-// The endpoint that a segment finds, where it is not CLOSED.
+// The endpoint that a segment finds, if it is not CLOSED.
 fn endpoint_found<'w>(world: &'w World, host: Host, m: &Emission) -> Option<&'w Endpoint> {
     let endpoint = world.body(host).endpoint_of(m.rport, m.lport)?;
     if endpoint.state.is_closed() {
@@ -156,7 +156,7 @@ impl<'t> Search<'t> {
         self.drop_arrival(host, line)
     }
 
-    // Takes what came in, where that may be.
+    // Takes what came in, if that may be.
     fn try_taking(&mut self, host: Host, line: u64, keep: bool) -> Result<bool, StepFault> {
         let Some(choice) = self.choice(host, line, keep) else {
             return Ok(false);

@@ -1,4 +1,4 @@
-//! One step of the world, written down where it was done.
+//! One step of the world, written down if it was done.
 
 ghost use Rattle.std.specs.Prelude.{◌<◌, OnOk};
 ghost use Rattle.spec_tcp.specs.Bounds.{most_steps};

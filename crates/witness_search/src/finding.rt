@@ -13,8 +13,8 @@ use witness::print_witness;
 
 /// The text of a case: the trace, in which lines are added for expiries that it doesn't tell and that were needed, and
 /// a witness. Where a line's step is not permitted in the world that was reached, the witness ends with that step, so
-/// that `check` names the rule. An error is the trace's first fault; its kind is `OutOfMemory` where memory ran out,
-/// and where more than 40,000,000 steps would be needed.
+/// that `check` names the rule. An error is the trace's first fault; its kind is `OutOfMemory` if memory ran out, and
+/// where more than 40,000,000 steps would be needed.
 pub fn find(alloc: Global, text: &[u8]) -> Result<Vec<u8>, TextFault> {
     let trace = read_trace(alloc, text)?;
     let (added, witness) = search(alloc, &trace)?;

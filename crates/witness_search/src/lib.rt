@@ -6,7 +6,7 @@
 //!
 //! - `finding`: the text of a trace becomes the text of a case
 //! - `search`: one pass over the lines, each with the steps that belong to it
-//! - `deeds`: one step of the world, written down where it was done
+//! - `deeds`: one step of the world, written down if it was done
 //! - `ahead`: what later lines tell of earlier ones: ends of calls, segments that go out
 //! - `chains`: places that stand after one another, for each endpoint
 //! - `copies`: the lines that went out and have no copy yet

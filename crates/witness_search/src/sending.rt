@@ -76,7 +76,7 @@ impl<'t> Search<'t> {
         Ok(())
     }
 
-    // Makes the segment that a line shows; where it may not be made yet, what is missing is done first.
+    // Makes the segment that a line shows; if it may not be made yet, what is missing is done first.
     fn make_shown(&mut self, host: Host, wire: &Wire) -> Result<u32, StepFault> {
         for _ in 0..REMEDIES {
             let plan = plan_of(&self.world, host, wire);

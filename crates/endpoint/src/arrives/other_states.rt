@@ -78,7 +78,7 @@ pub fn admits_connected(
     Ok(())
 }
 
-/// What the endpoint has then, at a moment in microseconds. Where memory runs out, it stays as it was.
+/// What the endpoint has then, at a moment in microseconds. If memory runs out, it stays as it was.
 pub(crate) fn taken(
     header: &Header,
     endpoint: &mut Endpoint,

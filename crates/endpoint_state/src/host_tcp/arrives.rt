@@ -219,7 +219,7 @@ impl HostTcp {
         self.endpoints.add(alloc, child)
     }
 
-    // The endpoint at a place takes a segment, and joins its listener's queue where this acknowledges its SYN.
+    // The endpoint at a place takes a segment, and joins its listener's queue if this acknowledges its SYN.
     fn take_at(
         &mut self,
         header: &Header,

@@ -265,7 +265,7 @@ impl HostTcp {
         }
     }
 
-    /// What this host has once a call got an answer that it may have (RFC 9293, 3.9.1 and 3.10). Where memory runs out
+    /// What this host has once a call got an answer that it may have (RFC 9293, 3.9.1 and 3.10). If memory runs out,
     /// nothing is changed.
     #[tactic(auto, using(crate::proofs::BodyLemmas::body_same))]
     pub(crate) fn do_call(

@@ -10,7 +10,7 @@ fn met(alloc: Global) -> ReceiveBuffer {
     buffer
 }
 
-// Keeps these bytes where they may be kept; the answer is the next position then.
+// Keeps these bytes if they may be kept; the answer is the next position then.
 fn keep(
     buffer: &mut ReceiveBuffer,
     position: u64,

@@ -77,7 +77,7 @@ fn has_own_thread(line: &Line) -> bool {
     }
 }
 
-// What is wrong with these lines, where both hosts tell this shift; `yes` where nothing is.
+// What is wrong with these lines, if both hosts tell this shift; `yes` where nothing is.
 fn judge(lines: &[Line], shift: Option<u8>) -> &'static str {
     if !lines.iter().all(has_own_thread) {
         return "another thread";

@@ -257,8 +257,7 @@ fn scenes_are_explained(rt: HostRuntime) -> Result<(), Fail> {
     Ok(())
 }
 
-// Where memory is refused for a copy its segment goes once, and all else is as it was
-// (`tools/refused_memory/copies.py`).
+// If memory is refused for a copy its segment goes once, and all else is as it was (`tools/refused_memory/copies.py`).
 #[test]
 fn segments_sent_twice_are_explained(rt: HostRuntime) -> Result<(), Fail> {
     assert_eq!(rt; seen(&rt, rt.alloc(), Scene::Twice), "yes");

@@ -78,8 +78,8 @@ pub(crate) fn rto_after_ack(timers: Timers, all_acked: bool, is_new: bool, momen
     timers
 }
 
-// The timeout after a new acknowledgment up to a position, with a sample where one is taken, and longer where the SYN
-// was lost (RFC 6298, 2, 3 and 5.7).
+// The timeout after a new acknowledgment up to a position, with a sample if one is taken, and longer where the SYN was
+// lost (RFC 6298, 2, 3 and 5.7).
 pub(crate) fn timeout_after_ack(
     header: &Header,
     endpoint: &Endpoint,

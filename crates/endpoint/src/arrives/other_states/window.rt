@@ -50,7 +50,7 @@ pub(crate) fn probe_due_after_segment(endpoint: &Endpoint, m: &Arrived<'_>) -> b
     endpoint.probe_due && !opens_window(endpoint, m)
 }
 
-/// A window of 0 arms the persist timer where it is off, another turns it off (RFC 9293, 3.8.6.1).
+/// A window of 0 arms the persist timer if it is off, another turns it off (RFC 9293, 3.8.6.1).
 pub(crate) fn persist_after_window(timers: Timers, window: u16, moment: u64) -> Timers
     ensures { result ≡ persist_after_window timers window moment }
 {
