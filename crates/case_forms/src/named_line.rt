@@ -1,6 +1,6 @@
 //! A line of the trace, as a step of a witness names it.
 
-ghost use Rattle.std.specs.Prelude.{◌≡◌, IfOk};
+ghost use Rattle.std.specs.Prelude.{◌≡◌};
 ghost use Rattle.case_forms.specs.Steps.{extras_count};
 
 use crate::OutOfMemory;

@@ -1,6 +1,6 @@
 //! A line of the trace, as the machine takes it.
 
-ghost use Rattle.std.specs.Prelude.{◌≡◌, IfOk};
+ghost use Rattle.std.specs.Prelude.{◌≡◌};
 ghost use Rattle.case_forms.specs.TakenLines.{expired_by, taken_of, timer_of};
 
 use crate::OutOfMemory;

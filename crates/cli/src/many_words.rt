@@ -1,6 +1,6 @@
 //! The words that ask for many cases, and the number of workers that they name.
 
-ghost use Rattle.std.specs.Prelude.{◌≡◌, false, ℕ, IfOk, MatchOption, OnOk, map};
+ghost use Rattle.std.specs.Prelude.{◌≡◌, false, ℕ, IfOk, MatchOption, map};
 ghost use Rattle.clap.specs.Words.{app_of, rule_of, fault_of, found_of, matches_of, rows_of, FailsBy};
 ghost use Rattle.clap.specs.declared.builder.command.Command.TheViews.{out-Command};
 ghost use Rattle.cli.specs.ManyWords.{workers, many, is_many, is_option, AsksMany};

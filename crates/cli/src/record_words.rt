@@ -1,13 +1,13 @@
 //! The words that ask for a recording, and the numbers that they name.
 
-ghost use Rattle.std.specs.Prelude.{◌≡◌, ◌≤◌, ◌<◌, ◌^◌, false, ℕ, None, Some, IfOk, IfSome, MatchOption, OnOk, OnErr};
-ghost use Rattle.std.specs.Prelude.{length, map, option_map};
+ghost use Rattle.std.specs.Prelude.{◌≡◌, ◌<◌, false, ℕ, None, Some, IfOk, IfSome, MatchOption};
+ghost use Rattle.std.specs.Prelude.{length, map};
 ghost use Rattle.clap.specs.Words.{app_of, rule_of, fault_of, found_of, matches_of, rows_of, FailsBy};
 ghost use Rattle.clap.specs.declared.builder.command.Command.TheViews.{out-Command};
 ghost use Rattle.two_hosts.specs.declared.plan.Plan.{Plan};
-ghost use Rattle.cli.specs.RecordReading.{app, rule, first_option, joined, listed, named, number_of, telling, AsksPlan};
+ghost use Rattle.cli.specs.RecordReading.{app, rule, first_option, joined, named, number_of, telling, AsksPlan};
 ghost use Rattle.cli.specs.RecordReading.{AsksRest};
-ghost use Rattle.cli.specs.RecordWords.{most, name_of, AsksRecord, TellsNumber};
+ghost use Rattle.cli.specs.RecordWords.{name_of, AsksRecord, TellsNumber};
 
 use case_forms::{OutOfMemory, Version};
 use clap::error::ErrorKind;

@@ -1,6 +1,6 @@
 //! What a case has come to: the two hosts, where threads are in their calls, and how many steps were done.
 
-ghost use Rattle.std.specs.Prelude.{◌≡◌, ◌<◌, ◌≤◌, ◌+◌, ◌^◌, suc, nat_eq, None, OnOk, OnErr};
+ghost use Rattle.std.specs.Prelude.{◌≡◌, ◌<◌, ◌≤◌, ◌+◌, nat_eq, OnOk, OnErr};
 ghost use Rattle.std.specs.Map.{lookup};
 ghost use Rattle.std.specs.Option.{option_copied};
 ghost use Rattle.std.specs.Result.{result_err};
@@ -16,7 +16,6 @@ ghost use Rattle.endpoint_state.specs.Kept.{IsKeptWorld};
 ghost use Rattle.endpoint_state.specs.Kinds.{expiry_of};
 ghost use Rattle.endpoint_state.specs.Turns.{pending_call};
 ghost use Rattle.endpoint_state.specs.Worlds.{after, brought, start};
-ghost use Rattle.endpoint_state.specs.Sides.{AreReady};
 
 use crate::fault::StepFault;
 use crate::host;

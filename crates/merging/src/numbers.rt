@@ -1,7 +1,6 @@
 //! Lines and made segments of two hosts, counted anew.
 
-ghost use Rattle.std.specs.Prelude.{◌≡◌, ◌<◌, ◌≤◌, ◌+◌, IfOk, OnOk, OnErr};
-ghost use Rattle.spec_network.specs.Tables.{pick};
+ghost use Rattle.std.specs.Prelude.{◌≡◌, ◌<◌, ◌≤◌, ◌+◌, IfOk, OnOk};
 ghost use Rattle.stack_core.specs.Entries.{steps_in};
 ghost use Rattle.merging.specs.Numbers.{IsSmall, counted, counted_one, makes_segment, no_counts, no_turns, number_in};
 ghost use Rattle.merging.specs.Numbers.{takes_line, with_turn};

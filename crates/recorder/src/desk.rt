@@ -8,9 +8,7 @@ ghost use Rattle.case_forms.specs.declared.calls.Host.{Host};
 ghost use Rattle.spec_network.specs.Tables.{lane};
 ghost use Rattle.spec_tcp.specs.Machine.{aim};
 ghost use Rattle.spec_merge.specs.Books.{Aims};
-ghost use Rattle.spec_merge.specs.Keys.{before};
 ghost use Rattle.stack_core.specs.Cores.{IsAfter, IsCallWithin};
-ghost use Rattle.stack_core.specs.Keys.{key_of, key_shown};
 ghost use Rattle.recorder.specs.Seats.{IsReserved, WhyNoSeat};
 ghost use Rattle.recorder.specs.Ticks.{IsOver, tick_after};
 

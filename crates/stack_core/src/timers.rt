@@ -13,7 +13,7 @@ ghost use Rattle.stack_core.specs.TimerEvents.{HasTried, IfGivesUp, IsDueAt, IsN
 ghost use Rattle.stack_core.specs.TimerEvents.{NoneDueAt};
 ghost use Rattle.stack_core.specs.Tended.{AreTimed, IsDueSince, IsSlow, IsStill, IsStillBefore, kept_ends, least};
 
-use crate::deadline_queue::{Affected, Deadline, DeadlineQueue};
+use crate::deadline_queue::{Deadline, DeadlineQueue};
 use crate::greatest::at_timeout;
 use crate::host_core::HostCore;
 use crate::recording::Recording;

@@ -1,6 +1,6 @@
 //! Reading the bytes in front of a queue of cells, up to the first place that has none.
 
-ghost use Rattle.std.specs.Prelude.{◌≡◌, ◌++◌, ◌+◌, ◌≤◌, length, slice_get, take};
+ghost use Rattle.std.specs.Prelude.{◌≡◌, ◌++◌, ◌+◌, ◌≤◌, slice_get, take};
 ghost use Rattle.std.specs.Vec.{vec_capacity, vec_len};
 ghost use Rattle.streams.specs.Cells.{byte_of, leading};
 ghost use Rattle.streams.specs.Received.{starts};

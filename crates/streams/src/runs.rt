@@ -2,10 +2,9 @@
 //!
 //! A segment makes one run, however long it is, so that a queue is as long as there are segments in flight.
 
-ghost use Rattle.std.specs.Prelude.{◌≡◌, ◌+◌, ◌-◌, ◌<◌, ◌≤◌, ◌++◌, ◌∷◌, drop, length, replicate, slice_get, take};
-ghost use Rattle.std.specs.Option.{option_map};
+ghost use Rattle.std.specs.Prelude.{◌≡◌, ◌+◌, ◌-◌, ◌<◌, ◌≤◌, ◌++◌, drop, length, replicate};
 ghost use Rattle.std.specs.VecDeque.{deque_capacity, deque_len};
-ghost use Rattle.streams.specs.Transmissions.{any_again, made_moment, mark, once, remade};
+ghost use Rattle.streams.specs.Transmissions.{made_moment, once};
 ghost use Rattle.streams.specs.Views.{expand};
 
 use std::collections::VecDeque;

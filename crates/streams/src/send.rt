@@ -3,7 +3,7 @@
 //! The buffer keeps the bytes from the oldest on that may be made again. Bytes that were discarded show as 0.
 //! `specs/Sent` says what each call does.
 
-ghost use Rattle.std.specs.Prelude.{◌≡◌, ℕ, ◌+◌, ◌≤◌, ◌<◌, ◌^◌, List, [], ◌++◌, OnOk, OnErr, IfOk, length, take, drop};
+ghost use Rattle.std.specs.Prelude.{◌≡◌, ℕ, ◌+◌, ◌<◌, ◌^◌, List, [], ◌++◌, OnOk, OnErr, IfOk, length, take, drop};
 ghost use Rattle.streams.specs.Sent.{end_of, piece};
 ghost use Rattle.streams.specs.Forgetting.{below};
 

@@ -1,6 +1,5 @@
 //! Events and event lines.
 
-ghost use Rattle.std.specs.Prelude.{◌≡◌};
 ghost use Rattle.line_fields.specs.Reading.{Gives};
 ghost use Rattle.line_fields.specs.Choice.{kind_field};
 ghost use Rattle.trace_reader.specs.Events.{letter_name, all_letters};

@@ -1,6 +1,5 @@
 //! The parts of labels: what the fields after a label's first word are made of.
 
-ghost use Rattle.std.specs.Prelude.{◌≡◌};
 ghost use Rattle.line_fields.specs.Reading.{Gives};
 ghost use Rattle.witness.specs.Parts.{endpoint_field, entry_field, bit_field, extras_field, start_field};
 

@@ -2,11 +2,9 @@
 
 use crate::search::{Added, Search};
 use bstr::ByteSlice;
-use case_forms::{Event, Line, OutOfMemory, Span, Trace, Witness};
+use case_forms::{Line, OutOfMemory, Trace, Witness};
 use endpoint_state::StepFault;
-use line_fields::{
-    FaultKind, TextFault, push_end, push_host, push_number, push_space, push_word, timer_name,
-};
+use line_fields::{TextFault, push_end, push_host, push_number, push_space, push_word, timer_name};
 use std::alloc::{AllocError, Global};
 use trace_reader::read_trace;
 use witness::print_witness;

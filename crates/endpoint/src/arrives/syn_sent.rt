@@ -153,8 +153,11 @@ fn snd_una_after_syn(endpoint: &Endpoint, m: &Arrived<'_>) -> u64
 }
 
 fn window_after_syn(endpoint: &Endpoint, m: &Arrived<'_>) -> SendWindow
-    ensures { result ≡ record endpoint.now.window { snd_wnd = m.now.window; snd_wl1 = m.now.pos;
-        snd_wl2 = if m.now.flags.ack then 1 else 0 } }
+    ensures { result ≡ record endpoint.now.window {
+      snd_wnd = m.now.window;
+      snd_wl1 = m.now.pos;
+      snd_wl2 = if m.now.flags.ack then 1 else 0;
+    } }
 {
     let mut window = endpoint.window;
     window.snd_wnd = u32::from(m.window());

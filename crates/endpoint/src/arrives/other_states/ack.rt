@@ -10,7 +10,7 @@ ghost use Rattle.std.specs.Prelude.{◌≡◌, ◌||◌, not, ◌<◌, ◌+◌, 
 ghost use Rattle.streams.specs.Transmissions.{retransmitted};
 
 use crate::arrives::other_states::window::takes_window;
-use case_forms::{State, TakeChoice};
+use case_forms::State;
 use spec_tcp::{Arrived, Endpoint};
 
 /// Whether the segment acknowledges nothing, or what was not made. In SYN-RECEIVED it has to acknowledge the SYN.
