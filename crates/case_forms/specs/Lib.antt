@@ -1,3 +1,4 @@
+pub mod Hosts
 pub mod States
 pub mod Versions
 pub mod Traces

@@ -29,8 +29,7 @@ timer_of expired.Msl2 = Msl2
 timer_of expired.Giveup = Giveup
 
 -- a segment's line has the number that it was made under, or the line that it copies; a call's nothing, nor that of a
--- segment
--- which is heard of a host that is not recorded
+-- segment which is heard of a host that is not recorded
 abbrev pub event_taken : (line thread : ℕ) → Event → Extras → Option TakenLine
 event_taken line thread (CallBegin call) Bare = Some (taken.CallBegin line thread call)
 event_taken line thread (CallEnd answer) Bare = Some (taken.CallEnd line thread answer)

@@ -1,6 +1,7 @@
 //! Socket calls and their answers.
 
 ghost use Rattle.std.specs.Prelude.{◌≡◌, IfOk};
+ghost use Rattle.case_forms.specs.Hosts.{other};
 ghost use Rattle.case_forms.specs.States.{is_closed, is_fin_wait_2, is_syn_received, is_syn_sent, is_time_wait};
 
 use crate::OutOfMemory;
@@ -13,6 +14,18 @@ pub enum Host {
     Zero,
     /// Host 1.
     One,
+}
+
+impl Host {
+    /// The other of the two hosts.
+    pub fn other(self) -> Host
+        ensures { result ≡ other self }
+    {
+        match self {
+            Host::Zero => Host::One,
+            Host::One => Host::Zero,
+        }
+    }
 }
 
 /// The ports of an endpoint.

@@ -1,6 +1,6 @@
 //! A line of the trace, as a step of a witness names it.
 
-ghost use Rattle.std.specs.Prelude.{◌≡◌, IfOk};
+ghost use Rattle.std.specs.Prelude.{◌≡◌};
 ghost use Rattle.case_forms.specs.Steps.{extras_count};
 
 use crate::OutOfMemory;
@@ -31,8 +31,7 @@ impl Extras {
 }
 
 /// `n [x [y]]`: the line that a step takes, by its number. Any line may be named with none, one or two numbers more;
-/// which of
-/// them a line of its kind has is told by `TakenLine`.
+/// which of them a line of its kind has is given by `TakenLine`.
 #[derive(Clone, Copy)]
 pub struct NamedLine {
     /// Its number among all lines of the trace, the header's too.

@@ -54,8 +54,7 @@ pub struct TakeChoice {
 }
 
 /// What a step does. `Taken` says how a step names the line that it takes: by its number in a witness (`NamedLine`),
-/// and by
-/// what the line tells for the machine (`TakenLine`).
+/// and by what the line tells for the machine (`TakenLine`).
 #[derive(Drop)]
 pub enum Label<Taken> {
     /// `L n [x [y]]`: take a line of the trace.
@@ -184,7 +183,7 @@ impl Steps {
         }
     }
 
-    /// One more step at the end. Where memory runs out the steps are as they were.
+    /// One more step at the end. If memory runs out, the steps are as they were.
     pub fn push(&mut self, step: Step) -> Result<(), OutOfMemory>
         ensures ok { OnOk result (self.new ≡ self.old ++ step ∷ []) }
         ensures err { OnErr result (self.new ≡ self.old) }

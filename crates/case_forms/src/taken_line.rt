@@ -1,6 +1,6 @@
 //! A line of the trace, as the machine takes it.
 
-ghost use Rattle.std.specs.Prelude.{◌≡◌, IfOk};
+ghost use Rattle.std.specs.Prelude.{◌≡◌};
 ghost use Rattle.case_forms.specs.TakenLines.{expired_by, taken_of, timer_of};
 
 use crate::OutOfMemory;
@@ -35,8 +35,7 @@ impl Expired {
 }
 
 /// What a line tells that a step takes, with what the step adds to a line of its kind. `line` is its number among all
-/// lines
-/// of the trace, the header's too.
+/// lines of the trace, the header's too.
 #[derive(Drop)]
 pub enum TakenLine {
     /// The thread begins a call.
@@ -157,8 +156,7 @@ fn expired_by(timer: Timer, extras: Extras) -> Option<Expired>
 
 impl Line {
     /// The line as the machine takes it, where a step adds these numbers; None where a line of its kind has another
-    /// count of
-    /// them.
+    /// count of them.
     pub fn taken(self, extras: Extras) -> Option<TakenLine>
         ensures { result ≡ taken_of extras self }
     {

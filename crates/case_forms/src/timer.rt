@@ -1,4 +1,4 @@
-//! The timers of an endpoint, and what is chosen where one expires or fast recovery begins.
+//! The timers of an endpoint, and what is chosen if one expires or fast recovery begins.
 
 /// What may expire at an endpoint.
 #[derive(Clone, Copy)]
@@ -29,8 +29,7 @@ pub struct RtoChoice {
 }
 
 /// Fast recovery of the endpoint of these ports, with the congestion window and the slow start threshold that are
-/// chosen, both
-/// in bytes (RFC 5681, 3.2).
+/// chosen, both in bytes (RFC 5681, 3.2).
 #[derive(Clone, Copy)]
 pub struct Recovery {
     pub lport: u16,

@@ -39,7 +39,7 @@ pub struct Header {
 }
 
 impl Header {
-    /// The number of the first event line, which stands behind the lines of the header.
+    /// The number of the first event line, which stands after the lines of the header.
     pub fn first_event_line(&self) -> u64
         ensures { result ≡ first_event_line self.now }
     {
@@ -48,8 +48,7 @@ impl Header {
 }
 
 /// A segment as it was seen: its bytes, at most 65515, and what `segment::decode` gives of them. No wire has another
-/// segment
-/// than the one that its bytes stand for: whoever makes one has to show it, and `is_segment` says it.
+/// segment than the one that its bytes stand for: whoever makes one has to show it, and `is_segment` says it.
 #[derive(Drop)]
 pub struct Wire {
     pub bytes: Bytes,
@@ -174,7 +173,7 @@ impl Lines {
         }
     }
 
-    /// One more line at the end. Where memory runs out the lines are as they were.
+    /// One more line at the end. If memory runs out, the lines are as they were.
     pub fn push(&mut self, line: Line) -> Result<(), OutOfMemory>
         ensures ok { OnOk result (self.new ≡ self.old ++ line ∷ []) }
         ensures err { OnErr result (self.new ≡ self.old) }

@@ -15,7 +15,7 @@ pub enum Version {
 }
 
 impl Version {
-    /// The number of the first event line of a trace, which stands behind the lines of the header.
+    /// The number of the first event line of a trace, which stands after the lines of the header.
     pub fn first_event_line(self) -> u64
         ensures { result ≡ first_line_of self }
     {

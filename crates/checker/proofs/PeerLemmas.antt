@@ -33,7 +33,7 @@ use Rattle.spec_tcp.specs.declared.endpoint.Emission.{Emission}
 use Rattle.spec_tcp.specs.declared.endpoint.SocketTarget.{SocketTarget}
 use Rattle.spec_tcp.specs.declared.endpoint.SocketTarget.TheVariants.{ListenerAt, EndpointAt}
 use Rattle.spec_tcp.specs.Endpoints.{new_endpoint}
-use Rattle.spec_tcp.specs.Bodies.{Body, place_of, at_ports, with_endpoint, thing_of, queue_of, dead}
+use Rattle.spec_tcp.specs.HostTcp.{HostTcp, place_of, at_ports, with_endpoint, thing_of, queue_of, dead}
 use Rattle.case_forms.specs.States.{is_syn_sent}
 use Rattle.spec_tcp.specs.Calls.Send.{after_send}
 use Rattle.spec_tcp.specs.Calls.Receive.{after_recv}
@@ -96,8 +96,8 @@ moves_push w step host es e new = record {
 }
 
 -- the endpoint of some ports changes, but not in its streams
-moves_at_ports : (w : World tcp_shape) (step : Step tcp_shape) (host : Host) (b : Body) (lport rport : ℕ) (f : Endpoint → Endpoint) → ((e : Endpoint) → (f e).stream ≡ e.stream) → Moves w step host b.endpoints (at_ports b lport rport f).endpoints
-moves_at_ports w step host b lport rport f same = map_or_cases (λ (x : Body). Moves w step host b.endpoints x.endpoints) (place_of b lport rport) b (λ i. with_endpoint b i f)
+moves_at_ports : (w : World tcp_shape) (step : Step tcp_shape) (host : Host) (b : HostTcp) (lport rport : ℕ) (f : Endpoint → Endpoint) → ((e : Endpoint) → (f e).stream ≡ e.stream) → Moves w step host b.endpoints (at_ports b lport rport f).endpoints
+moves_at_ports w step host b lport rport f same = map_or_cases (λ (x : HostTcp). Moves w step host b.endpoints x.endpoints) (place_of b lport rport) b (λ i. with_endpoint b i f)
     (λ e. moves_not w step host b.endpoints) (λ i at. moves_one w step host b.endpoints i f (λ e there. inl (ap (λ (s : Stream). s.peer) (same e))))
 
 -- 1. what hosts do
@@ -160,7 +160,7 @@ moves_taking : (h : Header) (s : ℕ) (w : World tcp_shape) (host : Host) (line 
     → Moves w (At host (Takes line how)) host (pick w.hosts host).body.endpoints (after_taking h (pick w.hosts host).body how m s (taker (pick w.hosts host).body m)).endpoints
 moves_taking h s w host line how m steady waits may = go (taker (pick w.hosts host).body m) refl may
   where
-    b : Body
+    b : HostTcp
     b = (pick w.hosts host).body
 
     go : (t : Taker) → taker b m ≡ t → first_broken (taker_rules h host b how m s t) ≡ None
@@ -189,36 +189,36 @@ moves_deed h s w host (Sends line number wire) steady may = moves_not w (At host
 moves_deed h s w host (Gets line copied wire) steady may = moves_not w (At host (Gets line copied wire)) host (pick w.hosts host).body.endpoints
 moves_deed h s w host (Hears line wire) steady may = moves_not w (At host (Hears line wire)) host (pick w.hosts host).body.endpoints
 moves_deed h s w host (Takes line how) steady may = let k = pick w.hosts host in let step : Step tcp_shape = At host (Takes line how) in
-    on_cases (λ (b : Body). Moves w step host k.body.endpoints b.endpoints) (waiting line k.inbox) k.body _ (moves_not w step host k.body.endpoints)
+    on_cases (λ (b : HostTcp). Moves w step host k.body.endpoints b.endpoints) (waiting line k.inbox) k.body _ (moves_not w step host k.body.endpoints)
     (λ m e.
     let t = on_passes (waiting line k.inbox) rules.Inbox (λ x. taker_rules h host k.body how x s (taker k.body x)) may in
     let one : t.0 ≡ m = same_Some t.0 m (sym t.1 ∙ e) in
     moves_taking h s w host line how m steady e (subst (λ (x : Emission). first_broken (taker_rules h host k.body how x s (taker k.body x)) ≡ None) one t.2))
 moves_deed h s w host (Drops line) steady may = moves_not w (At host (Drops line)) host (pick w.hosts host).body.endpoints
 moves_deed h s w host (Answers line) steady may = let k = pick w.hosts host in let step : Step tcp_shape = At host (Answers line) in
-    on_cases (λ (b : Body). Moves w step host k.body.endpoints b.endpoints) (waiting line k.inbox) k.body _ (moves_not w step host k.body.endpoints) (λ m e. moves_not w step host k.body.endpoints)
+    on_cases (λ (b : HostTcp). Moves w step host k.body.endpoints b.endpoints) (waiting line k.inbox) k.body _ (moves_not w step host k.body.endpoints) (λ m e. moves_not w step host k.body.endpoints)
 
 -- 2. calls
 
-moves_same : (w : World tcp_shape) (step : Step tcp_shape) (host : Host) (b : Body) (i : ℕ) (f : Endpoint → Endpoint) → ((e : Endpoint) → (f e).stream.peer ≡ e.stream.peer) → Moves w step host b.endpoints (with_endpoint b i f).endpoints
+moves_same : (w : World tcp_shape) (step : Step tcp_shape) (host : Host) (b : HostTcp) (i : ℕ) (f : Endpoint → Endpoint) → ((e : Endpoint) → (f e).stream.peer ≡ e.stream.peer) → Moves w step host b.endpoints (with_endpoint b i f).endpoints
 moves_same w step host b i f same = moves_one w step host b.endpoints i f (λ e at. inl (same e))
 
-moves_change : (w : World tcp_shape) (step : Step tcp_shape) (host : Host) (b : Body) (n : ℕ) (f : Endpoint → Endpoint) → ((e : Endpoint) → (f e).stream.peer ≡ e.stream.peer) → Moves w step host b.endpoints (option_map_or (change_thing b f) (thing_of b n) b).endpoints
-moves_change w step host b n f same = map_or_cases (λ (x : Body). Moves w step host b.endpoints x.endpoints) (thing_of b n) b (change_thing b f) (λ e. moves_not w step host b.endpoints) (λ thing e. go thing)
+moves_change : (w : World tcp_shape) (step : Step tcp_shape) (host : Host) (b : HostTcp) (n : ℕ) (f : Endpoint → Endpoint) → ((e : Endpoint) → (f e).stream.peer ≡ e.stream.peer) → Moves w step host b.endpoints (option_map_or (change_thing b f) (thing_of b n) b).endpoints
+moves_change w step host b n f same = map_or_cases (λ (x : HostTcp). Moves w step host b.endpoints x.endpoints) (thing_of b n) b (change_thing b f) (λ e. moves_not w step host b.endpoints) (λ thing e. go thing)
   where
     go : (thing : SocketTarget) → Moves w step host b.endpoints (change_thing b f thing).endpoints
     go (ListenerAt l) = moves_not w step host b.endpoints
     go (EndpointAt i) = moves_same w step host b i f same
 
-moves_gone : (w : World tcp_shape) (step : Step tcp_shape) (host : Host) (b : Body) (n : ℕ) (f : Endpoint → Endpoint) → ((e : Endpoint) → (f e).stream.peer ≡ e.stream.peer)
+moves_gone : (w : World tcp_shape) (step : Step tcp_shape) (host : Host) (b : HostTcp) (n : ℕ) (f : Endpoint → Endpoint) → ((e : Endpoint) → (f e).stream.peer ≡ e.stream.peer)
     → Moves w step host b.endpoints (option_map_or (λ thing. record (thing_gone b thing f) { sockets = dead b.sockets n }) (thing_of b n) b).endpoints
-moves_gone w step host b n f same = map_or_cases (λ (x : Body). Moves w step host b.endpoints x.endpoints) (thing_of b n) b (λ thing. record (thing_gone b thing f) { sockets = dead b.sockets n }) (λ e. moves_not w step host b.endpoints) (λ thing e. go thing)
+moves_gone w step host b n f same = map_or_cases (λ (x : HostTcp). Moves w step host b.endpoints x.endpoints) (thing_of b n) b (λ thing. record (thing_gone b thing f) { sockets = dead b.sockets n }) (λ e. moves_not w step host b.endpoints) (λ thing e. go thing)
   where
     go : (thing : SocketTarget) → Moves w step host b.endpoints (thing_gone b thing f).endpoints
     go (ListenerAt l) = moves_map w step host b.endpoints (orphaned l) (λ e. either_stream (option_map_or (λ holder. holder == l) e.listener false) (after_abort e) e e.stream refl refl)
     go (EndpointAt i) = moves_same w step host b i f same
 
-moves_accept : (w : World tcp_shape) (step : Step tcp_shape) (host : Host) (b : Body) (n : ℕ) (thing : SocketTarget) → Moves w step host b.endpoints (after_accept b n thing).endpoints
+moves_accept : (w : World tcp_shape) (step : Step tcp_shape) (host : Host) (b : HostTcp) (n : ℕ) (thing : SocketTarget) → Moves w step host b.endpoints (after_accept b n thing).endpoints
 moves_accept w step host b n (EndpointAt i) = moves_not w step host b.endpoints
 moves_accept w step host b n (ListenerAt l) = go (queue_of b l)
   where
@@ -226,13 +226,13 @@ moves_accept w step host b n (ListenerAt l) = go (queue_of b l)
     go [] = moves_not w step host b.endpoints
     go (c ∷ queue) = moves_same w step host b c (λ e. record e { listener = None }) (λ e. refl)
 
-moves_call : (p : Profile) (w : World tcp_shape) (step : Step tcp_shape) (host : Host) (b : Body) (call : Call) (answer : Answer)
+moves_call : (p : Profile) (w : World tcp_shape) (step : Step tcp_shape) (host : Host) (b : HostTcp) (call : Call) (answer : Answer)
     → Moves w step host b.endpoints (after_call p b call answer).endpoints
 moves_call p w step host b (calls.Listen at port backlog) (answers.Given n) = moves_not w step host b.endpoints
 moves_call p w step host b (calls.Connect at lport rport) (answers.Given n) =
     moves_push w step host b.endpoints (new_endpoint lport rport None states.SynSent p) (λ j. inl refl)
 moves_call p w step host b (calls.Accept h) (answers.Given n) =
-    map_or_cases (λ (x : Body). Moves w step host b.endpoints x.endpoints) (thing_of b h) b (after_accept b n) (λ e. moves_not w step host b.endpoints) (λ thing e. moves_accept w step host b n thing)
+    map_or_cases (λ (x : HostTcp). Moves w step host b.endpoints x.endpoints) (thing_of b h) b (after_accept b n) (λ e. moves_not w step host b.endpoints) (λ thing e. moves_accept w step host b n thing)
 moves_call p w step host b (calls.Send h bytes) (answers.Given n) = moves_change w step host b h (after_send bytes n) (λ e. refl)
 moves_call p w step host b (calls.Recv h most) (answers.Bytes bytes) = moves_change w step host b h (after_recv bytes) (λ e. refl)
 moves_call p w step host b (calls.Shut h) answers.Done = moves_change w step host b h after_shut (λ e. refl)

@@ -37,7 +37,7 @@ use Rattle.spec_tcp.specs.declared.endpoint.Socket.{Socket}
 use Rattle.spec_tcp.specs.declared.endpoint.SocketTarget.{SocketTarget}
 use Rattle.spec_tcp.specs.declared.endpoint.SocketTarget.TheVariants.{ListenerAt, EndpointAt}
 use Rattle.spec_tcp.specs.Endpoints.{new_endpoint}
-use Rattle.spec_tcp.specs.Bodies.{Body, has_ports, last_from, place_of, at_ports, listens_on, listener_on, with_endpoint, with_socket, thing_of, if_live, queue_of, dead}
+use Rattle.spec_tcp.specs.HostTcp.{HostTcp, has_ports, last_from, place_of, at_ports, listens_on, listener_on, with_endpoint, with_socket, thing_of, if_live, queue_of, dead}
 use Rattle.spec_tcp.specs.Calls.Send.{after_send}
 use Rattle.spec_tcp.specs.Calls.Receive.{after_recv}
 use Rattle.spec_tcp.specs.Calls.Close.{shut_down, after_shut, after_close, after_abort, orphaned, thing_gone, after_gone, without_listener}
@@ -81,7 +81,7 @@ last_has {X} test place found (x ∷ xs) P old new i e = last_has test (suc plac
     first false is k e = old k e
 
 -- the endpoint of ports has them
-pub place_ports : (b : Body) (lport rport i : ℕ) (e : Endpoint) → place_of b lport rport ≡ Some i → slice_get b.endpoints i ≡ Some e → (e.lport ≡ lport) × (e.rport ≡ rport)
+pub place_ports : (b : HostTcp) (lport rport i : ℕ) (e : Endpoint) → place_of b lport rport ≡ Some i → slice_get b.endpoints i ≡ Some e → (e.lport ≡ lport) × (e.rport ≡ rport)
 place_ports b lport rport i e at there = last_has (has_ports lport rport) 0 None b.endpoints (λ k. (y : Endpoint) → slice_get b.endpoints k ≡ Some y → (y.lport ≡ lport) × (y.rport ≡ rport))
     (λ k no. absurd (none-some k no)) (λ j k x sum here is y same. found j k x sum here (both_true (x.lport == lport) (x.rport == rport) is) y same) i at e there
   where
@@ -92,7 +92,7 @@ place_ports b lport rport i e at there = last_has (has_ports lport rport) 0 None
         (subst (λ (z : Endpoint). z.lport ≡ lport) one (number_same x.lport lport is.0), subst (λ (z : Endpoint). z.rport ≡ rport) one (number_same x.rport rport is.1))
 
 -- the listener on a port has it
-listener_port : (b : Body) (port l : ℕ) → listener_on b port ≡ Some l → port_at b.listeners l ≡ Some port
+listener_port : (b : HostTcp) (port l : ℕ) → listener_on b port ≡ Some l → port_at b.listeners l ≡ Some port
 listener_port b port l at = last_has (listens_on port) 0 None b.listeners (λ k. port_at b.listeners k ≡ Some port)
     (λ k no. absurd (none-some k no)) (λ j k x sum here is. found j k x sum here (both_true x.is_open (x.port == port) is).1) l at
   where
@@ -111,7 +111,7 @@ at_listener None l x = cc
 at_listener (Some k) l x = let same : k ≡ l = cc in ap (λ n. Some n) same
 
 -- whom a segment finds has its ports, turned round
-pub taker_place : (b : Body) (m : Emission) (i : ℕ) (e : Endpoint) → taker b m ≡ AtEndpoint i e → place_of b m.rport m.lport ≡ Some i
+pub taker_place : (b : HostTcp) (m : Emission) (i : ℕ) (e : Endpoint) → taker b m ≡ AtEndpoint i e → place_of b m.rport m.lport ≡ Some i
 taker_place b m i e x = go (place_of b m.rport m.lport) x
   where
     by : (j : ℕ) (f : Endpoint) (c : Bool) → (if c then listener_taker b m else AtEndpoint j f) ≡ AtEndpoint i e → Some j ≡ Some i
@@ -126,7 +126,7 @@ taker_place b m i e x = go (place_of b m.rport m.lport) x
     go None x = absurd (no_listener (listener_on b m.rport) i e x)
     go (Some j) x = inner j (slice_get b.endpoints j) x
 
-taker_listener : (b : Body) (m : Emission) (l : ℕ) → taker b m ≡ AtListener l → listener_on b m.rport ≡ Some l
+taker_listener : (b : HostTcp) (m : Emission) (l : ℕ) → taker b m ≡ AtListener l → listener_on b m.rport ≡ Some l
 taker_listener b m l x = go (place_of b m.rport m.lport) x
   where
     by : (j : ℕ) (f : Endpoint) (c : Bool) → (if c then listener_taker b m else AtEndpoint j f) ≡ AtListener l → listener_on b m.rport ≡ Some l
@@ -182,26 +182,26 @@ plain_end : (e f : Endpoint) → f.lport ≡ e.lport → f.rport ≡ e.rport →
 plain_end e f l r same = record { lport = l; rport = r; listener = λ k is. sym same ∙ is }
 
 -- a new endpoint has its listener's port, and its peer the same ports turned round, at the other host
-pub record Born (a : Hosts) (x : Host) (c : Body) (f : Endpoint) : Type 0 where
+pub record Born (a : Hosts) (x : Host) (c : HostTcp) (f : Endpoint) : Type 0 where
   pub listener : (l : ℕ) → f.listener ≡ Some l → port_at c.listeners l ≡ Some f.lport
   pub peer : (q : EndpointId) → f.stream.peer ≡ Some q → (q.host ≡ other x) × HasAt a q f.rport f.lport
 
 -- what a socket number names has the ports of the call that gave it
-abbrev pub Names : List CallDone → Host → Body → ℕ → SocketTarget → Type 0
+abbrev pub Names : List CallDone → Host → HostTcp → ℕ → SocketTarget → Type 0
 Names all x c n (EndpointAt i) = (e : Endpoint) × (slice_get c.endpoints i ≡ Some e) × HasPorts all x e.lport e.rport n
 Names all x c n (ListenerAt l) = (port : ℕ) × (backlog : ℕ) × (port_at c.listeners l ≡ Some port) × Stands all (calls.Listen x port backlog) (answers.Given n)
 
 -- what a host has after an act
-pub record Moved (all : List CallDone) (a : Hosts) (x : Host) (b c : Body) : Type 0 where
+pub record Moved (all : List CallDone) (a : Hosts) (x : Host) (b c : HostTcp) : Type 0 where
   pub ends : (i : ℕ) (e : Endpoint) → slice_get b.endpoints i ≡ Some e → (f : Endpoint) × (slice_get c.endpoints i ≡ Some f) × SameEnd e f
   pub born : (i : ℕ) (f : Endpoint) → slice_get c.endpoints i ≡ Some f → ((e : Endpoint) × (slice_get b.endpoints i ≡ Some e)) ⊎ Born a x c f
   pub listeners : (l port : ℕ) → port_at b.listeners l ≡ Some port → port_at c.listeners l ≡ Some port
   pub sockets : (n : ℕ) (s : Socket) → lookup (nat_eq n) c.sockets ≡ Some s → ((t : Socket) × (lookup (nat_eq n) b.sockets ≡ Some t) × (t.thing ≡ s.thing)) ⊎ Names all x c n s.thing
 
-moved_not : (all : List CallDone) (a : Hosts) (x : Host) (b : Body) → Moved all a x b b
+moved_not : (all : List CallDone) (a : Hosts) (x : Host) (b : HostTcp) → Moved all a x b b
 moved_not all a x b = record { ends = λ i e at. (e, at, same_end e); born = λ i f at. inl (f, at); listeners = λ l port e. e; sockets = λ n s e. inl (s, e, refl) }
 
-moved_one : (all : List CallDone) (a : Hosts) (x : Host) (b : Body) (i : ℕ) (f : Endpoint → Endpoint) → ((e : Endpoint) → SameEnd e (f e)) → Moved all a x b (with_endpoint b i f)
+moved_one : (all : List CallDone) (a : Hosts) (x : Host) (b : HostTcp) (i : ℕ) (f : Endpoint → Endpoint) → ((e : Endpoint) → SameEnd e (f e)) → Moved all a x b (with_endpoint b i f)
 moved_one all a x b i f new = record {
   ends = modify_each (λ j. SameEnd) f b.endpoints i (λ j e at n. same_end e) (λ e at. new e);
   born = all_modify (λ j y. ((e : Endpoint) × (slice_get b.endpoints j ≡ Some e)) ⊎ Born a x (with_endpoint b i f) y) f b.endpoints i (λ j e at. inl (e, at)) (λ e at. inl (e, at));
@@ -209,8 +209,8 @@ moved_one all a x b i f new = record {
   sockets = λ n s e. inl (s, e, refl);
 }
 
-moved_at_ports : (all : List CallDone) (a : Hosts) (x : Host) (b : Body) (lport rport : ℕ) (f : Endpoint → Endpoint) → ((e : Endpoint) → SameEnd e (f e)) → Moved all a x b (at_ports b lport rport f)
-moved_at_ports all a x b lport rport f new = map_or_cases (λ (c : Body). Moved all a x b c) (place_of b lport rport) b (λ i. with_endpoint b i f) (λ e. moved_not all a x b) (λ i at. moved_one all a x b i f new)
+moved_at_ports : (all : List CallDone) (a : Hosts) (x : Host) (b : HostTcp) (lport rport : ℕ) (f : Endpoint → Endpoint) → ((e : Endpoint) → SameEnd e (f e)) → Moved all a x b (at_ports b lport rport f)
+moved_at_ports all a x b lport rport f new = map_or_cases (λ (c : HostTcp). Moved all a x b c) (place_of b lport rport) b (λ i. with_endpoint b i f) (λ e. moved_not all a x b) (λ i at. moved_one all a x b i f new)
 
 -- 4. what hosts do
 
@@ -229,7 +229,7 @@ taken_end h e how r s =
     (either_end (is_syn_sent e.state) e (on_syn h e how r s) (segment_taken h e how r s) (plain_end e _ refl refl refl) (plain_end e _ refl refl refl))
 
 -- a child that joins its listener's queue leaves the ports of listeners
-joined_ports : (b : Body) (i : ℕ) (e : Endpoint) (m : Emission) (j : ℕ) → port_at (joined b i e m) j ≡ port_at b.listeners j
+joined_ports : (b : HostTcp) (i : ℕ) (e : Endpoint) (m : Emission) (j : ℕ) → port_at (joined b i e m) j ≡ port_at b.listeners j
 joined_ports b i e m j = go (is_syn_received e.state && acknowledges_syn e m) e.listener
   where
     go : (c : Bool) (o : Option ℕ) → port_at (if c then option_map_or (λ l. modify b.listeners l (λ x. record x { queue = x.queue ++ i ∷ [] })) o b.listeners else b.listeners) j ≡ port_at b.listeners j
@@ -237,7 +237,7 @@ joined_ports b i e m j = go (is_syn_received e.state && acknowledges_syn e m) e.
     go true (Some l) = port_modify b.listeners l (λ x. record x { queue = x.queue ++ i ∷ [] }) (λ k. refl) j
     go false o = refl
 
-moved_taking : (all : List CallDone) (a : Hosts) (h : Header) (x : Host) (b : Body) (how : TakeChoice) (m : Emission) (s : ℕ)
+moved_taking : (all : List CallDone) (a : Hosts) (h : Header) (x : Host) (b : HostTcp) (how : TakeChoice) (m : Emission) (s : ℕ)
     → (m.flags.syn ≡ true → (m.sender.host ≡ other x) × HasAt a m.sender m.lport m.rport) → first_broken (taker_rules h x b how m s (taker b m)) ≡ None
     → Moved all a x b (after_taking h b how m s (taker b m))
 moved_taking all a h x b how m s from may = go (taker b m) refl may
@@ -277,14 +277,14 @@ moved_deed all h s w host (Sends line number wire) from may = moved_not all w.ho
 moved_deed all h s w host (Gets line copied wire) from may = moved_not all w.hosts host (pick w.hosts host).body
 moved_deed all h s w host (Hears line wire) from may = moved_not all w.hosts host (pick w.hosts host).body
 moved_deed all h s w host (Takes line how) from may = let k = pick w.hosts host in
-    on_cases (λ (c : Body). Moved all w.hosts host k.body c) (waiting line k.inbox) k.body _ (moved_not all w.hosts host k.body)
+    on_cases (λ (c : HostTcp). Moved all w.hosts host k.body c) (waiting line k.inbox) k.body _ (moved_not all w.hosts host k.body)
     (λ m e.
     let t = on_passes (waiting line k.inbox) rules.Inbox (λ x. taker_rules h host k.body how x s (taker k.body x)) may in
     let one : t.0 ≡ m = same_Some t.0 m (sym t.1 ∙ e) in
     moved_taking all w.hosts h host k.body how m s (from line m e) (subst (λ (x : Emission). first_broken (taker_rules h host k.body how x s (taker k.body x)) ≡ None) one t.2))
 moved_deed all h s w host (Drops line) from may = moved_not all w.hosts host (pick w.hosts host).body
 moved_deed all h s w host (Answers line) from may = let k = pick w.hosts host in
-    on_cases (λ (c : Body). Moved all w.hosts host k.body c) (waiting line k.inbox) k.body _ (moved_not all w.hosts host k.body) (λ m e. moved_not all w.hosts host k.body)
+    on_cases (λ (c : HostTcp). Moved all w.hosts host k.body c) (waiting line k.inbox) k.body _ (moved_not all w.hosts host k.body) (λ m e. moved_not all w.hosts host k.body)
 
 -- 5. calls
 
@@ -296,7 +296,7 @@ socket_insert sockets n v m s e = go (nat_eq m n) refl (sym (lookup_insert m n v
     go true is e = inr (sym (number_same m n is), same_Some v s e)
     go false is e = inl e
 
-socket_dead : (b : Body) (n m : ℕ) (s : Socket) → lookup (nat_eq m) (dead b.sockets n) ≡ Some s → (t : Socket) × (lookup (nat_eq m) b.sockets ≡ Some t) × (t.thing ≡ s.thing)
+socket_dead : (b : HostTcp) (n m : ℕ) (s : Socket) → lookup (nat_eq m) (dead b.sockets n) ≡ Some s → (t : Socket) × (lookup (nat_eq m) b.sockets ≡ Some t) × (t.thing ≡ s.thing)
 socket_dead b n m s = go (lookup (nat_eq n) b.sockets) refl
   where
     by : (v : Socket) → lookup (nat_eq n) b.sockets ≡ Some v → (lookup (nat_eq m) b.sockets ≡ Some s) ⊎ ((n ≡ m) × (record v { live = false } ≡ s)) → (t : Socket) × (lookup (nat_eq m) b.sockets ≡ Some t) × (t.thing ≡ s.thing)
@@ -308,7 +308,7 @@ socket_dead b n m s = go (lookup (nat_eq n) b.sockets) refl
     go (Some v) at e = by v at (socket_insert b.sockets n (record v { live = false }) m s e)
 
 -- what a live number names
-thing_here : (b : Body) (n : ℕ) (thing : SocketTarget) → thing_of b n ≡ Some thing → (s : Socket) × (lookup (nat_eq n) b.sockets ≡ Some s) × (s.thing ≡ thing)
+thing_here : (b : HostTcp) (n : ℕ) (thing : SocketTarget) → thing_of b n ≡ Some thing → (s : Socket) × (lookup (nat_eq n) b.sockets ≡ Some s) × (s.thing ≡ thing)
 thing_here b n thing = go (lookup (nat_eq n) b.sockets) refl
   where
     by : (s : Socket) (c : Bool) → lookup (nat_eq n) b.sockets ≡ Some s → (if c then Some s.thing else None) ≡ Some thing → (t : Socket) × (lookup (nat_eq n) b.sockets ≡ Some t) × (t.thing ≡ thing)
@@ -320,7 +320,7 @@ thing_here b n thing = go (lookup (nat_eq n) b.sockets) refl
     go (Some s) at e = by s s.live at e
 
 -- a number is given to a thing whose name is right
-with_new : (all : List CallDone) (a : Hosts) (x : Host) (b c : Body) (n : ℕ) (thing : SocketTarget) → Moved all a x b c → c.sockets ≡ b.sockets → Names all x c n thing → Moved all a x b (with_socket c n thing)
+with_new : (all : List CallDone) (a : Hosts) (x : Host) (b c : HostTcp) (n : ℕ) (thing : SocketTarget) → Moved all a x b c → c.sockets ≡ b.sockets → Names all x c n thing → Moved all a x b (with_socket c n thing)
 with_new all a x b c n thing g same names = record {
   ends = g.ends;
   born = λ i f at. again f (g.born i f at);
@@ -340,14 +340,14 @@ with_new all a x b c n thing g same names = record {
     by m s (inl old) = inl (s, subst (λ (l : List (ℕ × Socket)). lookup (nat_eq m) l ≡ Some s) same old, refl)
     by m s (inr one) = inr (subst (λ k. Names all x (with_socket c n thing) k s.thing) one.0 (subst (λ (t : SocketTarget). Names all x (with_socket c n thing) n t) (ap (λ (y : Socket). y.thing) one.1) (same_names thing names)))
 
-moved_change : (all : List CallDone) (a : Hosts) (x : Host) (b : Body) (n : ℕ) (f : Endpoint → Endpoint) → ((e : Endpoint) → SameEnd e (f e)) → Moved all a x b (change b n f)
-moved_change all a x b n f new = map_or_cases (λ (c : Body). Moved all a x b c) (thing_of b n) b (change_thing b f) (λ e. moved_not all a x b) (λ thing e. go thing)
+moved_change : (all : List CallDone) (a : Hosts) (x : Host) (b : HostTcp) (n : ℕ) (f : Endpoint → Endpoint) → ((e : Endpoint) → SameEnd e (f e)) → Moved all a x b (change b n f)
+moved_change all a x b n f new = map_or_cases (λ (c : HostTcp). Moved all a x b c) (thing_of b n) b (change_thing b f) (λ e. moved_not all a x b) (λ thing e. go thing)
   where
     go : (thing : SocketTarget) → Moved all a x b (change_thing b f thing)
     go (ListenerAt l) = moved_not all a x b
     go (EndpointAt i) = moved_one all a x b i f new
 
-moved_dead : (all : List CallDone) (a : Hosts) (x : Host) (b c : Body) (n : ℕ) → Moved all a x b c → c.sockets ≡ b.sockets → Moved all a x b (record c { sockets = dead b.sockets n })
+moved_dead : (all : List CallDone) (a : Hosts) (x : Host) (b c : HostTcp) (n : ℕ) → Moved all a x b c → c.sockets ≡ b.sockets → Moved all a x b (record c { sockets = dead b.sockets n })
 moved_dead all a x b c n g same = record {
   ends = g.ends;
   born = λ i f at. again f (g.born i f at);
@@ -359,7 +359,7 @@ moved_dead all a x b c n g same = record {
     again f (inl old) = inl old
     again f (inr new) = inr (record { listener = new.listener; peer = new.peer })
 
-moved_map : (all : List CallDone) (a : Hosts) (x : Host) (b : Body) (l : ℕ) → Moved all a x b (without_listener b l)
+moved_map : (all : List CallDone) (a : Hosts) (x : Host) (b : HostTcp) (l : ℕ) → Moved all a x b (without_listener b l)
 moved_map all a x b l = record {
   ends = map_onward (λ j. SameEnd) (orphaned l) b.endpoints (λ j e at. either_end (option_map_or (λ holder. holder == l) e.listener false) e (after_abort e) e (plain_end e (after_abort e) refl refl refl) (same_end e));
   born = λ j y e. let h = map_back (orphaned l) b.endpoints j y e in inl (h.0, h.1);
@@ -367,8 +367,8 @@ moved_map all a x b l = record {
   sockets = λ n s e. inl (s, e, refl);
 }
 
-moved_gone : (all : List CallDone) (a : Hosts) (x : Host) (b : Body) (n : ℕ) (f : Endpoint → Endpoint) → ((e : Endpoint) → SameEnd e (f e)) → Moved all a x b (after_gone b n f)
-moved_gone all a x b n f new = map_or_cases (λ (c : Body). Moved all a x b c) (thing_of b n) b (λ thing. record (thing_gone b thing f) { sockets = dead b.sockets n }) (λ e. moved_not all a x b) (λ thing e. go thing)
+moved_gone : (all : List CallDone) (a : Hosts) (x : Host) (b : HostTcp) (n : ℕ) (f : Endpoint → Endpoint) → ((e : Endpoint) → SameEnd e (f e)) → Moved all a x b (after_gone b n f)
+moved_gone all a x b n f new = map_or_cases (λ (c : HostTcp). Moved all a x b c) (thing_of b n) b (λ thing. record (thing_gone b thing f) { sockets = dead b.sockets n }) (λ e. moved_not all a x b) (λ thing e. go thing)
   where
     go : (thing : SocketTarget) → Moved all a x b (record (thing_gone b thing f) { sockets = dead b.sockets n })
     go (ListenerAt l) = moved_dead all a x b (without_listener b l) n (moved_map all a x b l) refl
@@ -382,12 +382,12 @@ close_end e = go (is_syn_sent e.state)
     go false = plain_end e _ refl refl refl
 
 -- what is known of a host before a call
-pub record Known (all : List CallDone) (x : Host) (b : Body) : Type 0 where
+pub record Known (all : List CallDone) (x : Host) (b : HostTcp) : Type 0 where
   pub sound : Sound b
   pub numbers : (n : ℕ) (s : Socket) → lookup (nat_eq n) b.sockets ≡ Some s → Names all x b n s.thing
   pub children : (i : ℕ) (e : Endpoint) (l : ℕ) → slice_get b.endpoints i ≡ Some e → e.listener ≡ Some l → port_at b.listeners l ≡ Some e.lport
 
-moved_accept : (all : List CallDone) (a : Hosts) (x : Host) (b : Body) (h n : ℕ) → Known all x b → Stands all (calls.Accept h) (answers.Given n) → (thing : SocketTarget) → thing_of b h ≡ Some thing → Moved all a x b (after_accept b n thing)
+moved_accept : (all : List CallDone) (a : Hosts) (x : Host) (b : HostTcp) (h n : ℕ) → Known all x b → Stands all (calls.Accept h) (answers.Given n) → (thing : SocketTarget) → thing_of b h ≡ Some thing → Moved all a x b (after_accept b n thing)
 moved_accept all a x b h n known stands (EndpointAt i) is = moved_not all a x b
 moved_accept all a x b h n known stands (ListenerAt l) is = go (queue_of b l) refl
   where
@@ -403,7 +403,7 @@ moved_accept all a x b h n known stands (ListenerAt l) is = go (queue_of b l) re
         free : Endpoint → Endpoint
         free e = record e { listener = None }
 
-        wide : Body
+        wide : HostTcp
         wide = record b { endpoints = modify b.endpoints c free; listeners = modify b.listeners l (λ y. record y { queue = queue }) }
 
         first : (e : Endpoint) × (slice_get b.endpoints c ≡ Some e) × (e.listener ≡ Some l)
@@ -418,7 +418,7 @@ moved_accept all a x b h n known stands (ListenerAt l) is = go (queue_of b l) re
         port : listening.0 ≡ e.lport
         port = same_Some listening.0 e.lport (sym listening.2 ∙ known.children c e l first.1 first.2)
 
-pub moved_call : (p : Profile) (all : List CallDone) (a : Hosts) (x : Host) (b : Body) (call : Call) (answer : Answer) → Known all x b → Stands all call answer
+pub moved_call : (p : Profile) (all : List CallDone) (a : Hosts) (x : Host) (b : HostTcp) (call : Call) (answer : Answer) → Known all x b → Stands all call answer
     → ((at : Host) (port backlog : ℕ) → call ≡ calls.Listen at port backlog → at ≡ x) → ((at : Host) (lport rport : ℕ) → call ≡ calls.Connect at lport rport → at ≡ x)
     → Moved all a x b (after_call p b call answer)
 moved_call p all a x b (calls.Listen at port backlog) (answers.Given n) known stands listens opens =
@@ -438,7 +438,7 @@ moved_call p all a x b (calls.Connect at lport rport) (answers.Given n) known st
     }) refl
     (e, end_new b.endpoints e, Opened x lport rport n (subst (λ (y : Host). Stands all (calls.Connect y lport rport) (answers.Given n)) (opens at lport rport refl) stands))
 moved_call p all a x b (calls.Accept h) (answers.Given n) known stands listens opens =
-    map_or_cases (λ (c : Body). Moved all a x b c) (thing_of b h) b (after_accept b n) (λ e. moved_not all a x b) (λ thing e. moved_accept all a x b h n known stands thing e)
+    map_or_cases (λ (c : HostTcp). Moved all a x b c) (thing_of b h) b (after_accept b n) (λ e. moved_not all a x b) (λ thing e. moved_accept all a x b h n known stands thing e)
 moved_call p all a x b (calls.Send h bytes) (answers.Given n) known stands listens opens =
     moved_change all a x b h (after_send bytes n) (λ e. plain_end e (after_send bytes n e) refl refl refl)
 moved_call p all a x b (calls.Recv h most) (answers.Bytes bytes) known stands listens opens =

@@ -24,7 +24,7 @@ use Rattle.spec_tcp.specs.declared.endpoint.EndpointId.{EndpointId}
 use Rattle.spec_tcp.specs.declared.endpoint.Socket.{Socket}
 use Rattle.spec_tcp.specs.declared.endpoint.SocketTarget.{SocketTarget}
 use Rattle.spec_tcp.specs.declared.endpoint.SocketTarget.TheVariants.{ListenerAt, EndpointAt}
-use Rattle.spec_tcp.specs.Bodies.{place_of}
+use Rattle.spec_tcp.specs.HostTcp.{place_of}
 use Rattle.spec_tcp.specs.Calls.{after_call}
 use Rattle.spec_tcp.specs.Makes.{emission_of}
 use Rattle.spec_tcp.specs.Reset.{reset_of}

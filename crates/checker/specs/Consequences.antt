@@ -1,6 +1,5 @@
 -- What follows, of a trace and a witness that explains it, for the bytes of streams, for windows and for states (RFC
--- 9293, 3.3,
--- 3.4, 3.8 and 3.10; RFC 5681, 3.1 and 3.2).
+-- 9293, 3.3, 3.4, 3.8 and 3.10; RFC 5681, 3.1 and 3.2).
 use Rattle.std.specs.Prelude.{◌≡◌, ℕ, false, List, Some, slice_get, take}
 use Rattle.case_forms.specs.Versions.{is_half}
 use Rattle.case_forms.specs.declared.trace.Header.{Header}
@@ -30,8 +29,7 @@ abbrev pub AreBothRecorded : Trace → Type 0
 AreBothRecorded t = is_half t.header.version ≡ false
 
 -- each byte that the reads on a socket number were told, and the end where they were told it, came with a segment that
--- was
--- taken at its endpoint; so it is in half cases, too
+-- was taken at its endpoint; so it is in half cases, too
 abbrev pub AllReadsWereCarried : Trace → Witness → Type 0
 AllReadsWereCarried t w = ReadsWereCarried t.header (steps_of t w)
 

@@ -47,7 +47,8 @@ last_begun t thread (s ∷ earlier) = option_or (begins t thread s.label) (last_
 
 -- what a D step does: the last call that its thread began, with the step's answer
 abbrev pub does : Trace → List Step → Label NamedLine → List CallDone
-does t earlier (labels.D thread answer) = option_map_or (λ call. record { call = call; answer = answer } ∷ []) (last_begun t thread earlier) []
+does t earlier (labels.D thread answer) =
+    option_map_or (λ call. record { call = call; answer = answer } ∷ []) (last_begun t thread earlier) []
 does t earlier label = []
 
 abbrev pub done_from : Trace → List Step → List Step → List CallDone
@@ -94,8 +95,7 @@ abbrev pub ended : Trace → List Step → ℕ → Bool
 ended t steps socket = list_any (λ d. is_ended socket d.call d.answer) (calls_done t steps)
 
 -- what was told on a socket number in these steps is a prefix of what was accepted on the peer's; where the end was
--- told it is
--- all of it, and the peer's sending was ended
+-- told it is all of it, and the peer's sending was ended
 pub record ReceivesFrom (t : Trace) (steps : List Step) (socket peer : ℕ) : Type 0 where
   pub prefix : IsPrefixOf (told t steps socket) (accepted t steps peer)
   pub whole : told_end t steps socket ≡ true → (told t steps socket ≡ accepted t steps peer)
@@ -128,8 +128,7 @@ pub record AreOpposite (all : List CallDone) (socket peer : ℕ) : Type 0 where
   pub there : HasPorts all (other host) rport lport peer
 
 -- the headline: a socket number either receives nothing in the whole witness, or there is one opposite to it from which
--- it receives
--- at each moment, after the first `place` steps
+-- it receives at each moment, after the first `place` steps
 abbrev pub ReceivesBeginSends : Trace → Witness → Type 0
 ReceivesBeginSends t w = (socket : ℕ) → ReceivesNothing t w.steps socket
     ⊎ ((peer : ℕ) × AreOpposite (calls_done t w.steps) socket peer

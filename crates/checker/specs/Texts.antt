@@ -37,4 +37,5 @@ AreOf (Some xs) (Some ys) t w = (trace_of xs ≡ Ok t) × (witness_for t.header.
 
 -- the two parts of a case in one text are read so
 abbrev pub AreInCase : List ℕ → Trace → Witness → Type 0
-AreInCase text t w = let v = version_named (lines_of text) in AreOf (Some (trace_part v text)) (Some (witness_part v text)) t w
+AreInCase text t w =
+    let v = version_named (lines_of text) in AreOf (Some (trace_part v text)) (Some (witness_part v text)) t w

@@ -7,8 +7,7 @@ ghost use Rattle.case_forms.specs.Traces.{first_event_line};
 ghost use Rattle.counted.specs.Counting.{failures_of, one_more};
 ghost use Rattle.line_fields.specs.Left.{Yields};
 ghost use Rattle.trace_reader.specs.EventLines.{behind};
-ghost use Rattle.trace_reader.specs.TraceText.{first_place};
-ghost use Rattle.trace_reader.specs.TraceLeft.{source_of, place_of, fault_of, reader_failures, IsBegun, lines_left};
+ghost use Rattle.trace_reader.specs.TraceLeft.{place_of, fault_of, reader_failures, IsBegun, lines_left};
 ghost use Rattle.trace_reader.specs.TraceLeft.{Begins, StandsAt};
 ghost use Rattle.checker.specs.Ahead.{source_ahead, line_ahead, left_ahead, trace_ahead, IsUnread, IsAhead, Skips};
 ghost use Rattle.checker.specs.Ahead.{IsAll, TraceFails, Follows, lines_after};
@@ -16,7 +15,7 @@ ghost use Rattle.checker.specs.Ahead.{IsAll, TraceFails, Follows, lines_after};
 use crate::case::{CaseFault, trace_fault};
 use case_forms::{Header, Line};
 use counted::Counted;
-use line_fields::ReadFault;
+use line_fields::SourceFault;
 use std::alloc::Global;
 use std::io::BufRead;
 use std::mem::replace;
@@ -42,7 +41,7 @@ impl<A> Ahead<A> {
         }
     }
 
-    /// The source, of which what was asked for is read, one line more, and nothing behind it.
+    /// The source, of which what was requested is read, one line more, and nothing after it.
     pub(crate) fn into_source(self) -> Counted<A>
         ensures { result ≡ source_ahead self }
     {
@@ -68,7 +67,7 @@ impl<A> Ahead<A> {
 }
 
 impl<A: BufRead> Ahead<A> {
-    /// The header, which is read before any line, and the first line behind it.
+    /// The header, which is read before any line, and the first line after it.
     pub(crate) fn begin(&mut self) -> Result<Header, CaseFault>
         requires { IsUnread self.old }
         ensures ahead { IfOk result (λ header. IsAhead self.new) }
@@ -86,12 +85,12 @@ impl<A: BufRead> Ahead<A> {
                 self.line = next_line(&mut self.reader)?;
                 Ok(header)
             }
-            Err(ReadFault::Text(fault)) => Err(trace_fault(fault)),
-            Err(ReadFault::Read) => Err(CaseFault::Read),
+            Err(SourceFault::Text(fault)) => Err(trace_fault(fault)),
+            Err(SourceFault::Read) => Err(CaseFault::Read),
         }
     }
 
-    /// The line that was read ahead; the one behind it is read.
+    /// The line that was read ahead; the one after it is read.
     #[inline(always)]
     pub(crate) fn next(&mut self) -> Result<Option<Line>, CaseFault>
         requires { IsAhead self.old }
@@ -112,7 +111,7 @@ impl<A: BufRead> Ahead<A> {
         Ok(replace(&mut self.line, next))
     }
 
-    // Passes the line that was read ahead. False where there is none.
+    // Passes the line that was read ahead. False if there is none.
     fn skip(&mut self) -> Result<bool, CaseFault>
         requires { IsAhead self.old }
         ensures ahead { IfOk result (λ more. IsAhead self.new) }
@@ -160,7 +159,7 @@ fn next_line<A: BufRead>(reader: &mut TraceReader<A>) -> Result<Option<Line>, Ca
 {
     match reader.next() {
         Ok(item) => Ok(item),
-        Err(ReadFault::Text(fault)) => Err(trace_fault(fault)),
-        Err(ReadFault::Read) => Err(CaseFault::Read),
+        Err(SourceFault::Text(fault)) => Err(trace_fault(fault)),
+        Err(SourceFault::Read) => Err(CaseFault::Read),
     }
 }

@@ -51,13 +51,10 @@ pub fn yes_counts_all_lines()
     ensures { (t : Trace) (w : Witness) (lines hidden : ℕ) → verdict t w ≡ Yes lines hidden → lines ≡ length t.lines }
 {}
 
-/// What the receives on a socket number were told is a prefix of what the sends on one number of the other host
-/// accepted, at each
-/// moment of the witness; once the end was told it is all of it. The ports of the one are those of the other turned
-/// round. So it
-/// is said by the lines of the trace and the steps of the witness alone. A number whose receives are told nothing need
-/// have no
-/// such other number.
+/// What the receives on a socket number returned is a prefix of what the sends on one number of the other host
+/// accepted, at each moment of the witness; once one returned the end, it is all of it. The ports of the one are those
+/// of the other turned round. So it is said by the lines of the trace and the steps of the witness alone. A number
+/// whose receives return nothing need have no such other number.
 pub fn receives_begin_sends()
     ensures { (t : Trace) (w : Witness) → Explains t w → AreBothRecorded t → ReceivesBeginSends t w }
 {
@@ -67,16 +64,16 @@ pub fn receives_begin_sends()
 
 /// What follows for streams, windows and states where the witness explains the trace.
 pub fn explained_follows()
-    // Where both hosts are recorded: what reads were told is a prefix of what the peer's sends accepted.
+    // If both hosts are recorded: what reads returned is a prefix of what the peer's sends accepted.
     ensures received { (t : Trace) (w : Witness) → Explains t w → AreBothRecorded t → ReadsBeginWhatWasSent t w }
 
-    // Reads that were told the end were told all of them.
+    // Reads that returned the end returned all of them.
     ensures whole { (t : Trace) (w : Witness) → Explains t w → AreBothRecorded t → EndsAreWhole t w }
 
     // What is acknowledged was taken before.
     ensures acknowledged { (t : Trace) (w : Witness) → Explains t w → AreBothRecorded t → AllAcknowledgedWasTaken t w }
 
-    // In every case: what reads were told came with segments that were taken.
+    // In every case: what reads returned came with segments that were taken.
     ensures carried { (t : Trace) (w : Witness) → Explains t w → AllReadsWereCarried t w }
 
     // New data ends in both windows, and windows follow their rules, by the RFC that the header names.
@@ -97,18 +94,17 @@ pub fn explained_follows()
     positions_never_fall();
 }
 
-/// What follows for streams holds at each moment of the witness, for what was told and accepted by then.
+/// What follows for streams holds at each moment of the witness, for what was returned and accepted by then.
 pub fn streams_at_each_moment()
-    // Where both hosts are recorded: what reads were told by then is a prefix of what the peer's sends accepted by
-    // then.
+    // If both hosts are recorded: what reads returned by then is a prefix of what the peer's sends accepted by then.
     ensures received { (t : Trace) (w : Witness) → Explains t w → AreBothRecorded t → (place : ℕ)
         → ReceivedIsAPrefix t.header (take place (steps_of t w)) }
 
-    // Reads that were told the end by then were told all of them by then.
+    // Reads that returned the end by then returned all of them by then.
     ensures whole { (t : Trace) (w : Witness) → Explains t w → AreBothRecorded t → (place : ℕ)
         → EndIsWhole t.header (take place (steps_of t w)) }
 
-    // In every case: what reads were told by then came with segments that were taken by then.
+    // In every case: what reads returned by then came with segments that were taken by then.
     ensures carried { (t : Trace) (w : Witness) → Explains t w → (place : ℕ)
         → ReadsWereCarried t.header (take place (steps_of t w)) }
 {
@@ -121,8 +117,7 @@ pub fn streams_at_each_moment()
 /// first.
 pub fn peers_are_met()
     // A step leaves the peer of each endpoint as it is, or the endpoint had none and the step takes for it, at a
-    // listener
-    // whose child it then is or in SYN-SENT, a segment with SYN, which the peer made.
+    // listener whose child it then is or in SYN-SENT, a segment with SYN, which the peer made.
     ensures each { (t : Trace) (w : Witness) → Explains t w → AllPeersAreMet t w }
 
     // A peer at the end was met so by some step.
@@ -144,9 +139,8 @@ pub fn two_witnesses_of_one_trace()
     ensures { (t : Trace) × (v : Witness) × (w : Witness) × HaveTwo t v w }
 {}
 
-/// A text that stands for a trace and one that stands for a witness of its version, one behind the other, are a case
-/// with
-/// their verdict.
+/// A text that stands for a trace and one that stands for a witness of its version, one after the other, are a case
+/// with their verdict.
 pub fn printed_case()
     ensures texts { (t : Trace) (w : Witness) (first second : List ℕ) → t.header.version ≡ w.version
         → IsTraceText t first →

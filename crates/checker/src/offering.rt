@@ -1,6 +1,6 @@
 //! Lines that are offered to the window when their moment is reached.
 
-ghost use Rattle.std.specs.Prelude.{◌≡◌, ◌≢◌, ◌<◌, ◌≤◌, ◌++◌, ◌||◌, ◌==◌, ℕ, List, Err, IfOk, IfErr, IfSome};
+ghost use Rattle.std.specs.Prelude.{◌≡◌, ◌≢◌, ◌<◌, ◌≤◌, ◌||◌, ◌==◌, ℕ, List, Err, IfOk, IfErr, IfSome};
 ghost use Rattle.case_forms.specs.declared.trace.Line.{Line};
 ghost use Rattle.std.specs.Ordering.{nat_cmp};
 ghost use Rattle.std.specs.BTreeSet.{contains};

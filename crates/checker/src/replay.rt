@@ -44,11 +44,9 @@ pub fn check(alloc: Global, trace: &Trace, witness: &Witness) -> Result<Verdict,
     requires witness { IsWitness witness.now }
     requires versions { trace.now.header.version ≡ witness.now.version }
 
-    // What follows from a yes where both hosts are recorded, by the lines of the trace and the steps of the witness
-    // alone: what
-    // receives on a socket number were told is a prefix of what sends on one of the other host accepted, at each
-    // moment; once
-    // they were told the end it is all of it.
+    // What follows from a yes if both hosts are recorded, by the lines of the trace and the steps of the witness alone:
+    // what receives on a socket number returned is a prefix of what sends on one of the other host accepted, at each
+    // moment; once one returned the end, it is all of it.
     ensures heard { IfOk result (λ v. IsYes v → AreBothRecorded trace.now → ReceivesBeginSends trace.now witness.now) }
 
     // The verdict is that of the definition.
@@ -58,18 +56,16 @@ pub fn check(alloc: Global, trace: &Trace, witness: &Witness) -> Result<Verdict,
     ensures says { IfOk result (Says trace.now witness.now) }
     ensures explained { IfOk result (λ v. IsYes v ↔ Explains trace.now witness.now) }
 
-    // The same of the machine's endpoints: what reads were told is a prefix of what the peer's sends accepted; reads
-    // that were told
-    // the end were told all of it; what is acknowledged was taken before.
+    // The same of the machine's endpoints: what reads returned is a prefix of what the peer's sends accepted; reads
+    // that returned the end returned all of it; what is acknowledged was taken before.
     ensures received { IfOk result (λ v. IsYes v → AreBothRecorded trace.now
         → ReadsBeginWhatWasSent trace.now witness.now) }
     ensures whole { IfOk result (λ v. IsYes v → AreBothRecorded trace.now → EndsAreWhole trace.now witness.now) }
     ensures acknowledged { IfOk result (λ v. IsYes v → AreBothRecorded trace.now
         → AllAcknowledgedWasTaken trace.now witness.now) }
 
-    // What follows from every yes, also of a half case: what reads were told came with segments that were taken;
-    // windows are kept;
-    // states follow each other by the arrows of RFC 9293, 3.3.2, figure 5; positions never fall.
+    // What follows from every yes, also of a half case: what reads returned came with segments that were taken; windows
+    // are kept; states follow each other by the arrows of RFC 9293, 3.3.2, figure 5; positions never fall.
     ensures carried { IfOk result (λ v. IsYes v → AllReadsWereCarried trace.now witness.now) }
     ensures windows { IfOk result (λ v. IsYes v → AllKeepWindows trace.now witness.now) }
     ensures states { IfOk result (λ v. IsYes v → AllStatesFollow trace.now witness.now) }
@@ -102,7 +98,7 @@ fn judge(
     replay_all(&mut window, &mut world, steps)
 }
 
-// The verdict on these steps, where the window holds all lines and the world is that before the first step.
+// The verdict on these steps, if the window holds all lines and the world is that before the first step.
 fn replay_all(
     window: &mut Window,
     world: &mut World,

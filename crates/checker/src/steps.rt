@@ -7,7 +7,7 @@ ghost use Rattle.witness.specs.StepsLeft.{steps_left, fault_of, number_of, reade
 ghost use Rattle.checker.specs.Ahead.{Skips, IsAll, WitnessFails};
 
 use crate::case::{CaseFault, witness_fault};
-use line_fields::ReadFault;
+use line_fields::SourceFault;
 use std::io::BufRead;
 use witness::StepReader;
 
@@ -23,7 +23,7 @@ pub(crate) fn drain_steps<B: BufRead>(steps: &mut StepReader<B>) -> Result<(), C
     Ok(())
 }
 
-// Passes a step. False where there is none.
+// Passes a step. False if there is none.
 fn skip_step<B: BufRead>(steps: &mut StepReader<B>) -> Result<bool, CaseFault>
     requires { fault_of steps.old ≡ None }
     ensures next { IfOk result (λ more. Skips more (steps_left B.remaining steps.old)
@@ -37,7 +37,7 @@ fn skip_step<B: BufRead>(steps: &mut StepReader<B>) -> Result<bool, CaseFault>
 {
     match steps.next() {
         Ok(item) => Ok(item.is_some()),
-        Err(ReadFault::Text(fault)) => Err(witness_fault(fault)),
-        Err(ReadFault::Read) => Err(CaseFault::Read),
+        Err(SourceFault::Text(fault)) => Err(witness_fault(fault)),
+        Err(SourceFault::Read) => Err(CaseFault::Read),
     }
 }

@@ -24,7 +24,7 @@ use crate::replay::{line_named, replay, takes_line};
 use case_forms::{Label, Step};
 use endpoint_state::World;
 use interval_order::Window;
-use line_fields::ReadFault;
+use line_fields::SourceFault;
 use std::alloc::Global;
 use std::io::BufRead;
 use verdict::Rule;
@@ -55,7 +55,7 @@ pub(crate) struct StepCounts {
 pub(crate) enum ReplayOutcome {
     /// Each step is done.
     All(StepCounts),
-    /// Behind so many steps one that names this line breaks this rule.
+    /// After so many steps one that names this line breaks this rule.
     Refused(u64, u64, Rule),
 }
 
@@ -80,7 +80,7 @@ impl StepCounts {
     }
 }
 
-// The next step. A fault of the witness comes behind all faults of the trace.
+// The next step. A fault of the witness comes after all faults of the trace.
 fn next_step<A: BufRead, B: BufRead>(
     lines: &mut Ahead<A>,
     steps: &mut StepReader<B>,
@@ -104,11 +104,11 @@ fn next_step<A: BufRead, B: BufRead>(
 {
     match steps.next() {
         Ok(item) => Ok(item),
-        Err(ReadFault::Text(fault)) => {
+        Err(SourceFault::Text(fault)) => {
             lines.drain()?;
             Err(witness_fault(fault))
         }
-        Err(ReadFault::Read) => Err(CaseFault::Read),
+        Err(SourceFault::Read) => Err(CaseFault::Read),
     }
 }
 

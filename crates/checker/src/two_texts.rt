@@ -4,7 +4,7 @@
 //! step. The world keeps what endpoints have outstanding, and each segment that was made or went out, since later steps
 //! may name it.
 
-ghost use Rattle.std.specs.Prelude.{◌≡◌, ◌≢◌, ◌⊎◌, ◌↔◌, List, [], Err, IfOk, IfSome, None, Option, Result};
+ghost use Rattle.std.specs.Prelude.{◌≡◌, ◌≢◌, ◌↔◌, List, [], Err, IfOk, IfSome, None, Option, Result};
 ghost use Rattle.case_forms.specs.declared.trace.Header.{Header};
 ghost use Rattle.case_forms.specs.declared.trace.Line.{Line};
 ghost use Rattle.case_forms.specs.declared.trace.Trace.{Trace};
@@ -41,18 +41,15 @@ use verdict::{Rule, Verdict};
 use witness::StepReader;
 
 /// The trace's fault, else the witness's, else the verdict on the case, however the bytes of both come in pieces. Read
-/// only
-/// where a reader's `failures()` grew in the call, which then ends at once. Both readers are given back.
+/// only where a reader's `failures()` grew in the call, which then ends at once. Both readers are given back.
 pub fn check_streams<A: BufRead, B: BufRead>(
     alloc: Global,
     a: Counted<A>,
     b: Counted<B>,
 ) -> (Result<Verdict, CaseFault>, Counted<A>, Counted<B>)
-    // What follows from a yes where both hosts are recorded, by the lines of the trace and the steps of the witness
-    // that the texts
-    // stand for: what receives on a socket number were told is a prefix of what sends on one of the other host
-    // accepted, at each
-    // moment; once they were told the end it is all of it.
+    // What follows from a yes if both hosts are recorded, by the lines of the trace and the steps of the witness that
+    // the texts stand for: what receives on a socket number returned is a prefix of what sends on one of the other host
+    // accepted, at each moment; once one returned the end, it is all of it.
     ensures heard { (t : Trace) (w : Witness) → AreOf (left_of A.remaining a) (left_of B.remaining b) t w →
         IfOk result.0 (λ v. IsYes v → AreBothRecorded t → ReceivesBeginSends t w) }
 
@@ -65,9 +62,8 @@ pub fn check_streams<A: BufRead, B: BufRead>(
     ensures explained { (t : Trace) (w : Witness) → AreOf (left_of A.remaining a) (left_of B.remaining b) t w
         → IfOk result.0 (λ v. IsYes v ↔ Explains t w) }
 
-    // The same of the machine's endpoints: what reads were told is a prefix of what the peer's sends accepted; reads
-    // that were told
-    // the end were told all of it; what is acknowledged was taken before.
+    // The same of the machine's endpoints: what reads returned is a prefix of what the peer's sends accepted; reads
+    // that returned the end returned all of it; what is acknowledged was taken before.
     ensures received { (t : Trace) (w : Witness) → AreOf (left_of A.remaining a) (left_of B.remaining b) t w →
         IfOk result.0 (λ v. IsYes v → AreBothRecorded t → ReadsBeginWhatWasSent t w) }
     ensures whole { (t : Trace) (w : Witness) → AreOf (left_of A.remaining a) (left_of B.remaining b) t w →
@@ -75,9 +71,8 @@ pub fn check_streams<A: BufRead, B: BufRead>(
     ensures acknowledged { (t : Trace) (w : Witness) → AreOf (left_of A.remaining a) (left_of B.remaining b) t w →
         IfOk result.0 (λ v. IsYes v → AreBothRecorded t → AllAcknowledgedWasTaken t w) }
 
-    // What follows from every yes, also of a half case: what reads were told came with segments that were taken;
-    // windows are kept;
-    // states follow each other by the arrows of RFC 9293, 3.3.2, figure 5; positions never fall.
+    // What follows from every yes, also of a half case: what reads returned came with segments that were taken; windows
+    // are kept; states follow each other by the arrows of RFC 9293, 3.3.2, figure 5; positions never fall.
     ensures carried { (t : Trace) (w : Witness) → AreOf (left_of A.remaining a) (left_of B.remaining b) t w →
         IfOk result.0 (λ v. IsYes v → AllReadsWereCarried t w) }
     ensures windows { (t : Trace) (w : Witness) → AreOf (left_of A.remaining a) (left_of B.remaining b) t w →
@@ -146,7 +141,7 @@ fn judge<A: BufRead, B: BufRead>(
     judge_in(alloc, &mut window, &mut world, lines, steps)
 }
 
-// The same, where no line was offered to the window and the world is that before the first step.
+// The same, if no line was offered to the window and the world is that before the first step.
 fn judge_in<A: BufRead, B: BufRead>(
     alloc: Global,
     window: &mut Window,
@@ -185,7 +180,7 @@ fn judge_in<A: BufRead, B: BufRead>(
     }
 }
 
-// The verdict where each step is done, behind a fault of a line that is left.
+// The verdict where each step is done, after a fault of a line that is left.
 fn end_of_witness<A: BufRead>(
     window: &Window,
     lines: &mut Ahead<A>,

@@ -4,8 +4,7 @@ use Rattle.std.specs.List.{list_any}
 use Rattle.cli.specs.CommandLine.{is_dashed}
 
 -- the words begin with the option and its value, and these are the words behind; the value is a word of its own, which
--- begins
--- with no dash, or stands behind an equals sign
+-- begins with no dash, or stands behind an equals sign
 abbrev pub BeginsWith : List ℕ → List ℕ → List (List ℕ) → List (List ℕ) → Type 0
 BeginsWith option value behind words =
     ((words ≡ option ∷ value ∷ behind) × (is_dashed value ≡ false)) ⊎ (words ≡ (option ++ codes "=" ++ value) ∷ behind)

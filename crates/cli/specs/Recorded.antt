@@ -19,8 +19,7 @@ abbrev pub text_of : Trace → Witness → List ℕ
 text_of trace witness = trace_text trace ++ witness_text witness
 
 -- what was written is the text of a trace and of a witness that explains it; where both are within the limits of texts,
--- the text
--- is a case that is answered yes. The status is 0 where the trace tells that all rounds ended, and else 1
+-- the text is a case that is answered yes. The status is 0 where the trace tells that all rounds ended, and else 1
 pub record WritesCase (plan : Plan) (status : ℕ) (old new : Option (List ℕ)) : Type 0 where
   pub trace : Trace
   pub witness : Witness
@@ -34,4 +33,6 @@ pub record WritesCase (plan : Plan) (status : ℕ) (old new : Option (List ℕ))
 
 -- a run that records ends with this status: all rounds ended, a limit was met, or memory ran out, which is said alone
 abbrev pub EndsRecord : Plan → ℕ → Option (List ℕ) → Option (List ℕ) → Type 0
-EndsRecord plan status old new = ((status ≡ 0 ⊎ status ≡ 1) × WritesCase plan status old new) ⊎ ((status ≡ 4) × Appends old new (codes "bad memory\n"))
+EndsRecord plan status old new =
+    ((status ≡ 0 ⊎ status ≡ 1) × WritesCase plan status old new)
+    ⊎ ((status ≡ 4) × Appends old new (codes "bad memory\n"))

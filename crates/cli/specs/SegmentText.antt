@@ -54,7 +54,8 @@ ends_text segment =
 
 -- how many payload bytes there are, and the number of the first
 abbrev pub payload_text : Segment → List ℕ
-payload_text segment = codes " len " ++ decimal (length segment.payload) ++ codes " first " ++ decimal (first_number segment).0
+payload_text segment =
+    codes " len " ++ decimal (length segment.payload) ++ codes " first " ++ decimal (first_number segment).0
 
 -- the flags, the window, the MSS and the payload
 abbrev pub rest_text : Segment → List ℕ

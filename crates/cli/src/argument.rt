@@ -1,6 +1,5 @@
 //! The segment that the argument of `segment` stands for.
 
-ghost use Rattle.std.specs.Prelude.{◌≡◌};
 ghost use Rattle.cli.specs.HexText.{Gives};
 
 use hex::FromHexError;

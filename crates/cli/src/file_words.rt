@@ -15,12 +15,9 @@ const TRACE: &str = "--trace";
 const WITNESS: &str = "--witness";
 
 /// The names of the trace's file and of the witness's, where the words are `check` and both options, each once and in
-/// either
-/// order; None where they are other words, also where a name has a NUL, as a word that was no UTF-8 has
-/// (`given_words`). An
-/// option and its name are two words, of which the name begins with no dash, or one word with a `=` between. An error
-/// means
-/// that memory ran out.
+/// either order; None if they are other words, also where a name has a NUL, as a word that was no UTF-8 has
+/// (`given_words`). An option and its name are two words, of which the name begins with no dash, or one word with a `=`
+/// between. An error means that memory ran out.
 pub fn file_names(alloc: Global, words: &[&str]) -> Result<Option<(String, String)>, OutOfMemory>
     ensures { IfOk result (λ named. (trace witness : List ℕ) →
         option_map {U = List ℕ × List ℕ} (λ names. (string_bytes names.0, string_bytes names.1)) named
@@ -75,7 +72,7 @@ fn both<'a>(words: &[&'a str], first: &str, second: &str) -> Option<(&'a str, &'
     rest.is_empty().then_some((one, two))
 }
 
-// The value of an option that stands first, and the words behind.
+// The value of an option that stands first, and the words after it.
 fn take_option<'a, 'w>(words: &'w [&'a str], option: &str) -> Option<(&'a str, &'w [&'a str])>
     ensures { MatchOption result
         ((value : List ℕ) (behind : List (List ℕ))
@@ -98,7 +95,7 @@ fn take_option<'a, 'w>(words: &'w [&'a str], option: &str) -> Option<(&'a str, &
     Some((value, rest))
 }
 
-// What stands behind an option and an equals sign in one word.
+// What stands after an option and an equals sign in one word.
 fn joined_value<'a>(word: &'a str, option: &str) -> Option<&'a str>
     ensures { MatchOption result
         ((value : List ℕ) → word.entry.now ≢ option.now ++ codes "=" ++ value)

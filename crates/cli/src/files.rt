@@ -15,10 +15,9 @@ use std::io::{BufRead, Write};
 use verdict::Verdict;
 
 /// Answers a case whose trace and witness stand in two texts: writes the line of the trace's fault, else of the
-/// witness's,
-/// else of the verdict, and answers its status, as `run` does for a case in one text. Both are read while the case is
-/// judged, and the readers are given back. The three counts of failures have to be below 2^50 before, as those of new
-/// ends are.
+/// witness's, else of the verdict, and answers its status, as `run` does for a case in one text. Both are read while
+/// the case is judged, and the readers are given back. The three counts of failures have to be below 2^50 before, as
+/// those of new ends are.
 pub fn run_files<A: BufRead, B: BufRead, W: Write>(
     alloc: Global,
     a: Counted<A>,
@@ -32,10 +31,11 @@ pub fn run_files<A: BufRead, B: BufRead, W: Write>(
         Ends (status_of (texts_result xs ys)) (line_of (texts_result xs ys)) result.0 (left_of W.contents w.old)
         (left_of W.contents w.new))) }
 
-    // The status is 5 only where a count of failures grew. That is said where no write failed.
+    // The status is 5 only where a count of failures grew. That is said if no write failed.
     ensures device { result.0 ≡ 5 → (failures_of a < failures_of result.1) ⊎ (failures_of b < failures_of result.2)
         ⊎ (failures_of w.old < failures_of w.new) }
-    ensures told { result.0 ≡ 5 → failures_of w.new ≡ failures_of w.old → Appends (left_of W.contents w.old) (left_of W.contents w.new) (codes "bad device\n") }
+    ensures told { result.0 ≡ 5 → failures_of w.new ≡ failures_of w.old →
+        Appends (left_of W.contents w.old) (left_of W.contents w.new) (codes "bad device\n") }
     ensures quiet_trace { result.0 ≢ 5 → failures_of result.1 ≡ failures_of a }
     ensures quiet_witness { result.0 ≢ 5 → failures_of result.2 ≡ failures_of b }
     ensures quiet_writer { result.0 ≢ 5 → failures_of w.new ≡ failures_of w.old }
@@ -46,12 +46,12 @@ pub fn run_files<A: BufRead, B: BufRead, W: Write>(
 }
 
 /// Answers that a device failed, as where a file cannot be opened or read: one line, and the status 5. The count of
-/// failures has to
-/// be below 2^50 before.
+/// failures has to be below 2^50 before.
 pub fn answer_bad_device<W: Write>(w: &mut Counted<W>) -> u8
     requires { failures_of w.old < 2 ^ 50 }
     ensures status { result ≡ 5 }
-    ensures told { failures_of w.new ≡ failures_of w.old → Appends (left_of W.contents w.old) (left_of W.contents w.new) (codes "bad device\n") }
+    ensures told { failures_of w.new ≡ failures_of w.old →
+        Appends (left_of W.contents w.old) (left_of W.contents w.new) (codes "bad device\n") }
 {
     let _ = say(w, b"bad device\n", DEVICE);
     DEVICE

@@ -10,12 +10,10 @@ use std::io;
 use std::str::from_utf8;
 
 /// The words of the command line, the program's name first. Where a word is no UTF-8, each of its bytes that is not
-/// ASCII
-/// becomes a NUL, which stands in no word that a process is given; so a word is always text. Nothing that the program
-/// knows
-/// is spelled with a NUL, so the answer to the words stays the same: `segment` with such a word is `bad segment hex`,
-/// and other
-/// words are `bad usage`, as `file_names` has it for a file's name. An error means that memory ran out.
+/// ASCII becomes a NUL, which stands in no word that a process is given; so a word is always text. Nothing that the
+/// program knows is spelled with a NUL, so the answer to the words stays the same: `segment` with such a word is `bad
+/// segment hex`, and other words are `bad usage`, as `file_names` has it for a file's name. An error means that memory
+/// ran out.
 pub fn given_words<E: Env>(env: &E, alloc: Global) -> io::Result<Args> {
     std::env::args(&(TextWords { env }, alloc))
 }

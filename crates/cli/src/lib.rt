@@ -1,6 +1,6 @@
 //! What the program does with its words, its reader and its writer.
 //!
-//! `main` hands in the words behind the program's name and both ends, and `run` answers the status with which the
+//! `main` hands in the words after the program's name and both ends, and `run` answers the status with which the
 //! process ends. Each answer is one line of output.
 //!
 //! - `given`: the words of the command line, as text (`specs/GivenWords`)
@@ -8,7 +8,7 @@
 //! - `lines`: the line and the status of a case's answer (`specs/Output`)
 //! - `argument`: the segment that a hex text stands for (`specs/HexText`)
 //! - `segment_line`: the line and the status of a segment (`specs/SegmentText`)
-//! - `running`: the whole run, and the answer where memory ran out before it
+//! - `running`: the whole run, and the answer if memory ran out before it
 //! - `file_words`, `files`: the words that ask for a case in two files (`specs/FileWords`), and the run on them
 //! - `many_words`, `many`: the words that ask for many cases, and the run that serves them too (`specs/ManyWords`,
 //!   `specs/Many`); it alone starts threads
@@ -16,7 +16,7 @@
 //!   (`specs/RecordWords`)
 //! - `many_laws`: what the cutting of an input into cases means (`specs/ManyLaw`)
 //!
-//! What a case is answered is told by `checker`, and what is counted as a failure by `counted`.
+//! Which answer a case has is defined by `checker`, and what counts as a failure by `counted`.
 #![tactic(auto)]
 
 mod argument;

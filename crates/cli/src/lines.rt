@@ -70,7 +70,7 @@ fn push_fault(line: &mut Vec<u8>, refusal: &str, fault: &TextFault) -> Result<()
     push_word(line, fault.kind.name())
 }
 
-// Appends a number behind a space.
+// Appends a number after a space.
 fn push_column(line: &mut Vec<u8>, number: u64) -> Result<(), OutOfMemory>
     ensures { IfOk result (λ _. line.new.items ≡ line.old.items ++ (codes " " ++ decimal number)) }
 {

@@ -23,22 +23,18 @@ use crate::running::answer_bad_memory;
 use bstr::ByteSlice;
 use case_forms::OutOfMemory;
 use counted::{Counted, ReadFault};
-use line_fields::content;
+use line_fields::without_line_end;
 use parallel_check::{CaseResult, Gate, check_many_slices};
 use std::alloc::Global;
 use std::io::{BufRead, Write};
 use std::sync::Wait;
 use std::thread::Threads;
 
-/// Does what the words behind the program's name ask for: where they ask for many cases, those of the input are checked
-/// by
-/// so many threads, a line is written for each in their order, and the greatest of their statuses is answered, 0 for
-/// none.
-/// Where they ask for a recording, two hosts talk, and what was recorded is written as a case; the status is 0 where
-/// all rounds
-/// ended, and 1 where a limit was met. For all other words it is `run`. Both counts of failures have to be below 2^50
-/// before, as
-/// those of new ends are.
+/// Does what the words after the program's name ask for: where they ask for many cases, those of the input are checked
+/// by so many threads, a line is written for each in their order, and the greatest of their statuses is answered, 0 for
+/// none. Where they ask for a recording, two hosts talk, and what was recorded is written as a case; the status is 0
+/// where all rounds ended, and 1 where a limit was met. For all other words it is `run`. Both counts of failures have
+/// to be below 2^50 before, as those of new ends are.
 pub fn run_all<R: BufRead, W: Write, H: Threads + Wait + Sync>(
     rt: &H,
     alloc: Global,
@@ -67,11 +63,11 @@ pub fn run_all<R: BufRead, W: Write, H: Threads + Wait + Sync>(
         → ((n : ℕ) → ¬ AsksMany (map (λ word. word.now) words.now) n) → r.new ≡ r.old }
 
     // But for a recording, which may also find no thread, the status is 5 only where a count of failures grew. That is
-    // said where
-    // no write failed.
+    // said if no write failed.
     ensures device { ((plan : Plan) → ¬ AsksRecord (map (λ word. word.now) words.now) plan) → result ≡ 5 →
         (failures_of r.old < failures_of r.new) ⊎ (failures_of w.old < failures_of w.new) }
-    ensures told { result ≡ 5 → failures_of w.new ≡ failures_of w.old → Appends (left_of W.contents w.old) (left_of W.contents w.new) (codes "bad device\n") }
+    ensures told { result ≡ 5 → failures_of w.new ≡ failures_of w.old →
+        Appends (left_of W.contents w.old) (left_of W.contents w.new) (codes "bad device\n") }
     ensures quiet { result ≢ 5 → (failures_of r.new ≡ failures_of r.old) × (failures_of w.new ≡ failures_of w.old) }
 {
     match asked_workers(alloc, words) {
@@ -94,7 +90,8 @@ fn many<R: BufRead, W: Write, H: Threads + Wait + Sync>(
         IfSome (left_of R.remaining r.old) (λ text. EndsMany (cases_of text) result (left_of W.contents w.old)
         (left_of W.contents w.new)) }
     ensures device { result ≡ 5 → (failures_of r.old < failures_of r.new) ⊎ (failures_of w.old < failures_of w.new) }
-    ensures told { result ≡ 5 → failures_of w.new ≡ failures_of w.old → Appends (left_of W.contents w.old) (left_of W.contents w.new) (codes "bad device\n") }
+    ensures told { result ≡ 5 → failures_of w.new ≡ failures_of w.old →
+        Appends (left_of W.contents w.old) (left_of W.contents w.new) (codes "bad device\n") }
     ensures quiet { result ≢ 5 → (failures_of r.new ≡ failures_of r.old) × (failures_of w.new ≡ failures_of w.old) }
 {
     let mut text = Vec::new(alloc);
@@ -151,7 +148,7 @@ fn answers_to<H: Threads + Wait + Sync>(
 fn ends_case(raw: &[u8]) -> bool
     ensures { result ≡ ends_case raw.now }
 {
-    let (text, ended) = content(raw);
+    let (text, ended) = without_line_end(raw);
     ended && text == "end".as_bytes()
 }
 
@@ -177,7 +174,7 @@ fn cut_cases<'a>(alloc: Global, text: &'a [u8]) -> Result<Vec<&'a [u8]>, OutOfMe
     Ok(cases)
 }
 
-// Writes a line for each answer, and gives the greatest status; where there is no memory for the lines, that alone is
+// Writes a line for each answer, and gives the greatest status; if there is no memory for the lines, that alone is
 // said.
 fn tell<W: Write>(alloc: Global, answers: &[CaseResult], w: &mut Counted<W>) -> u8
     requires { failures_of w.old < 2 ^ 50 }

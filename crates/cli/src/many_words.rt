@@ -1,6 +1,6 @@
 //! The words that ask for many cases, and the number of workers that they name.
 
-ghost use Rattle.std.specs.Prelude.{◌≡◌, false, ℕ, IfOk, MatchOption, OnOk, map};
+ghost use Rattle.std.specs.Prelude.{◌≡◌, false, ℕ, IfOk, MatchOption, map};
 ghost use Rattle.clap.specs.Words.{app_of, rule_of, fault_of, found_of, matches_of, rows_of, FailsBy};
 ghost use Rattle.clap.specs.declared.builder.command.Command.TheViews.{out-Command};
 ghost use Rattle.cli.specs.ManyWords.{workers, many, is_many, is_option, AsksMany};
@@ -22,7 +22,7 @@ fn make_workers<'a>(alloc: Global) -> Arg<'a>
         .value_parser(clap::value_parser!(u64).range(1..=64))
 }
 
-// What is read behind the word `many`.
+// What is read after the word `many`.
 fn make_many<'a>(alloc: Global) -> Result<Command<'a>, AllocError>
     ensures { IfOk result (λ command. app_of command ≡ many) }
 {
@@ -32,7 +32,7 @@ fn make_many<'a>(alloc: Global) -> Result<Command<'a>, AllocError>
     Ok(whole)
 }
 
-// The words behind `many`, as `clap` reads them.
+// The words after `many`, as `clap` reads them.
 fn parse<'a>(alloc: Global, words: &'a [&'a str]) -> Result<ArgMatches<'a>, Error>
     ensures ok { IfOk result (λ matches. rows_of (found_of matches)
         ≡ matches_of many (map (λ word. word.now) words.now)) }
@@ -60,7 +60,7 @@ fn is_option(option: &str, text: &str) -> bool
     option == "--workers" && !text.as_bytes().starts_with(b"-")
 }
 
-/// The number of workers, where the words ask for many cases; None where they do not.
+/// The number of workers, where the words ask for many cases; None if they do not.
 pub(crate) fn asked_workers<'a>(
     alloc: Global,
     words: &'a [&'a str],

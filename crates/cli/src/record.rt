@@ -29,8 +29,8 @@ use std::sync::Wait;
 use std::thread::Threads;
 use two_hosts::{Plan, RecordFault, Recording, record};
 
-/// Does what the words behind the program's name ask for, where they don't ask for many cases: a recording, or what
-/// `run` does.
+/// Does what the words after the program's name ask for, if they don't ask for many cases: a recording, or what `run`
+/// does.
 pub(crate) fn record_or_run<R: BufRead, W: Write, H: Threads + Wait + Sync>(
     rt: &H,
     alloc: Global,
@@ -54,7 +54,8 @@ pub(crate) fn record_or_run<R: BufRead, W: Write, H: Threads + Wait + Sync>(
     ensures unread { ¬ AsksCheck (map (λ word. word.now) words.now) → r.new ≡ r.old }
     ensures device { ((plan : Plan) → ¬ AsksRecord (map (λ word. word.now) words.now) plan) → result ≡ 5 →
         (failures_of r.old < failures_of r.new) ⊎ (failures_of w.old < failures_of w.new) }
-    ensures told { result ≡ 5 → failures_of w.new ≡ failures_of w.old → Appends (left_of W.contents w.old) (left_of W.contents w.new) (codes "bad device\n") }
+    ensures told { result ≡ 5 → failures_of w.new ≡ failures_of w.old →
+        Appends (left_of W.contents w.old) (left_of W.contents w.new) (codes "bad device\n") }
     ensures quiet { result ≢ 5 → (failures_of r.new ≡ failures_of r.old) × (failures_of w.new ≡ failures_of w.old) }
 {
     match asked_plan(alloc, words) {
@@ -74,7 +75,8 @@ fn answer_record<W: Write, H: Threads + Wait + Sync>(
     requires few { failures_of w.old < 2 ^ 50 }
     requires whole { is_half plan.version ≡ false }
     ensures recorded { result ≢ 5 → EndsRecord plan result (left_of W.contents w.old) (left_of W.contents w.new) }
-    ensures told { result ≡ 5 → failures_of w.new ≡ failures_of w.old → Appends (left_of W.contents w.old) (left_of W.contents w.new) (codes "bad device\n") }
+    ensures told { result ≡ 5 → failures_of w.new ≡ failures_of w.old →
+        Appends (left_of W.contents w.old) (left_of W.contents w.new) (codes "bad device\n") }
     ensures quiet { result ≢ 5 → failures_of w.new ≡ failures_of w.old }
 {
     match record(rt, alloc, plan) {

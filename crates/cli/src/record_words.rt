@@ -1,13 +1,13 @@
 //! The words that ask for a recording, and the numbers that they name.
 
-ghost use Rattle.std.specs.Prelude.{◌≡◌, ◌≤◌, ◌<◌, ◌^◌, false, ℕ, None, Some, IfOk, IfSome, MatchOption, OnOk, OnErr};
-ghost use Rattle.std.specs.Prelude.{length, map, option_map};
+ghost use Rattle.std.specs.Prelude.{◌≡◌, ◌<◌, false, ℕ, None, Some, IfOk, IfSome, MatchOption};
+ghost use Rattle.std.specs.Prelude.{length, map};
 ghost use Rattle.clap.specs.Words.{app_of, rule_of, fault_of, found_of, matches_of, rows_of, FailsBy};
 ghost use Rattle.clap.specs.declared.builder.command.Command.TheViews.{out-Command};
 ghost use Rattle.two_hosts.specs.declared.plan.Plan.{Plan};
-ghost use Rattle.cli.specs.RecordReading.{app, rule, first_option, joined, listed, named, number_of, telling, AsksPlan};
+ghost use Rattle.cli.specs.RecordReading.{app, rule, first_option, joined, named, number_of, telling, AsksPlan};
 ghost use Rattle.cli.specs.RecordReading.{AsksRest};
-ghost use Rattle.cli.specs.RecordWords.{most, name_of, AsksRecord, TellsNumber};
+ghost use Rattle.cli.specs.RecordWords.{name_of, AsksRecord, TellsNumber};
 
 use case_forms::{OutOfMemory, Version};
 use clap::error::ErrorKind;
@@ -26,7 +26,7 @@ pub(crate) enum Setting {
     Format,
 }
 
-/// The numbers that options told so far.
+/// The numbers that options gave so far.
 #[derive(Clone, Copy)]
 pub(crate) struct GivenSettings {
     rounds: Option<u16>,
@@ -71,7 +71,7 @@ fn parse<'a>(alloc: Global, setting: Setting, words: &'a [&'a str]) -> Result<Ar
     option.try_get_matches_from(words)
 }
 
-// The option of which a word is the name, behind two dashes.
+// The option of which a word is the name, after two dashes.
 fn named(word: &str) -> Option<Setting>
     ensures { result ≡ named word.now }
 {
@@ -118,7 +118,7 @@ fn first_option(words: &[&str]) -> Option<(Setting, usize)>
 }
 
 impl GivenSettings {
-    // The option tells this number; None where it told one before.
+    // The option gives this number; None if it gave one before.
     fn with(self, setting: Setting, number: u16) -> Option<GivenSettings>
         ensures fresh { number_of setting self ≡ None → result ≡ Some (telling setting number self) }
         ensures again { IfSome (number_of setting self) (λ _. result ≡ None) }
@@ -140,7 +140,7 @@ impl GivenSettings {
         }
     }
 
-    // What these numbers ask for; None where one is missing, or each segment would be lost.
+    // What these numbers ask for; None if one is missing, or each segment would be lost.
     fn plan(self) -> Option<Plan>
         ensures { MatchOption result ((plan : Plan) → ¬ AsksPlan self plan) (AsksPlan self) }
     {
@@ -193,7 +193,7 @@ fn number_told<'a>(
     }
 }
 
-// What the options in these words ask for beside the numbers that were told before them.
+// What the options in these words ask for beside the numbers that were given before them.
 fn plan_told<'a>(
     alloc: Global,
     words: &'a [&'a str],
@@ -218,7 +218,7 @@ fn plan_told<'a>(
     plan_told(alloc, rest, told)
 }
 
-/// What is recorded, where the words ask for a recording; None where they do not.
+/// What is recorded, where the words ask for a recording; None if they do not.
 pub(crate) fn asked_plan<'a>(
     alloc: Global,
     words: &'a [&'a str],

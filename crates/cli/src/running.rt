@@ -19,10 +19,10 @@ use counted::{Counted, ReadFault};
 use std::alloc::Global;
 use std::io::{BufRead, Write};
 
-/// Does what the words behind the program's name ask for, and answers the status: 0 where the case is explained or the
+/// Does what the words after the program's name ask for, and answers the status: 0 where the case is explained or the
 /// segment is printed, 1 where the case is not explained, 2 where its text or the segment is refused, 3 where the words
-/// are neither `check` alone nor `segment` with one word that begins with no dash, 4 where memory ran out, and 5 where
-/// a read or a write failed, or `Counted` refused it. One line is written, which says the same; only `check` reads. To
+/// are neither `check` alone nor `segment` with one word that begins with no dash, 4 if memory ran out, and 5 where a
+/// read or a write failed, or `Counted` refused it. One line is written, which says the same; only `check` reads. To
 /// write `bad memory` takes no memory. Both counts of failures have to be below 2^50 before, as those of new ends are.
 pub fn run<R: BufRead, W: Write>(
     alloc: Global,
@@ -42,9 +42,10 @@ pub fn run<R: BufRead, W: Write>(
         Ends 3 (codes "bad usage\n") result (left_of W.contents w.old) (left_of W.contents w.new) }
     ensures unread { ¬ AsksCheck (map (λ word. word.now) words.now) → r.new ≡ r.old }
 
-    // The status is 5 only where a count of failures grew. That is said where no write failed.
+    // The status is 5 only where a count of failures grew. That is said if no write failed.
     ensures device { result ≡ 5 → (failures_of r.old < failures_of r.new) ⊎ (failures_of w.old < failures_of w.new) }
-    ensures told { result ≡ 5 → failures_of w.new ≡ failures_of w.old → Appends (left_of W.contents w.old) (left_of W.contents w.new) (codes "bad device\n") }
+    ensures told { result ≡ 5 → failures_of w.new ≡ failures_of w.old →
+        Appends (left_of W.contents w.old) (left_of W.contents w.new) (codes "bad device\n") }
     ensures quiet { result ≢ 5 → (failures_of r.new ≡ failures_of r.old) × (failures_of w.new ≡ failures_of w.old) }
 {
     match judge(alloc, words) {
@@ -84,7 +85,8 @@ fn check<R: BufRead, W: Write>(alloc: Global, r: &mut Counted<R>, w: &mut Counte
         Ends (status_of (case_result text)) (line_of (case_result text)) result (left_of W.contents w.old)
         (left_of W.contents w.new)) }
     ensures device { result ≡ 5 → (failures_of r.old < failures_of r.new) ⊎ (failures_of w.old < failures_of w.new) }
-    ensures told { result ≡ 5 → failures_of w.new ≡ failures_of w.old → Appends (left_of W.contents w.old) (left_of W.contents w.new) (codes "bad device\n") }
+    ensures told { result ≡ 5 → failures_of w.new ≡ failures_of w.old →
+        Appends (left_of W.contents w.old) (left_of W.contents w.new) (codes "bad device\n") }
     ensures quiet { result ≢ 5 → (failures_of r.new ≡ failures_of r.old) × (failures_of w.new ≡ failures_of w.old) }
 {
     let mut text = Vec::new(alloc);

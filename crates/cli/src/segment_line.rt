@@ -82,7 +82,7 @@ fn push_ends(line: &mut Vec<u8>, segment: &Segment) -> Result<(), OutOfMemory>
     push_field(line, " ack ", u64::from(segment.ack.0))
 }
 
-// Appends a number behind its name.
+// Appends a number after its name.
 fn push_field(line: &mut Vec<u8>, name: &str, number: u64) -> Result<(), OutOfMemory>
     ensures { IfOk result (λ _. line.new.items ≡ line.old.items ++ (name.now ++ decimal number)) }
 {
@@ -90,7 +90,7 @@ fn push_field(line: &mut Vec<u8>, name: &str, number: u64) -> Result<(), OutOfMe
     push_number(line, number)
 }
 
-// Appends the flags that are set behind their name, or a dash where none is.
+// Appends the flags that are set after their name, or a dash where none is.
 fn push_flags(line: &mut Vec<u8>, segment: &Segment) -> Result<(), OutOfMemory>
     ensures { IfOk result (λ _. line.new.items ≡ line.old.items ++ (codes " flags " ++ flags_text segment.now.flags)) }
 {
@@ -148,7 +148,7 @@ fn letter(flag: Flag) -> &'static str
     }
 }
 
-// Appends an MSS behind its name, or a dash where there is none.
+// Appends an MSS after its name, or a dash if there is none.
 fn push_mss(line: &mut Vec<u8>, mss: Option<u16>) -> Result<(), OutOfMemory>
     ensures { IfOk result (λ _. line.new.items ≡ line.old.items ++ (codes " mss " ++ mss_text mss)) }
 {
@@ -159,7 +159,7 @@ fn push_mss(line: &mut Vec<u8>, mss: Option<u16>) -> Result<(), OutOfMemory>
     }
 }
 
-// The number of the first payload byte, which stands behind a SYN.
+// The number of the first payload byte, which stands after a SYN.
 fn first_number(segment: &Segment) -> Word
     ensures { result ≡ first_number segment.now }
 {

@@ -46,7 +46,7 @@ fn make_segment<'a>(alloc: Global) -> Result<Command<'a>, AllocError>
     Ok(made)
 }
 
-// The whole command line. The words begin behind the program's name.
+// The whole command line. The words begin after the program's name.
 fn make_tool<'a>(alloc: Global) -> Result<Command<'a>, AllocError>
     ensures { IfOk result (λ command. app_of command ≡ tool) }
 {

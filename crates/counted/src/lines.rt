@@ -42,8 +42,8 @@ fn line_part(bytes: &[u8], most: usize) -> (usize, bool)
 }
 
 impl<B: BufRead> Counted<B> {
-    // Appends what one read gives of a line, at most so many bytes, and says whether the line is at its end: behind its
-    // LF, or at the end of the input, where it gives nothing.
+    // Appends what one read gives of a line, at most so many bytes, and says whether the line is at its end: after its
+    // LF, or at the end of the input, if it gives nothing.
     fn append_line_piece(&mut self, most: usize, buf: &mut Vec<u8>) -> Result<bool, ReadFault>
         requires { 0 < most }
         ensures appends { StartsWith buf.new.items buf.old.items }

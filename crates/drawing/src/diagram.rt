@@ -9,7 +9,7 @@ use crate::whole::{Refusal, Refused, Whole};
 use case_forms::{Answer, Call, Event, Host, Line, OutOfMemory, Timer, Wire};
 use line_fields::{TextFault, timer_name};
 use std::alloc::Global;
-use why::numbers::{Numbers, other};
+use why::numbers::Numbers;
 use why::text::{Piece, add};
 use why::words::{push_call, push_label, push_segment, push_told};
 
@@ -30,8 +30,7 @@ const ROW: u64 = 20;
 const LINES: u64 = 400;
 
 /// Which lines of the trace are drawn, by their numbers, both ends with them. Where one end is None there are at most
-/// 400 lines,
-/// from the other end on; where both are, the first 400.
+/// 400 lines, from the other end on; where both are, the first 400.
 #[derive(Clone, Copy)]
 pub struct Range {
     pub from: Option<u64>,
@@ -287,7 +286,7 @@ impl Drawing {
         }
     }
 
-    // The label of a segment that goes out, and its end where no line copies it.
+    // The label of a segment that goes out, and its end if no line copies it.
     fn sent(&mut self, number: u64, host: Host, wire: &Wire) -> Result<(), OutOfMemory> {
         if !self.is_drawn(number) {
             return Ok(());
@@ -342,7 +341,7 @@ impl Drawing {
             return self.heard(class, host, to, wire);
         };
         let from = Point {
-            x: column(other(host)),
+            x: column(host.other()),
             y: self.row(copied),
         };
         arrow(&mut self.out, class, from, to)
@@ -366,7 +365,7 @@ impl Drawing {
             y: to.y.saturating_add(4),
         };
         begin_text(&mut self.out, side, label)?;
-        push_segment(&mut self.out, &self.numbers, other(host), &wire.seg)?;
+        push_segment(&mut self.out, &self.numbers, host.other(), &wire.seg)?;
         end_text(&mut self.out)
     }
 

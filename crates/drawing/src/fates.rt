@@ -41,11 +41,11 @@ pub(crate) struct Fates {
     gone: IndexMap<u64, ()>,
     // All that comes in was taken, and both hosts are recorded: what went out and was not copied is lost.
     is_told: bool,
-    /// For each line that begins a call, the line behind which the call has its effect.
+    /// For each line that begins a call, the line after which the call has its effect.
     pub effects: IndexMap<u64, u64>,
     // For each thread, the line that began its call.
     begun: IndexMap<u32, u64>,
-    /// The line behind which the refused step stands.
+    /// The line after which the refused step stands.
     pub refused: Option<u64>,
     last: u64,
 }

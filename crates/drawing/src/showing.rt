@@ -19,8 +19,7 @@ struct Showing {
 }
 
 /// The case as text: each line of the trace where its step stands, and hidden steps indented between them; a step that
-/// is refused
-/// is marked, and lines that no step takes stand at the end. An error is the trace's first fault.
+/// is refused is marked, and lines that no step takes stand at the end. An error is the trace's first fault.
 pub fn show(alloc: Global, text: &[u8]) -> Result<Vec<u8>, TextFault> {
     let whole = Whole::read(alloc, text)?;
     let mut show = Showing {

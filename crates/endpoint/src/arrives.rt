@@ -21,8 +21,8 @@ use case_forms::{Header, TakeChoice};
 use segment::OutOfMemory;
 use spec_tcp::{Arrived, Endpoint};
 
-/// An endpoint takes a segment at a moment in microseconds, in every state but CLOSED (RFC 9293, 3.10.7). Where memory
-/// runs out, the endpoint stays as it was. Nothing is asked of the segment: the `admits_` functions tell whether it may
+/// An endpoint takes a segment at a moment in microseconds, in every state but CLOSED (RFC 9293, 3.10.7). If memory
+/// runs out, the endpoint stays as it was. The segment is not tested here: the `admits_` functions say whether it may
 /// be taken.
 pub fn take_segment(
     header: &Header,

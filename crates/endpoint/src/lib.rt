@@ -1,7 +1,6 @@
 //! What one endpoint does at each event of RFC 9293, 3.10. In each file the rules of an event and its effect stand
-//! beside each
-//! other; the definitions that their contracts cite stand in the crate `spec_tcp`, in files of the same names in
-//! `specs/`.
+//! beside each other; the definitions that their contracts cite stand in the crate `spec_tcp`, in files of the same
+//! names in `specs/`.
 //!
 //! - `calls`: what socket calls may be answered, and what they do (3.10.1 to 3.10.6)
 //! - `makes`: a segment is made (3.8, 3.10)
@@ -11,9 +10,8 @@
 //! - `signals`: what any of these is to congestion control
 //! - `same`: comparisons that the rules speak of
 //!
-//! An error is the first rule that is broken, by the order of `Rule`. An effect asks nothing again: its caller asked
-//! the rules.
-//! How endpoints are found, and what is under numbers of lines and of made segments, is `endpoint_state`'s.
+//! An error is the first rule that is broken, by the order of `Rule`. An effect tests nothing again: its caller tested
+//! the rules. How endpoints are found, and what is under numbers of lines and of made segments, is `endpoint_state`'s.
 #![tactic(auto)]
 
 mod arrives;
@@ -40,4 +38,4 @@ pub use recovery::{admits_recovery, greatest_at_recovery, greatest_recovery, rec
 pub use reset::reset_of;
 pub use signals::{greatest_taking, profile_of};
 pub use timeouts::{admits_expiry, expire, greatest_values, has_more};
-pub use wire::{admits_copy, heard, matches_sent, sent};
+pub use wire::{admits_copy, heard, is_past_lifetime, matches_sent, sent};

@@ -62,8 +62,8 @@ pub fn admits_making(endpoint: &Endpoint, making: &SegmentPlan) -> Result<(), Ru
     Ok(())
 }
 
-/// Makes a segment at an endpoint of this name, at a moment in microseconds. Where memory runs out, the endpoint stays
-/// as it was. Nothing is asked of what is made: `admits_making` tells whether it may be.
+/// Makes a segment at an endpoint of this name, at a moment in microseconds. If memory runs out, the endpoint stays as
+/// it was. The segment is not tested here: `admits_making` says whether it may be made.
 pub fn make(
     alloc: Global,
     endpoint: &mut Endpoint,

@@ -15,8 +15,7 @@ use std::alloc::Global;
 const TURN: u128 = 1 << 32;
 
 /// The reset: at the number that the segment acknowledges, or at 0 with an acknowledgment of all its positions. It
-/// takes
-/// no memory.
+/// takes no memory.
 pub fn reset_of(alloc: Global, m: &Emission) -> Emission
     ensures reset { result ≡ reset_of m.now }
     ensures small { IsSmallEmission result }

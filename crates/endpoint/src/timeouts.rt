@@ -21,8 +21,7 @@ use timer_rules::{TimerFault, Timers};
 use verdict::Rule;
 
 /// Whether a timer may expire at an endpoint at this moment, in microseconds; the retransmission timer with what is
-/// chosen
-/// there. An error is the first rule that is broken.
+/// chosen there. An error is the first rule that is broken.
 pub fn admits_expiry(
     header: &Header,
     moment: u64,
@@ -130,11 +129,9 @@ fn is_refused_early(timers: &Timers, timer: Timer, moment: u64, header: &Header)
     )
 }
 
-/// A timer expires at a moment in microseconds. Behind the retransmission timer the congestion window and the slow
-/// start
-/// threshold are those that are chosen, in bytes, and all that was made may be made again; behind the persist timer a
-/// probe
-/// is due; the wait in TIME-WAIT is over, or the endpoint gives up, with a reset that is due.
+/// A timer expires at a moment in microseconds. After the retransmission timer the congestion window and the slow start
+/// threshold are those that are chosen, in bytes, and all that was made may be made again; after the persist timer a
+/// probe is due; the wait in TIME-WAIT is over, or the endpoint gives up, with a reset that is due.
 pub fn expire(endpoint: &mut Endpoint, expired: Expired, moment: u64)
     requires { HasRoom endpoint.old }
     ensures { endpoint.new ≡ forget_endpoint (after_expiry endpoint.old expired moment) }

@@ -24,8 +24,8 @@ const FAR_NAME: EndpointId = EndpointId {
 /// No segment carries more bytes.
 const MOST_BYTES: usize = 65_535;
 
-// Whether the segment's fields are those of the made one: the acknowledgment number where there is one, the window of
-// all but a reset that answers.
+// Whether the segment's fields are those of the made one: the acknowledgment number if there is one, the window of all
+// but a reset that answers.
 fn header_matches(segment: &Segment, m: &Emission) -> bool
     ensures { result ≡ header_matches segment.now m.now }
 {
@@ -66,7 +66,7 @@ fn shift_matches(segment: &Segment, m: &Emission) -> bool
     }
 }
 
-/// Whether the segment on the wire is the made one. Shifts are looked at where windows may be scaled.
+/// Whether the segment on the wire is the made one. Shifts are looked at if windows may be scaled.
 pub fn matches_sent(header: &Header, wire: &Wire, m: &Emission) -> bool
     ensures { result ≡ matches_sent header.now wire.now m.now }
 {
@@ -103,8 +103,7 @@ pub fn sent(moment: u64, wire: &Wire, m: &Emission) -> Result<Emission, OutOfMem
 }
 
 /// What is heard of a host that is not recorded, at a moment in microseconds: a segment as its bytes tell it. An error:
-/// memory
-/// ran out.
+/// memory ran out.
 pub fn heard(alloc: Global, moment: u64, wire: &Wire) -> Result<Emission, OutOfMemory>
     ensures heard { IfOk result (λ m. m ≡ heard moment wire.now) }
     ensures small { IfOk result IsSmallEmission }
@@ -153,8 +152,7 @@ fn told_flags(segment: &Segment) -> Flags
 }
 
 /// Whether what comes in at a moment, in microseconds, is a copy of a segment that went out, at most the maximum
-/// segment
-/// lifetime later (RFC 9293, 3.4.2). An error is the first rule that is broken.
+/// segment lifetime later (RFC 9293, 3.4.2). An error is the first rule that is broken.
 pub fn admits_copy(header: &Header, moment: u64, wire: &Wire, m: &Emission) -> Result<(), Rule>
     ensures { result_err result ≡ first_broken (in_rules header.now moment wire.now m.now) }
 {
@@ -167,7 +165,9 @@ pub fn admits_copy(header: &Header, moment: u64, wire: &Wire, m: &Emission) -> R
     Ok(())
 }
 
-fn is_past_lifetime(header: &Header, moment: u64, m: &Emission) -> bool
+/// Whether a moment, in microseconds, is more than the maximum segment lifetime after the segment was made
+/// (RFC 9293, 3.4.2).
+pub fn is_past_lifetime(header: &Header, moment: u64, m: &Emission) -> bool
     ensures { result ≡ nat_lt (m.now.moment + header.now.msl) moment }
 {
     m.moment as u128 + (header.msl as u128) < moment as u128

@@ -25,7 +25,7 @@ use Rattle.spec_tcp.specs.declared.endpoint.SocketTarget.{SocketTarget}
 use Rattle.spec_tcp.specs.declared.endpoint.SocketTarget.TheVariants.{ListenerAt, EndpointAt}
 use Rattle.case_forms.specs.declared.steps.TakeChoice.{TakeChoice}
 use Rattle.spec_tcp.specs.Endpoints.{new_endpoint}
-use Rattle.spec_tcp.specs.Bodies.{Body, empty, place_of, queue_of, thing_of, with_endpoint, at_ports, dead}
+use Rattle.spec_tcp.specs.HostTcp.{HostTcp, empty, place_of, queue_of, thing_of, with_endpoint, at_ports, dead}
 use Rattle.case_forms.specs.States.{is_syn_received}
 use Rattle.spec_tcp.specs.Calls.{call_allows, endpoint_allows, is_bad_socket, thing_allows, change_thing, change, after_call}
 use Rattle.spec_tcp.specs.Calls.Send.{after_send}
@@ -51,21 +51,21 @@ use Rattle.endpoint_state.proofs.Segments.{read_small}
 use Rattle.endpoint_state.proofs.Takes.{child_bounded, endpoint_taken_bounded}
 
 -- a host after so many steps, of which something may still be discarded
-record IsBoundedBody (steps : ℕ) (b : Body) : Type 0 where
+record IsBoundedBody (steps : ℕ) (b : HostTcp) : Type 0 where
   pub bounded : All (IsBounded steps) b.endpoints
   pub endpoints : length b.endpoints ≤ steps
   pub listeners : length b.listeners ≤ steps
 
-bounded_body : (steps : ℕ) (b : Body) → IsKeptBody steps b → IsBoundedBody steps b
+bounded_body : (steps : ℕ) (b : HostTcp) → IsKeptBody steps b → IsBoundedBody steps b
 bounded_body steps b k = record { bounded = All-weaker (IsKept steps) (IsBounded steps) (bounded steps) b.endpoints k.kept; endpoints = k.endpoints; listeners = k.listeners }
 
-kept_body_forgotten : (steps : ℕ) (b : Body) → IsBoundedBody steps b → IsKeptBody steps (forget_body b)
+kept_body_forgotten : (steps : ℕ) (b : HostTcp) → IsBoundedBody steps b → IsKeptBody steps (forget_body b)
 kept_body_forgotten steps b k =
     let same = length-map b.endpoints forget_endpoint in
     let few = k.endpoints in
     record { kept = all_kept_forgotten steps b.endpoints k.bounded; endpoints = omega arith; listeners = k.listeners }
 
-pub kept_body_later : (steps : ℕ) (b : Body) → IsKeptBody steps b → IsKeptBody (suc steps) b
+pub kept_body_later : (steps : ℕ) (b : HostTcp) → IsKeptBody steps b → IsKeptBody (suc steps) b
 kept_body_later steps b k =
     let endpoints = k.endpoints in
     let listeners = k.listeners in
@@ -79,14 +79,14 @@ starts_kept = record { kept = All-nil (IsKept 0); endpoints = omega arith; liste
 all_later : (steps : ℕ) (es : List Endpoint) → All (IsBounded steps) es → All (IsBounded (suc steps)) es
 all_later steps es h = All-weaker (IsBounded steps) (IsBounded (suc steps)) (bounded_later steps) es h
 
-body_later : (steps : ℕ) (b : Body) → IsBoundedBody steps b → IsBoundedBody (suc steps) b
+body_later : (steps : ℕ) (b : HostTcp) → IsBoundedBody steps b → IsBoundedBody (suc steps) b
 body_later steps b k =
     let endpoints = k.endpoints in
     let listeners = k.listeners in
     record { bounded = all_later steps b.endpoints k.bounded; endpoints = omega arith; listeners = omega arith }
 
 -- the endpoint at a place changes
-place_bounded : (steps : ℕ) (b : Body) (i : ℕ) (f : Endpoint → Endpoint) → ((e : Endpoint) → slice_get b.endpoints i ≡ Some e → IsBounded steps e → IsBounded (suc steps) (f e)) → IsBoundedBody steps b → IsBoundedBody (suc steps) (with_endpoint b i f)
+place_bounded : (steps : ℕ) (b : HostTcp) (i : ℕ) (f : Endpoint → Endpoint) → ((e : Endpoint) → slice_get b.endpoints i ≡ Some e → IsBounded steps e → IsBounded (suc steps) (f e)) → IsBoundedBody steps b → IsBoundedBody (suc steps) (with_endpoint b i f)
 place_bounded steps b i f grows k =
     let same = length_modify f b.endpoints i in
     let endpoints = k.endpoints in
@@ -97,12 +97,12 @@ place_bounded steps b i f grows k =
       listeners = omega arith;
     }
 
-ports_bounded : (steps : ℕ) (b : Body) (lport rport : ℕ) (f : Endpoint → Endpoint) → ((e : Endpoint) → IsBounded steps e → IsBounded (suc steps) (f e)) → IsBoundedBody steps b → IsBoundedBody (suc steps) (at_ports b lport rport f)
+ports_bounded : (steps : ℕ) (b : HostTcp) (lport rport : ℕ) (f : Endpoint → Endpoint) → ((e : Endpoint) → IsBounded steps e → IsBounded (suc steps) (f e)) → IsBoundedBody steps b → IsBoundedBody (suc steps) (at_ports b lport rport f)
 ports_bounded steps b lport rport f grows k =
     map_or_cases (IsBoundedBody (suc steps)) (place_of b lport rport) b (λ i. with_endpoint b i f) (λ none. body_later steps b k) (λ i at. place_bounded steps b i f (λ e there. grows e) k)
 
 -- an endpoint joins
-joins_bounded : (steps : ℕ) (b : Body) (e : Endpoint) → IsBounded (suc steps) e → IsBoundedBody steps b → IsBoundedBody (suc steps) (record b { endpoints = b.endpoints ++ e ∷ [] })
+joins_bounded : (steps : ℕ) (b : HostTcp) (e : Endpoint) → IsBounded (suc steps) e → IsBoundedBody steps b → IsBoundedBody (suc steps) (record b { endpoints = b.endpoints ++ e ∷ [] })
 joins_bounded steps b e new k =
     let listeners = k.listeners in
     record {
@@ -113,7 +113,7 @@ joins_bounded steps b e new k =
 
 -- 2. calls
 
-changed_bounded : (steps : ℕ) (b : Body) (n : ℕ) (f : Endpoint → Endpoint) → ((e : Endpoint) → IsBounded steps e → IsBounded (suc steps) (f e)) → IsBoundedBody steps b → IsBoundedBody (suc steps) (change b n f)
+changed_bounded : (steps : ℕ) (b : HostTcp) (n : ℕ) (f : Endpoint → Endpoint) → ((e : Endpoint) → IsBounded steps e → IsBounded (suc steps) (f e)) → IsBoundedBody steps b → IsBoundedBody (suc steps) (change b n f)
 changed_bounded steps b n f grows k = by (thing_of b n)
   where
     by : (o : Option SocketTarget) → IsBoundedBody (suc steps) (option_map_or (change_thing b f) o b)
@@ -121,7 +121,7 @@ changed_bounded steps b n f grows k = by (thing_of b n)
     by (Some (ListenerAt l)) = body_later steps b k
     by (Some (EndpointAt i)) = place_bounded steps b i f (λ e there. grows e) k
 
-recv_bounded : (steps : ℕ) (b : Body) (n most : ℕ) (bytes : List ℕ) → call_allows b (calls.Recv n most) (answers.Bytes bytes) ≡ true → IsBoundedBody steps b → IsBoundedBody (suc steps) (change b n (after_recv bytes))
+recv_bounded : (steps : ℕ) (b : HostTcp) (n most : ℕ) (bytes : List ℕ) → call_allows b (calls.Recv n most) (answers.Bytes bytes) ≡ true → IsBoundedBody steps b → IsBoundedBody (suc steps) (change b n (after_recv bytes))
 recv_bounded steps b n most bytes allowed k = by (thing_of b n) allowed
   where
     by : (o : Option SocketTarget) → option_map_or (thing_allows b (calls.Recv n most) (answers.Bytes bytes)) o (is_bad_socket (answers.Bytes bytes)) ≡ true → IsBoundedBody (suc steps) (option_map_or (change_thing b (after_recv bytes)) o b)
@@ -132,11 +132,11 @@ recv_bounded steps b n most bytes allowed k = by (thing_of b n) allowed
         (λ e there. after_recv_bounded most bytes steps e (subst (λ (o : Option Endpoint). option_map_or (λ x. endpoint_allows x (calls.Recv n most) (answers.Bytes bytes)) o false ≡ true) there h))
         k
 
-gone_bounded : (steps : ℕ) (b : Body) (n : ℕ) (f : Endpoint → Endpoint) → ((e : Endpoint) → IsBounded steps e → IsBounded (suc steps) (f e)) → IsBoundedBody steps b → IsBoundedBody (suc steps) (after_gone b n f)
+gone_bounded : (steps : ℕ) (b : HostTcp) (n : ℕ) (f : Endpoint → Endpoint) → ((e : Endpoint) → IsBounded steps e → IsBounded (suc steps) (f e)) → IsBoundedBody steps b → IsBoundedBody (suc steps) (after_gone b n f)
 gone_bounded steps b n f grows k = by (thing_of b n)
   where
     -- socket numbers are not spoken of
-    plain : (c : Body) → IsBoundedBody (suc steps) c → IsBoundedBody (suc steps) (record c { sockets = dead b.sockets n })
+    plain : (c : HostTcp) → IsBoundedBody (suc steps) c → IsBoundedBody (suc steps) (record c { sockets = dead b.sockets n })
     plain c k = record { bounded = k.bounded; endpoints = k.endpoints; listeners = k.listeners }
 
     orphans : (l : ℕ) → IsBoundedBody (suc steps) (without_listener b l)
@@ -156,7 +156,7 @@ gone_bounded steps b n f grows k = by (thing_of b n)
     by (Some (ListenerAt l)) = plain (without_listener b l) (orphans l)
     by (Some (EndpointAt i)) = plain (with_endpoint b i f) (place_bounded steps b i f (λ e there. grows e) k)
 
-accept_bounded : (steps : ℕ) (b : Body) (n : ℕ) (o : Option SocketTarget) → IsBoundedBody steps b → IsBoundedBody (suc steps) (option_map_or (after_accept b n) o b)
+accept_bounded : (steps : ℕ) (b : HostTcp) (n : ℕ) (o : Option SocketTarget) → IsBoundedBody steps b → IsBoundedBody (suc steps) (option_map_or (after_accept b n) o b)
 accept_bounded steps b n o k = by o
   where
     from : (l : ℕ) (queue : List ℕ) → IsBoundedBody (suc steps) (accepted_from b l n queue)
@@ -172,7 +172,7 @@ accept_bounded steps b n o k = by o
     by (Some (ListenerAt l)) = from l (queue_of b l)
     by (Some (EndpointAt i)) = body_later steps b k
 
-listened_bounded : (steps : ℕ) (b : Body) (l : Listener) → IsBoundedBody steps b → IsBoundedBody (suc steps) (record b { listeners = b.listeners ++ l ∷ [] })
+listened_bounded : (steps : ℕ) (b : HostTcp) (l : Listener) → IsBoundedBody steps b → IsBoundedBody (suc steps) (record b { listeners = b.listeners ++ l ∷ [] })
 listened_bounded steps b l k =
     let later = body_later steps b k in
     record { bounded = later.bounded; endpoints = later.endpoints; listeners = length_push b.listeners l steps k.listeners }
@@ -188,14 +188,14 @@ opened_bounded p lport rport steps = record {
   unmet = λ sent. refl;
 }
 
-socket_bounded : (steps : ℕ) (b c : Body) → b.endpoints ≡ c.endpoints → b.listeners ≡ c.listeners → IsBoundedBody steps b → IsBoundedBody steps c
+socket_bounded : (steps : ℕ) (b c : HostTcp) → b.endpoints ≡ c.endpoints → b.listeners ≡ c.listeners → IsBoundedBody steps b → IsBoundedBody steps c
 socket_bounded steps b c e l k = record {
   bounded = subst (λ (es : List Endpoint). All (IsBounded steps) es) e k.bounded;
   endpoints = subst (λ (es : List Endpoint). length es ≤ steps) e k.endpoints;
   listeners = subst (λ (ls : List Listener). length ls ≤ steps) l k.listeners;
 }
 
-call_bounded : (p : Profile) (steps : ℕ) (b : Body) (call : Call) (answer : Answer) → IsSmallAnswer answer → call_allows b call answer ≡ true
+call_bounded : (p : Profile) (steps : ℕ) (b : HostTcp) (call : Call) (answer : Answer) → IsSmallAnswer answer → call_allows b call answer ≡ true
     → IsBoundedBody steps b → IsBoundedBody (suc steps) (after_call p b call answer)
 call_bounded p steps b (calls.Listen host port backlog) (answers.Given n) small allowed k =
     let l : Listener = record { port = port; backlog = backlog; is_open = true; queue = [] } in
@@ -214,7 +214,7 @@ call_bounded p steps b _ _ small allowed k = body_later steps b k
 
 -- 3. segments
 
-length_joined : (b : Body) (i : ℕ) (e : Endpoint) (m : Emission) → length (joined b i e m) ≡ length b.listeners
+length_joined : (b : HostTcp) (i : ℕ) (e : Endpoint) (m : Emission) → length (joined b i e m) ≡ length b.listeners
 length_joined b i e m = by (is_syn_received e.state && acknowledges_syn e m) e.listener
   where
     by : (c : Bool) (o : Option ℕ) → length (if c then option_map_or (λ l. modify b.listeners l (λ x. record x { queue = x.queue ++ i ∷ [] })) o b.listeners else b.listeners) ≡ length b.listeners
@@ -222,7 +222,7 @@ length_joined b i e m = by (is_syn_received e.state && acknowledges_syn e m) e.l
     by true (Some l) = length_modify (λ (x : Listener). record x { queue = x.queue ++ i ∷ [] }) b.listeners l
     by false o = refl
 
-taking_bounded : (h : Header) (how : TakeChoice) (m : Emission) (moment steps : ℕ) (b : Body) (t : Taker) → m.ack < 2 ^ 63 → IsBoundedBody steps b → IsBoundedBody (suc steps) (after_taking h b how m moment t)
+taking_bounded : (h : Header) (how : TakeChoice) (m : Emission) (moment steps : ℕ) (b : HostTcp) (t : Taker) → m.ack < 2 ^ 63 → IsBoundedBody steps b → IsBoundedBody (suc steps) (after_taking h b how m moment t)
 taking_bounded h how m moment steps b Nobody small k = body_later steps b k
 taking_bounded h how m moment steps b (AtListener l) small k =
     joins_bounded steps b (child (profile_of h.initial) l how m moment) (child_bounded (profile_of h.initial) l how m moment (suc steps)) k
@@ -235,7 +235,7 @@ taking_bounded h how m moment steps b (AtEndpoint i e) small k =
 
 -- 4. all acts
 
-act_bounded : (h : Header) (me : Host) (moment steps : ℕ) (b : Body) (act : Act) → IsSmallAct act → first_broken (act_rules h me moment b act) ≡ None → IsBoundedBody steps b → IsBoundedBody (suc steps) (act_after h me moment b act)
+act_bounded : (h : Header) (me : Host) (moment steps : ℕ) (b : HostTcp) (act : Act) → IsSmallAct act → first_broken (act_rules h me moment b act) ≡ None → IsBoundedBody steps b → IsBoundedBody (suc steps) (act_after h me moment b act)
 act_bounded h me moment steps b (Calls call answer) small permitted k =
     let all = none_all (act_rules h me moment b (Calls call answer)) permitted in
     call_bounded (profile_of h.initial) steps b call answer small (not_false (call_allows b call answer) all.0) k
@@ -246,6 +246,6 @@ act_bounded h me moment steps b (Expires x) small permitted k = ports_bounded st
 act_bounded h me moment steps b (Recovers x) small permitted k =
     ports_bounded steps b x.lport x.rport (λ e. after_recovery e x.cwnd x.ssthresh moment) (after_recovery_bounded x.cwnd x.ssthresh moment steps) k
 
-pub body_keeps : (h : Header) (me : Host) (moment steps : ℕ) (b : Body) (act : Act) → IsSmallAct act → first_broken (act_rules h me moment b act) ≡ None → IsKeptBody steps b → IsKeptBody (suc steps) (forget_body (act_after h me moment b act))
+pub body_keeps : (h : Header) (me : Host) (moment steps : ℕ) (b : HostTcp) (act : Act) → IsSmallAct act → first_broken (act_rules h me moment b act) ≡ None → IsKeptBody steps b → IsKeptBody (suc steps) (forget_body (act_after h me moment b act))
 body_keeps h me moment steps b act small permitted k =
     kept_body_forgotten (suc steps) (act_after h me moment b act) (act_bounded h me moment steps b act small permitted (bounded_body steps b k))

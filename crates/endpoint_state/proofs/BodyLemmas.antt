@@ -4,12 +4,12 @@ use Rattle.std.specs.List.{All}
 use Rattle.spec_tcp.specs.declared.endpoint.Endpoint.{Endpoint}
 use Rattle.spec_tcp.specs.declared.endpoint.Listener.{Listener}
 use Rattle.spec_tcp.specs.declared.endpoint.Socket.{Socket}
-use Rattle.spec_tcp.specs.Bodies.{Body}
+use Rattle.spec_tcp.specs.HostTcp.{HostTcp}
 use Rattle.spec_tcp.specs.Bounds.{HasRoom}
 use Rattle.spec_tcp.specs.Forgetting.{forget_body, forget_endpoint}
 use Rattle.endpoint_state.proofs.Forgotten.{all_same, forget_same, first, later}
 
-pub body_same : (b : Body) → All HasRoom b.endpoints → forget_body b ≡ b
+pub body_same : (b : HostTcp) → All HasRoom b.endpoints → forget_body b ≡ b
 body_same b room = ap (λ (es : List Endpoint). let c : Body = record b { endpoints = es } in c) (all_same b.endpoints room)
 
 -- an endpoint is added of which there is nothing to discard

@@ -12,7 +12,7 @@ use Rattle.spec_network.specs.Tables.{pick}
 use Rattle.spec_network.specs.Hosts.{World, Turn, Idle, Called, Answered, Effect, turn_of}
 use Rattle.spec_network.specs.HostRules.{Permitted, aim_of, call_rules, fresh_rules, open_rules, effect_rules, step_rules}
 use Rattle.spec_network.specs.HostSteps.{effect_after, call_after}
-use Rattle.spec_tcp.specs.Bodies.{given}
+use Rattle.spec_tcp.specs.HostTcp.{given}
 use Rattle.spec_tcp.specs.Calls.{call_allows, is_bad_socket}
 use Rattle.spec_tcp.specs.Machine.{tcp, tcp_shape, gives}
 use Rattle.spec_tcp.specs.Machine as acts

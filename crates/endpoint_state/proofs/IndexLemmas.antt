@@ -8,7 +8,7 @@ use Rattle.std.specs.declared.alloc.Global.{Global}
 use Rattle.streams.specs.Lists.{modify}
 use Rattle.streams.proofs.Places.{all_push, all_modify}
 use Rattle.spec_tcp.specs.declared.endpoint.Endpoint.{Endpoint}
-use Rattle.spec_tcp.specs.Bodies.{last_from, has_ports}
+use Rattle.spec_tcp.specs.HostTcp.{last_from, has_ports}
 use Rattle.endpoint_state.specs.Indexes.{IsIndexed, is_child_in, stands_in, ports_cmp}
 use Rattle.std.specs.Map.{lookup}
 use Rattle.std.specs.BTreeMap.{is_at}

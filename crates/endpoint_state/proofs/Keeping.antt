@@ -22,7 +22,7 @@ use Rattle.spec_network.specs.Hosts.{HostState, World, Turn, Idle, Called, Answe
 use Rattle.spec_network.specs.HostRules.{Permitted, aim_of, call_rules, deed_rules, effect_rules, fresh_rules, just}
 use Rattle.spec_network.specs.HostSteps.{act_made, after, call_after, deed_after, effect_after, empty_host, makes, start}
 use Rattle.spec_tcp.specs.declared.endpoint.Emission.{Emission}
-use Rattle.spec_tcp.specs.Bodies.{Body}
+use Rattle.spec_tcp.specs.HostTcp.{HostTcp}
 use Rattle.spec_tcp.specs.Heard.{heard}
 use Rattle.spec_tcp.specs.Reset.{reset_of}
 use Rattle.spec_tcp.specs.Wire.{sent}
@@ -63,17 +63,17 @@ settled_small line inbox all = all_insert IsSmallArrival inbox line None tt all
 
 -- 2. one host
 
-forgotten_body : (steps : ℕ) (b : Body) → IsKeptBody steps b → IsKeptBody steps (forget_body b)
+forgotten_body : (steps : ℕ) (b : HostTcp) → IsKeptBody steps b → IsKeptBody steps (forget_body b)
 forgotten_body steps b k =
     let same = length-map b.endpoints forget_endpoint in
     let endpoints = k.endpoints in
     record { kept = all_kept_forgotten steps b.endpoints (All-weaker (IsKept steps) (IsBounded steps) (bounded steps) b.endpoints k.kept); endpoints = omega arith; listeners = k.listeners }
 
 -- one step more, in which nothing happens to what the calls see
-idle_body : (steps : ℕ) (b : Body) → IsKeptBody steps b → IsKeptBody (suc steps) (forget_body b)
+idle_body : (steps : ℕ) (b : HostTcp) → IsKeptBody steps b → IsKeptBody (suc steps) (forget_body b)
 idle_body steps b k = forgotten_body (suc steps) b (kept_body_later steps b k)
 
-small_tables : (b : Body) (h : HostState tcp_shape) → AreSmall h → AreSmall (record h { body = b })
+small_tables : (b : HostTcp) (h : HostState tcp_shape) → AreSmall h → AreSmall (record h { body = b })
 small_tables b h small = record { made = small.made; wire = small.wire; inbox = small.inbox }
 
 idle_host : (steps : ℕ) (h : HostState tcp_shape) → IsKeptHost steps h → IsKeptHost (suc steps) (forget_host h)

@@ -8,7 +8,7 @@ use Rattle.std.specs.Option.{IsSomeAnd}
 use Rattle.streams.specs.Lists.{modify}
 use Rattle.streams.proofs.Places.{all_push, all_modify, get_append}
 use Rattle.spec_tcp.specs.declared.endpoint.Listener.{Listener}
-use Rattle.spec_tcp.specs.Bodies.{last_from, listens_on}
+use Rattle.spec_tcp.specs.HostTcp.{last_from, listens_on}
 use Rattle.endpoint_state.specs.Indexes.{IsListening}
 
 last_none : {X : Type 0} (test : X → Bool) (k : ℕ) (found : Option ℕ) (xs : List X) → ((j : ℕ) (y : X) → slice_get xs j ≡ Some y → test y ≡ false) → last_from test k found xs ≡ found

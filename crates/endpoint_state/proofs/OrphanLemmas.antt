@@ -16,7 +16,7 @@ use Rattle.spec_tcp.specs.declared.endpoint.Endpoint.{Endpoint}
 use Rattle.spec_tcp.specs.Bounds.{HasRoom}
 use Rattle.spec_tcp.specs.Calls.Close.{orphaned, after_abort, resets_at_abort}
 use Rattle.spec_tcp.specs.Forgetting.{forget_endpoint}
-use Rattle.spec_tcp.specs.Bodies.{has_ports}
+use Rattle.spec_tcp.specs.HostTcp.{has_ports}
 use Rattle.endpoint_state.specs.Indexes.{IsIndexed, stands_in, is_child_in}
 use Rattle.endpoint_state.specs.Changes.{orphan_each}
 use Rattle.endpoint_state.proofs.IndexLemmas.{indexed_modify}

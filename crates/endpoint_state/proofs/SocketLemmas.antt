@@ -16,7 +16,7 @@ use Rattle.spec_tcp.specs.declared.endpoint.Listener.{Listener}
 use Rattle.spec_tcp.specs.declared.endpoint.Socket.{Socket}
 use Rattle.spec_tcp.specs.declared.endpoint.SocketTarget.{SocketTarget}
 use Rattle.spec_tcp.specs.declared.endpoint.SocketTarget.TheVariants.{EndpointAt}
-use Rattle.spec_tcp.specs.Bodies.{Body, queue_of, with_socket}
+use Rattle.spec_tcp.specs.HostTcp.{HostTcp, queue_of, with_socket}
 use Rattle.spec_tcp.specs.Endpoints.{new_endpoint}
 use Rattle.spec_tcp.specs.Bounds.{HasRoom}
 use Rattle.spec_tcp.specs.Calls.{call_allows, thing_allows, is_bad_socket, endpoint_allows}
@@ -27,7 +27,7 @@ use Rattle.endpoint_state.specs.Waiting.{AreWaiting}
 use Rattle.endpoint_state.proofs.BodyLemmas.{body_is, forgot_push}
 
 -- no child stands in the queue
-pub accepted_none : (b : Body) (l n : ℕ) (q : List ℕ) → slice_get q 0 ≡ None → accepted_from b l n q ≡ b
+pub accepted_none : (b : HostTcp) (l n : ℕ) (q : List ℕ) → slice_get q 0 ≡ None → accepted_from b l n q ≡ b
 accepted_none b l n [] none = refl
 accepted_none b l n (child ∷ q) none = absurd (none-some child (sym none))
 
@@ -39,11 +39,11 @@ modify_alike {X} f g (x ∷ xs) (suc i) alike = ap (λ (ys : List X). x ∷ ys) 
 abbrev without_first : Listener → Listener
 without_first x = record x { queue = drop 1 x.queue }
 
-queue_at : (b : Body) (l : ℕ) (x : Listener) → slice_get b.listeners l ≡ Some x → queue_of b l ≡ x.queue
+queue_at : (b : HostTcp) (l : ℕ) (x : Listener) → slice_get b.listeners l ≡ Some x → queue_of b l ≡ x.queue
 queue_at b l x at = ap (λ (o : Option Listener). option_map_or (λ y. y.queue) o []) at
 
 -- the first child is accepted
-pub accepted_first : (b : Body) (l n child : ℕ) (es : List Endpoint) (xs : List Listener) (ss : List (ℕ × Socket)) → slice_get (queue_of b l) 0 ≡ Some child
+pub accepted_first : (b : HostTcp) (l n child : ℕ) (es : List Endpoint) (xs : List Listener) (ss : List (ℕ × Socket)) → slice_get (queue_of b l) 0 ≡ Some child
     → es ≡ changed b.endpoints child (λ e. record e { listener = None }) → xs ≡ modify b.listeners l without_first → ss ≡ insert_entry nat_eq b.sockets n (record { thing = EndpointAt child; live = true })
     → (let a : Body = record { endpoints = es; listeners = xs; sockets = ss } in a) ≡ forget_body (accepted_from b l n (queue_of b l))
 accepted_first b l n child es xs ss first e x s = by (queue_of b l) refl first
@@ -58,7 +58,7 @@ accepted_first b l n child es xs ss first e x s = by (queue_of b l) refl first
         (body_is es _ xs _ ss _ e (x ∙ listeners) s)
 
 -- an endpoint that is opened has nothing to discard
-pub opened : (p : Profile) (b : Body) (n lport rport : ℕ) → All HasRoom b.endpoints
+pub opened : (p : Profile) (b : HostTcp) (n lport rport : ℕ) → All HasRoom b.endpoints
     → with_socket (record b { endpoints = b.endpoints ++ new_endpoint lport rport None states.SynSent p ∷ [] }) n (EndpointAt (length b.endpoints))
     ≡ forget_body (with_socket (record b { endpoints = b.endpoints ++ new_endpoint lport rport None states.SynSent p ∷ [] }) n (EndpointAt (length b.endpoints)))
 opened p b n lport rport room =
@@ -78,7 +78,7 @@ both true b is = is
 both false b is = absurd (true≢false (sym is))
 
 -- bytes that a `recv` may give wait
-pub allowed_wait : (b : Body) (n most : ℕ) (bytes : List ℕ) → call_allows b (calls.Recv n most) (answers.Bytes bytes) ≡ true → AreWaiting b n bytes
+pub allowed_wait : (b : HostTcp) (n most : ℕ) (bytes : List ℕ) → call_allows b (calls.Recv n most) (answers.Bytes bytes) ≡ true → AreWaiting b n bytes
 allowed_wait b n most bytes allowed i e named at =
     let one : thing_allows b (calls.Recv n most) (answers.Bytes bytes) (EndpointAt i) ≡ true = sym (ap (λ (o : Option SocketTarget). option_map_or (thing_allows b (calls.Recv n most) (answers.Bytes bytes)) o (is_bad_socket (answers.Bytes bytes))) named) ∙ allowed in
     let two : endpoint_allows e (calls.Recv n most) (answers.Bytes bytes) ≡ true = sym (ap (λ (o : Option Endpoint). option_map_or (λ x. endpoint_allows x (calls.Recv n most) (answers.Bytes bytes)) o false) at) ∙ one in

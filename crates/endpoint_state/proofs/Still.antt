@@ -10,7 +10,7 @@ use Rattle.spec_network.specs.Tables.{waiting, on}
 use Rattle.spec_network.specs.Hosts.{HostState}
 use Rattle.spec_tcp.specs.declared.endpoint.Emission.{Emission}
 use Rattle.spec_tcp.specs.declared.endpoint.Endpoint.{Endpoint}
-use Rattle.spec_tcp.specs.Bodies.{Body}
+use Rattle.spec_tcp.specs.HostTcp.{HostTcp}
 use Rattle.spec_tcp.specs.Machine.{tcp_shape}
 use Rattle.spec_tcp.specs.Forgetting.{forget_endpoint, forget_body, forget_host}
 use Rattle.spec_tcp.specs.Bounds.{HasRoom, IsForgotten, IsSmallEmission}
@@ -23,7 +23,7 @@ still_endpoints : (es : List Endpoint) → All HasRoom es → map forget_endpoin
 still_endpoints [] all = refl
 still_endpoints (e ∷ es) all = rw (still_endpoint e (All-head HasRoom e es all).forgets, still_endpoints es (All-tail HasRoom e es all)) refl
 
-pub still_body : (b : Body) → All HasRoom b.endpoints → forget_body b ≡ b
+pub still_body : (b : HostTcp) → All HasRoom b.endpoints → forget_body b ≡ b
 still_body b room = rw (still_endpoints b.endpoints room) refl
 
 pub still_host : (h : HostState tcp_shape) → IsReady h → forget_host h ≡ h

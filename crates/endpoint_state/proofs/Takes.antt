@@ -19,10 +19,10 @@ use Rattle.case_forms.specs.States.{is_closed, is_syn_sent}
 use Rattle.case_forms.specs.declared.steps.TakeChoice.{TakeChoice}
 use Rattle.spec_tcp.specs.Arrives.OtherStates.Ack.{is_new_ack, acknowledges_syn, acked, is_duplicate, fin_acknowledged, acknowledged}
 use Rattle.spec_tcp.specs.Arrives.OtherStates.Fin.{finished, keeps_fin}
-use Rattle.spec_tcp.specs.Arrives.OtherStates.Text.{kept_start, kept_bytes, state_taken}
+use Rattle.spec_tcp.specs.Arrives.OtherStates.Text.{kept_start, kept_bytes, state_after_segment}
 use Rattle.spec_tcp.specs.Arrives.OtherStates.{taken}
 use Rattle.spec_tcp.specs.Arrives.OtherStates.Reset.{was_reset}
-use Rattle.spec_tcp.specs.Arrives.SynSent.{on_syn, snd_una_met}
+use Rattle.spec_tcp.specs.Arrives.SynSent.{on_syn, snd_una_after_syn}
 use Rattle.spec_tcp.specs.Arrives.Listen.{child}
 use Rattle.spec_tcp.specs.Arrives.{endpoint_taken}
 use Rattle.endpoint_state.proofs.Forgets.{IsBounded, bounded_later}
@@ -73,7 +73,7 @@ finished_stays states.Closing passed = stays states.Closing
 finished_stays states.LastAck passed = stays states.LastAck
 finished_stays states.TimeWait passed = stays states.TimeWait
 
-taken_stays : (e : Endpoint) (how : TakeChoice) (m : Emission) → Stays e.state (state_taken e how m)
+taken_stays : (e : Endpoint) (how : TakeChoice) (m : Emission) → Stays e.state (state_after_segment e how m)
 taken_stays e how m =
     let first = acknowledged_stays e.state e m in
     let second = finished_stays (acknowledged e.state e m) _ in
@@ -92,7 +92,7 @@ acked_in_other_states e m = by (acknowledges_syn e m) (is_new_ack e m) (is_dupli
     by false false true = omega arith
     by false false false = omega arith
 
-acked_at_syn : (e : Endpoint) (m : Emission) → IsAcked e.stream.snd_una (snd_una_met e m) (signal_at_syn e m)
+acked_at_syn : (e : Endpoint) (m : Emission) → IsAcked e.stream.snd_una (snd_una_after_syn e m) (signal_at_syn e m)
 acked_at_syn e m = by (not (m.flags.syn && not m.flags.rst)) m.flags.ack
   where
     by : (other ack : Bool)
@@ -105,7 +105,7 @@ acked_at_syn e m = by (not (m.flags.syn && not m.flags.rst)) m.flags.ack
 acked_taken : (e : Endpoint) (m : Emission) → is_syn_sent e.state ≡ false → IsAcked e.stream.snd_una (max e.stream.snd_una m.ack) (signal_of e m)
 acked_taken e m unsent = rw unsent (acked_in_other_states e m)
 
-acked_met : (e : Endpoint) (m : Emission) → is_syn_sent e.state ≡ true → IsAcked e.stream.snd_una (snd_una_met e m) (signal_of e m)
+acked_met : (e : Endpoint) (m : Emission) → is_syn_sent e.state ≡ true → IsAcked e.stream.snd_una (snd_una_after_syn e m) (signal_of e m)
 acked_met e m sent = rw sent (acked_at_syn e m)
 
 zero_or : (c : Bool) (n steps : ℕ) → n ≤ steps → (if c then 0 else n) ≤ suc steps
@@ -138,7 +138,7 @@ met_bounded h how m moment steps e sent b =
     record {
       snd_una = below m.flags.ack;
       counts =
-          counts_stay e.control (signal_of e m) (at_moment e moment) how.cwnd e.control.values.ssthresh steps e.stream.snd_una (snd_una_met e m) b.counts (acked_met e m sent);
+          counts_stay e.control (signal_of e m) (at_moment e moment) how.cwnd e.control.values.ssthresh steps e.stream.snd_una (snd_una_after_syn e m) b.counts (acked_met e m sent);
       unanswered_expiries = omega arith;
       backoffs = zero_or m.flags.ack e.backoffs steps b.backoffs;
       accepted = later.accepted;

@@ -8,7 +8,7 @@ use Rattle.verdict.specs.declared.rule.Rule.{Rule}
 use Rattle.spec_network.specs.Tables.{Both, pick}
 use Rattle.spec_network.specs.Hosts.{HostState}
 use Rattle.spec_network.specs.HostRules.{aim_of, call_rules}
-use Rattle.spec_tcp.specs.Bodies.{given}
+use Rattle.spec_tcp.specs.HostTcp.{given}
 use Rattle.spec_tcp.specs.Calls.{call_allows, is_bad_socket}
 use Rattle.spec_tcp.specs.Machine.{tcp, tcp_shape, aim}
 use Rattle.endpoint_state.specs.Worlds.{Progress}

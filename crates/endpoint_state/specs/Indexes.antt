@@ -9,7 +9,7 @@ use Rattle.std.specs.BTreeMap.{is_at}
 use Rattle.std.specs.Option.{option_map_or, IsSomeAnd}
 use Rattle.spec_tcp.specs.declared.endpoint.Endpoint.{Endpoint}
 use Rattle.spec_tcp.specs.declared.endpoint.Listener.{Listener}
-use Rattle.spec_tcp.specs.Bodies.{last_from, has_ports}
+use Rattle.spec_tcp.specs.HostTcp.{last_from, has_ports}
 
 -- the order of pairs of ports
 abbrev pub ports_cmp : ℕ × ℕ → ℕ × ℕ → Ordering

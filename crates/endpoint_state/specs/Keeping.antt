@@ -9,7 +9,7 @@ use Rattle.case_forms.specs.declared.trace.Wire.{Wire}
 use Rattle.verdict.specs.Rules.{first_broken}
 use Rattle.spec_tcp.specs.declared.endpoint.Endpoint.{Endpoint}
 use Rattle.spec_tcp.specs.declared.endpoint.Emission.{Emission}
-use Rattle.spec_tcp.specs.Bodies.{Body, empty}
+use Rattle.spec_tcp.specs.HostTcp.{HostTcp, empty}
 use Rattle.spec_tcp.specs.Bounds.{HasRoom, IsKept, IsKeptBody, IsSmallEmission, most_steps}
 use Rattle.spec_tcp.specs.Forgetting.{forget_body}
 use Rattle.spec_tcp.specs.Heard.{heard}
@@ -39,14 +39,14 @@ IsSmallAct (Recovers recovery) = Unit {0}
 -- a host begins with nothing; a permitted act is one step more, and what may be discarded is discarded then
 pub record ActsKeep : Type 0 where
   pub starts : IsKeptBody 0 empty
-  pub acts : (h : Header) (me : Host) (moment steps : ℕ) (b : Body) (act : Act) → IsSmallAct act
+  pub acts : (h : Header) (me : Host) (moment steps : ℕ) (b : HostTcp) (act : Act) → IsSmallAct act
       → first_broken (act_rules h me moment b act) ≡ None → IsKeptBody steps b
       → IsKeptBody (suc steps) (forget_body (act_after h me moment b act))
 
 -- what holds after so many steps holds after one more in which nothing happens
 pub record KeptLonger : Type 0 where
   pub endpoint : (steps : ℕ) (e : Endpoint) → IsKept steps e → IsKept (suc steps) e
-  pub body : (steps : ℕ) (b : Body) → IsKeptBody steps b → IsKeptBody (suc steps) b
+  pub body : (steps : ℕ) (b : HostTcp) → IsKeptBody steps b → IsKeptBody (suc steps) b
 
 -- resets that answer are small, and so is what is heard of a host that is not recorded; segments that go out are as
 -- small as they were made

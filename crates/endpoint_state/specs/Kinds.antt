@@ -12,7 +12,7 @@ use Rattle.case_forms.specs.declared.steps.TakeChoice.{TakeChoice}
 use Rattle.spec_network.specs.Tables.{on, unsent, waiting}
 use Rattle.spec_network.specs.Hosts.{HostState, Deed, Expires}
 use Rattle.spec_network.specs.HostSteps.{inbox_settled, made_gone_out, wire_after}
-use Rattle.spec_tcp.specs.Bodies.{at_ports, Body}
+use Rattle.spec_tcp.specs.HostTcp.{at_ports, HostTcp}
 use Rattle.spec_tcp.specs.Machine.{act_makes, tcp_shape, rules_at}
 use Rattle.spec_tcp.specs.Machine as acts
 use Rattle.spec_tcp.specs.Heard.{heard}
@@ -67,17 +67,17 @@ abbrev pub expiry_of : Ports → Expired → Deed tcp_shape
 expiry_of ports e = Expires 0 (record { lport = ports.lport; rport = ports.rport; expired = e })
 
 -- the rules of it, and what the host's endpoints are then
-abbrev pub expiring_rules : Header → (moment : ℕ) → Ports → Expired → Body → List (Rule × Bool)
+abbrev pub expiring_rules : Header → (moment : ℕ) → Ports → Expired → HostTcp → List (Rule × Bool)
 expiring_rules hd moment ports e b = rules_at b ports.lport ports.rport (λ x. expiry_rules hd moment x e)
 
-abbrev pub expired_body : (moment : ℕ) → Ports → Expired → Body → Body
+abbrev pub expired_body : (moment : ℕ) → Ports → Expired → HostTcp → HostTcp
 expired_body moment ports e b = at_ports b ports.lport ports.rport (λ x. after_expiry x e moment)
 
 -- the same of fast recovery
-abbrev pub recovering_rules : (moment : ℕ) → Recovery → Body → List (Rule × Bool)
+abbrev pub recovering_rules : (moment : ℕ) → Recovery → HostTcp → List (Rule × Bool)
 recovering_rules moment r b = rules_at b r.lport r.rport (λ x. recovery_rules x r.cwnd r.ssthresh moment)
 
-abbrev pub recovered_body : (moment : ℕ) → Recovery → Body → Body
+abbrev pub recovered_body : (moment : ℕ) → Recovery → HostTcp → HostTcp
 recovered_body moment r b = at_ports b r.lport r.rport (λ x. after_recovery x r.cwnd r.ssthresh moment)
 
 -- the rules of taking, dropping and answering what waits with that line

@@ -3,7 +3,7 @@
 ghost use Rattle.std.specs.Prelude.{◌≡◌, ◌+◌, ◌<◌, ◌^◌, ℕ, true, [], ◌∷◌, ◌++◌, None, length, slice_get, OnOk, OnErr};
 ghost use Rattle.std.specs.Prelude.{◌≤◌, false, Some, is_some, IfOk, map};
 ghost use Rattle.std.specs.Option.{option_copied, option_map, IfSome, IsSomeAnd};
-ghost use Rattle.spec_tcp.specs.Bodies.{has_ports, last_from};
+ghost use Rattle.spec_tcp.specs.HostTcp.{has_ports, last_from};
 ghost use Rattle.endpoint_state.specs.Indexes.{is_child_in};
 ghost use Rattle.std.specs.List.{All};
 ghost use Rattle.spec_tcp.specs.Bounds.{greatest_position, HasRoom, IsSmallEmission};
@@ -81,7 +81,7 @@ impl Endpoints {
         self.places.get(&(lport, rport)).copied()
     }
 
-    /// One more endpoint is added at the end. Where memory runs out nothing is changed.
+    /// One more endpoint is added at the end. If memory runs out, nothing is changed.
     pub(crate) fn add(&mut self, alloc: Global, endpoint: Endpoint) -> Result<(), OutOfMemory>
         requires { length self.old + 1 < 2 ^ 32 }
         ensures ok { OnOk result (self.new ≡ self.old ++ endpoint ∷ []) }
@@ -121,8 +121,7 @@ fn add_child(
 }
 
 impl Endpoints {
-    /// The endpoint of this name makes a segment, at a moment in microseconds. Where memory runs out nothing is
-    /// changed.
+    /// The endpoint of this name makes a segment, at a moment in microseconds. If memory runs out, nothing is changed.
     pub(crate) fn make(
         &mut self,
         alloc: Global,
@@ -214,9 +213,8 @@ impl Endpoints {
         }
     }
 
-    /// The endpoint at a place takes a segment as it reads it, and which it may take, at a moment in microseconds.
-    /// Where memory
-    /// runs out nothing is changed.
+    /// The endpoint at a place takes a segment as it reads it, and which it may take, at a moment in microseconds. If
+    /// memory runs out, nothing is changed.
     pub(crate) fn take(
         &mut self,
         header: &Header,
@@ -240,7 +238,7 @@ impl Endpoints {
         Ok(())
     }
 
-    /// The first bytes of a `send` are accepted at the endpoint at a place: so many. Where memory runs out nothing is
+    /// The first bytes of a `send` are accepted at the endpoint at a place: so many. If memory runs out, nothing is
     /// changed.
     pub(crate) fn send(&mut self, place: u32, bytes: &[u8], count: u32) -> Result<(), OutOfMemory>
         requires { All HasRoom self.old }
@@ -255,7 +253,7 @@ impl Endpoints {
         Ok(())
     }
 
-    /// The bytes of a `recv` are delivered at the endpoint at a place, where no more than these wait.
+    /// The bytes of a `recv` are delivered at the endpoint at a place, if no more than these wait.
     pub(crate) fn deliver(&mut self, place: u32, bytes: &[u8])
         requires kept { All HasRoom self.old }
         requires waiting { IfSome (slice_get self.old place)

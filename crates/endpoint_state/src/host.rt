@@ -1,8 +1,7 @@
-//! What one host has, and what it does. Moments are in microseconds, windows and thresholds in bytes. Where memory runs
-//! out
-//! nothing is changed.
+//! What one host has, and what it does. Moments are in microseconds, windows and thresholds in bytes. If memory runs
+//! out, nothing is changed.
 
-ghost use Rattle.std.specs.Prelude.{◌≡◌, ◌≤◌, true, [], Some, nat_eq, IfOk, OnOk, OnErr};
+ghost use Rattle.std.specs.Prelude.{◌≡◌, ◌≤◌, true, Some, nat_eq, IfOk, OnOk, OnErr};
 ghost use Rattle.std.specs.Map.{lookup};
 ghost use Rattle.indexmap.specs.IndexMap.{insert_entry};
 ghost use Rattle.std.specs.Option.{IfSome, option_copied};
@@ -13,7 +12,7 @@ ghost use Rattle.spec_network.specs.HostSteps.{empty_host};
 ghost use Rattle.spec_network.specs.Tables.{waiting};
 ghost use Rattle.spec_network.specs.HostRules.{arrival_rules, sending_rules};
 ghost use Rattle.spec_tcp.specs.Wire.{in_rules, out_rules};
-ghost use Rattle.spec_tcp.specs.Bodies.{given};
+ghost use Rattle.spec_tcp.specs.HostTcp.{given};
 ghost use Rattle.spec_tcp.specs.Makes.{making_rules};
 ghost use Rattle.spec_tcp.specs.Calls.{call_allows, after_call};
 ghost use Rattle.spec_tcp.specs.Machine.{act_makes, rules_at, tcp};
@@ -27,8 +26,8 @@ ghost use Rattle.endpoint_state.specs.Kinds.{dropping_rules, expired_body, expir
 ghost use Rattle.endpoint_state.specs.Kinds.{recovering_rules, taking_rules};
 
 use crate::arriving::{Arrival, admitted_arrival, consume_arrival, waiting};
-use crate::body::Body;
 use crate::fault::StepFault;
+use crate::host_tcp::HostTcp;
 use crate::made::{Made, admitted_sending, send};
 use case_forms::{
     Answer, Call, Expired, Header, Host, Ports, Recovery, SegmentPlan, TakeChoice, Wire,
@@ -46,7 +45,7 @@ use window_rules::Profile;
 /// put on the wire by their lines, and its inbox by the lines that came in, with None for one that waits no longer.
 #[derive(Drop)]
 pub(crate) struct HostState {
-    body: Body,
+    body: HostTcp,
     made: Table<Made>,
     wire: Table<Emission>,
     inbox: Table<Option<Arrival>>,
@@ -58,12 +57,12 @@ impl Model for HostState {
 
     ghost Value = { HostState tcp_shape };
 
-    ghost view = { λ a. record { body = a.body; made = a.made.entries; wire = a.wire.entries; inbox = a.inbox.entries } };
+    ghost view = { λ a. record { body = a.body; made = a.made.entries; wire = a.wire.entries;
+        inbox = a.inbox.entries } };
 }
 
 /// A segment is made under this number, and waits to go out. An error is the first rule that is broken, or that memory
-/// ran
-/// out; nothing is changed then.
+/// ran out; nothing is changed then.
 pub(crate) fn make(
     alloc: Global,
     me: Host,
@@ -116,7 +115,7 @@ pub(crate) fn send_made(
     )
 }
 
-/// A segment joins the inbox with this line. Where memory runs out nothing is changed.
+/// A segment joins the inbox with this line. If memory runs out, nothing is changed.
 pub(crate) fn arrive(
     alloc: Global,
     host: &mut HostState,
@@ -130,9 +129,8 @@ pub(crate) fn arrive(
     Ok(())
 }
 
-/// A segment of elsewhere stands on the host's wire under this line, in place of one that stood there. Where memory
-/// runs out
-/// nothing is changed.
+/// A segment of elsewhere stands on the host's wire under this line, in place of one that stood there. If memory runs
+/// out, nothing is changed.
 pub(crate) fn bring(host: &mut HostState, line: u64, emission: &Emission) -> Result<(), OutOfMemory>
     ensures ok { OnOk result (host.new ≡ record host.old { wire = insert_entry nat_eq host.old.wire line emission.now }) }
     ensures err { OnErr result (host.new ≡ host.old) }
@@ -177,8 +175,7 @@ pub(crate) fn drop_waiting(host: &mut HostState, line: u64) -> Result<(), Rule>
 }
 
 /// The segment that waits under this line is answered by a reset, which gets this number. An error is the first rule
-/// that is
-/// broken, or that memory ran out; nothing is changed then.
+/// that is broken, or that memory ran out; nothing is changed then.
 pub(crate) fn reply_with_reset(
     alloc: Global,
     host: &mut HostState,
@@ -250,7 +247,7 @@ impl HostState {
         ensures { (h : Header) → result ≡ empty_host (tcp h) }
     {
         HostState {
-            body: Body::new(alloc),
+            body: HostTcp::new(alloc),
             made: Table::new(alloc),
             wire: Table::new(alloc),
             inbox: Table::new(alloc),
@@ -279,7 +276,7 @@ impl HostState {
     }
 
     /// Its endpoints, listeners and sockets.
-    pub(crate) fn body(&self) -> &Body
+    pub(crate) fn body(&self) -> &HostTcp
         ensures { result.now ≡ self.now.body }
     {
         &self.body

@@ -27,7 +27,6 @@ pub(crate) struct Hosts {
 }
 
 impl Model for Hosts {
-    ghost use Rattle.std.specs.Option.{IfSome};
     ghost use Rattle.spec_network.specs.Tables.{Both};
     ghost use Rattle.spec_network.specs.Hosts.{HostState};
     ghost use Rattle.spec_tcp.specs.Machine.{tcp_shape};

@@ -1,15 +1,11 @@
 //! What the machine remembers of a case: two hosts with what they have, threads with their calls, how many segments
-//! were made,
-//! and how many steps were done. Each kind of step is one function of `World`, which asks the rules and does the step
-//! where none
-//! is broken; the function of the same name with `admits_` asks alone.
+//! were made, and how many steps were done. Each kind of step is one function of `World`, which asks the rules and does
+//! the step where none is broken; the function of the same name with `admits_` asks alone.
 //!
 //! `specs/Worlds.antt` says what a case has come to, `specs/Kinds.antt` what a host has after each kind of step,
 //! `specs/Calls.antt` what a call may answer, and `specs/Sides.antt` what both hosts have once one of them did
-//! something.
-//! `specs/Kept.antt` says what holds of every world here, so that counts and positions never overflow. Which step a
-//! label asks
-//! for is said by `step_of` of `spec_tcp`.
+//! something. `specs/Kept.antt` says what holds of every world here, so that counts and positions never overflow. Which
+//! step a label asks for is said by `step_of` of `spec_tcp`.
 //!
 //! - `world`: what a case has come to, and every step but the effect of a call
 //! - `calls`: the effect of a call, and the two rules of its answer
@@ -25,21 +21,20 @@
 //!
 //! What one host has below its tables:
 //!
-//! - `body`: endpoints, listeners and sockets, and how they are found. In its folder each event, asked and done:
-//!   `calls`, `makes`,
-//!   `arrives` (with the rules of a reset), `timeouts`, `recovery`
+//! - `host_tcp`: endpoints, listeners and sockets, and how they are found. In its folder each event, its test and its
+//!   effect: `calls`, `makes`, `arrives` (with the rules of a reset), `timeouts`, `recovery`
 //! - `endpoints`: found by their ports, and each changed in its place; `listeners`: found by their ports, with their
 //!   queues
 //! - `laws`: what counts and positions may become
 #![tactic(auto)]
 
 mod arriving;
-mod body;
 mod calls;
 mod endpoints;
 mod fault;
 mod host;
 mod host_pair;
+mod host_tcp;
 mod laws;
 mod listeners;
 mod made;
@@ -47,9 +42,9 @@ mod readings;
 mod threads;
 mod world;
 
-pub use body::Body;
 pub use calls::{admits_effect, call_allowed, do_call};
 pub use fault::StepFault;
+pub use host_tcp::HostTcp;
 pub use laws::{acts_keep, emissions_are_small, have_room, kept_longer};
 pub use made::Made;
 pub use spec_tcp::{Endpoint, Listener};

@@ -4,7 +4,7 @@ ghost use Rattle.std.specs.Prelude.{◌≡◌, ◌+◌, ◌-◌, ◌<◌, ◌^�
 ghost use Rattle.std.specs.Prelude.{OnOk, OnErr};
 ghost use Rattle.std.specs.Option.{option_copied};
 ghost use Rattle.streams.specs.Lists.{modify};
-ghost use Rattle.spec_tcp.specs.Bodies.{last_from, listens_on};
+ghost use Rattle.spec_tcp.specs.HostTcp.{last_from, listens_on};
 
 use indexmap::IndexMap;
 use segment::OutOfMemory;
@@ -65,7 +65,7 @@ impl Listeners {
         if listener.is_open { Some(place) } else { None }
     }
 
-    /// One more listener is opened, on a port with no open listener. Where memory runs out nothing is changed.
+    /// One more listener is opened, on a port with no open listener. If memory runs out, nothing is changed.
     pub(crate) fn add(&mut self, listener: Listener) -> Result<(), OutOfMemory>
         requires room { length self.old + 1 < 2 ^ 32 }
         requires free { last_from (listens_on listener.port) 0 None self.old ≡ None }
@@ -86,7 +86,7 @@ impl Listeners {
         close_at(&mut self.all, place as usize);
     }
 
-    /// A child joins the queue of the listener at a place. Where memory runs out nothing is changed.
+    /// A child joins the queue of the listener at a place. If memory runs out, nothing is changed.
     pub(crate) fn join(&mut self, place: u32, child: u32) -> Result<(), OutOfMemory>
         ensures ok { OnOk result (self.new ≡ modify self.old place (λ x. record x { queue = x.queue ++ child ∷ [] })) }
         ensures err { OnErr result (self.new ≡ self.old) }

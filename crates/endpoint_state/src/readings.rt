@@ -13,8 +13,7 @@ use spec_tcp::Emission;
 
 impl World {
     /// The segment that came in at a host with this line, and waits in its inbox. None: none came in with it, or it
-    /// waits no
-    /// longer.
+    /// waits no longer.
     pub fn waiting(&self, host: Host, line: u64) -> Option<&Emission>
         ensures { option_copied result ≡ waiting line (pick self.now.world.hosts host).inbox }
     {

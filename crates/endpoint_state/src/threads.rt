@@ -73,8 +73,7 @@ pub(crate) fn admits_begin(threads: &Table<Turn>, thread: u32) -> Result<(), Rul
 }
 
 /// Whether a thread's call may end with this answer: one is open, and had its effect with it. An error is the first
-/// rule
-/// that is broken.
+/// rule that is broken.
 pub(crate) fn admits_end(threads: &Table<Turn>, thread: u32, answer: &Answer) -> Result<(), Rule>
     ensures { result_err result ≡ first_broken
         (end_rules (λ given answer. not (same_answer given answer)) (turn_of thread threads.now.entries) answer.now) }
@@ -93,8 +92,7 @@ pub(crate) fn admits_end(threads: &Table<Turn>, thread: u32, answer: &Answer) ->
 }
 
 /// The call of a thread that is open and had no effect yet. An error is the first rule that is broken: there is none,
-/// or
-/// it had its effect.
+/// or it had its effect.
 pub(crate) fn open_call(threads: &Table<Turn>, thread: u32) -> Result<&Call, Rule>
     ensures call { IfOk result (λ call. turn_of thread threads.now.entries ≡ Called call.now) }
     ensures rule { result_err result ≡ first_broken (pending_rules (turn_of thread threads.now.entries)) }
@@ -153,9 +151,8 @@ pub(crate) fn finish(
     Ok(())
 }
 
-/// A thread's call has its effect, with this answer. Where memory runs out nothing is changed; a thread that called
-/// before
-/// takes none.
+/// A thread's call has its effect, with this answer. If memory runs out, nothing is changed; a thread that called
+/// before takes none.
 pub(crate) fn answered(
     threads: &mut Table<Turn>,
     thread: u32,

@@ -1,6 +1,6 @@
 //! What a case has come to: the two hosts, where threads are in their calls, and how many steps were done.
 
-ghost use Rattle.std.specs.Prelude.{◌≡◌, ◌<◌, ◌≤◌, ◌+◌, ◌^◌, suc, nat_eq, None, OnOk, OnErr};
+ghost use Rattle.std.specs.Prelude.{◌≡◌, ◌<◌, ◌≤◌, ◌+◌, nat_eq, OnOk, OnErr};
 ghost use Rattle.std.specs.Map.{lookup};
 ghost use Rattle.std.specs.Option.{option_copied};
 ghost use Rattle.std.specs.Result.{result_err};
@@ -16,12 +16,11 @@ ghost use Rattle.endpoint_state.specs.Kept.{IsKeptWorld};
 ghost use Rattle.endpoint_state.specs.Kinds.{expiry_of, hearing_rules};
 ghost use Rattle.endpoint_state.specs.Turns.{pending_call};
 ghost use Rattle.endpoint_state.specs.Worlds.{after, brought, start};
-ghost use Rattle.endpoint_state.specs.Sides.{AreReady};
 
-use crate::body::Body;
 use crate::fault::StepFault;
 use crate::host;
 use crate::host_pair::Hosts;
+use crate::host_tcp::HostTcp;
 use crate::made::Made;
 use crate::threads::{Turn, admits_begin, admits_end, begin, finish, pending_call};
 use case_forms::{
@@ -57,9 +56,11 @@ impl Model for World {
 
     ghost Value = { Progress };
 
-    ghost view = { λ a. record { header = a.header; world = record { hosts = a.hosts; threads = a.threads.entries; count = a.count }; steps = a.steps } };
+    ghost view = { λ a. record { header = a.header; steps = a.steps;
+        world = record { hosts = a.hosts; threads = a.threads.entries; count = a.count } } };
 
-    ghost invariant = { λ a. IsKeptWorld a.steps (record { hosts = a.hosts; threads = a.threads.entries; count = a.count }) };
+    ghost invariant = { λ a. IsKeptWorld a.steps
+        (record { hosts = a.hosts; threads = a.threads.entries; count = a.count }) };
 }
 
 impl World {
@@ -114,7 +115,7 @@ impl World {
     }
 
     /// The endpoints, listeners and sockets of a host.
-    pub fn body(&self, host: Host) -> &Body
+    pub fn body(&self, host: Host) -> &HostTcp
         ensures { result.now ≡ (pick self.now.world.hosts host).body }
     {
         self.hosts.near(host).body()
@@ -135,10 +136,8 @@ impl World {
     }
 
     /// A segment of elsewhere stands on a host's wire under this line, in place of one that stood there. It is no step,
-    /// and
-    /// nothing else is changed: a copy that came in stays as it was. The error is that memory ran out, and then nothing
-    /// is
-    /// changed.
+    /// and nothing else is changed: a copy that came in stays as it was. The error is that memory ran out, and then
+    /// nothing is changed.
     pub fn bring(&mut self, host: Host, line: u64, emission: &Emission) -> Result<(), OutOfMemory>
         requires small { IsSmallEmission emission.now }
         ensures ok { OnOk result (self.new ≡ brought self.old host line emission.now) }
@@ -165,8 +164,7 @@ impl World {
     }
 
     /// Whether the segment that a host made under this number may go out so: it looks so, and didn't go out before. An
-    /// error is
-    /// the first rule that is broken.
+    /// error is the first rule that is broken.
     pub fn admits_sending(&self, host: Host, number: u32, wire: &Wire) -> Result<(), Rule>
         ensures { result_err result ≡ first_broken
             (step_rules (tcp self.now.header) 0 self.now.world (At host (Sends 0 number wire.now))) }
@@ -177,8 +175,7 @@ impl World {
     }
 
     /// Whether a copy of the other host's line `copied` may come in so, at a moment in microseconds. An error is the
-    /// first
-    /// rule that is broken.
+    /// first rule that is broken.
     pub fn admits_arrival(
         &self,
         host: Host,
@@ -218,8 +215,7 @@ impl World {
     }
 
     /// Whether a host may take the segment that came in with this line, at a moment in microseconds. An error is the
-    /// first rule
-    /// that is broken: nothing waits under this line (`Inbox`), or a later one.
+    /// first rule that is broken: nothing waits under this line (`Inbox`), or a later one.
     pub fn admits_taking(
         &self,
         host: Host,
@@ -253,8 +249,7 @@ impl World {
     }
 
     /// Whether a timer of the host's endpoint of these ports may expire at a moment in microseconds. An error is the
-    /// first rule
-    /// that is broken.
+    /// first rule that is broken.
     pub fn admits_expiry(
         &self,
         host: Host,
@@ -308,8 +303,7 @@ impl World {
     }
 
     /// A host makes a segment, at a moment in microseconds; it gets the next number. An error is the first rule that is
-    /// broken,
-    /// or that memory ran out; the world is then as it was.
+    /// broken, or that memory ran out; the world is then as it was.
     pub fn make(&mut self, host: Host, plan: &SegmentPlan, moment: u64) -> Result<(), StepFault>
         requires steps { self.old.steps < most_steps }
         requires small { plan.now.pos ≤ greatest_position }
@@ -326,8 +320,7 @@ impl World {
     }
 
     /// The segment that a host made under this number goes out with this line, at a moment in microseconds. An error is
-    /// the first
-    /// rule that is broken, or that memory ran out; the world is then as it was.
+    /// the first rule that is broken, or that memory ran out; the world is then as it was.
     pub fn send(
         &mut self,
         host: Host,
@@ -355,8 +348,7 @@ impl World {
     }
 
     /// A copy of the other host's line `copied` comes in with this line, at a moment in microseconds, and waits in the
-    /// inbox. An
-    /// error is the first rule that is broken, or that memory ran out; the world is then as it was.
+    /// inbox. An error is the first rule that is broken, or that memory ran out; the world is then as it was.
     pub fn arrive(
         &mut self,
         host: Host,
@@ -382,8 +374,7 @@ impl World {
     }
 
     /// A segment of the host that is not recorded comes in with this line, at a moment in microseconds, and waits in
-    /// the inbox. An
-    /// error is the rule that is broken, or that memory ran out; the world is then as it was.
+    /// the inbox. An error is the rule that is broken, or that memory ran out; the world is then as it was.
     pub fn hear(&mut self, host: Host, line: u64, wire: &Wire, moment: u64) -> Result<(), StepFault>
         requires { self.old.steps < most_steps }
         ensures fault { fault_rule result ≡ first_broken
@@ -399,8 +390,7 @@ impl World {
     }
 
     /// A host takes what came in with this line, at a moment in microseconds. An error is the first rule that is
-    /// broken, or that
-    /// memory ran out; the world is then as it was.
+    /// broken, or that memory ran out; the world is then as it was.
     pub fn take(
         &mut self,
         host: Host,
@@ -458,8 +448,7 @@ impl World {
     }
 
     /// A timer of the host's endpoint of these ports expires, at a moment in microseconds. An error is the first rule
-    /// that is
-    /// broken; the world is then as it was.
+    /// that is broken; the world is then as it was.
     pub fn expire(
         &mut self,
         host: Host,
@@ -479,8 +468,7 @@ impl World {
     }
 
     /// Fast recovery begins, at a moment in microseconds (RFC 5681, 3.2). An error is the first rule that is broken;
-    /// the world is
-    /// then as it was.
+    /// the world is then as it was.
     pub fn recover(&mut self, host: Host, recovery: Recovery, moment: u64) -> Result<(), Rule>
         requires { self.old.steps < most_steps }
         ensures rule { result_err result ≡ first_broken

@@ -30,8 +30,7 @@ abbrev pub is_among : ℕ → List Line → Bool
 is_among thread lines = list_any (λ line. line.thread == thread) lines
 
 -- the least rule that a step breaks which takes a line whose moment is not reached, told whether a line of its thread
--- stands
--- before it that is not offered either
+-- stands before it that is not offered either
 abbrev pub late_by : Order → Bool → Line → ℕ → ℕ → Rule
 late_by o behind line extras moment =
     if not (extras == extras_of o.header.version line.event) then LineRange

@@ -13,8 +13,7 @@ pub record TakesAt (moves : List Move) (place n : ℕ) : Type 0 where
   pub here : slice_get moves place ≡ Some (taking moment n extras)
 
 -- the interval order: line m precedes line n where both are of one thread and m is the smaller number, or where n's
--- moment is
--- later than m's by more than the skew
+-- moment is later than m's by more than the skew
 abbrev pub Precedes : Header → ℕ → Line → ℕ → Line → Type 0
 Precedes header m a n b = ((a.thread ≡ b.thread) × (m < n)) ⊎ (a.moment + header.skew < b.moment)
 

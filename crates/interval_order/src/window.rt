@@ -4,9 +4,8 @@
 //! Nothing is scanned:
 //!
 //! - Lines wait in a queue by their numbers. A line that was placed keeps its slot there while one before it waits, so
-//!   there
-//!   are as many slots as lines were offered from the first that waits on. If no line is overdue, their moments are at
-//!   most the skew before the last step.
+//!   there are as many slots as lines were offered from the first that waits on. If no line is overdue, their moments
+//!   are at most the skew before the last step.
 //! - Each line that waits names the line of its thread that was offered before it. The lines of a thread are placed in
 //!   their order, so those that wait are its last ones, and one of them is the first exactly where the line that it
 //!   names does not wait.
@@ -56,7 +55,8 @@ impl Model for Window {
 
     ghost Value = { Order };
 
-    ghost view = { λ a. record { header = a.header; next = a.waiting.next; held = lines_of a.waiting.entries; last = a.last } };
+    ghost view = { λ a. record { header = a.header; next = a.waiting.next; held = lines_of a.waiting.entries;
+        last = a.last } };
 
     ghost invariant = { λ a. IsSound a.waiting.next a.waiting.entries (latest_in a.latest.entries) };
 }
@@ -75,10 +75,8 @@ impl Window {
     }
 
     /// One more line of the trace, at its end: its number is the next one, `first_event_line` of the header for the
-    /// first line
-    /// and one more for each after it, up to 2^64 - 2, and its moment is not below that of any line that waits. Where
-    /// memory
-    /// runs out the window is as it was.
+    /// first line and one more for each after it, up to 2^64 - 2, and its moment is not below that of any line that
+    /// waits. If memory runs out, the window is as it was.
     pub fn offer(&mut self, line: Line) -> Result<(), OutOfMemory>
         requires number { line.number ≡ self.old.next }
         requires room { self.old.next + 1 < 2 ^ 64 }
@@ -95,8 +93,7 @@ impl Window {
     }
 
     /// Takes a line for a step at this moment, which is followed by that many extra numbers. The window no longer holds
-    /// it. Where
-    /// the step breaks a rule of order, the least of them is the error, and the window is as it was.
+    /// it. Where the step breaks a rule of order, the least of them is the error, and the window is as it was.
     pub fn place(&mut self, line: u64, extras: u8, moment: u64) -> Result<Line, Rule>
         ensures rule { result_err result ≡ first_broken (order_rules self.old (taking moment line extras)) }
         ensures line { IfOk result (λ taken. held_line self.old line ≡ Some taken) }
@@ -138,9 +135,8 @@ impl Window {
         self.waiting.len()
     }
 
-    /// The number of the first line that may not wait until this moment, if there is one. Where there is none, and no
-    /// line that
-    /// waits has a later moment, each has one that is at most the skew earlier.
+    /// The number of the first line that may not wait until this moment, if there is one. If there is none, and no line
+    /// that waits has a later moment, each has one that is at most the skew earlier.
     pub fn overdue(&self, moment: u64) -> Option<u64>
         ensures first { result ≡ first_overdue self.now moment }
         ensures current { result ≡ None → All (λ e. e.1.moment ≤ moment) self.now.held

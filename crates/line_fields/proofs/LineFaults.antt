@@ -9,7 +9,7 @@ use Rattle.bstr.specs.Text.{without_terminator}
 use Rattle.line_fields.specs.Forms.{Form, IsFirstFault}
 use Rattle.line_fields.specs.Folding.{read_lines, AreSpelled}
 use Rattle.line_fields.specs.LineFaults.{IsWholeFault, TooLong, Cut, TooMany, IsFaultOf, IsTextFaultOf, state_behind, IsFaultAmong}
-use Rattle.line_fields.specs.Lines.{is_ended, whole_line, line_text, line_rest, exact_text, exact_line}
+use Rattle.line_fields.specs.Lines.{is_ended, whole_line, line_text, line_rest, exact_text, expect_line}
 use Rattle.line_fields.specs.Reading.{◌>>=◌}
 use Rattle.line_fields.specs.Word.{Rest, rest_of}
 use Rattle.line_fields.specs.declared.fault.FaultKind.TheVariants as kinds
@@ -151,8 +151,8 @@ abbrev good : Result (Unit {0}) TextFault
 good = Ok tt
 
 -- a line that has to stand as it is
-pub exact_faults : (number : ℕ) (wanted raw : List ℕ) (e : TextFault) → (exact_line number wanted raw ≡ Err e) ↔ IsTextFaultOf (λ text. text ≡ wanted) number raw e
-unfolding exact_line
+pub exact_faults : (number : ℕ) (wanted raw : List ℕ) (e : TextFault) → (expect_line number wanted raw ≡ Err e) ↔ IsTextFaultOf (λ text. text ≡ wanted) number raw e
+unfolding expect_line
 exact_faults number wanted raw e = text_faults (λ text. text ≡ wanted) number (exact_text number wanted) agree raw e
   where
     agree : (text : List ℕ) (f : TextFault) → (exact_text number wanted text ≡ Err f) ↔ ((text ≡ wanted → ⊥) × (f ≡ other_text number text))

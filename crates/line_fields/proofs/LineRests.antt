@@ -11,7 +11,7 @@ use Rattle.line_fields.specs.declared.fault.TextFault.{TextFault}
 use Rattle.line_fields.specs.declared.fault.FaultKind.TheVariants.{LineTooLong, Cut, TooManyLines}
 use Rattle.line_fields.specs.Word.{Word, Rest, words_of, rest_of}
 use Rattle.line_fields.specs.Reading.{◌>>=◌}
-use Rattle.line_fields.specs.Lines.{NoReturn, IsRaw, IsLine, is_ended, whole_line, line_text, line_rest, exact_text, exact_line}
+use Rattle.line_fields.specs.Lines.{NoReturn, IsRaw, IsLine, is_ended, whole_line, line_text, line_rest, exact_text, expect_line}
 use Rattle.line_fields.specs.Reader.{texts}
 use Rattle.line_fields.specs.Spelling.{IsClean, joined}
 use Rattle.line_fields.proofs.Readers.{bind_ok, ok_is}
@@ -114,15 +114,15 @@ guard_exact : (b : Bool) (e : TextFault) (u v : Unit {0}) → cond b (Ok u) (Err
 guard_exact true e u v h = refl
 guard_exact false e u v h = absurd cc
 
-pub exact_takes : (number : ℕ) (wanted raw : List ℕ) (u : Unit {0}) → exact_line number wanted raw ≡ Ok u → IsLine number wanted raw
-unfolding exact_line
+pub exact_takes : (number : ℕ) (wanted raw : List ℕ) (u : Unit {0}) → expect_line number wanted raw ≡ Ok u → IsLine number wanted raw
+unfolding expect_line
 exact_takes number wanted raw u e =
     let b = bind_ok (line_text number raw) (λ text. exact_text number wanted text) u e in
     let same = (bytes_eq-Decides b.0 wanted).0 (guard_exact (bytes_eq b.0 wanted) _ tt u b.2) in
     subst (λ (t : List ℕ). IsLine number t raw) same (text_takes number raw b.0 b.1)
 
-pub exact_again : (number : ℕ) (wanted raw : List ℕ) → NoReturn wanted → IsLine number wanted raw → exact_line number wanted raw ≡ Ok tt
-unfolding exact_line
+pub exact_again : (number : ℕ) (wanted raw : List ℕ) → NoReturn wanted → IsLine number wanted raw → expect_line number wanted raw ≡ Ok tt
+unfolding expect_line
 exact_again number wanted raw never line =
     let read = text_again number raw wanted never line in
     let same : bytes_eq wanted wanted ≡ true = (bytes_eq-Decides wanted wanted).1 refl in

@@ -4,8 +4,8 @@ use Rattle.segment.specs.Faults.{fault_name}
 use Rattle.line_fields.specs.declared.fault.FaultKind.{FaultKind}
 use Rattle.line_fields.specs.declared.fault.FaultKind.TheVariants as kinds
 use Rattle.line_fields.specs.declared.fault.TextFault.{TextFault}
-use Rattle.line_fields.specs.declared.fault.ReadFault.{ReadFault}
-use Rattle.line_fields.specs.declared.fault.ReadFault.TheVariants as reads
+use Rattle.line_fields.specs.declared.fault.SourceFault.{SourceFault}
+use Rattle.line_fields.specs.declared.fault.SourceFault.TheVariants as reads
 
 -- the name under which a fault is printed; that of a segment's fault stands behind a word and a space
 abbrev pub kind_name : FaultKind → List ℕ
@@ -25,6 +25,6 @@ abbrev pub missing_line : ℕ → TextFault
 missing_line number = record { kind = kinds.Header; span = record { line = number; start = 0; stop = 0 } }
 
 -- the fault of a text in memory, where a read that fails is as if memory had run out
-abbrev pub IsTextFault : ReadFault → TextFault → Type 0
+abbrev pub IsTextFault : SourceFault → TextFault → Type 0
 IsTextFault (reads.Text e) fault = fault ≡ e
 IsTextFault reads.Read fault = fault.kind ≡ kinds.OutOfMemory

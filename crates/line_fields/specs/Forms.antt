@@ -27,7 +27,8 @@ unless_empty w kind = if length w.text == 0 then Some kinds.Field else kind
 
 -- a number within these limits
 abbrev pub numeric : (least most : ℕ) → Want
-numeric least most w = unless_empty w (if is_number least most w.text (digits_value 10 w.text) then None else Some kinds.Number)
+numeric least most w =
+    unless_empty w (if is_number least most w.text (digits_value 10 w.text) then None else Some kinds.Number)
 
 -- one of these words
 abbrev pub unknown : {K : Type 0} → Option K → Option FaultKind

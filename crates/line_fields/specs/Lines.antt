@@ -62,11 +62,12 @@ line_rest number raw = line_text number raw >>= λ text. Ok (rest_of number text
 
 -- a text that is exactly this one, else Header
 abbrev pub exact_text : ℕ → List ℕ → List ℕ → Result (Unit {0}) TextFault
-exact_text number wanted text = if bytes_eq text wanted then Ok tt else Err (record { kind = Header; span = whole_line number text })
+exact_text number wanted text =
+    if bytes_eq text wanted then Ok tt else Err (record { kind = Header; span = whole_line number text })
 
 -- a line whose text is exactly this one
-unfoldable pub exact_line : ℕ → List ℕ → List ℕ → Result (Unit {0}) TextFault
-exact_line number wanted raw = line_text number raw >>= λ text. exact_text number wanted text
+unfoldable pub expect_line : ℕ → List ℕ → List ℕ → Result (Unit {0}) TextFault
+expect_line number wanted raw = line_text number raw >>= λ text. exact_text number wanted text
 
 -- the next line of a text, which has to be there
 abbrev pub next_raw : ℕ → List (List ℕ) → Result (List ℕ × List (List ℕ)) TextFault

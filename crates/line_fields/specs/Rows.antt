@@ -3,8 +3,8 @@ use Rattle.std.specs.Prelude.{◌≡◌, ℕ, List, [], ◌∷◌, Option, None,
 use Rattle.std.specs.Option.{option_map}
 use Rattle.bstr.specs.Text.{lines_of}
 use Rattle.line_fields.specs.declared.fault.TextFault.{TextFault}
-use Rattle.line_fields.specs.declared.fault.ReadFault.{ReadFault}
-use Rattle.line_fields.specs.declared.fault.ReadFault.TheVariants as reads
+use Rattle.line_fields.specs.declared.fault.SourceFault.{SourceFault}
+use Rattle.line_fields.specs.declared.fault.SourceFault.TheVariants as reads
 use Rattle.line_fields.specs.Reading.{◌>>=◌, Fails}
 use Rattle.line_fields.specs.Lines.{line_text, next_raw}
 
@@ -40,7 +40,7 @@ FailsAt read e (Some known) = Fails e.kind e (read known)
 
 -- the first of known lines are read as this value, which is seen with the lines behind them; or with this fault
 abbrev pub Reads : {X Y : Type 0} → (X → List (List ℕ) → Y) → (List (List ℕ) → Result Y TextFault)
-    → Option (List (List ℕ)) → Option (List (List ℕ)) → Result X ReadFault → Type 0
+    → Option (List (List ℕ)) → Option (List (List ℕ)) → Result X SourceFault → Type 0
 Reads view read None new r = Unit {0}
 Reads view read (Some raws) None (Ok x) = ⊥
 Reads view read (Some raws) (Some rest) (Ok x) = read raws ≡ Ok (view x rest)

@@ -16,7 +16,8 @@ words_from line at (text ∷ texts) = record { text = text; line = line; start =
 
 -- the fields of a line from a column on, which may be one past its end
 abbrev pub words_left : ℕ → ℕ → List ℕ → List Word
-words_left line at text = if nat_le at (length text) then words_from line at (slice_split (λ b. b == 32) (drop at text)) else []
+words_left line at text =
+    if nat_le at (length text) then words_from line at (slice_split (λ b. b == 32) (drop at text)) else []
 
 -- all fields of a line
 abbrev pub words_of : ℕ → List ℕ → List Word

@@ -28,7 +28,7 @@ const DIGITS: [u8; 256] = [
     16, 16, 16, 16, 16, 16, 16, 16, 16, 16, 16, 16, 16, 16,
 ];
 
-/// The number whose decimal digits these are, without sign and leading zeros; None where they are no such number below
+/// The number whose decimal digits these are, without sign and leading zeros; None if they are no such number below
 /// 2^64.
 pub fn decimal_value(text: &[u8]) -> Option<u64>
     ensures found { IfSome result (λ n. text.now ≡ decimal n) }

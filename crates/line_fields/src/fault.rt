@@ -54,7 +54,7 @@ impl FaultKind {
     }
 }
 
-// The name of a segment's fault, behind a word.
+// The name of a segment's fault, after a word.
 fn segment_fault_name(fault: SegFault) -> &'static str
     ensures { result.now ≡ kind_name (FaultKind.Segment fault) }
 {
@@ -67,7 +67,7 @@ fn segment_fault_name(fault: SegFault) -> &'static str
     }
 }
 
-/// The first fault of a text, and its place. Where memory ran out the place says nothing.
+/// The first fault of a text, and its place. If memory ran out the place says nothing.
 #[derive(Clone, Copy, Debug, PartialEq, Eq, Error)]
 #[error("line {}, columns {} to {}: {kind:?}", .span.line, .span.start, .span.stop)]
 pub struct TextFault {
@@ -90,7 +90,7 @@ impl TextFault {
         }
     }
 
-    /// No line is at fault where memory runs out.
+    /// No line is at fault if memory runs out.
     pub fn out_of_memory() -> TextFault
         ensures { result.kind ≡ FaultKind.OutOfMemory }
     {
@@ -123,7 +123,7 @@ impl<T: Drop> From<AllocFailed<T>> for TextFault {
 
 /// Why a text that is read line by line cannot be read on.
 #[derive(Clone, Copy, Debug, PartialEq, Eq, Error)]
-pub enum ReadFault {
+pub enum SourceFault {
     /// What was read is at fault, or memory ran out.
     #[error("{0}")]
     Text(TextFault),
@@ -132,28 +132,27 @@ pub enum ReadFault {
     Read,
 }
 
-impl From<TextFault> for ReadFault {
-    ghost use Rattle.line_fields.specs.declared.fault.ReadFault.TheVariants.{Text};
+impl From<TextFault> for SourceFault {
+    ghost use Rattle.line_fields.specs.declared.fault.SourceFault.TheVariants.{Text};
 
     ghost from_gives = { λ e fault. fault ≡ Text e };
 
-    fn from(e: TextFault) -> ReadFault {
-        ReadFault::Text(e)
+    fn from(e: TextFault) -> SourceFault {
+        SourceFault::Text(e)
     }
 }
 
 /// The fault of a text in memory. A read of it fails only where its `Counted` made 2^50 reads before, more than any
-/// text
-/// takes that memory holds. That is told as if memory had run out.
-impl From<ReadFault> for TextFault {
+/// text takes that memory holds. That is reported as if memory had run out.
+impl From<SourceFault> for TextFault {
     ghost use Rattle.line_fields.specs.Faults.{IsTextFault};
 
     ghost from_gives = { IsTextFault };
 
-    fn from(fault: ReadFault) -> TextFault {
+    fn from(fault: SourceFault) -> TextFault {
         match fault {
-            ReadFault::Text(e) => e,
-            ReadFault::Read => TextFault::out_of_memory(),
+            SourceFault::Text(e) => e,
+            SourceFault::Read => TextFault::out_of_memory(),
         }
     }
 }

@@ -3,7 +3,7 @@
 ghost use Rattle.std.specs.Prelude.{◌≡◌};
 ghost use Rattle.bstr.specs.Text.{without_terminator};
 ghost use Rattle.line_fields.specs.Reading.{Gives};
-ghost use Rattle.line_fields.specs.Lines.{is_ended, line_text, line_rest, exact_line};
+ghost use Rattle.line_fields.specs.Lines.{is_ended, line_text, line_rest, expect_line};
 
 use crate::fault::{FaultKind, TextFault};
 use crate::fields::{Fields, is_text};
@@ -16,7 +16,7 @@ pub(crate) const MAX_LINE: usize = 140_000;
 const MAX_LINES: u64 = 10_000_000;
 
 /// A line's text, and whether it has an end, which is LF or CR LF.
-pub fn content(raw: &[u8]) -> (&[u8], bool)
+pub fn without_line_end(raw: &[u8]) -> (&[u8], bool)
     ensures content { result.0.now ≡ without_terminator raw.now }
     ensures ended { result.1 ≡ is_ended raw.now }
 {
@@ -28,13 +28,12 @@ pub fn content(raw: &[u8]) -> (&[u8], bool)
 }
 
 /// The text of the line of that number, whose bytes are given with the line's end. LineTooLong, Cut and TooManyLines
-/// are
-/// asked in this order, each at the whole line.
+/// are tested in this order, each at the whole line.
 #[tactic(auto, unfolding(crate::specs::Lines::line_text))]
-pub fn text_of(number: u64, raw: &[u8]) -> Result<&[u8], TextFault>
+pub fn checked_line(number: u64, raw: &[u8]) -> Result<&[u8], TextFault>
     ensures { Gives (λ text. text.now) result (line_text number raw.now) }
 {
-    let (text, ended) = content(raw);
+    let (text, ended) = without_line_end(raw);
     let span = Span {
         line: number,
         start: 0,
@@ -61,21 +60,21 @@ pub fn text_of(number: u64, raw: &[u8]) -> Result<&[u8], TextFault>
     Ok(text)
 }
 
-/// The fields of the line of that number, whose bytes are given with the line's end, with the faults of `text_of`.
+/// The fields of the line of that number, whose bytes are given with the line's end, with the faults of `checked_line`.
 #[tactic(auto, unfolding(crate::specs::Lines::line_rest))]
-pub fn fields_of(number: u64, raw: &[u8]) -> Result<Fields<'_>, TextFault>
+pub fn checked_fields(number: u64, raw: &[u8]) -> Result<Fields<'_>, TextFault>
     ensures { Gives (λ fields. fields) result (line_rest number raw.now) }
 {
-    let text = text_of(number, raw)?;
+    let text = checked_line(number, raw)?;
     Ok(Fields::new(number, text))
 }
 
 /// Asks that the text of a line is exactly this one. Another text is Header, at the whole line.
-#[tactic(auto, unfolding(crate::specs::Lines::exact_line))]
-pub fn exact_line(number: u64, wanted: &str, raw: &[u8]) -> Result<(), TextFault>
-    ensures { Gives (λ u. u) result (exact_line number wanted.now raw.now) }
+#[tactic(auto, unfolding(crate::specs::Lines::expect_line))]
+pub fn expect_line(number: u64, wanted: &str, raw: &[u8]) -> Result<(), TextFault>
+    ensures { Gives (λ u. u) result (expect_line number wanted.now raw.now) }
 {
-    let text = text_of(number, raw)?;
+    let text = checked_line(number, raw)?;
     if is_text(text, wanted) {
         return Ok(());
     }

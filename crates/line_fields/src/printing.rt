@@ -1,4 +1,4 @@
-//! Words, numbers and answers, as bytes at the end of a `Vec`. Where memory runs out a part may have been written.
+//! Words, numbers and answers, as bytes at the end of a `Vec`. If memory runs out a part may have been written.
 
 ghost use Rattle.std.specs.Prelude.{◌≡◌, [], ◌∷◌, ◌++◌, OnOk};
 ghost use Rattle.std.specs.Fmt.{decimal};
@@ -67,7 +67,7 @@ pub fn push_end(out: &mut Vec<u8>) -> Result<(), OutOfMemory>
     Ok(())
 }
 
-/// Writes the fields of an answer, each behind a space.
+/// Writes the fields of an answer, each after a space.
 pub fn push_answer(out: &mut Vec<u8>, answer: &Answer) -> Result<(), OutOfMemory>
     ensures { OnOk result (out.new.items ≡ out.old.items ++ printed_behind (answer_pieces answer.now)) }
 {

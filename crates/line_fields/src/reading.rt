@@ -1,12 +1,12 @@
-//! The next line of a text that is read as its lines are asked for.
+//! The next line of a text that is read as its lines are requested.
 
 ghost use Rattle.std.specs.Prelude.{◌≡◌, ◌≢◌, Err, true, false, OnOk};
 ghost use Rattle.counted.specs.Counting.{left_of, failures_of, one_more};
 ghost use Rattle.line_fields.specs.declared.fault.TextFault.{TextFault};
 ghost use Rattle.line_fields.specs.Rows.{rows_of, TakesRow, HasNoRow, next_text, needed_text, FailsAt};
 
-use crate::fault::{FaultKind, ReadFault, TextFault};
-use crate::lines::{MAX_LINE, content};
+use crate::fault::{FaultKind, SourceFault, TextFault};
+use crate::lines::{MAX_LINE, without_line_end};
 use case_forms::Span;
 use counted::Counted;
 use std::io::BufRead;
@@ -18,23 +18,23 @@ pub fn next_line<B: BufRead>(
     source: &mut Counted<B>,
     number: u64,
     line: &mut Vec<u8>,
-) -> Result<bool, ReadFault>
+) -> Result<bool, SourceFault>
     ensures line { result ≡ Ok true → TakesRow (rows_of (left_of B.remaining source.old))
         (rows_of (left_of B.remaining source.new)) line.new.items }
     ensures none { result ≡ Ok false → HasNoRow (rows_of (left_of B.remaining source.old))
         (rows_of (left_of B.remaining source.new)) }
-    ensures fault { (e : TextFault) → result ≡ Err (ReadFault.Text e)
+    ensures fault { (e : TextFault) → result ≡ Err (SourceFault.Text e)
         → FailsAt (next_text number) e (rows_of (left_of B.remaining source.old)) }
-    ensures read { result ≡ Err ReadFault.Read → failures_of source.new ≡ one_more (failures_of source.old) }
-    ensures same { result ≢ Err ReadFault.Read → failures_of source.new ≡ failures_of source.old }
+    ensures read { result ≡ Err SourceFault.Read → failures_of source.new ≡ one_more (failures_of source.old) }
+    ensures same { result ≢ Err SourceFault.Read → failures_of source.new ≡ failures_of source.old }
 {
     // An end has two bytes at most.
     match source.read_line(MAX_LINE + 2, line) {
         Ok(None) => Ok(false),
         Ok(Some(0)) => Ok(true),
         Ok(Some(before)) => {
-            let (text, _) = content(line.as_slice());
-            Err(ReadFault::Text(TextFault {
+            let (text, _) = without_line_end(line.as_slice());
+            Err(SourceFault::Text(TextFault {
                 kind: FaultKind::LineTooLong,
                 span: Span {
                     line: number,
@@ -43,26 +43,26 @@ pub fn next_line<B: BufRead>(
                 },
             }))
         }
-        Err(counted::ReadFault::Read) => Err(ReadFault::Read),
-        Err(counted::ReadFault::OutOfMemory) => Err(ReadFault::Text(TextFault::out_of_memory())),
+        Err(counted::ReadFault::Read) => Err(SourceFault::Read),
+        Err(counted::ReadFault::OutOfMemory) => Err(SourceFault::Text(TextFault::out_of_memory())),
     }
 }
 
 /// The next line with its end, where one has to be. A missing one is Header at its number, columns 0 to 0.
-pub fn needed_line<B: BufRead>(
+pub fn require_line<B: BufRead>(
     source: &mut Counted<B>,
     number: u64,
     line: &mut Vec<u8>,
-) -> Result<(), ReadFault>
+) -> Result<(), SourceFault>
     ensures line { OnOk result (TakesRow (rows_of (left_of B.remaining source.old))
         (rows_of (left_of B.remaining source.new)) line.new.items) }
-    ensures fault { (e : TextFault) → result ≡ Err (ReadFault.Text e)
+    ensures fault { (e : TextFault) → result ≡ Err (SourceFault.Text e)
         → FailsAt (needed_text number) e (rows_of (left_of B.remaining source.old)) }
-    ensures read { result ≡ Err ReadFault.Read → failures_of source.new ≡ one_more (failures_of source.old) }
-    ensures same { result ≢ Err ReadFault.Read → failures_of source.new ≡ failures_of source.old }
+    ensures read { result ≡ Err SourceFault.Read → failures_of source.new ≡ one_more (failures_of source.old) }
+    ensures same { result ≢ Err SourceFault.Read → failures_of source.new ≡ failures_of source.old }
 {
     if next_line(source, number, line)? {
         return Ok(());
     }
-    Err(ReadFault::Text(TextFault::missing_line(number)))
+    Err(SourceFault::Text(TextFault::missing_line(number)))
 }

@@ -19,7 +19,7 @@ use Rattle.spec_network.specs.HostSteps.{act_made, call_after, deed_after, effec
 use Rattle.spec_network.proofs.Entries.{lookup_insert}
 use Rattle.spec_tcp.specs.declared.endpoint.Emission.{Emission}
 use Rattle.spec_tcp.specs.Machine.{tcp, tcp_shape}
-use Rattle.spec_tcp.specs.Bodies.{Body}
+use Rattle.spec_tcp.specs.HostTcp.{HostTcp}
 use Rattle.spec_merge.specs.Books.{Item, Do, Bring, FitsItem, Flying, HostRun, bring, deed_line, item_line, next, next_item}
 use Rattle.spec_merge.specs.Keys.{Numbered}
 use Rattle.spec_merge.specs.Recordings.{IsKept, TcpEntry}
@@ -134,7 +134,7 @@ deed_at : (me : Host) (hosts : Both (HostState tcp_shape)) (s : HostState tcp_sh
 deed_at Zero hosts s b = b
 deed_at One hosts s b = b
 
-body_at : (me host : Host) (hosts : Both (HostState tcp_shape)) (body : Body) → IsBoundedAt me hosts → IsBoundedAt me (with_host hosts host (record (pick hosts host) { body = body }))
+body_at : (me host : Host) (hosts : Both (HostState tcp_shape)) (body : HostTcp) → IsBoundedAt me hosts → IsBoundedAt me (with_host hosts host (record (pick hosts host) { body = body }))
 body_at Zero Zero hosts body b = record { made = b.made; inbox = b.inbox; heard = b.heard }
 body_at Zero One hosts body b = record { made = b.made; inbox = b.inbox; heard = b.heard }
 body_at One Zero hosts body b = record { made = b.made; inbox = b.inbox; heard = b.heard }

@@ -21,8 +21,7 @@ abbrev pub wire_of : Recorded → List (ℕ × Emission)
 wire_of r = (pick (world_left r).hosts r.me).wire
 
 -- a segment is one that went out: the line that it names has its key, and stands on the wire with its emission; `first`
--- is the
--- number of the first line
+-- is the number of the first line
 pub record IsNamed (first : ℕ) (keys : List Key) (wire : List (ℕ × Emission)) (f : Flying tcp_shape) : Type 0 where
   pub event : first ≤ f.line
   pub key : slice_get keys (f.line - first) ≡ Some f.key
@@ -37,8 +36,7 @@ AllNamed first keys wire [] = Unit {0}
 AllNamed first keys wire (x ∷ xs) = NamedItem first keys wire x.item × AllNamed first keys wire xs
 
 -- the first segment of these entries that is none that went out was brought where the line to come has number n; their
--- first
--- line has the number `line`
+-- first line has the number `line`
 abbrev pub StrangerItem : ℕ → List Key → List (ℕ × Emission) → ℕ → ℕ → Item tcp_shape → Type 0 → Type 0
 StrangerItem first keys wire line n (Do step) rest = rest
 StrangerItem first keys wire line n (Bring f) rest =

@@ -29,7 +29,8 @@ use Rattle.merging.specs.Order.{in_order}
 
 -- a line of a trace; the threads of segments that go out, that come in, and of timers are the host's own
 abbrev pub said : ℕ → ℕ → ℕ → Event → Line
-said line moment thread event = record { number = line; moment = moment; thread = thread; event = event; span = nowhere }
+said line moment thread event =
+    record { number = line; moment = moment; thread = thread; event = event; span = nowhere }
 
 abbrev pub deed_line_said : ℕ → Host → Deed tcp_shape → Option Line
 deed_line_said moment host (Expires line x) =

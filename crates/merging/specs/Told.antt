@@ -25,7 +25,8 @@ event_told thread (events.CallBegin call) = placing.CallBegin thread call
 event_told thread (events.CallEnd answer) = placing.CallEnd thread answer
 event_told thread (events.Sent host wire) = placing.Sent host wire
 event_told thread (events.Came host wire) = placing.Came host wire
-event_told thread (events.Expired host lport rport timer) = placing.Expired host (record { lport = lport; rport = rport; timer = timer })
+event_told thread (events.Expired host lport rport timer) =
+    placing.Expired host (record { lport = lport; rport = rport; timer = timer })
 
 -- what a line is to the machine
 abbrev pub line_told : Line → placing.Line tcp_shape

@@ -41,8 +41,7 @@ pub struct Recorded {
 #[derive(Clone, Copy, Debug, PartialEq, Eq, Error)]
 pub enum MergeFault {
     /// A segment that came to a host is none that the other let out. `arrival_line` is the line of that host's
-    /// recording with
-    /// which it came in, or would have.
+    /// recording with which it came in, or would have.
     #[error("a segment of line {arrival_line} is not one that the other host let out")]
     Stranger { arrival_line: u64 },
     /// Memory ran out. No recording is changed.
@@ -86,8 +85,7 @@ fn tell(alloc: Global, zero: &Recording, one: &Recording) -> Result<Recorded, Ou
 }
 
 /// The recordings of host 0 and of host 1 in a whole case, merged in the order of their keys, with lines and made
-/// segments
-/// counted anew. Two books beside each other are merged, or memory runs out.
+/// segments counted anew. Two books beside each other are merged, or memory runs out.
 pub fn merge_recordings(
     alloc: Global,
     zero: &Recording,

@@ -1,4 +1,4 @@
-//! What is told of a run explains itself.
+//! The trace and the witness that are written of a run fit each other.
 
 ghost use Rattle.std.specs.Prelude.{◌≡◌, ℕ, List};
 ghost use Rattle.case_forms.specs.declared.trace.Trace.{Trace};
@@ -24,8 +24,7 @@ use spec_merge::merged_books_are_a_run;
 use stack_core::core_worlds_are_books;
 
 /// Where a trace and a witness say the steps of a run that is a placement of the lines that these steps take, the
-/// witness
-/// explains the trace, and the verdict is yes. The merged steps of two books beside each other are such a run.
+/// witness explains the trace, and the verdict is yes. The merged steps of two books beside each other are such a run.
 pub fn what_is_told_explains()
     ensures steps { (t : Trace) (w : Witness) (steps : List (Stamped tcp_shape))
         → IsPlacedRun (tcp t.header) t.header.skew (first_event_line t.header) (lines_of (tcp t.header) steps) steps

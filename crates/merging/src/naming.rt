@@ -119,8 +119,7 @@ fn line_keys(alloc: Global, entries: &[Entry]) -> Result<Vec<Key>, OutOfMemory>
     Ok(keys)
 }
 
-// The number of the line behind the first segment among these entries that was not let out, where the first line has
-// the
+// The number of the line after the first segment among these entries that was not let out, where the first line has the
 // number `first`.
 fn find_stranger(keys: &[Key], other: &Recording, first: u64, entries: &[Entry]) -> Option<u64>
     requires { first ≤ 100 }
@@ -143,9 +142,8 @@ fn find_stranger(keys: &[Key], other: &Recording, first: u64, entries: &[Entry])
     None
 }
 
-/// The number of the line behind the first segment that a recording brought and that the other's host didn't let out.
-/// None:
-/// there is no such segment. The error is that memory ran out.
+/// The number of the line after the first segment that a recording brought and that the other's host didn't let out.
+/// None: there is no such segment. The error is that memory ran out.
 #[tactic(auto, using(crate::proofs::Strangers::stranger_at))]
 pub(crate) fn first_stranger(
     alloc: Global,

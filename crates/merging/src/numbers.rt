@@ -142,7 +142,8 @@ pub(crate) fn count_all(
     mut entries: InOrder,
 ) -> Result<Counts, OutOfMemory>
     requires few { first + steps_in entries ≤ 1000000000 }
-    ensures counts { IfOk result (λ c. record { lines = c.lines; mades = c.mades } ≡ counted (no_counts first) entries.entry) }
+    ensures counts { IfOk result (λ c. record { lines = c.lines; mades = c.mades }
+        ≡ counted (no_counts first) entries.entry) }
     ensures lines { IfOk result (λ c. c.lines.next ≤ 2147483647) }
     ensures mades { IfOk result (λ c. c.mades.next ≤ 2147483647) }
 {

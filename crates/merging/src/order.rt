@@ -63,7 +63,7 @@ impl<'a> InOrder<'a> {
     }
 }
 
-/// The first of some entries, and those behind it.
+/// The first of some entries, and those after it.
 pub(crate) fn first_entry(entries: &[Entry]) -> Option<(&Entry, &[Entry])>
     ensures some { IfSome result (λ r. entries.now ≡ r.0.now ∷ r.1.now) }
     ensures none { IfNone result (entries.now ≡ []) }

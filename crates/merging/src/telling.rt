@@ -14,12 +14,12 @@ use case_forms::{
     Event, Expired, Extras, Host, Line, Lines, NamedLine, OutOfMemory, Span, Step, Steps, TakenLine,
 };
 use spec_step::Label;
-use stack_core::{Entry, Item, other};
+use stack_core::{Entry, Item};
 use std::alloc::Global;
 
 // What a step tells: its label in a witness, and the line that it takes.
 #[derive(Drop)]
-struct Told {
+struct RecordedStep {
     label: case_forms::Label<NamedLine>,
     line: Option<Line>,
 }
@@ -36,12 +36,12 @@ fn nowhere() -> Span
 }
 
 // A line that is named with these numbers.
-fn told_line(number: u32, moment: u64, thread: u32, event: Event, extras: Extras) -> Told
+fn told_line(number: u32, moment: u64, thread: u32, event: Event, extras: Extras) -> RecordedStep
     ensures label { result.label ≡ names number extras }
     ensures line { result.line ≡ Some (said number moment thread event) }
 {
     let number = u64::from(number);
-    Told {
+    RecordedStep {
         label: case_forms::Label::L(NamedLine { number, extras }),
         line: Some(Line {
             number,
@@ -111,7 +111,7 @@ fn extras_of(counts: &Counts, host: Host, taken: &TakenLine) -> Extras
             Extras::Bare
         }
         TakenLine::Sent { made, .. } => Extras::One(counts.mades.number(host, u64::from(*made))),
-        TakenLine::Came { copied, .. } => Extras::One(counts.lines.number(other(host), *copied)),
+        TakenLine::Came { copied, .. } => Extras::One(counts.lines.number(host.other(), *copied)),
         TakenLine::Expired { expired, .. } => growth_of(*expired),
     }
 }
@@ -132,7 +132,7 @@ fn tell_line(
     moment: u64,
     host: Host,
     taken: &TakenLine,
-) -> Result<Told, OutOfMemory>
+) -> Result<RecordedStep, OutOfMemory>
     requires small { IsSmallStep (line_step taken.now) }
     requires lines { counts.now.lines.next ≤ 2147483647 }
     requires mades { counts.now.mades.next ≤ 2147483647 }
@@ -148,7 +148,12 @@ fn tell_line(
 }
 
 // What a step of a host tells, under new numbers.
-fn tell_step(counts: &Counts, moment: u64, host: Host, label: &Label) -> Result<Told, OutOfMemory>
+fn tell_step(
+    counts: &Counts,
+    moment: u64,
+    host: Host,
+    label: &Label,
+) -> Result<RecordedStep, OutOfMemory>
     requires small { IsSmallStep (step_of label.now) }
     requires lines { counts.now.lines.next ≤ 2147483647 }
     requires mades { counts.now.mades.next ≤ 2147483647 }
@@ -189,10 +194,10 @@ fn tell_step(counts: &Counts, moment: u64, host: Host, label: &Label) -> Result<
             recovery: *recovery,
         },
     };
-    Ok(Told { label, line: None })
+    Ok(RecordedStep { label, line: None })
 }
 
-// A line joins, where there is one.
+// A line joins, if there is one.
 fn push_told(line: Option<Line>, lines: &mut Lines) -> Result<(), OutOfMemory>
     ensures { OnOk result (lines.new ≡ lines.old ++ on line [] (λ l. l ∷ [])) }
 {
@@ -202,7 +207,7 @@ fn push_told(line: Option<Line>, lines: &mut Lines) -> Result<(), OutOfMemory>
     Ok(())
 }
 
-// One entry more is told.
+// One more entry is written.
 fn tell_entry(
     counts: &Counts,
     entry: &Entry,

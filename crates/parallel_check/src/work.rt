@@ -13,7 +13,7 @@ use std::sync::{Mutex, Wait};
 use std::thread;
 use std::thread::Threads;
 
-/// Is told of each case by the worker that checks it.
+/// Is called for each case by the worker that checks it.
 pub trait Gate {
     /// Called before the case with this number is checked. Cases are numbered from 0.
     fn before(&self, case: usize);
@@ -76,8 +76,7 @@ fn take_next<H: Wait>(rt: &H, next: &Mutex<usize>, count: usize) -> Option<usize
     Some(index)
 }
 
-// What one worker does. It finds room for an answer before it takes the case; where there is none it takes no further
-// one.
+// What one worker does. It finds room for an answer before it takes the case; if there is none it takes no further one.
 fn work<C: Cases, G: Gate, H: Wait>(
     rt: &H,
     alloc: Global,
@@ -122,8 +121,7 @@ fn check_named<C: Cases + Send + Sync, G: Gate + Sync, H: Threads + Wait + Sync>
 }
 
 /// Checks all cases by this many threads, 1 to 64 of them. Where a thread can't be started this one does its work. A
-/// case
-/// for which memory runs out is answered so, and the others as ever; `Err` says that memory ran out for the list
+/// case for which memory runs out is answered so, and the others as ever; `Err` says that memory ran out for the list
 /// itself.
 pub fn check_many_slices<G: Gate + Sync, H: Threads + Wait + Sync>(
     rt: &H,

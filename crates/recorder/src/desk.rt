@@ -8,9 +8,7 @@ ghost use Rattle.case_forms.specs.declared.calls.Host.{Host};
 ghost use Rattle.spec_network.specs.Tables.{lane};
 ghost use Rattle.spec_tcp.specs.Machine.{aim};
 ghost use Rattle.spec_merge.specs.Books.{Aims};
-ghost use Rattle.spec_merge.specs.Keys.{before};
 ghost use Rattle.stack_core.specs.Cores.{IsAfter, IsCallWithin};
-ghost use Rattle.stack_core.specs.Keys.{key_of, key_shown};
 ghost use Rattle.recorder.specs.Seats.{IsReserved, WhyNoSeat};
 ghost use Rattle.recorder.specs.Ticks.{IsOver, tick_after};
 
@@ -20,24 +18,18 @@ use crate::receipt::Receipt;
 use crate::recorder::RecFault;
 use crate::seat::Seat;
 use crate::site::{Held, Site};
-use case_forms::{Call, Header, Host};
+use case_forms::{Call, GREATEST_COUNTER, GREATEST_MOMENT, Header, Host, MOST_EVENTS};
 use stack_core::{CoreConfig, Flying, Key, Tick};
 use std::alloc::Global;
 use std::collections::BTreeSet;
 use std::marker::PhantomData;
 use std::sync::ledger::{Blank, Book, Share};
 
-// The greatest moment, in microseconds, and the greatest counter.
-const MOST: u64 = 1_000_000_000_000_000_000;
-
 // How far a turn of the timers moves the host's clock, in microseconds.
 const CLOCK_STEP: u64 = 1_000;
 
 // How many seats a recorder has.
 const SEATS: u32 = 65_535;
-
-// How many events a host may have.
-const EVENTS: u64 = 10_000_000;
 
 /// A host's book beside the ledger of its seats' counts.
 #[derive(Drop)]
@@ -68,13 +60,13 @@ fn next_tick(book: &HostBook, moment: u64, counter: u64) -> Option<Tick>
     ensures events { IfSome result (λ t. book.now.core.events < 10000000) }
     ensures none { IfNone result (IsOver book.now.core moment counter) }
 {
-    if book.events() >= EVENTS {
+    if book.events() >= MOST_EVENTS {
         return None;
     }
     let last = book.last_tick();
     let moment = moment.max(last.moment);
     let counter = counter.max(last.counter);
-    if moment > MOST || counter >= MOST {
+    if moment > GREATEST_MOMENT || counter >= GREATEST_COUNTER {
         return None;
     }
     Some(Tick {
@@ -177,7 +169,7 @@ impl<L: Site> Desk<L> {
         Ok(())
     }
 
-    /// Ends the seat's open call where it may have its effect.
+    /// Ends the seat's open call if it may have its effect.
     pub(crate) fn attempt(&mut self, seat: &mut Seat<L>) -> Result<Option<Receipt>, RecFault>
         requires lane { lane seat.old.thread ≡ L.host }
         ensures some { IfOk result (λ o. IfSome o (λ r.
@@ -253,7 +245,7 @@ impl<L: Site> Desk<L> {
         Ok(book.timers(tick)?)
     }
 
-    /// The book, where all seats are handed in.
+    /// The book, if all seats are handed in.
     pub(crate) fn close(self, seats: Vec<Seat<L>>) -> HostBook
         requires parts { L.parts ≡ 65535 }
         requires all { 65535 ≤ length seats.items + self.left }

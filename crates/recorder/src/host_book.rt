@@ -78,8 +78,7 @@ impl HostBook {
     }
 
     /// What it recorded is a run of its host for its lines, and its total is the number of those that end a call: a
-    /// call that
-    /// does nothing, whose contract says it.
+    /// call that does nothing, whose contract says it.
     pub fn is_book(&self)
         ensures run { IsRecorded self.now.core }
         ensures total { self.now.total ≡ ends_in self.now.core.recorded.entries }
@@ -88,8 +87,7 @@ impl HostBook {
     }
 
     // What was brought has keys below those of its entries, and the steps are few: a call that does nothing, whose
-    // contract
-    // says it.
+    // contract says it.
     pub(crate) fn few_steps(&self)
         ensures above { AllAbove self.now.core.recorded.entries }
         ensures steps { steps_in self.now.core.recorded.entries ≤ 40000000 }
@@ -98,10 +96,8 @@ impl HostBook {
     }
 
     /// A text can tell what it recorded: each segment is made at a position that a text names, with a payload that fits
-    /// into one,
-    /// and with a shift only beside an initial number, where the version scales windows. A call that does nothing,
-    /// whose contract
-    /// says it.
+    /// into one, and with a shift only beside an initial number, if the version scales windows. A call that does
+    /// nothing, whose contract says it.
     pub fn can_be_told(&self)
         ensures { AllTold self.now.core.recorded.header.version self.now.core.recorded.entries }
     {

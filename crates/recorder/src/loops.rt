@@ -39,7 +39,7 @@ fn send<R: Wait>(rt: &R, out: &Sender<Flying, Global>, flying: Flying) -> Result
 }
 
 // Does with a segment what its fate is.
-fn meet<R: Wait>(
+fn apply_fate<R: Wait>(
     rt: &R,
     out: &Sender<Flying, Global>,
     held: &mut HeldBack<Flying>,
@@ -50,7 +50,7 @@ fn meet<R: Wait>(
         Fate::Pass => send(rt, out, flying),
         Fate::Lose => Ok(()),
         Fate::Twice => {
-            // Where memory refuses the copy, it goes once.
+            // If memory refuses the copy, it goes once.
             if let Ok(copy) = flying.copy() {
                 send(rt, out, copy)?;
             }
@@ -96,7 +96,7 @@ impl<L: Site> Recorder<L> {
             return Ok(false);
         };
         held.count();
-        meet(rt, out, held, flying, fate.next())?;
+        apply_fate(rt, out, held, flying, fate.next())?;
         for _ in 0..held.len() {
             let Some(late) = held.take_due() else {
                 break;
@@ -107,8 +107,7 @@ impl<L: Site> Recorder<L> {
     }
 
     /// Lets the host's segments go out and sends each as its fate is, in so many turns. A turn without a segment ends
-    /// by
-    /// yielding. The sender is dropped as the loop ends.
+    /// by yielding. The sender is dropped as the loop ends.
     pub fn pump_loop_by<R: Wait, F: WireFate + Drop>(
         &self,
         rt: &R,

@@ -27,8 +27,7 @@ use thiserror::Error;
 #[derive(Clone, Copy, Debug, PartialEq, Eq, Error)]
 pub enum RecFault {
     /// The recorder was stopped, its host had 10,000,000 events, its next tick would pass the limits, or the seat has a
-    /// pending
-    /// call. The seat is as it was.
+    /// pending call. The seat is as it was.
     #[error("the recorder is stopped")]
     Stopped,
     /// Memory ran out. A call whose beginning was recorded stays pending.
@@ -103,8 +102,7 @@ impl<L: Site> Recorder<L> {
     }
 
     /// A call of the seat's thread, which means this host or a socket number of its own. It waits until the call has
-    /// its
-    /// effect. Where it is refused the seat counts as before.
+    /// its effect. If it is refused the seat counts as before.
     pub fn call<R: Wait>(&self, rt: &R, seat: &mut Seat<L>, call: Call) -> Result<Receipt, RecFault>
         requires lane { lane seat.old.thread ≡ L.host }
         requires aims { Aims L.host (aim call) }
@@ -142,9 +140,8 @@ impl<L: Site> Recorder<L> {
         self.moved.notify_all();
     }
 
-    /// Ends the recording, where all seats are handed in. The book's total is the sum of their counts. There are 65,535
-    /// seats, so
-    /// none is missing among as many.
+    /// Ends the recording, if all seats are handed in. The book's total is the sum of their counts. There are 65,535
+    /// seats, so none is missing among as many.
     pub fn finish<R: Wait>(self, rt: &R, seats: Vec<Seat<L>>) -> Result<HostBook, Unfinished<L>>
         requires { L.parts ≡ 65535 }
         ensures host { IfOk result (λ b. b.core.recorded.me ≡ L.host) }

@@ -11,10 +11,10 @@
 //! - `encode`: the bytes of a segment; `EncFault`: why it has none
 //! - `OutOfMemory`: memory ran out
 //!
-//! Which bytes stand for which segment, and which fault comes first where there is none, stands in `specs/Layout`,
-//! which is the file to read first; how options are cut into items, in `specs/Options`; what is written, in
-//! `specs/Encoding`. `specs/Reading` finds the segment or the fault from left to right, which `reading_law` proves the
-//! same. Checksums and urgent pointers are ignored: they are passed over here, and written as 0.
+//! Which bytes stand for which segment, and which fault comes first if there is none, stands in `specs/Layout`, which
+//! is the file to read first; how options are cut into items, in `specs/Options`; what is written, in `specs/Encoding`.
+//! `specs/Reading` finds the segment or the fault from left to right, which `reading_law` proves the same. Checksums
+//! and urgent pointers are ignored: they are passed over here, and written as 0.
 //!
 //! Private modules:
 //!

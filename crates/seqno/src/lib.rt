@@ -9,8 +9,7 @@
 //! - `laws`: what is numbered reads back, what is near and has one number is one position, and which position is found
 //!
 //! What a number is, and when it reads as a position, stands in `specs/Numbers`; the position that it reads as,
-//! computed,
-//! in `specs/Near`.
+//! computed, in `specs/Near`.
 #![tactic(auto)]
 
 mod laws;

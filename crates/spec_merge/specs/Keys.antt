@@ -16,7 +16,9 @@ rank One = 1
 
 -- whether three numbers come before three others, the first of them that differ deciding
 abbrev pub lesser : ℕ → ℕ → ℕ → ℕ → ℕ → ℕ → Bool
-lesser a b c x y z = if nat_lt a x then true else if nat_lt x a then false else if nat_lt b y then true else if nat_lt y b then false else nat_lt c z
+lesser a b c x y z =
+    if nat_lt a x then true else if nat_lt x a then false else if nat_lt b y then true else if nat_lt y b then false
+    else nat_lt c z
 
 -- whether a key comes before another: by moments, then by counters, then by hosts
 abbrev pub before : Key → Key → Bool

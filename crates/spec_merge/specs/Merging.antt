@@ -57,7 +57,8 @@ pub record Names : Type 0 where
 
 -- the numbers of a list of both hosts' entries: event lines are counted from the first on, made segments from 1 on
 abbrev pub names_of : (k : Kernel) → ℕ → List (Entry k.shape) → Names
-names_of k first xs = record { line = λ h. nth h (heads first (line_turns k xs)); made = λ h. nth h (heads 1 (make_turns k xs)) }
+names_of k first xs =
+    record { line = λ h. nth h (heads first (line_turns k xs)); made = λ h. nth h (heads 1 (make_turns k xs)) }
 
 -- what host h does, under new numbers
 abbrev pub redeed : (k : Kernel) → Names → Host → Deed k.shape → Deed k.shape

@@ -42,7 +42,8 @@ event_of k (At host d) = deed_event k host d
 -- the lines that these steps take, each at its step's moment
 abbrev pub lines_of : (k : Kernel) → List (Stamped k.shape) → List (Line k.shape)
 lines_of k [] = []
-lines_of k (x ∷ xs) = on (event_of k x.step) (lines_of k xs) (λ e. record { moment = x.moment; event = e } ∷ lines_of k xs)
+lines_of k (x ∷ xs) =
+    on (event_of k x.step) (lines_of k xs) (λ e. record { moment = x.moment; event = e } ∷ lines_of k xs)
 
 -- the moments of these steps don't fall, and none is below m
 abbrev pub MomentsRise : (k : Kernel) → ℕ → List (Stamped k.shape) → Type 0
@@ -60,8 +61,7 @@ abbrev pub NamesAt : (k : Kernel) → List (Stamped k.shape) → ℕ → ℕ →
 NamesAt k steps p number = (x : Stamped k.shape) × (slice_get steps p ≡ Some x) × (step_line k x.step ≡ Some number)
 
 -- steps are a placement of lines that are numbered from the first on: moments don't fall, each line is taken in time,
--- once, no
--- other line is, the lines in their order, and in each thread calls take turns
+-- once, no other line is, the lines in their order, and in each thread calls take turns
 pub record Placement (k : Kernel) (skew first : ℕ) (lines : List (Line k.shape)) (steps : List (Stamped k.shape)) : Type 0 where
   pub moments : MomentsRise k 0 steps
   pub taken : (i : ℕ) (line : Line k.shape) → slice_get lines i ≡ Some line → (p : ℕ)

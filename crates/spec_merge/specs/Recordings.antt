@@ -53,8 +53,7 @@ pub record MayJoin (h : Header) (me : Host) (first : ℕ) (old new : List TcpEnt
   pub above : EachEntry (tcp h) (λ x. EachEntry (tcp h) (λ y. before y.key x.key ≡ false) new) old
 
 -- each segment that was brought is one of the other host's: it stands on that host's last wire under its line, with the
--- key of
--- that line, which is below the key of the arrival
+-- key of that line, which is below the key of the arrival
 abbrev pub NamesSent : Header → Host → (mine others : List TcpEntry) → Type 0
 NamesSent h other mine others =
     EachEntry (tcp h) (λ x. NamesOne (tcp h) other (world_of h other others) others x.key x.item) mine

@@ -23,16 +23,14 @@ use spec_tcp_laws::{
 };
 
 /// Two books beside each other, merged in the order of their keys with lines and made segments counted anew, are a run,
-/// and a
-/// placement of the lines that they take: each line once, in their order, at its own moment.
+/// and a placement of the lines that they take: each line once, in their order, at its own moment.
 pub fn merged_books_are_a_run()
     ensures { (h : Header) (first : ℕ) (zeros ones : List TcpEntry) → Books (tcp h) first zeros ones →
         IsPlacedRun (tcp h) h.skew first (merged_lines h first zeros ones) (merged h first zeros ones) }
 {}
 
 /// A host's recording grows at its end. What may join leaves it kept; its world and the number of its next line go on
-/// from
-/// where they were; what each host kept, with segments brought that the other host sent, are two books beside each
+/// from where they were; what each host kept, with segments brought that the other host sent, are two books beside each
 /// other.
 pub fn books_grow()
     ensures grows { (h : Header) (me : Host) (first : ℕ) (old new : List TcpEntry) → IsKept h me first old

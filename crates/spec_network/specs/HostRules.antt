@@ -47,7 +47,8 @@ deed_rules k me moment far h (Answers line) =
 -- the host that a call means: for a socket number, the host that gave it
 abbrev pub aim_of : (k : Kernel) → Both (HostState k.shape) → Aim → Option Host
 aim_of k hosts (ThatHost host) = Some host
-aim_of k hosts (ThatSocket n) = if k.given hosts.zero.body n then Some Zero else if k.given hosts.one.body n then Some One else None
+aim_of k hosts (ThatSocket n) =
+    if k.given hosts.zero.body n then Some Zero else if k.given hosts.one.body n then Some One else None
 
 -- a socket number that is given was given by neither host before
 abbrev pub fresh_rules : (k : Kernel) → Both (HostState k.shape) → Option ℕ → List (Rule × Bool)

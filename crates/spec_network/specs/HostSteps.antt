@@ -33,8 +33,7 @@ abbrev pub inbox_settled : {E : Type 0} → ℕ → List (ℕ × Option E) → L
 inbox_settled line inbox = on (waiting line inbox) inbox (λ e. settled line inbox)
 
 -- what a host has after what it does: a line that goes out marks its segment and puts it on the wire, a line that comes
--- in
--- joins the inbox, and what is taken, dropped or answered waits there no longer
+-- in joins the inbox, and what is taken, dropped or answered waits there no longer
 abbrev pub deed_after : (k : Kernel) → Host → ℕ → ℕ → List (ℕ × k.shape.Emission) → HostState k.shape → Deed k.shape
     → HostState k.shape
 deed_after k me moment fresh far h (Does x) = record h { body = k.act_after me moment h.body (k.does x) }

@@ -11,10 +11,8 @@ pub data Aim : Type 0 where
   ThatSocket : (socket : ℕ) → Aim
 
 -- the types: what a host has and does (`Body`, `Act`); what a step says beside the numbers that it names, of a step
--- that
--- looks nothing up, of a timer that expires, of a segment to be made, and of the choice at taking one (`Plain` to
--- `How`);
--- what the line of a timer says; segments as they were made and as they are on the wire; calls and answers
+-- that looks nothing up, of a timer that expires, of a segment to be made, and of the choice at taking one (`Plain` to
+-- `How`); what the line of a timer says; segments as they were made and as they are on the wire; calls and answers
 pub record Shape : Type 1 where
   pub Body : Type 0
   pub Act : Type 0
@@ -63,8 +61,7 @@ pub record Kernel : Type 1 where
   pub differs : shape.Answer → shape.Answer → Bool
 
 -- one host: what the kernel knows of it, the segments that it made by their numbers, those that it put on the wire by
--- their
--- lines, and its inbox by the lines that came in, with None for one that waits no longer
+-- their lines, and its inbox by the lines that came in, with None for one that waits no longer
 pub record HostState (s : Shape) : Type 0 where
   pub body : s.Body
   pub made : List (ℕ × Made s.Emission)
@@ -84,9 +81,8 @@ pub record World (s : Shape) : Type 0 where
   pub count : ℕ
 
 -- what one host does: a step that looks nothing up; a timer's line; making a segment; the line of one that goes out,
--- made
--- under that number; the line of one that comes in, a copy of the other host's line; the line of one that is heard of a
--- host that isn't recorded; and taking, dropping or answering what came in with that line
+-- made under that number; the line of one that comes in, a copy of the other host's line; the line of one that is heard
+-- of a host that isn't recorded; and taking, dropping or answering what came in with that line
 pub data Deed (s : Shape) : Type 0 where
   Does : (plain : s.Plain) → Deed s
   Expires : (line : ℕ) (expiring : s.Expiring) → Deed s

@@ -2,6 +2,7 @@
 use Rattle.std.specs.Prelude.{ℕ, zero, suc, nat_eq, Bool, true, false, List, Option, None, Some}
 use Rattle.std.specs.Map.{lookup}
 use Rattle.indexmap.specs.IndexMap.{insert_entry}
+pub use Rattle.case_forms.specs.Hosts.{other}
 use Rattle.case_forms.specs.declared.calls.Host.{Host}
 use Rattle.case_forms.specs.declared.calls.Host.TheVariants.{Zero, One}
 
@@ -14,11 +15,6 @@ pub record Both (X : Type 0) : Type 0 where
 abbrev pub pick : {X : Type 0} → Both X → Host → X
 pick both Zero = both.zero
 pick both One = both.one
-
--- the other of the two hosts
-abbrev pub other : Host → Host
-other Zero = One
-other One = Zero
 
 -- something else for that host
 abbrev pub with_host : {X : Type 0} → Both X → Host → X → Both X

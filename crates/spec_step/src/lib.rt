@@ -1,9 +1,8 @@
-//! A step of the machine, told by its label: whether it breaks a rule, and the world after it.
+//! A step of the machine, given by its label: whether it breaks a rule, and the world after it.
 //!
 //! Which step of the machine a label asks for is said by `step_of` of `spec_tcp`. Nothing here knows the order of
-//! lines: which
-//! line a step may take is told by `interval_order`. What the world is, and what each step does to it, is
-//! `endpoint_state`'s.
+//! lines: which line a step may take is defined by `interval_order`. What the world is, and what each step does to it,
+//! is `endpoint_state`'s.
 //!
 //! - `line`: a step that takes a line: the least rule that it breaks, and the world after it
 //! - `hidden`: a step that takes none: the same

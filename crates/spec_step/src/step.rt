@@ -35,9 +35,8 @@ pub fn admits(world: &World, moment: u64, label: &Label) -> Result<(), Rule>
     }
 }
 
-/// Does a step at a moment, in microseconds, where the machine admits it and memory allows. An error is the least rule
-/// that
-/// the step breaks, or that it breaks none and memory ran out; the world is then as it was.
+/// Does a step at a moment, in microseconds, if the machine admits it and memory allows. An error is the least rule
+/// that the step breaks, or that it breaks none and memory ran out; the world is then as it was.
 pub fn apply(world: &mut World, moment: u64, label: &Label) -> Result<(), StepFault>
     requires steps { world.old.steps < most_steps }
     requires label { IsWithinLimits label.now }

@@ -19,8 +19,8 @@ pub fn sent(world: &World, host: Host, line: u64) -> Option<&Emission>
 }
 
 /// Puts a segment on a host's wire under this line, in place of one that stood there. It is no step, and nothing else
-/// is
-/// changed: a copy that came in before stays as it was. The error is that memory ran out, and then nothing is changed.
+/// is changed: a copy that came in before stays as it was. The error is that memory ran out, and then nothing is
+/// changed.
 pub fn bring(
     world: &mut World,
     host: Host,

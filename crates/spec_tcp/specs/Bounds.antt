@@ -1,6 +1,5 @@
 -- What the sums and the counts of code need. Counts that grow by one in a step are at most the steps done, positions
--- stay below a limit,
--- and nothing is kept that may be discarded.
+-- stay below a limit, and nothing is kept that may be discarded.
 use Rattle.std.specs.Prelude.{◌≡◌, ◌≤◌, ◌<◌, ℕ, ◌+◌, ◌*◌, ◌^◌, true, false, length}
 use Rattle.std.specs.List.{All}
 use Rattle.case_forms.specs.States.{is_closed, is_syn_sent}
@@ -8,7 +7,7 @@ use Rattle.streams.specs.Forgetting.{below, forgotten, made_below}
 use Rattle.streams.specs.Received as received
 use Rattle.window_rules.specs.Counts.{HasCounts, IsCounted}
 use Rattle.spec_tcp.specs.Endpoints.{Endpoint, Emission, rcv_nxt}
-use Rattle.spec_tcp.specs.Bodies.{Body}
+use Rattle.spec_tcp.specs.HostTcp.{HostTcp}
 
 -- the greatest position that a step may name
 abbrev pub greatest_position : ℕ
@@ -39,7 +38,7 @@ pub record IsKept (steps : ℕ) (e : Endpoint) : Type 0 where
   pub unmet : is_syn_sent e.state ≡ true → e.stream.receive ≡ received.empty
 
 -- a host after so many steps
-pub record IsKeptBody (steps : ℕ) (b : Body) : Type 0 where
+pub record IsKeptBody (steps : ℕ) (b : HostTcp) : Type 0 where
   pub kept : All (IsKept steps) b.endpoints
   pub endpoints : length b.endpoints ≤ steps
   pub listeners : length b.listeners ≤ steps

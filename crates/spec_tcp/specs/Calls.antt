@@ -12,7 +12,7 @@ use Rattle.case_forms.specs.declared.calls.Call.{Call}
 use Rattle.case_forms.specs.declared.calls.Call.TheVariants as calls
 use Rattle.case_forms.specs.declared.calls.State.TheVariants as states
 use Rattle.spec_tcp.specs.Endpoints.{Endpoint, SocketTarget, ListenerAt, EndpointAt, new_endpoint}
-use Rattle.spec_tcp.specs.Bodies.{Body, is_connected, with_endpoint, is_listening, queue_of, thing_of, with_socket}
+use Rattle.spec_tcp.specs.HostTcp.{HostTcp, is_connected, with_endpoint, is_listening, queue_of, thing_of, with_socket}
 use Rattle.spec_tcp.specs.Same.{same_state}
 use Rattle.window_rules.specs.declared.control.Profile.{Profile}
 use Rattle.spec_tcp.specs.Calls.Await.{is_not_connected, await_allows}
@@ -33,7 +33,7 @@ endpoint_allows e (calls.Abort n) answers.Done = true
 endpoint_allows e (calls.Status n) (answers.State s) = same_state s e.state
 endpoint_allows e _ _ = false
 
-abbrev pub thing_allows : Body → Call → Answer → SocketTarget → Bool
+abbrev pub thing_allows : HostTcp → Call → Answer → SocketTarget → Bool
 thing_allows b call answer (ListenerAt l) = listener_allows (queue_of b l) call answer
 thing_allows b call answer (EndpointAt i) =
     option_map_or (λ e. endpoint_allows e call answer) (slice_get b.endpoints i) false
@@ -43,7 +43,7 @@ abbrev pub is_bad_socket : Answer → Bool
 is_bad_socket answers.BadSocket = true
 is_bad_socket _ = false
 
-abbrev pub socket_allows : Body → ℕ → Call → Answer → Bool
+abbrev pub socket_allows : HostTcp → ℕ → Call → Answer → Bool
 socket_allows b n call answer = option_map_or (thing_allows b call answer) (thing_of b n) (is_bad_socket answer)
 
 -- a number is given, or the port or the pair of ports is in use
@@ -53,7 +53,7 @@ gives_or_in_use used answers.InUse = used
 gives_or_in_use used _ = false
 
 -- the call may have this answer
-abbrev pub call_allows : Body → Call → Answer → Bool
+abbrev pub call_allows : HostTcp → Call → Answer → Bool
 call_allows b (calls.Listen host port backlog) answer = gives_or_in_use (is_listening b port) answer
 call_allows b (calls.Connect host lport rport) answer = gives_or_in_use (is_connected b lport rport) answer
 call_allows b (calls.Await n) answer = socket_allows b n (calls.Await n) answer
@@ -66,15 +66,15 @@ call_allows b (calls.Abort n) answer = socket_allows b n (calls.Abort n) answer
 call_allows b (calls.Status n) answer = socket_allows b n (calls.Status n) answer
 
 -- the endpoint of a live socket number changes
-abbrev pub change_thing : Body → (Endpoint → Endpoint) → SocketTarget → Body
+abbrev pub change_thing : HostTcp → (Endpoint → Endpoint) → SocketTarget → HostTcp
 change_thing b f (ListenerAt l) = b
 change_thing b f (EndpointAt i) = with_endpoint b i f
 
-abbrev pub change : Body → ℕ → (Endpoint → Endpoint) → Body
+abbrev pub change : HostTcp → ℕ → (Endpoint → Endpoint) → HostTcp
 change b n f = option_map_or (change_thing b f) (thing_of b n) b
 
 -- what the host has then; every other answer changes nothing
-abbrev pub after_call : Profile → Body → Call → Answer → Body
+abbrev pub after_call : Profile → HostTcp → Call → Answer → HostTcp
 after_call profile b (calls.Listen host port backlog) (answers.Given n) =
     with_socket (record b {
       listeners = b.listeners ++ record { port = port; backlog = backlog; is_open = true; queue = [] }

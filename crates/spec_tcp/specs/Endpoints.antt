@@ -82,7 +82,8 @@ is_scaling e = is_some e.shift && is_some e.peer_shift
 
 -- a window in bytes: by the shift where scaling is in force, but for the window of a SYN (RFC 7323, 2.2 and 2.3)
 abbrev pub window_in : (scaling syn : Bool) → Option ℕ → ℕ → ℕ
-window_in scaling syn shift window = if scaling && not syn then option_map_or (windows.scaled_window window) shift window else window
+window_in scaling syn shift window =
+    if scaling && not syn then option_map_or (windows.scaled_window window) shift window else window
 
 -- the window that a segment offers here, in bytes
 abbrev pub peer_window : Endpoint → Emission → ℕ

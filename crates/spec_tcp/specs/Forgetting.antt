@@ -4,7 +4,7 @@ use Rattle.std.specs.Prelude.{map}
 use Rattle.streams.specs.Forgetting.{below, forgotten, made_below}
 use Rattle.spec_network.specs.Hosts.{HostState, World}
 use Rattle.spec_tcp.specs.Endpoints.{Endpoint}
-use Rattle.spec_tcp.specs.Bodies.{Body}
+use Rattle.spec_tcp.specs.HostTcp.{HostTcp}
 use Rattle.spec_tcp.specs.Machine.{tcp_shape}
 
 abbrev pub forget_endpoint : Endpoint → Endpoint
@@ -14,7 +14,7 @@ forget_endpoint e = record e {
   transmissions = made_below e.stream.snd_una e.transmissions;
 }
 
-abbrev pub forget_body : Body → Body
+abbrev pub forget_body : HostTcp → HostTcp
 forget_body b = record b { endpoints = map forget_endpoint b.endpoints }
 
 abbrev pub forget_host : HostState tcp_shape → HostState tcp_shape

@@ -1,5 +1,5 @@
 pub mod Endpoints
-pub mod Bodies
+pub mod HostTcp
 pub mod Same
 pub mod Calls
 pub mod Makes

@@ -19,7 +19,7 @@ use Rattle.verdict.specs.declared.rule.Rule.{Rule}
 use Rattle.verdict.specs.declared.rule.Rule.TheVariants as rules
 use Rattle.spec_network.specs.Hosts.{Aim, Kernel, Shape, ThatHost, ThatSocket}
 use Rattle.spec_tcp.specs.Endpoints.{Endpoint, Emission}
-use Rattle.spec_tcp.specs.Bodies.{Body, empty, place_of, endpoint_of, at_ports, given}
+use Rattle.spec_tcp.specs.HostTcp.{HostTcp, empty, place_of, endpoint_of, at_ports, given}
 use Rattle.spec_tcp.specs.Same.{same_answer}
 use Rattle.spec_tcp.specs.Calls.{is_bad_socket, call_allows, after_call}
 use Rattle.spec_tcp.specs.Makes.{making_rules, emission_of, after_making}
@@ -47,11 +47,11 @@ pub data Act : Type 0 where
   Recovers : (recovery : Recovery) → Act
 
 -- the rules of the endpoint of some ports
-abbrev pub rules_at : Body → ℕ → ℕ → (Endpoint → List (Rule × Bool)) → List (Rule × Bool)
+abbrev pub rules_at : HostTcp → ℕ → ℕ → (Endpoint → List (Rule × Bool)) → List (Rule × Bool)
 rules_at b lport rport f = option_map_or f (endpoint_of b lport rport) ((rules.NoEndpoint, true) ∷ [])
 
 -- the rules of an act, least first
-abbrev pub act_rules : Header → Host → ℕ → Body → Act → List (Rule × Bool)
+abbrev pub act_rules : Header → Host → ℕ → HostTcp → Act → List (Rule × Bool)
 act_rules h me moment b (Calls call answer) = (rules.CallAnswer, not (call_allows b call answer)) ∷ []
 act_rules h me moment b (Makes m) = rules_at b m.lport m.rport (λ e. making_rules e m)
 act_rules h me moment b (Takes how m) = taker_rules h me b how m moment (taker b m)
@@ -60,7 +60,7 @@ act_rules h me moment b (Expires x) = rules_at b x.lport x.rport (λ e. expiry_r
 act_rules h me moment b (Recovers x) = rules_at b x.lport x.rport (λ e. recovery_rules e x.cwnd x.ssthresh moment)
 
 -- what the host has after it
-abbrev pub act_after : Header → Host → ℕ → Body → Act → Body
+abbrev pub act_after : Header → Host → ℕ → HostTcp → Act → HostTcp
 act_after h me moment b (Calls call answer) = after_call (profile_of h.initial) b call answer
 act_after h me moment b (Makes m) = at_ports b m.lport m.rport (λ e. after_making e m moment)
 act_after h me moment b (Takes how m) = after_taking h b how m moment (taker b m)
@@ -69,11 +69,11 @@ act_after h me moment b (Expires x) = at_ports b x.lport x.rport (λ e. after_ex
 act_after h me moment b (Recovers x) = at_ports b x.lport x.rport (λ e. after_recovery e x.cwnd x.ssthresh moment)
 
 -- the segment made by the endpoint at a place
-abbrev pub made_at : Host → Body → SegmentPlan → ℕ → Option Emission
+abbrev pub made_at : Host → HostTcp → SegmentPlan → ℕ → Option Emission
 made_at me b m i = option_map (λ e. emission_of (record { host = me; number = i }) e m) (slice_get b.endpoints i)
 
 -- the segment that it makes
-abbrev pub act_makes : Host → Body → Act → Option Emission
+abbrev pub act_makes : Host → HostTcp → Act → Option Emission
 act_makes me b (Makes m) = option_map_or (made_at me b m) (place_of b m.lport m.rport) None
 act_makes me b (Resets m) = Some (reset_of m)
 act_makes me b act = None
@@ -101,7 +101,7 @@ gives call answer = None
 -- the types of the machine
 abbrev pub tcp_shape : Shape
 tcp_shape = record {
-  Body = Body;
+  Body = HostTcp;
   Act = Act;
   Plain = Recovery;
   Expiring = Expiring;

@@ -67,4 +67,6 @@ endpoint_made e m moment = record e {
 
 -- a reset closes the endpoint, and is no longer due
 abbrev pub after_making : Endpoint → SegmentPlan → ℕ → Endpoint
-after_making e m moment = if m.flags.rst then record (shut_down (endpoint_made e m moment)) { reset_due = false } else endpoint_made e m moment
+after_making e m moment =
+    if m.flags.rst then record (shut_down (endpoint_made e m moment)) { reset_due = false }
+    else endpoint_made e m moment

@@ -6,7 +6,7 @@ use Rattle.case_forms.specs.States.{is_syn_received, is_syn_sent}
 use Rattle.verdict.specs.declared.rule.Rule.{Rule}
 use Rattle.verdict.specs.declared.rule.Rule.TheVariants as rules
 use Rattle.spec_tcp.specs.Endpoints.{Endpoint, Emission, segment_length}
-use Rattle.spec_tcp.specs.Bodies.{Body}
+use Rattle.spec_tcp.specs.HostTcp.{HostTcp}
 use Rattle.spec_tcp.specs.Same.{same_word}
 use Rattle.spec_tcp.specs.Makes.Kind.{word_zero}
 use Rattle.spec_tcp.specs.Arrives.{Taker, Nobody, AtListener, AtEndpoint, taker}
@@ -24,7 +24,7 @@ finds_nothing m (AtListener l) = m.flags.ack
 finds_nothing m (AtEndpoint i e) = is_stray_ack e m
 
 -- no reset answers a reset
-abbrev pub reset_rules : Body → Emission → List (Rule × Bool)
+abbrev pub reset_rules : HostTcp → Emission → List (Rule × Bool)
 reset_rules b m = (rules.State, m.flags.rst || not (finds_nothing m (taker b m))) ∷ []
 
 -- the reset: at the number that is acknowledged, or at 0 with an acknowledgment of all that came

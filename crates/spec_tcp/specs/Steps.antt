@@ -28,7 +28,8 @@ line_step (taken.CallEnd line thread answer) = Finish line thread answer
 line_step (taken.Sent line host made wire) = At host (Sends line made wire)
 line_step (taken.Came line host copied wire) = At host (Gets line copied wire)
 line_step (taken.Heard line host wire) = At host (Hears line wire)
-line_step (taken.Expired line host ports e) = At host (Expires line (record { lport = ports.lport; rport = ports.rport; expired = e }))
+line_step (taken.Expired line host ports e) =
+    At host (Expires line (record { lport = ports.lport; rport = ports.rport; expired = e }))
 
 -- a label's step
 abbrev pub step_of : Label TakenLine → Step tcp_shape

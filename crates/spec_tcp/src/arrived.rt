@@ -1,21 +1,17 @@
 //! A segment as the endpoint reads it that takes it.
 
-ghost use Rattle.std.specs.Prelude.{◌≡◌, ◌<◌, ◌≤◌, ◌^◌};
+ghost use Rattle.std.specs.Prelude.{◌≡◌, ◌<◌, ◌≤◌, ◌×◌, ◌^◌, IfSome, None};
 ghost use Rattle.spec_tcp.specs.Bounds.{IsSmallEmission, greatest_position};
 ghost use Rattle.spec_tcp.specs.Endpoints.{segment_length};
 ghost use Rattle.spec_tcp.specs.Heard.{as_read, position_near, readable};
 
 use crate::endpoint::{Emission, Endpoint, EndpointId};
-use case_forms::{Flags, Version};
+use case_forms::{Flags, GREATEST_POSITION, POSITIONS, Version};
 use seqno::{Word, read_near};
 use std::marker::Model;
 
-/// The greatest position that a text can name.
-const GREATEST_POSITION: u64 = 1_000_000_000_000_000_000;
-
 /// A segment with the positions that its numbers have at the endpoint that takes it. Contracts see it as a segment. It
-/// is not
-/// copied: a rule takes no memory.
+/// is not copied: a rule takes no memory.
 #[derive(Drop)]
 pub struct Arrived<'a> {
     made: &'a Emission,
@@ -34,8 +30,7 @@ impl<'a> Model for Arrived<'a> {
 
 impl<'a> Arrived<'a> {
     /// The segment as the endpoint reads it: what a recorded host made has the positions at making; of what is heard of
-    /// a host
-    /// that is not recorded the numbers are read near those that the endpoint awaits.
+    /// a host that is not recorded the numbers are read near those that the endpoint awaits.
     pub fn read(version: Version, endpoint: &Endpoint, m: &'a Emission) -> Arrived<'a>
         requires { endpoint.now.stream.snd_una < 2 ^ 63 }
         ensures value { result ≡ as_read version endpoint.now m.now }
@@ -60,6 +55,23 @@ impl<'a> Arrived<'a> {
             pos,
             ack,
             scaled: endpoint.is_scaling(),
+        }
+    }
+
+    /// The same, if the endpoint's positions are below 2^63, as those of a run are. None: they are not.
+    pub fn checked_read(
+        version: Version,
+        endpoint: &Endpoint,
+        m: &'a Emission,
+    ) -> Option<Arrived<'a>>
+        ensures some { IfSome result (λ r. (r ≡ as_read version endpoint.now m.now)
+            × (IsSmallEmission m.now → IsSmallEmission r)) }
+        ensures none { result ≡ None → 2 ^ 63 ≤ endpoint.now.stream.snd_una }
+    {
+        if endpoint.stream.snd_una < POSITIONS {
+            Some(Arrived::read(version, endpoint, m))
+        } else {
+            None
         }
     }
 

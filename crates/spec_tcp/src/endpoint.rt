@@ -91,7 +91,7 @@ pub struct Endpoint {
     pub control: Control,
     /// Up to this position what was made may be made again.
     pub recover: u64,
-    /// A byte behind a window of 0 is to be made (RFC 9293, 3.8.6.1).
+    /// A byte beyond a window of 0 is to be made (RFC 9293, 3.8.6.1).
     pub probe_due: bool,
     pub timers: Timers,
     /// Expiries since a segment was taken.
@@ -151,7 +151,7 @@ impl Endpoint {
         }
     }
 
-    /// The position behind all that was made (RFC 9293, 3.3.1: SND.NXT at its greatest).
+    /// The position after all that was made (RFC 9293, 3.3.1: SND.NXT at its greatest).
     pub fn snd_max(&self) -> u64
         ensures { result ≡ snd_max self.now }
     {
@@ -187,7 +187,7 @@ impl Endpoint {
         1 <= self.stream.snd_una && 1 <= self.rcv_nxt()
     }
 
-    /// Whether windows are scaled: it gave a shift, and the SYN that it took told one (RFC 7323, 2.2).
+    /// Whether windows are scaled: it gave a shift, and the SYN that it took carried one (RFC 7323, 2.2).
     pub fn is_scaling(&self) -> bool
         ensures { result ≡ is_scaling self.now }
     {

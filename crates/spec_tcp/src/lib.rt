@@ -11,7 +11,7 @@
 //!
 //! The definitions:
 //!
-//! - `specs/Endpoints`: endpoints; `specs/Bodies`: what a host has, and how it is found; `specs/Same`: comparisons
+//! - `specs/Endpoints`: endpoints; `specs/HostTcp`: what a host has, and how it is found; `specs/Same`: comparisons
 //! - `specs/Calls`, `specs/Makes`, `specs/Arrives`, each with its folder: socket calls, making segments, taking
 //!   segments
 //! - `specs/Timeouts`, `specs/Recovery`, `specs/Reset`, `specs/Wire`: expiries, fast recovery, resets that answer, the

@@ -44,7 +44,7 @@ impl Queue {
         self.places.front().copied()
     }
 
-    /// One more joins at the end. Where memory runs out the queue is as it was.
+    /// One more joins at the end. If memory runs out, the queue is as it was.
     pub fn join(&mut self, place: u32) -> Result<(), AllocError>
         ensures ok { OnOk result (self.new ≡ self.old ++ place ∷ []) }
         ensures err { OnErr result (self.new ≡ self.old) }

@@ -17,7 +17,7 @@ use Rattle.spec_network.specs.Tables.{Both, pick, other, on, waiting}
 use Rattle.spec_network.specs.Hosts.{HostState, Turn, Idle, Called, Answered, Deed, Does, Expires, Makes, Sends, Gets, Hears, Takes, Drops, Answers, Begin, Finish, Effect, At, turn_of}
 use Rattle.spec_network.specs.HostRules.{deed_rules, call_rules, effect_rules, fresh_rules, aim_of, just}
 use Rattle.spec_tcp.specs.declared.endpoint.Emission.{Emission}
-use Rattle.spec_tcp.specs.Bodies.{Body, endpoint_of}
+use Rattle.spec_tcp.specs.HostTcp.{HostTcp, endpoint_of}
 use Rattle.case_forms.specs.States.{is_syn_sent}
 use Rattle.case_forms.specs.declared.steps.TakeChoice.{TakeChoice}
 use Rattle.spec_tcp.specs.Arrives.{Taker, Nobody, AtListener, AtEndpoint, taker, taker_rules}
@@ -43,7 +43,7 @@ ascend_on : {X : Type 0} (f : X → List (Rule × Bool)) (none : List (Rule × B
 ascend_on f none None a b = a
 ascend_on f none (Some x) a b = b x
 
-ascend_taker : (h : Header) (host : Host) (b : Body) (how : TakeChoice) (m : Emission) (moment : ℕ) (t : Taker)
+ascend_taker : (h : Header) (host : Host) (b : HostTcp) (how : TakeChoice) (m : Emission) (moment : ℕ) (t : Taker)
     → ascend 6 (taker_rules h host b how m moment t) ≡ true
 ascend_taker h host b how m moment Nobody = refl
 ascend_taker h host b how m moment (AtListener l) = refl

@@ -30,7 +30,7 @@ use Rattle.spec_tcp.specs.declared.endpoint.Socket.{Socket}
 use Rattle.spec_tcp.specs.declared.endpoint.Fault.TheVariants.{Refused, Reset, Timeout}
 use Rattle.spec_tcp.specs.declared.endpoint.SocketTarget.TheVariants.{ListenerAt, EndpointAt}
 use Rattle.spec_tcp.specs.Endpoints.{new_endpoint}
-use Rattle.spec_tcp.specs.Bodies.{Body, given, if_live, thing_of, queue_of, dead}
+use Rattle.spec_tcp.specs.HostTcp.{HostTcp, given, if_live, thing_of, queue_of, dead}
 use Rattle.case_forms.specs.States.{is_syn_sent}
 use Rattle.spec_tcp.specs.Calls.Await.{tells}
 use Rattle.spec_tcp.specs.Calls.Send.{send_allows, open_send_allows, after_send}
@@ -61,7 +61,7 @@ call_adds hosts call answer me = record { told = name_told hosts call answer me;
 abbrev pub Apart : Hosts → Type 0
 Apart hosts = (n : ℕ) → given hosts.zero.body n ≡ true → given hosts.one.body n ≡ true → ⊥
 
-not_given : (b : Body) (n : ℕ) → (given b n ≡ true → ⊥) → owner b n ≡ None
+not_given : (b : HostTcp) (n : ℕ) → (given b n ≡ true → ⊥) → owner b n ≡ None
 not_given b n h = go (lookup (nat_eq n) b.sockets) h
   where
     go : (o : Option Socket) → (is_some o ≡ true → ⊥) → option_map_or (λ s. endpoint_place s.thing) o None ≡ None
@@ -74,7 +74,7 @@ owner_elsewhere a Zero n apart g = not_given a.one.body n (λ h. apart n g h)
 owner_elsewhere a One n apart g = not_given a.zero.body n (λ h. apart n h g)
 
 -- what a live socket number names is what it was given to
-pub owner_of : (b : Body) (n : ℕ) (thing : SocketTarget) → thing_of b n ≡ Some thing → (owner b n ≡ endpoint_place thing) × (given b n ≡ true)
+pub owner_of : (b : HostTcp) (n : ℕ) (thing : SocketTarget) → thing_of b n ≡ Some thing → (owner b n ≡ endpoint_place thing) × (given b n ≡ true)
 owner_of b n thing e = go (lookup (nat_eq n) b.sockets) e
   where
     by : (s : Socket) (live : Bool) → (if live then Some s.thing else None) ≡ Some thing → endpoint_place s.thing ≡ endpoint_place thing
@@ -95,7 +95,7 @@ pub socket_none : (a : Hosts) (host : Host) (n i : ℕ) → owner (pick a host).
 socket_none a host n i e = ap (λ (o : Option ℕ). option_map_or (λ k. k == i) o false) e
 
 -- a socket number names an endpoint that allows the answer
-pub named : (b : Body) (n : ℕ) (call : Call) (answer : Answer) → socket_allows b n call answer ≡ true → is_bad_socket answer ≡ false → ((queue : List ℕ) → listener_allows queue call answer ≡ false)
+pub named : (b : HostTcp) (n : ℕ) (call : Call) (answer : Answer) → socket_allows b n call answer ≡ true → is_bad_socket answer ≡ false → ((queue : List ℕ) → listener_allows queue call answer ≡ false)
     → (i : ℕ) × (thing_of b n ≡ Some (EndpointAt i)) × (e : Endpoint) × (slice_get b.endpoints i ≡ Some e) × (endpoint_allows e call answer ≡ true)
 named b n call answer may good refused = go (thing_of b n) refl may
   where
@@ -212,10 +212,10 @@ grows_recv comes e bytes rest g is =
 plain_orphan : (l : ℕ) (e : Endpoint) → Plain e (orphaned l e)
 plain_orphan l e = plain_either (option_map_or (λ holder. holder == l) e.listener false) e (after_abort e) e (record { stream = refl; irs = refl; waits = λ x. absurd cc }) (plain_same e)
 
-grown_listener : (comes : Coming) (host : Host) (b : Body) (l : ℕ) → OwnEnds b.endpoints → Grown comes host silent b.endpoints (without_listener b l).endpoints
+grown_listener : (comes : Coming) (host : Host) (b : HostTcp) (l : ℕ) → OwnEnds b.endpoints → Grown comes host silent b.endpoints (without_listener b l).endpoints
 grown_listener comes host b l g = grown_map comes host b.endpoints (orphaned l) g (plain_orphan l)
 
-grown_accept : (comes : Coming) (host : Host) (b : Body) (n : ℕ) (thing : SocketTarget) → OwnEnds b.endpoints → Grown comes host silent b.endpoints (after_accept b n thing).endpoints
+grown_accept : (comes : Coming) (host : Host) (b : HostTcp) (n : ℕ) (thing : SocketTarget) → OwnEnds b.endpoints → Grown comes host silent b.endpoints (after_accept b n thing).endpoints
 grown_accept comes host b n (EndpointAt i) g = grown_not comes host silent b.endpoints (λ i. refl) g
 grown_accept comes host b n (ListenerAt l) g = go (queue_of b l)
   where
@@ -237,7 +237,7 @@ grown_call p comes a host (calls.Listen at port backlog) (answers.Given n) g may
 grown_call p comes a host (calls.Connect at lport rport) (answers.Given n) g may =
     grown_push comes host (pick a host).body.endpoints (new_endpoint lport rport None states.SynSent p) g (bare_endpoint p lport rport)
 grown_call p comes a host (calls.Accept h) (answers.Given n) g may = let b = (pick a host).body in
-    map_or_cases (λ (x : Body). Grown comes host silent b.endpoints x.endpoints) (thing_of b h) b (after_accept b n) (λ e. grown_not comes host silent b.endpoints (λ i. refl) g) (λ thing e. grown_accept comes host b n thing g)
+    map_or_cases (λ (x : HostTcp). Grown comes host silent b.endpoints x.endpoints) (thing_of b h) b (after_accept b n) (λ e. grown_not comes host silent b.endpoints (λ i. refl) g) (λ thing e. grown_accept comes host b n thing g)
 grown_call p comes a host (calls.Send h bytes) (answers.Given n) g may =
     let b = (pick a host).body in
     let x = named b h (calls.Send h bytes) (answers.Given n) may refl (λ queue. refused queue) in
@@ -279,7 +279,7 @@ grown_call p comes a host (calls.Close h) answers.Done g may = go (thing_of (pic
         (λ i. ap (λ (c : Bool). record { told = []; accepted = []; ended = c }) (socket_none a host h i (owner_of (pick a host).body h (ListenerAt l) is).0)) (grown_listener comes host (pick a host).body l g)
     go (Some (EndpointAt i)) is may = grown_socket comes a host h i after_close (λ c. record { told = []; accepted = []; ended = c }) refl (owner_of (pick a host).body h (EndpointAt i) is).0 g (λ e at. grows_close (comes (name host i)) e (g i e at))
 grown_call p comes a host (calls.Abort h) answers.Done g may = let b = (pick a host).body in
-    map_or_cases (λ (x : Body). Grown comes host silent b.endpoints x.endpoints) (thing_of b h) b (λ thing. record (thing_gone b thing after_abort) { sockets = dead b.sockets h }) (λ e. grown_not comes host silent b.endpoints (λ i. refl) g)
+    map_or_cases (λ (x : HostTcp). Grown comes host silent b.endpoints x.endpoints) (thing_of b h) b (λ thing. record (thing_gone b thing after_abort) { sockets = dead b.sockets h }) (λ e. grown_not comes host silent b.endpoints (λ i. refl) g)
     (λ thing e. go thing)
   where
     go : (thing : SocketTarget) → Grown comes host silent (pick a host).body.endpoints (thing_gone (pick a host).body thing after_abort).endpoints
@@ -302,22 +302,22 @@ keeps_close e = go (is_syn_sent e.state)
 keeps_abort : (e : Endpoint) → KeepsPeer e (after_abort e)
 keeps_abort e = record { peer = refl; taken = refl; snd_una = refl; waits = λ x. absurd cc }
 
-moves_change : (a : Hosts) (host : Host) (b : Body) (n : ℕ) (f : Endpoint → Endpoint) → GoodEnds a host b.endpoints → ((e : Endpoint) → KeepsPeer e (f e)) → Moves a host b.endpoints (option_map_or (change_thing b f) (thing_of b n) b).endpoints
-moves_change a host b n f g keeps = map_or_cases (λ (x : Body). Moves a host b.endpoints x.endpoints) (thing_of b n) b (change_thing b f) (λ e. moves_not a host b.endpoints g) (λ thing e. go thing)
+moves_change : (a : Hosts) (host : Host) (b : HostTcp) (n : ℕ) (f : Endpoint → Endpoint) → GoodEnds a host b.endpoints → ((e : Endpoint) → KeepsPeer e (f e)) → Moves a host b.endpoints (option_map_or (change_thing b f) (thing_of b n) b).endpoints
+moves_change a host b n f g keeps = map_or_cases (λ (x : HostTcp). Moves a host b.endpoints x.endpoints) (thing_of b n) b (change_thing b f) (λ e. moves_not a host b.endpoints g) (λ thing e. go thing)
   where
     go : (thing : SocketTarget) → Moves a host b.endpoints (change_thing b f thing).endpoints
     go (ListenerAt l) = moves_not a host b.endpoints g
     go (EndpointAt i) = moves_keeps a host b.endpoints i f g keeps
 
-moves_gone : (a : Hosts) (host : Host) (b : Body) (n : ℕ) (f : Endpoint → Endpoint) → GoodEnds a host b.endpoints → ((e : Endpoint) → KeepsPeer e (f e))
+moves_gone : (a : Hosts) (host : Host) (b : HostTcp) (n : ℕ) (f : Endpoint → Endpoint) → GoodEnds a host b.endpoints → ((e : Endpoint) → KeepsPeer e (f e))
     → Moves a host b.endpoints (option_map_or (λ thing. record (thing_gone b thing f) { sockets = dead b.sockets n }) (thing_of b n) b).endpoints
-moves_gone a host b n f g keeps = map_or_cases (λ (x : Body). Moves a host b.endpoints x.endpoints) (thing_of b n) b (λ thing. record (thing_gone b thing f) { sockets = dead b.sockets n }) (λ e. moves_not a host b.endpoints g) (λ thing e. go thing)
+moves_gone a host b n f g keeps = map_or_cases (λ (x : HostTcp). Moves a host b.endpoints x.endpoints) (thing_of b n) b (λ thing. record (thing_gone b thing f) { sockets = dead b.sockets n }) (λ e. moves_not a host b.endpoints g) (λ thing e. go thing)
   where
     go : (thing : SocketTarget) → Moves a host b.endpoints (thing_gone b thing f).endpoints
     go (ListenerAt l) = moves_map a host b.endpoints (orphaned l) g (λ e. plain_keeps e (orphaned l e) (plain_orphan l e))
     go (EndpointAt i) = moves_keeps a host b.endpoints i f g keeps
 
-moves_accept : (a : Hosts) (host : Host) (b : Body) (n : ℕ) (thing : SocketTarget) → GoodEnds a host b.endpoints → Moves a host b.endpoints (after_accept b n thing).endpoints
+moves_accept : (a : Hosts) (host : Host) (b : HostTcp) (n : ℕ) (thing : SocketTarget) → GoodEnds a host b.endpoints → Moves a host b.endpoints (after_accept b n thing).endpoints
 moves_accept a host b n (EndpointAt i) g = moves_not a host b.endpoints g
 moves_accept a host b n (ListenerAt l) g = go (queue_of b l)
   where
@@ -334,13 +334,13 @@ fresh_endpoint p a me lport rport = record {
   };
 }
 
-pub moves_call : (p : Profile) (a : Hosts) (host : Host) (b : Body) (call : Call) (answer : Answer) → GoodEnds a host b.endpoints
+pub moves_call : (p : Profile) (a : Hosts) (host : Host) (b : HostTcp) (call : Call) (answer : Answer) → GoodEnds a host b.endpoints
     → Moves a host b.endpoints (after_call p b call answer).endpoints
 moves_call p a host b (calls.Listen at port backlog) (answers.Given n) g = moves_not a host b.endpoints g
 moves_call p a host b (calls.Connect at lport rport) (answers.Given n) g =
     moves_push a host b.endpoints (new_endpoint lport rport None states.SynSent p) g (fresh_endpoint p a _ lport rport)
 moves_call p a host b (calls.Accept h) (answers.Given n) g =
-    map_or_cases (λ (x : Body). Moves a host b.endpoints x.endpoints) (thing_of b h) b (after_accept b n) (λ e. moves_not a host b.endpoints g) (λ thing e. moves_accept a host b n thing g)
+    map_or_cases (λ (x : HostTcp). Moves a host b.endpoints x.endpoints) (thing_of b h) b (after_accept b n) (λ e. moves_not a host b.endpoints g) (λ thing e. moves_accept a host b n thing g)
 moves_call p a host b (calls.Send h bytes) (answers.Given n) g =
     moves_change a host b h (after_send bytes n) g (λ e. record { peer = refl; taken = refl; snd_una = refl; waits = λ x. x })
 moves_call p a host b (calls.Recv h most) (answers.Bytes bytes) g =

@@ -15,7 +15,7 @@ use Rattle.spec_tcp.specs.Signals.{profile_of}
 use Rattle.spec_tcp.specs.declared.endpoint.EndpointId.{EndpointId}
 use Rattle.spec_tcp.specs.declared.endpoint.Endpoint.{Endpoint}
 use Rattle.spec_tcp.specs.declared.endpoint.Emission.{Emission}
-use Rattle.spec_tcp.specs.Bodies.{Body, listener_on, place_of, endpoint_at}
+use Rattle.spec_tcp.specs.HostTcp.{HostTcp, listener_on, place_of, endpoint_at}
 use Rattle.case_forms.specs.States.{is_closed, is_syn_sent}
 use Rattle.case_forms.specs.declared.steps.SegmentPlan.{SegmentPlan}
 use Rattle.spec_tcp.specs.Makes.Payload.{is_bad_payload, is_bad_place}
@@ -44,14 +44,14 @@ forget_taker Nobody = Nobody
 forget_taker (AtListener l) = AtListener l
 forget_taker (AtEndpoint i e) = AtEndpoint i (forget_endpoint e)
 
-listener-forget : (b : Body) (m : Emission) → listener_taker b m ≡ forget_taker (listener_taker b m)
+listener-forget : (b : HostTcp) (m : Emission) → listener_taker b m ≡ forget_taker (listener_taker b m)
 listener-forget b m = by (listener_on b m.rport)
   where
     by : (o : Option ℕ) → option_map_or (λ l. AtListener l) o Nobody ≡ forget_taker (option_map_or (λ l. AtListener l) o Nobody)
     by None = refl
     by (Some l) = refl
 
-endpoint_taker-forget : (b : Body) (m : Emission) (i : ℕ) → endpoint_taker (forget_body b) m i ≡ forget_taker (endpoint_taker b m i)
+endpoint_taker-forget : (b : HostTcp) (m : Emission) (i : ℕ) → endpoint_taker (forget_body b) m i ≡ forget_taker (endpoint_taker b m i)
 endpoint_taker-forget b m i = rw (slice_get-map forget_endpoint b.endpoints i) (by (slice_get b.endpoints i))
   where
     closed : (e : Endpoint) (c : Bool) → (if c then listener_taker b m else AtEndpoint i (forget_endpoint e)) ≡ forget_taker (if c then listener_taker b m else AtEndpoint i e)
@@ -63,7 +63,7 @@ endpoint_taker-forget b m i = rw (slice_get-map forget_endpoint b.endpoints i) (
     by None = listener-forget b m
     by (Some e) = closed e (is_closed e.state)
 
-taker-forget : (b : Body) (m : Emission) → taker (forget_body b) m ≡ forget_taker (taker b m)
+taker-forget : (b : HostTcp) (m : Emission) → taker (forget_body b) m ≡ forget_taker (taker b m)
 taker-forget b m = rw (place-forget b m.rport m.lport) (by (place_of b m.rport m.lport))
   where
     by : (o : Option ℕ) → option_map_or (endpoint_taker (forget_body b) m) o (listener_taker b m) ≡ forget_taker (option_map_or (endpoint_taker b m) o (listener_taker b m))
@@ -74,7 +74,7 @@ taker-forget b m = rw (place-forget b m.rport m.lport) (by (place_of b m.rport m
 read-forget : (h : Header) (e : Endpoint) (m : Emission) → as_read h.version (forget_endpoint e) m ≡ as_read h.version e m
 read-forget h e m = rw (rcv_nxt-forget e) refl
 
-taker_rules-forget : (h : Header) (me : Host) (b : Body) (how : TakeChoice) (m : Emission) (moment : ℕ) (t : Taker)
+taker_rules-forget : (h : Header) (me : Host) (b : HostTcp) (how : TakeChoice) (m : Emission) (moment : ℕ) (t : Taker)
     → taker_rules h me (forget_body b) how m moment (forget_taker t) ≡ taker_rules h me b how m moment t
 taker_rules-forget h me b how m moment Nobody = refl
 taker_rules-forget h me b how m moment (AtListener l) = refl
@@ -94,7 +94,7 @@ nothing-forget m Nobody = refl
 nothing-forget m (AtListener l) = refl
 nothing-forget m (AtEndpoint i e) = refl
 
-pub act_rules-forget : (h : Header) (me : Host) (moment : ℕ) (b : Body) (act : Act) → act_rules h me moment (forget_body b) act ≡ act_rules h me moment b act
+pub act_rules-forget : (h : Header) (me : Host) (moment : ℕ) (b : HostTcp) (act : Act) → act_rules h me moment (forget_body b) act ≡ act_rules h me moment b act
 act_rules-forget h me moment b (Calls call answer) = rw (call_allows-forget b call answer) refl
 act_rules-forget h me moment b (Makes m) = rules_at-forget b m.lport m.rport (λ e. making_rules e m) (λ e. making_rules-forget e m)
 act_rules-forget h me moment b (Takes how m) = rw (taker-forget b m) (taker_rules-forget h me b how m moment (taker b m))
@@ -103,12 +103,12 @@ act_rules-forget h me moment b (Expires x) = rules_at-forget b x.lport x.rport (
 act_rules-forget h me moment b (Recovers x) =
     rules_at-forget b x.lport x.rport (λ e. recovery_rules e x.cwnd x.ssthresh moment) (λ e. recovery_rules-forget e x.cwnd x.ssthresh moment)
 
-taking-forgets : (h : Header) (b : Body) (how : TakeChoice) (m : Emission) (moment : ℕ) (t : Taker) → forget_body (after_taking h (forget_body b) how m moment (forget_taker t)) ≡ forget_body (after_taking h b how m moment t)
+taking-forgets : (h : Header) (b : HostTcp) (how : TakeChoice) (m : Emission) (moment : ℕ) (t : Taker) → forget_body (after_taking h (forget_body b) how m moment (forget_taker t)) ≡ forget_body (after_taking h b how m moment t)
 taking-forgets h b how m moment Nobody = body-forget b
 taking-forgets h b how m moment (AtListener l) = rw (append-forgets b.endpoints (child (profile_of h.initial) l how m moment ∷ [])) refl
 taking-forgets h b how m moment (AtEndpoint i e) = rw (read-forget h e m, modify-forgets b.endpoints i (λ x. endpoint_taken h x how (as_read h.version e m) moment) (endpoint-forgets h how (as_read h.version e m) moment)) refl
 
-pub act-forgets : (h : Header) (me : Host) (moment : ℕ) (b : Body) (act : Act) → forget_body (act_after h me moment (forget_body b) act) ≡ forget_body (act_after h me moment b act)
+pub act-forgets : (h : Header) (me : Host) (moment : ℕ) (b : HostTcp) (act : Act) → forget_body (act_after h me moment (forget_body b) act) ≡ forget_body (act_after h me moment b act)
 act-forgets h me moment b (Calls call answer) = call-forgets (profile_of h.initial) b call answer
 act-forgets h me moment b (Makes m) = ports-forgets b m.lport m.rport (λ e. after_making e m moment) (making-forgets m moment)
 act-forgets h me moment b (Takes how m) = rw (taker-forget b m) (taking-forgets h b how m moment (taker b m))
@@ -133,7 +133,7 @@ emission_same : (me : EndpointId) (e : Endpoint) (m : SegmentPlan) → first_bro
 emission_same me e m permitted = rw (rcv_nxt-forget e, piece_same e m permitted) refl
 
 -- the segment that is made is the same where it is permitted
-pub makes-forget : (h : Header) (me : Host) (moment : ℕ) (b : Body) (m : SegmentPlan) → first_broken (act_rules h me moment b (Makes m)) ≡ None → act_makes me (forget_body b) (Makes m) ≡ act_makes me b (Makes m)
+pub makes-forget : (h : Header) (me : Host) (moment : ℕ) (b : HostTcp) (m : SegmentPlan) → first_broken (act_rules h me moment b (Makes m)) ≡ None → act_makes me (forget_body b) (Makes m) ≡ act_makes me b (Makes m)
 makes-forget h me moment b m permitted = rw (place-forget b m.lport m.rport) (by (place_of b m.lport m.rport) permitted)
   where
     at : (i : ℕ) (o : Option Endpoint) → first_broken (option_map_or (λ e. making_rules e m) o ((rules.NoEndpoint, true) ∷ [])) ≡ None

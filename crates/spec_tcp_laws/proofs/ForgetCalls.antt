@@ -14,7 +14,7 @@ use Rattle.spec_tcp.specs.declared.endpoint.Endpoint.{Endpoint}
 use Rattle.spec_tcp.specs.declared.endpoint.SocketTarget.{SocketTarget}
 use Rattle.spec_tcp.specs.declared.endpoint.SocketTarget.TheVariants.{ListenerAt, EndpointAt}
 use Rattle.spec_tcp.specs.Endpoints.{new_endpoint}
-use Rattle.spec_tcp.specs.Bodies.{Body, endpoint_of, is_connected, queue_of, thing_of, dead}
+use Rattle.spec_tcp.specs.HostTcp.{HostTcp, endpoint_of, is_connected, queue_of, thing_of, dead}
 use Rattle.case_forms.specs.States.{is_closed}
 use Rattle.spec_tcp.specs.Calls.Close.{shut_allows, orphaned, thing_gone, after_gone, after_shut, after_close, after_abort}
 use Rattle.spec_tcp.specs.Calls.{endpoint_allows, thing_allows, socket_allows, gives_or_in_use, is_bad_socket, call_allows, change_thing, change, after_call}
@@ -40,22 +40,22 @@ endpoint_allows-forget (calls.Close n) answers.Done e = refl
 endpoint_allows-forget (calls.Abort n) answers.Done e = refl
 endpoint_allows-forget _ _ e = refl
 
-thing-forget : (b : Body) (call : Call) (answer : Answer) (thing : SocketTarget) → thing_allows (forget_body b) call answer thing ≡ thing_allows b call answer thing
+thing-forget : (b : HostTcp) (call : Call) (answer : Answer) (thing : SocketTarget) → thing_allows (forget_body b) call answer thing ≡ thing_allows b call answer thing
 thing-forget b call answer (ListenerAt l) = refl
 thing-forget b call answer (EndpointAt i) =
     rw (slice_get-map forget_endpoint b.endpoints i) (each-forget (λ e. endpoint_allows e call answer) (λ e. endpoint_allows e call answer) (slice_get b.endpoints i) false (endpoint_allows-forget call answer))
 
-socket-forget : (b : Body) (n : ℕ) (call : Call) (answer : Answer) → socket_allows (forget_body b) n call answer ≡ socket_allows b n call answer
+socket-forget : (b : HostTcp) (n : ℕ) (call : Call) (answer : Answer) → socket_allows (forget_body b) n call answer ≡ socket_allows b n call answer
 socket-forget b n call answer = by (thing_of b n)
   where
     by : (o : Option SocketTarget) → option_map_or (thing_allows (forget_body b) call answer) o (is_bad_socket answer) ≡ option_map_or (thing_allows b call answer) o (is_bad_socket answer)
     by None = refl
     by (Some thing) = thing-forget b call answer thing
 
-connected-forget : (b : Body) (lport rport : ℕ) → is_connected (forget_body b) lport rport ≡ is_connected b lport rport
+connected-forget : (b : HostTcp) (lport rport : ℕ) → is_connected (forget_body b) lport rport ≡ is_connected b lport rport
 connected-forget b lport rport = rw (endpoint-forget b lport rport) (each-forget (λ e. not (is_closed e.state)) (λ e. not (is_closed e.state)) (endpoint_of b lport rport) false (λ e. refl))
 
-pub call_allows-forget : (b : Body) (call : Call) (answer : Answer) → call_allows (forget_body b) call answer ≡ call_allows b call answer
+pub call_allows-forget : (b : HostTcp) (call : Call) (answer : Answer) → call_allows (forget_body b) call answer ≡ call_allows b call answer
 call_allows-forget b (calls.Listen host port backlog) answer = refl
 call_allows-forget b (calls.Connect host lport rport) answer = ap (λ (used : Bool). gives_or_in_use used answer) (connected-forget b lport rport)
 call_allows-forget b (calls.Await n) answer = socket-forget b n (calls.Await n) answer
@@ -67,7 +67,7 @@ call_allows-forget b (calls.Close n) answer = socket-forget b n (calls.Close n) 
 call_allows-forget b (calls.Abort n) answer = socket-forget b n (calls.Abort n) answer
 call_allows-forget b (calls.Status n) answer = socket-forget b n (calls.Status n) answer
 
-change-forgets : (b : Body) (n : ℕ) (f : Endpoint → Endpoint) → Forgets f → forget_body (change (forget_body b) n f) ≡ forget_body (change b n f)
+change-forgets : (b : HostTcp) (n : ℕ) (f : Endpoint → Endpoint) → Forgets f → forget_body (change (forget_body b) n f) ≡ forget_body (change b n f)
 change-forgets b n f same = by (thing_of b n)
   where
     by : (o : Option SocketTarget) → forget_body (option_map_or (change_thing (forget_body b) f) o (forget_body b)) ≡ forget_body (option_map_or (change_thing b f) o b)
@@ -75,7 +75,7 @@ change-forgets b n f same = by (thing_of b n)
     by (Some (ListenerAt l)) = body-forget b
     by (Some (EndpointAt i)) = place-forgets b i f same
 
-gone-forgets : (b : Body) (n : ℕ) (f : Endpoint → Endpoint) → Forgets f → forget_body (after_gone (forget_body b) n f) ≡ forget_body (after_gone b n f)
+gone-forgets : (b : HostTcp) (n : ℕ) (f : Endpoint → Endpoint) → Forgets f → forget_body (after_gone (forget_body b) n f) ≡ forget_body (after_gone b n f)
 gone-forgets b n f same = by (thing_of b n)
   where
     by : (o : Option SocketTarget) → forget_body (option_map_or (λ thing. record (thing_gone (forget_body b) thing f) { sockets = dead b.sockets n }) o (forget_body b))
@@ -84,16 +84,16 @@ gone-forgets b n f same = by (thing_of b n)
     by (Some (ListenerAt l)) = rw (map-forgets b.endpoints (orphaned l) (orphaned-forgets l)) refl
     by (Some (EndpointAt i)) = rw (modify-forgets b.endpoints i f same) refl
 
-accepted-forgets : (b : Body) (l n : ℕ) (queue : List ℕ) → forget_body (accepted_from (forget_body b) l n queue) ≡ forget_body (accepted_from b l n queue)
+accepted-forgets : (b : HostTcp) (l n : ℕ) (queue : List ℕ) → forget_body (accepted_from (forget_body b) l n queue) ≡ forget_body (accepted_from b l n queue)
 accepted-forgets b l n [] = body-forget b
 accepted-forgets b l n (child ∷ queue) = rw (modify-forgets b.endpoints child (λ e. record e { listener = None }) adopted-forgets) refl
 
-accept-forgets : (b : Body) (n : ℕ) (o : Option SocketTarget) → forget_body (option_map_or (after_accept (forget_body b) n) o (forget_body b)) ≡ forget_body (option_map_or (after_accept b n) o b)
+accept-forgets : (b : HostTcp) (n : ℕ) (o : Option SocketTarget) → forget_body (option_map_or (after_accept (forget_body b) n) o (forget_body b)) ≡ forget_body (option_map_or (after_accept b n) o b)
 accept-forgets b n None = body-forget b
 accept-forgets b n (Some (ListenerAt l)) = accepted-forgets b l n (queue_of b l)
 accept-forgets b n (Some (EndpointAt i)) = body-forget b
 
-pub call-forgets : (p : Profile) (b : Body) (call : Call) (answer : Answer)
+pub call-forgets : (p : Profile) (b : HostTcp) (call : Call) (answer : Answer)
     → forget_body (after_call p (forget_body b) call answer) ≡ forget_body (after_call p b call answer)
 call-forgets p b (calls.Listen host port backlog) (answers.Given n) = rw (all-forget b.endpoints) refl
 call-forgets p b (calls.Connect host lport rport) (answers.Given n) =

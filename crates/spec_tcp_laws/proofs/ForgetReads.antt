@@ -1,6 +1,6 @@
 -- What is read of an endpoint, of which nothing was discarded.
 use Rattle.std.proofs.Common.{◌≡◌, ℕ, suc, ◌+◌, ◌-◌, ◌≤◌, List, take, refl, ap, arith}
-use Rattle.streams.specs.declared.making.Made.{Made}
+use Rattle.streams.specs.declared.transmission.Transmission.{Transmission}
 use Rattle.streams.specs.Cells.{leading}
 use Rattle.streams.specs.Transmissions.{any_again, retransmitted, once}
 use Rattle.streams.specs.Received.{waiting, is_ended}
@@ -27,7 +27,7 @@ pub waiting-forget : (e : Endpoint) → waiting (forget_endpoint e).stream.recei
 waiting-forget e = ap leading (drop-fade (suc e.stream.receive.delivered) e.stream.receive.taken)
 
 pub again-forget : (e : Endpoint) (upto : ℕ) → retransmitted (forget_endpoint e).transmissions e.stream.snd_una upto ≡ retransmitted e.transmissions e.stream.snd_una upto
-again-forget e upto = ap (λ (xs : List Made). any_again (take (upto - e.stream.snd_una) xs)) (drop-covered (once 0) e.stream.snd_una e.stream.snd_una e.transmissions (omega arith))
+again-forget e upto = ap (λ (xs : List Transmission). any_again (take (upto - e.stream.snd_una) xs)) (drop-covered (once 0) e.stream.snd_una e.stream.snd_una e.transmissions (omega arith))
 
 pub piece-forget : (e : Endpoint) (position count : ℕ) → e.stream.snd_una ≤ position → piece (forget_endpoint e).stream.accepted position count ≡ piece e.stream.accepted position count
 piece-forget e position count h = ap (take count) (drop-covered 0 (e.stream.snd_una - 1) (position - 1) e.stream.accepted (omega arith))

@@ -9,13 +9,13 @@ use Rattle.case_forms.specs.declared.calls.Answer.TheVariants as answers
 use Rattle.spec_tcp.specs.declared.endpoint.Endpoint.{Endpoint}
 use Rattle.spec_tcp.specs.declared.endpoint.Emission.{Emission}
 use Rattle.spec_tcp.specs.declared.endpoint.EndpointId.{EndpointId}
-use Rattle.spec_tcp.specs.Bodies.{Body}
+use Rattle.spec_tcp.specs.HostTcp.{HostTcp}
 use Rattle.spec_tcp.specs.Calls.Await.{await_allows}
 use Rattle.spec_tcp.specs.Calls.Receive.{recv_allows}
 use Rattle.case_forms.specs.declared.steps.SegmentPlan.{SegmentPlan}
 use Rattle.spec_tcp.specs.Makes.{making_rules}
 use Rattle.case_forms.specs.declared.steps.TakeChoice.{TakeChoice}
-use Rattle.spec_tcp.specs.Arrives.OtherStates.Sequence.{is_acceptable_at, place_taken}
+use Rattle.spec_tcp.specs.Arrives.OtherStates.Sequence.{is_acceptable_at, read_position}
 use Rattle.spec_tcp.specs.Arrives.OtherStates.{connected_rules}
 use Rattle.spec_tcp.specs.Arrives.SynSent.{syn_sent_rules}
 use Rattle.spec_tcp.specs.Timeouts.{expiry_rules}
@@ -42,17 +42,17 @@ pub syn_sent_rules-forget : (e : Endpoint) (how : TakeChoice) (m : Emission) (mo
     → syn_sent_rules (forget_endpoint e) how m moment ≡ syn_sent_rules e how m moment
 syn_sent_rules-forget e how m moment = rw (snd_max-forget e, again-forget e 1) refl
 
-place_taken-forget : (e : Endpoint) (m : Emission) → place_taken (forget_endpoint e) m ≡ place_taken e m
-place_taken-forget e m = rw (rcv_nxt-forget e) refl
+read_position-forget : (e : Endpoint) (m : Emission) → read_position (forget_endpoint e) m ≡ read_position e m
+read_position-forget e m = rw (rcv_nxt-forget e) refl
 
-acceptable-forget : (e : Endpoint) (m : Emission) → option_map_or (is_acceptable_at (forget_endpoint e) m) (place_taken (forget_endpoint e) m) false ≡ option_map_or (is_acceptable_at e m) (place_taken e m) false
-acceptable-forget e m = rw (place_taken-forget e m) (by (place_taken e m))
+acceptable-forget : (e : Endpoint) (m : Emission) → option_map_or (is_acceptable_at (forget_endpoint e) m) (read_position (forget_endpoint e) m) false ≡ option_map_or (is_acceptable_at e m) (read_position e m) false
+acceptable-forget e m = rw (read_position-forget e m) (by (read_position e m))
   where
     by : (place : Option ℕ) → option_map_or (is_acceptable_at (forget_endpoint e) m) place false ≡ option_map_or (is_acceptable_at e m) place false
     by None = refl
     by (Some pos) = rw (rcv_nxt-forget e) refl
 
-pub connected_rules-forget : (h : Header) (b : Body) (me : EndpointId) (e : Endpoint) (how : TakeChoice) (m : Emission) (moment : ℕ)
+pub connected_rules-forget : (h : Header) (b : HostTcp) (me : EndpointId) (e : Endpoint) (how : TakeChoice) (m : Emission) (moment : ℕ)
     → connected_rules h b me (forget_endpoint e) how m moment ≡ connected_rules h b me e how m moment
 connected_rules-forget h b me e how m moment = rw (acceptable-forget e m, rcv_nxt-forget e, snd_max-forget e, again-forget e m.ack) refl
 

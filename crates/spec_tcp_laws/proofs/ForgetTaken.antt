@@ -18,11 +18,11 @@ use Rattle.case_forms.specs.States.{is_syn_sent}
 use Rattle.case_forms.specs.declared.steps.TakeChoice.{TakeChoice}
 use Rattle.spec_tcp.specs.Arrives.OtherStates.Ack.{is_new_ack, acknowledges_syn, acknowledged}
 use Rattle.spec_tcp.specs.Arrives.OtherStates.Fin.{keeps_fin}
-use Rattle.spec_tcp.specs.Arrives.OtherStates.Text.{kept_start, kept_bytes, receive_after, state_taken}
-use Rattle.spec_tcp.specs.Arrives.OtherStates.Timers.{timeout_taken, timers_taken}
+use Rattle.spec_tcp.specs.Arrives.OtherStates.Text.{kept_start, kept_bytes, receive_after, state_after_segment}
+use Rattle.spec_tcp.specs.Arrives.OtherStates.Timers.{timeout_after_ack, timers_after_segment}
 use Rattle.spec_tcp.specs.Arrives.OtherStates.{taken}
 use Rattle.spec_tcp.specs.Arrives.OtherStates.Reset.{reset_fault, was_reset}
-use Rattle.spec_tcp.specs.Arrives.SynSent.{timers_met, snd_una_met, on_syn}
+use Rattle.spec_tcp.specs.Arrives.SynSent.{timers_after_syn, snd_una_after_syn, on_syn}
 use Rattle.spec_tcp.specs.Arrives.{endpoint_taken}
 use Rattle.spec_tcp.specs.Forgetting.{forget_endpoint}
 use Rattle.spec_tcp_laws.proofs.ForgetReads.{rcv_nxt-forget, snd_max-forget, end_of-forget}
@@ -47,19 +47,19 @@ acknowledged-forget states.Closing e m = rw (end_of-forget e) refl
 acknowledged-forget states.LastAck e m = rw (end_of-forget e) refl
 acknowledged-forget _ e m = refl
 
-state-forget : (e : Endpoint) (how : TakeChoice) (m : Emission) → state_taken (forget_endpoint e) how m ≡ state_taken e how m
+state-forget : (e : Endpoint) (how : TakeChoice) (m : Emission) → state_after_segment (forget_endpoint e) how m ≡ state_after_segment e how m
 state-forget e how m = rw (acknowledged-forget e.state e m, ended-forgets e how m) refl
 
 -- a sample is of a position that is not acknowledged
 timeout-forget : (h : Header) (e : Endpoint) (sample : Bool) (ack : ℕ) (syn : Bool) (moment : ℕ) → (sample ≡ true → e.stream.snd_una ≤ ack - 1)
-    → timeout_taken h (forget_endpoint e) sample ack syn moment ≡ timeout_taken h e sample ack syn moment
+    → timeout_after_ack h (forget_endpoint e) sample ack syn moment ≡ timeout_after_ack h e sample ack syn moment
 timeout-forget h e false ack syn moment unacked = refl
 timeout-forget h e true ack syn moment unacked = rw (get-covered (once 0) e.stream.snd_una (ack - 1) e.transmissions (unacked refl)) refl
 
 unacked : (e : Endpoint) (how : TakeChoice) (m : Emission) → (how.sample && is_new_ack e m) ≡ true → e.stream.snd_una ≤ m.ack - 1
 unacked e how m new = grind (arith, nat_tests, new)
 
-timers-forget : (h : Header) (e : Endpoint) (how : TakeChoice) (m : Emission) (moment : ℕ) → timers_taken h (forget_endpoint e) how m moment ≡ timers_taken h e how m moment
+timers-forget : (h : Header) (e : Endpoint) (how : TakeChoice) (m : Emission) (moment : ℕ) → timers_after_segment h (forget_endpoint e) how m moment ≡ timers_after_segment h e how m moment
 timers-forget h e how m moment =
     rw (state-forget e how m, timeout-forget h e (how.sample && is_new_ack e m) m.ack (acknowledges_syn e m) moment (unacked e how m), snd_max-forget e) refl
 
@@ -79,11 +79,11 @@ taken-forgets h how m moment e =
 syn_unacked : (e : Endpoint) (how : TakeChoice) (m : Emission) → (how.sample && m.flags.ack && e.stream.snd_una == 0) ≡ true → e.stream.snd_una ≤ 1 - 1
 syn_unacked e how m new = grind (arith, nat_tests, new)
 
-timers_met-forget : (h : Header) (e : Endpoint) (how : TakeChoice) (m : Emission) (moment : ℕ) → timers_met h (forget_endpoint e) how m moment ≡ timers_met h e how m moment
-timers_met-forget h e how m moment =
+timers_after_syn-forget : (h : Header) (e : Endpoint) (how : TakeChoice) (m : Emission) (moment : ℕ) → timers_after_syn h (forget_endpoint e) how m moment ≡ timers_after_syn h e how m moment
+timers_after_syn-forget h e how m moment =
     rw (timeout-forget h e (how.sample && m.flags.ack && e.stream.snd_una == 0) 1 m.flags.ack moment (syn_unacked e how m), snd_max-forget e) refl
 
-una_rises : (e : Endpoint) (m : Emission) → e.stream.snd_una ≤ snd_una_met e m
+una_rises : (e : Endpoint) (m : Emission) → e.stream.snd_una ≤ snd_una_after_syn e m
 una_rises e m = by m.flags.ack
   where
     by : (ack : Bool) → e.stream.snd_una ≤ (if ack then max e.stream.snd_una 1 else e.stream.snd_una)
@@ -94,7 +94,7 @@ pub met-forgets : (h : Header) (how : TakeChoice) (m : Emission) (moment : ℕ) 
 met-forgets h how m moment e =
     let snd_una = e.stream.snd_una in
     let higher = una_rises e m in
-    rw (timers_met-forget h e how m moment, snd_max-forget e, covered-covered 0 (snd_una - 1) (snd_una_met e m - 1) e.stream.accepted (omega arith), covered-covered (once 0) snd_una (snd_una_met e m) e.transmissions higher) refl
+    rw (timers_after_syn-forget h e how m moment, snd_max-forget e, covered-covered 0 (snd_una - 1) (snd_una_after_syn e m - 1) e.stream.accepted (omega arith), covered-covered (once 0) snd_una (snd_una_after_syn e m) e.transmissions higher) refl
 
 fault-forget : (state : State) (e : Endpoint) → reset_fault state (forget_endpoint e) ≡ reset_fault state e
 fault-forget states.SynReceived e = refl

@@ -17,7 +17,7 @@ use Rattle.spec_network.specs.Hosts.{HostState}
 use Rattle.spec_tcp.specs.declared.endpoint.EndpointId.{EndpointId}
 use Rattle.spec_tcp.specs.declared.endpoint.Stream.{Stream}
 use Rattle.spec_tcp.specs.declared.endpoint.Endpoint.{Endpoint}
-use Rattle.spec_tcp.specs.Bodies.{Body, place_of, at_ports, with_endpoint}
+use Rattle.spec_tcp.specs.HostTcp.{HostTcp, place_of, at_ports, with_endpoint}
 use Rattle.spec_tcp.specs.Machine.{tcp_shape}
 use Rattle.spec_tcp.specs.Calls.Receive.{is_read_out}
 use Rattle.spec_tcp_laws.specs.Consequences.{find}
@@ -203,8 +203,8 @@ grown_push comes host es e g new = record {
 }
 
 -- the endpoint of some ports changes, but not in its streams
-pub grown_at_ports : (comes : Coming) (host : Host) (b : Body) (lport rport : ℕ) (f : Endpoint → Endpoint) → OwnEnds b.endpoints → ((e : Endpoint) → Plain e (f e)) → Grown comes host silent b.endpoints (at_ports b lport rport f).endpoints
-grown_at_ports comes host b lport rport f g plain = map_or_cases (λ (x : Body). Grown comes host silent b.endpoints x.endpoints) (place_of b lport rport) b (λ i. with_endpoint b i f)
+pub grown_at_ports : (comes : Coming) (host : Host) (b : HostTcp) (lport rport : ℕ) (f : Endpoint → Endpoint) → OwnEnds b.endpoints → ((e : Endpoint) → Plain e (f e)) → Grown comes host silent b.endpoints (at_ports b lport rport f).endpoints
+grown_at_ports comes host b lport rport f g plain = map_or_cases (λ (x : HostTcp). Grown comes host silent b.endpoints x.endpoints) (place_of b lport rport) b (λ i. with_endpoint b i f)
     (λ e. grown_not comes host silent b.endpoints (λ i. refl) g) (λ i e. grown_plain comes host b.endpoints i f g plain)
 
 -- 3. both hosts

@@ -17,7 +17,7 @@ use Rattle.spec_tcp.specs.declared.endpoint.Stream.{Stream}
 use Rattle.spec_tcp.specs.declared.endpoint.Endpoint.{Endpoint}
 use Rattle.spec_tcp.specs.declared.endpoint.Emission.{Emission}
 use Rattle.spec_tcp.specs.Endpoints.{rcv_nxt}
-use Rattle.spec_tcp.specs.Bodies.{Body, place_of, at_ports, with_endpoint}
+use Rattle.spec_tcp.specs.HostTcp.{HostTcp, place_of, at_ports, with_endpoint}
 use Rattle.spec_tcp.specs.Calls.Close.{shut_down}
 use Rattle.case_forms.specs.declared.steps.SegmentPlan.{SegmentPlan}
 use Rattle.spec_tcp.specs.Makes.Kind.{may_make, may_make_syn, may_make_reset, may_make_other}
@@ -146,8 +146,8 @@ either_stream true x y s p q = p
 either_stream false x y s p q = q
 
 -- the endpoint of some ports changes, but not in its streams
-pub moves_at_ports : (a : Hosts) (host : Host) (b : Body) (lport rport : ℕ) (f : Endpoint → Endpoint) → GoodEnds a host b.endpoints → ((e : Endpoint) → Plain e (f e)) → Moves a host b.endpoints (at_ports b lport rport f).endpoints
-moves_at_ports a host b lport rport f g plain = map_or_cases (λ (x : Body). Moves a host b.endpoints x.endpoints) (place_of b lport rport) b (λ i. with_endpoint b i f)
+pub moves_at_ports : (a : Hosts) (host : Host) (b : HostTcp) (lport rport : ℕ) (f : Endpoint → Endpoint) → GoodEnds a host b.endpoints → ((e : Endpoint) → Plain e (f e)) → Moves a host b.endpoints (at_ports b lport rport f).endpoints
+moves_at_ports a host b lport rport f g plain = map_or_cases (λ (x : HostTcp). Moves a host b.endpoints x.endpoints) (place_of b lport rport) b (λ i. with_endpoint b i f)
     (λ e. moves_not a host b.endpoints g) (λ i e. moves_keeps a host b.endpoints i f g (λ x. plain_keeps x (f x) (plain x)))
 
 -- making a segment, a timer's expiry and the beginning of fast recovery change no stream

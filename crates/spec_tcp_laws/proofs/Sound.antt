@@ -13,7 +13,7 @@ use Rattle.spec_tcp.specs.declared.endpoint.Endpoint.{Endpoint}
 use Rattle.spec_tcp.specs.declared.endpoint.Listener.{Listener}
 use Rattle.spec_tcp.specs.declared.endpoint.Socket.{Socket}
 use Rattle.spec_tcp.specs.declared.endpoint.SocketTarget.TheVariants.{ListenerAt, EndpointAt}
-use Rattle.spec_tcp.specs.Bodies.{Body, given, queue_of, place_of, at_ports, with_endpoint, dead, with_socket}
+use Rattle.spec_tcp.specs.HostTcp.{HostTcp, given, queue_of, place_of, at_ports, with_endpoint, dead, with_socket}
 use Rattle.case_forms.specs.States.{is_syn_sent, is_syn_received}
 use Rattle.spec_tcp.specs.Calls.Accept.{accepted_from}
 use Rattle.spec_tcp_laws.specs.Runs.{endpoint_place, owner}
@@ -23,7 +23,7 @@ use Rattle.spec_tcp_laws.proofs.Rules.{map_or_cases, number_same, true_false}
 abbrev pub is_early : State → Bool
 is_early state = is_syn_sent state || is_syn_received state
 
-pub record Sound (b : Body) : Type 0 where
+pub record Sound (b : HostTcp) : Type 0 where
   -- a socket number names an endpoint that is there, and is no listener's any more
   pub named : (n i : ℕ) → owner b n ≡ Some i → (e : Endpoint) × (slice_get b.endpoints i ≡ Some e) × (e.listener ≡ None)
   -- it alone names it
@@ -34,7 +34,7 @@ pub record Sound (b : Body) : Type 0 where
   pub once : (l j k i : ℕ) → slice_get (queue_of b l) j ≡ Some i → slice_get (queue_of b l) k ≡ Some i → j ≡ k
 
 -- what a host has after an act: it is sound, each socket number names what it named, and no other number was given than this
-pub record Keeps (b c : Body) (new : Option ℕ) : Type 0 where
+pub record Keeps (b c : HostTcp) (new : Option ℕ) : Type 0 where
   pub sound : Sound c
   pub stays : (n i : ℕ) → owner b n ≡ Some i → owner c n ≡ Some i
   pub given : (n : ℕ) → given c n ≡ true → (given b n ≡ true) ⊎ (new ≡ Some n)
@@ -68,7 +68,7 @@ stay_map f (a ∷ es) h zero e x = (f a, refl, subst (λ (z : Endpoint). Stays z
 stay_map f (a ∷ es) h (suc i) e x = stay_map f es h i e x
 
 -- the endpoints stay, and nothing else changes but what no socket number and no queue shows
-pub keeps_stay : (b c : Body) → Sound b → AllStay b.endpoints c.endpoints → ((n : ℕ) → owner c n ≡ owner b n) → ((l : ℕ) → queue_of c l ≡ queue_of b l) → Sound c
+pub keeps_stay : (b c : HostTcp) → Sound b → AllStay b.endpoints c.endpoints → ((n : ℕ) → owner c n ≡ owner b n) → ((l : ℕ) → queue_of c l ≡ queue_of b l) → Sound c
 keeps_stay b c g stay owners queues = record {
   named = λ n i e.
       let x = g.named n i (sym (owners n) ∙ e) in
@@ -82,20 +82,20 @@ keeps_stay b c g stay owners queues = record {
   once = λ l j k i e f. g.once l j k i (subst (λ q. slice_get q j ≡ Some i) (queues l) e) (subst (λ q. slice_get q k ≡ Some i) (queues l) f);
 }
 
-pub keeps_endpoints : (b : Body) (fs : List Endpoint) → Sound b → AllStay b.endpoints fs → Keeps b (record b { endpoints = fs }) None
+pub keeps_endpoints : (b : HostTcp) (fs : List Endpoint) → Sound b → AllStay b.endpoints fs → Keeps b (record b { endpoints = fs }) None
 keeps_endpoints b fs g stay = record { sound = keeps_stay b (record b { endpoints = fs }) g stay (λ n. refl) (λ l. refl); stays = λ n i e. e; given = λ n e. inl e }
 
-pub keeps_not : (b : Body) → Sound b → Keeps b b None
+pub keeps_not : (b : HostTcp) → Sound b → Keeps b b None
 keeps_not b g = record { sound = g; stays = λ n i e. e; given = λ n e. inl e }
 
-pub keeps_at_ports : (b : Body) (lport rport : ℕ) (f : Endpoint → Endpoint) → Sound b → ((e : Endpoint) → Stays e (f e)) → Keeps b (at_ports b lport rport f) None
-keeps_at_ports b lport rport f g stay = map_or_cases (λ (c : Body). Keeps b c None) (place_of b lport rport) b (λ i. with_endpoint b i f) (λ e. keeps_not b g)
+pub keeps_at_ports : (b : HostTcp) (lport rport : ℕ) (f : Endpoint → Endpoint) → Sound b → ((e : Endpoint) → Stays e (f e)) → Keeps b (at_ports b lport rport f) None
+keeps_at_ports b lport rport f g stay = map_or_cases (λ (c : HostTcp). Keeps b c None) (place_of b lport rport) b (λ i. with_endpoint b i f) (λ e. keeps_not b g)
     (λ i e. keeps_endpoints b (modify b.endpoints i f) g (stay_modify f b.endpoints i (λ x at. stay x)))
 
 -- 2. socket numbers
 
 -- what a number names after one was given
-pub owner_insert : (b : Body) (n : ℕ) (s : Socket) (m : ℕ) → option_map_or (λ x. endpoint_place x.thing) (lookup (nat_eq m) (insert_entry nat_eq b.sockets n s)) None ≡ (if nat_eq m n then endpoint_place s.thing else owner b m)
+pub owner_insert : (b : HostTcp) (n : ℕ) (s : Socket) (m : ℕ) → option_map_or (λ x. endpoint_place x.thing) (lookup (nat_eq m) (insert_entry nat_eq b.sockets n s)) None ≡ (if nat_eq m n then endpoint_place s.thing else owner b m)
 owner_insert b n s m = ap (λ (o : Option Socket). option_map_or (λ x. endpoint_place x.thing) o None) (lookup_insert m n s b.sockets) ∙ go (nat_eq m n)
   where
     go : (c : Bool) → option_map_or (λ x. endpoint_place x.thing) (cond c (Some s) (lookup (nat_eq m) b.sockets)) None ≡ (if c then endpoint_place s.thing else owner b m)
@@ -109,7 +109,7 @@ given_insert sockets n s m e = go (nat_eq m n) refl (sym (ap is_some (lookup_ins
     go true is e = inr (ap (λ k. Some k) (sym (number_same m n is)))
     go false is e = inl e
 
-pub owner_given : (b : Body) (n i : ℕ) → owner b n ≡ Some i → given b n ≡ true
+pub owner_given : (b : HostTcp) (n i : ℕ) → owner b n ≡ Some i → given b n ≡ true
 owner_given b n i e = go (lookup (nat_eq n) b.sockets) e
   where
     go : (o : Option Socket) → option_map_or (λ s. endpoint_place s.thing) o None ≡ Some i → is_some o ≡ true
@@ -117,11 +117,11 @@ owner_given b n i e = go (lookup (nat_eq n) b.sockets) e
     go (Some s) e = refl
 
 -- a number that was not given names nothing
-pub not_owner : (b : Body) (n i : ℕ) → given b n ≡ false → owner b n ≡ Some i → ⊥
+pub not_owner : (b : HostTcp) (n i : ℕ) → given b n ≡ false → owner b n ≡ Some i → ⊥
 not_owner b n i h e = true_false (owner_given b n i e) h
 
 -- a number that was given names what it named
-stays_given : (b : Body) (n : ℕ) (s : Socket) (m i : ℕ) → given b n ≡ false → owner b m ≡ Some i → (if nat_eq m n then endpoint_place s.thing else owner b m) ≡ Some i
+stays_given : (b : HostTcp) (n : ℕ) (s : Socket) (m i : ℕ) → given b n ≡ false → owner b m ≡ Some i → (if nat_eq m n then endpoint_place s.thing else owner b m) ≡ Some i
 stays_given b n s m i new e = go (nat_eq m n) refl
   where
     go : (c : Bool) → nat_eq m n ≡ c → (if c then endpoint_place s.thing else owner b m) ≡ Some i
@@ -129,7 +129,7 @@ stays_given b n s m i new e = go (nat_eq m n) refl
     go false is = e
 
 -- closing a number leaves what it names
-pub dead_owner : (b : Body) (n m : ℕ) → option_map_or (λ x. endpoint_place x.thing) (lookup (nat_eq m) (dead b.sockets n)) None ≡ owner b m
+pub dead_owner : (b : HostTcp) (n m : ℕ) → option_map_or (λ x. endpoint_place x.thing) (lookup (nat_eq m) (dead b.sockets n)) None ≡ owner b m
 dead_owner b n m = go (lookup (nat_eq n) b.sockets) refl
   where
     by : (s : Socket) (c : Bool) → lookup (nat_eq n) b.sockets ≡ Some s → nat_eq m n ≡ c → (if c then endpoint_place s.thing else owner b m) ≡ owner b m
@@ -140,7 +140,7 @@ dead_owner b n m = go (lookup (nat_eq n) b.sockets) refl
     go None at = refl
     go (Some s) at = owner_insert b n (record s { live = false }) m ∙ by s (nat_eq m n) at refl
 
-pub dead_given : (b : Body) (n m : ℕ) → is_some (lookup (nat_eq m) (dead b.sockets n)) ≡ true → given b m ≡ true
+pub dead_given : (b : HostTcp) (n m : ℕ) → is_some (lookup (nat_eq m) (dead b.sockets n)) ≡ true → given b m ≡ true
 dead_given b n m = go (lookup (nat_eq n) b.sockets) refl
   where
     by : (s : Socket) → lookup (nat_eq n) b.sockets ≡ Some s → (given b m ≡ true) ⊎ (Some n ≡ Some m) → given b m ≡ true
@@ -152,7 +152,7 @@ dead_given b n m = go (lookup (nat_eq n) b.sockets) refl
     go (Some s) at e = by s at (given_insert b.sockets n (record s { live = false }) m e)
 
 -- a number is given to a listener
-pub keeps_listener : (b : Body) (n l : ℕ) → Sound b → given b n ≡ false → Keeps b (with_socket b n (ListenerAt l)) (Some n)
+pub keeps_listener : (b : HostTcp) (n l : ℕ) → Sound b → given b n ≡ false → Keeps b (with_socket b n (ListenerAt l)) (Some n)
 keeps_listener b n l g new = record {
   sound = keeps_stay b (with_socket b n (ListenerAt l)) g (λ i e at. (e, at, stays_not e)) (λ m. owner_insert b n (record { thing = ListenerAt l; live = true }) m ∙ by m (nat_eq m n) refl) (λ k. refl);
   stays = λ m i e. owner_insert b n (record { thing = ListenerAt l; live = true }) m ∙ stays_given b n (record { thing = ListenerAt l; live = true }) m i new e;
@@ -168,7 +168,7 @@ keeps_listener b n l g new = record {
     by m false is = refl
 
 -- a number is given to an endpoint that has none
-pub keeps_socket : (b : Body) (n j : ℕ) (x : Endpoint) → Sound b → given b n ≡ false → slice_get b.endpoints j ≡ Some x → x.listener ≡ None → ((m : ℕ) → owner b m ≡ Some j → ⊥) → Keeps b (with_socket b n (EndpointAt j)) (Some n)
+pub keeps_socket : (b : HostTcp) (n j : ℕ) (x : Endpoint) → Sound b → given b n ≡ false → slice_get b.endpoints j ≡ Some x → x.listener ≡ None → ((m : ℕ) → owner b m ≡ Some j → ⊥) → Keeps b (with_socket b n (EndpointAt j)) (Some n)
 keeps_socket b n j x g new at free bare = record {
   sound = record {
     named = λ m i e. named m i (nat_eq m n) refl (sym (owner_insert b n s m) ∙ e);
@@ -232,7 +232,7 @@ queue_joined (x ∷ ls) (suc l) i (suc k) j c e = go (queue_joined ls l i k j c 
     go (inr e) = inr (ap (λ n. suc n) e.0, e.1, e.2)
 
 -- a child joins its listener's queue
-pub sound_joined : (b : Body) (i l : ℕ) (x : Endpoint) → Sound b → slice_get b.endpoints i ≡ Some x → x.listener ≡ Some l → is_early x.state ≡ false → ((k : ℕ) → slice_get (queue_of b l) k ≡ Some i → ⊥)
+pub sound_joined : (b : HostTcp) (i l : ℕ) (x : Endpoint) → Sound b → slice_get b.endpoints i ≡ Some x → x.listener ≡ Some l → is_early x.state ≡ false → ((k : ℕ) → slice_get (queue_of b l) k ≡ Some i → ⊥)
     → Sound (record b { listeners = modify b.listeners l (λ x. record x { queue = x.queue ++ i ∷ [] }) })
 sound_joined b i l x g at his late new = record {
   named = g.named;
@@ -281,14 +281,14 @@ modify_here {X} f (a ∷ xs) zero x e = ap (λ (y : X). Some (f y)) (same_Some a
 modify_here f (a ∷ xs) (suc i) x e = modify_here f xs i x e
 
 -- the front of a queue is accepted
-pub keeps_accepted : (b : Body) (l n child : ℕ) (rest : List ℕ) → Sound b → given b n ≡ false → queue_of b l ≡ child ∷ rest → Keeps b (accepted_from b l n (child ∷ rest)) (Some n)
+pub keeps_accepted : (b : HostTcp) (l n child : ℕ) (rest : List ℕ) → Sound b → given b n ≡ false → queue_of b l ≡ child ∷ rest → Keeps b (accepted_from b l n (child ∷ rest)) (Some n)
 keeps_accepted b l n child rest g new q = record { sound = last.sound; stays = last.stays; given = last.given }
   where
     his : (e : Endpoint) × (slice_get b.endpoints child ≡ Some e) × (e.listener ≡ Some l) × (is_early e.state ≡ false)
     his = g.queued l 0 child (subst (λ (y : List ℕ). slice_get y 0 ≡ Some child) (sym q) refl)
 
     -- the child left its queue and is no listener's any more
-    free : Body
+    free : HostTcp
     free = record b { endpoints = modify b.endpoints child (λ e. record e { listener = None }); listeners = modify b.listeners l (λ x. record x { queue = rest }) }
 
     popped : (m k i : ℕ) → slice_get (queue_of free m) k ≡ Some i → ((m ≡ l → ⊥) × (slice_get (queue_of b m) k ≡ Some i)) ⊎ ((m ≡ l) × (slice_get (queue_of b m) (suc k) ≡ Some i))

@@ -27,7 +27,7 @@ use Rattle.spec_tcp.specs.declared.endpoint.Emission.{Emission}
 use Rattle.spec_tcp.specs.declared.endpoint.SocketTarget.{SocketTarget}
 use Rattle.spec_tcp.specs.declared.endpoint.SocketTarget.TheVariants.{ListenerAt, EndpointAt}
 use Rattle.spec_tcp.specs.Endpoints.{new_endpoint}
-use Rattle.spec_tcp.specs.Bodies.{Body, given, thing_of, queue_of, with_endpoint, dead}
+use Rattle.spec_tcp.specs.HostTcp.{HostTcp, given, thing_of, queue_of, with_endpoint, dead}
 use Rattle.case_forms.specs.States.{is_syn_sent, is_syn_received}
 use Rattle.spec_tcp.specs.Calls.Send.{after_send}
 use Rattle.spec_tcp.specs.Calls.Receive.{after_recv}
@@ -39,7 +39,7 @@ use Rattle.spec_tcp.specs.Makes.{endpoint_made, after_making}
 use Rattle.case_forms.specs.declared.steps.TakeChoice.{TakeChoice}
 use Rattle.spec_tcp.specs.Arrives.OtherStates.Ack.{is_new_ack, acknowledges_syn, fin_acknowledged, acknowledged}
 use Rattle.spec_tcp.specs.Arrives.OtherStates.Fin.{finished}
-use Rattle.spec_tcp.specs.Arrives.OtherStates.Text.{state_taken}
+use Rattle.spec_tcp.specs.Arrives.OtherStates.Text.{state_after_segment}
 use Rattle.spec_tcp.specs.Arrives.OtherStates.{taken}
 use Rattle.spec_tcp.specs.Arrives.OtherStates.Reset.{was_reset}
 use Rattle.spec_tcp.specs.Arrives.SynSent.{on_syn}
@@ -141,7 +141,7 @@ late_joined h e how m moment c =
     acks states.LastAck is a = absurd cc
     acks states.TimeWait is a = absurd cc
 
-    go : (r s : Bool) → r ≡ false → s ≡ false → is_early (state_taken e how m) ≡ false
+    go : (r s : Bool) → r ≡ false → s ≡ false → is_early (state_after_segment e how m) ≡ false
         → is_early (if r then was_reset e how moment else if s then on_syn h e how m moment else taken h e how m moment).state ≡ false
     go true s p q x = absurd cc
     go false true p q x = absurd cc
@@ -173,10 +173,10 @@ stays_abort e = record { listener = refl; late = λ h. refl }
 
 -- 2. acts
 
-keeps_same : (b : Body) (o : Option ℕ) → Sound b → Keeps b b o
+keeps_same : (b : HostTcp) (o : Option ℕ) → Sound b → Keeps b b o
 keeps_same b o g = record { sound = g; stays = λ n i e. e; given = λ n e. inl e }
 
-keeps_taking : (h : Header) (b : Body) (how : TakeChoice) (m : Emission) (moment : ℕ) → Sound b → Keeps b (after_taking h b how m moment (taker b m)) None
+keeps_taking : (h : Header) (b : HostTcp) (how : TakeChoice) (m : Emission) (moment : ℕ) → Sound b → Keeps b (after_taking h b how m moment (taker b m)) None
 keeps_taking h b how m moment g = go (taker b m) refl
   where
     by : (m : Emission) (i : ℕ) (e : Endpoint) → slice_get b.endpoints i ≡ Some e → (c : Bool) (o : Option ℕ) → (is_syn_received e.state && acknowledges_syn e m) ≡ c → e.listener ≡ o
@@ -203,15 +203,15 @@ keeps_taking h b how m moment g = go (taker b m) refl
         keeps_endpoints b (b.endpoints ++ child (profile_of h.initial) l how m moment ∷ []) g (stay_push b.endpoints (child (profile_of h.initial) l how m moment))
     go (AtEndpoint i e) is = let k : Emission = as_read h.version e m in by k i e (taker_there b m i e is) (is_syn_received e.state && acknowledges_syn e k) e.listener refl refl
 
-keeps_dead : (b c : Body) (n : ℕ) → Sound b → AllStay b.endpoints c.endpoints → ((l : ℕ) → queue_of c l ≡ queue_of b l) → Keeps b (record c { sockets = dead b.sockets n }) None
+keeps_dead : (b c : HostTcp) (n : ℕ) → Sound b → AllStay b.endpoints c.endpoints → ((l : ℕ) → queue_of c l ≡ queue_of b l) → Keeps b (record c { sockets = dead b.sockets n }) None
 keeps_dead b c n g stay queues = record {
   sound = keeps_stay b (record c { sockets = dead b.sockets n }) g stay (dead_owner b n) queues;
   stays = λ m i e. dead_owner b n m ∙ e;
   given = λ m e. inl (dead_given b n m e);
 }
 
-keeps_gone : (b : Body) (n : ℕ) (f : Endpoint → Endpoint) → ((e : Endpoint) → Stays e (f e)) → Sound b → Keeps b (after_gone b n f) None
-keeps_gone b n f stay g = map_or_cases (λ (c : Body). Keeps b c None) (thing_of b n) b (λ thing. record (thing_gone b thing f) { sockets = dead b.sockets n }) (λ e. keeps_not b g) (λ thing e. go thing)
+keeps_gone : (b : HostTcp) (n : ℕ) (f : Endpoint → Endpoint) → ((e : Endpoint) → Stays e (f e)) → Sound b → Keeps b (after_gone b n f) None
+keeps_gone b n f stay g = map_or_cases (λ (c : HostTcp). Keeps b c None) (thing_of b n) b (λ thing. record (thing_gone b thing f) { sockets = dead b.sockets n }) (λ e. keeps_not b g) (λ thing e. go thing)
   where
     go : (thing : SocketTarget) → Keeps b (record (thing_gone b thing f) { sockets = dead b.sockets n }) None
     go (ListenerAt l) = keeps_dead b (without_listener b l) n g
@@ -219,8 +219,8 @@ keeps_gone b n f stay g = map_or_cases (λ (c : Body). Keeps b c None) (thing_of
         (λ k. queue_modify (λ x. record x { is_open = false }) (λ x. refl) b.listeners l k)
     go (EndpointAt i) = keeps_dead b (with_endpoint b i f) n g (stay_modify f b.endpoints i (λ e at. stay e)) (λ k. refl)
 
-keeps_change : (b : Body) (n : ℕ) (f : Endpoint → Endpoint) → ((e : Endpoint) → Stays e (f e)) → Sound b → Keeps b (change b n f) None
-keeps_change b n f stay g = map_or_cases (λ (c : Body). Keeps b c None) (thing_of b n) b (change_thing b f) (λ e. keeps_not b g) (λ thing e. go thing)
+keeps_change : (b : HostTcp) (n : ℕ) (f : Endpoint → Endpoint) → ((e : Endpoint) → Stays e (f e)) → Sound b → Keeps b (change b n f) None
+keeps_change b n f stay g = map_or_cases (λ (c : HostTcp). Keeps b c None) (thing_of b n) b (change_thing b f) (λ e. keeps_not b g) (λ thing e. go thing)
   where
     go : (thing : SocketTarget) → Keeps b (change_thing b f thing) None
     go (ListenerAt l) = keeps_not b g
@@ -230,7 +230,7 @@ get_push : (xs : List Endpoint) (y : Endpoint) → slice_get (xs ++ y ∷ []) (l
 get_push [] y = refl
 get_push (x ∷ xs) y = get_push xs y
 
-keeps_accept : (b : Body) (n : ℕ) (thing : SocketTarget) → Sound b → given b n ≡ false → Keeps b (after_accept b n thing) (Some n)
+keeps_accept : (b : HostTcp) (n : ℕ) (thing : SocketTarget) → Sound b → given b n ≡ false → Keeps b (after_accept b n thing) (Some n)
 keeps_accept b n (EndpointAt i) g new = keeps_same b (Some n) g
 keeps_accept b n (ListenerAt l) g new = go (queue_of b l) refl
   where
@@ -238,7 +238,7 @@ keeps_accept b n (ListenerAt l) g new = go (queue_of b l) refl
     go [] is = keeps_same b (Some n) g
     go (c ∷ queue) is = keeps_accepted b l n c queue g new is
 
-keeps_call : (p : Profile) (b : Body) (call : Call) (answer : Answer) → Sound b → ((n : ℕ) → gives call answer ≡ Some n → given b n ≡ false)
+keeps_call : (p : Profile) (b : HostTcp) (call : Call) (answer : Answer) → Sound b → ((n : ℕ) → gives call answer ≡ Some n → given b n ≡ false)
     → Keeps b (after_call p b call answer) (gives call answer)
 keeps_call p b (calls.Listen host port backlog) (answers.Given n) g new =
     let wide : Body = record b { listeners = b.listeners ++ record { port = port; backlog = backlog; is_open = true; queue = [] } ∷ [] } in
@@ -251,7 +251,7 @@ keeps_call p b (calls.Connect host lport rport) (answers.Given n) g new =
     (λ m own. let y = g.named m (length b.endpoints) own in let within = slice_get_within b.endpoints (length b.endpoints) y.0 y.1 in omega arith) in
     record { sound = x.sound; stays = x.stays; given = x.given }
 keeps_call p b (calls.Accept h) (answers.Given n) g new =
-    map_or_cases (λ (c : Body). Keeps b c (Some n)) (thing_of b h) b (after_accept b n) (λ e. keeps_same b (Some n) g) (λ thing e. keeps_accept b n thing g (new n refl))
+    map_or_cases (λ (c : HostTcp). Keeps b c (Some n)) (thing_of b h) b (after_accept b n) (λ e. keeps_same b (Some n) g) (λ thing e. keeps_accept b n thing g (new n refl))
 keeps_call p b (calls.Send h bytes) (answers.Given n) g new = keeps_change b h (after_send bytes n) (λ e. record { listener = refl; late = λ x. x }) g
 keeps_call p b (calls.Recv h most) (answers.Bytes bytes) g new = keeps_change b h (after_recv bytes) (λ e. record { listener = refl; late = λ x. x }) g
 keeps_call p b (calls.Shut h) answers.Done g new = keeps_change b h after_shut stays_shut g
@@ -269,9 +269,9 @@ keeps_deed h s w host (Makes m) g = keeps_at_ports (pick w.hosts host).body m.lp
 keeps_deed h s w host (Sends line number wire) g = keeps_not (pick w.hosts host).body g
 keeps_deed h s w host (Gets line copied wire) g = keeps_not (pick w.hosts host).body g
 keeps_deed h s w host (Hears line wire) g = keeps_not (pick w.hosts host).body g
-keeps_deed h s w host (Takes line how) g = let k = pick w.hosts host in on_cases (λ (b : Body). Keeps k.body b None) (waiting line k.inbox) k.body _ (keeps_not k.body g) (λ m e. keeps_taking h k.body how m s g)
+keeps_deed h s w host (Takes line how) g = let k = pick w.hosts host in on_cases (λ (b : HostTcp). Keeps k.body b None) (waiting line k.inbox) k.body _ (keeps_not k.body g) (λ m e. keeps_taking h k.body how m s g)
 keeps_deed h s w host (Drops line) g = keeps_not (pick w.hosts host).body g
-keeps_deed h s w host (Answers line) g = let k = pick w.hosts host in on_cases (λ (b : Body). Keeps k.body b None) (waiting line k.inbox) k.body _ (keeps_not k.body g) (λ m e. keeps_not k.body g)
+keeps_deed h s w host (Answers line) g = let k = pick w.hosts host in on_cases (λ (b : HostTcp). Keeps k.body b None) (waiting line k.inbox) k.body _ (keeps_not k.body g) (λ m e. keeps_not k.body g)
 
 -- sockets and queues after a step of the world
 pub record SoundStep (a b : Hosts) : Type 0 where

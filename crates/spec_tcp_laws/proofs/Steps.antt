@@ -25,7 +25,7 @@ use Rattle.spec_tcp.specs.Signals.{profile_of}
 use Rattle.spec_tcp.specs.declared.endpoint.EndpointId.{EndpointId}
 use Rattle.spec_tcp.specs.declared.endpoint.Emission.{Emission}
 use Rattle.spec_tcp.specs.declared.endpoint.SocketTarget.{SocketTarget}
-use Rattle.spec_tcp.specs.Bodies.{Body, given, thing_of}
+use Rattle.spec_tcp.specs.HostTcp.{HostTcp, given, thing_of}
 use Rattle.spec_tcp.specs.Calls.{is_bad_socket, thing_allows, socket_allows, call_allows, after_call}
 use Rattle.case_forms.specs.declared.steps.SegmentPlan.{SegmentPlan}
 use Rattle.spec_tcp.specs.Wire.{sent}
@@ -165,7 +165,7 @@ kept_deed h whole s w host (Answers line) g may up = kept_answers h s w host lin
 -- 2. calls
 
 -- an answer other than that of a dead number is to a live one
-live : (b : Body) (n : ℕ) (call : Call) (answer : Answer) → socket_allows b n call answer ≡ true → is_bad_socket answer ≡ false → given b n ≡ true
+live : (b : HostTcp) (n : ℕ) (call : Call) (answer : Answer) → socket_allows b n call answer ≡ true → is_bad_socket answer ≡ false → given b n ≡ true
 live b n call answer may good = go (thing_of b n) refl may
   where
     go : (o : Option SocketTarget) → thing_of b n ≡ o → option_map_or (thing_allows b call answer) o (is_bad_socket answer) ≡ true → given b n ≡ true
@@ -226,14 +226,14 @@ grown_deed h s w host (Sends line number wire) g may = grown_not (Carries h w (A
 grown_deed h s w host (Gets line copied wire) g may = grown_not (Carries h w (At host (Gets line copied wire))) host silent (pick w.hosts host).body.endpoints (λ i. refl) (g host)
 grown_deed h s w host (Hears line wire) g may = grown_not (Carries h w (At host (Hears line wire))) host silent (pick w.hosts host).body.endpoints (λ i. refl) (g host)
 grown_deed h s w host (Takes line how) g may = let k = pick w.hosts host in let step : Step tcp_shape = At host (Takes line how) in
-    on_cases (λ (b : Body). Grown (Carries h w step) host silent k.body.endpoints b.endpoints) (waiting line k.inbox) k.body _ (grown_not (Carries h w step) host silent k.body.endpoints (λ i. refl) (g host))
+    on_cases (λ (b : HostTcp). Grown (Carries h w step) host silent k.body.endpoints b.endpoints) (waiting line k.inbox) k.body _ (grown_not (Carries h w step) host silent k.body.endpoints (λ i. refl) (g host))
     (λ m e.
     let t = on_passes (waiting line k.inbox) rules.Inbox (λ x. taker_rules h host k.body how x s (taker k.body x)) may in
     let one : t.0 ≡ m = same_Some t.0 m (sym t.1 ∙ e) in
     grown_taking h s w host line how m g e (subst (λ (x : Emission). first_broken (taker_rules h host k.body how x s (taker k.body x)) ≡ None) one t.2))
 grown_deed h s w host (Drops line) g may = grown_not (Carries h w (At host (Drops line))) host silent (pick w.hosts host).body.endpoints (λ i. refl) (g host)
 grown_deed h s w host (Answers line) g may = let k = pick w.hosts host in let step : Step tcp_shape = At host (Answers line) in
-    on_cases (λ (b : Body). Grown (Carries h w step) host silent k.body.endpoints b.endpoints) (waiting line k.inbox) k.body _ (grown_not (Carries h w step) host silent k.body.endpoints (λ i. refl) (g host)) (λ m e. grown_not (Carries h w step) host silent k.body.endpoints (λ i. refl) (g host))
+    on_cases (λ (b : HostTcp). Grown (Carries h w step) host silent k.body.endpoints b.endpoints) (waiting line k.inbox) k.body _ (grown_not (Carries h w step) host silent k.body.endpoints (λ i. refl) (g host)) (λ m e. grown_not (Carries h w step) host silent k.body.endpoints (λ i. refl) (g host))
 
 grown_effect : (h : Header) (s : ℕ) (w : World tcp_shape) (t : ℕ) (answer : Answer) → AllOwn w.hosts → Apart w.hosts → Permitted (tcp h) s w (Effect t answer)
     → AllGrown (Carries h w (Effect t answer)) (step_adds h w (Effect t answer)) w.hosts (after (tcp h) s w (Effect t answer)).hosts

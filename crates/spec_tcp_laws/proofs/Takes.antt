@@ -31,7 +31,7 @@ use Rattle.seqno.specs.Near.{near_position}
 use Rattle.spec_network.specs.Tables.{pick, waiting}
 use Rattle.spec_network.specs.Hosts.{World, Takes, At}
 use Rattle.spec_tcp.specs.Arrives.OtherStates.Sequence.{is_bad_number, reads_as}
-use Rattle.spec_tcp.specs.Bodies.{Body, place_of, listener_on}
+use Rattle.spec_tcp.specs.HostTcp.{HostTcp, place_of, listener_on}
 use Rattle.spec_tcp.specs.Same.{same_name}
 use Rattle.case_forms.specs.States.{is_closed, is_syn_sent}
 use Rattle.case_forms.specs.declared.steps.Flags.{Flags}
@@ -141,7 +141,7 @@ no_endpoint : (o : Option ℕ) (i : ℕ) (e : Endpoint) → option_map_or (λ l.
 no_endpoint None i e x = cc
 no_endpoint (Some l) i e x = cc
 
-pub taker_there : (b : Body) (m : Emission) (i : ℕ) (e : Endpoint) → taker b m ≡ AtEndpoint i e → slice_get b.endpoints i ≡ Some e
+pub taker_there : (b : HostTcp) (m : Emission) (i : ℕ) (e : Endpoint) → taker b m ≡ AtEndpoint i e → slice_get b.endpoints i ≡ Some e
 taker_there b m i e x = go (place_of b m.rport m.lport) x
   where
     inner : (j : ℕ) (o : Option Endpoint) → slice_get b.endpoints j ≡ o → option_map_or (λ f. if is_closed f.state then listener_taker b m else AtEndpoint j f) o (listener_taker b m) ≡ AtEndpoint i e → slice_get b.endpoints i ≡ Some e
@@ -252,7 +252,7 @@ base_there e m good = go m.is_reset_reply e.irs refl good
     go true (Some irs) is x = (irs, is)
     go false (Some irs) is x = (irs, is)
 
-grows_endpoint : (comes : ℕ → Cell → Type 0) (h : Header) (b : Body) (me : EndpointId) (e : Endpoint) (how : TakeChoice) (m : Emission) (moment : ℕ) → Own e
+grows_endpoint : (comes : ℕ → Cell → Type 0) (h : Header) (b : HostTcp) (me : EndpointId) (e : Endpoint) (how : TakeChoice) (m : Emission) (moment : ℕ) → Own e
     → ((k : ℕ) (c : Cell) → how.keep ≡ true → m.flags.rst ≡ false → slice_get (body m.payload m.flags.fin) k ≡ Some c → comes (first_byte m + k) c)
     → first_broken (if is_syn_sent e.state then syn_sent_rules e how m moment else connected_rules h b me e how m moment) ≡ None
     → Grows comes nothing e (endpoint_taken h e how m moment)
@@ -280,7 +280,7 @@ pub grown_taking : (h : Header) (s : ℕ) (w : World tcp_shape) (host : Host) (l
     → Grown (Carries h w (At host (Takes line how))) host silent (pick w.hosts host).body.endpoints (after_taking h (pick w.hosts host).body how m s (taker (pick w.hosts host).body m)).endpoints
 grown_taking h s w host line how m g waits may = go (taker (pick w.hosts host).body m) refl may
   where
-    b : Body
+    b : HostTcp
     b = (pick w.hosts host).body
 
     comes : Coming
@@ -345,7 +345,7 @@ record FromPeer (me : EndpointId) (e : Endpoint) (m : Emission) : Type 0 where
 whole_case : (h : Header) → is_half h.version ≡ false → (b : Bool) → (not (is_half h.version) && not b) ≡ false → not b ≡ false
 whole_case h whole b e = subst (λ (c : Bool). (not c && not b) ≡ false) whole e
 
-from_peer : (a : Hosts) (h : Header) → is_half h.version ≡ false → (b : Body) (me : EndpointId) (e : Endpoint) (how : TakeChoice) (m : Emission) (moment : ℕ)
+from_peer : (a : Hosts) (h : Header) → is_half h.version ≡ false → (b : HostTcp) (me : EndpointId) (e : Endpoint) (how : TakeChoice) (m : Emission) (moment : ℕ)
     → GoodEmission a m → m.flags.rst ≡ false → first_broken (connected_rules h b me e how m moment) ≡ None → FromPeer me e m
 from_peer a h whole b me e how m moment good r may =
     let t = none_all (connected_rules h b me e how m moment) may in
@@ -412,7 +412,7 @@ changes_met a h me e how m moment g good waits =
     met_una true snd_una more = λ no. no (omega arith)
     met_una false snd_una more = λ no. no more
 
-changes_endpoint : (a : Hosts) (h : Header) → is_half h.version ≡ false → (b : Body) (me : EndpointId) (e : Endpoint) (how : TakeChoice) (m : Emission) (moment : ℕ) → GoodEnd a me e → GoodEmission a m
+changes_endpoint : (a : Hosts) (h : Header) → is_half h.version ≡ false → (b : HostTcp) (me : EndpointId) (e : Endpoint) (how : TakeChoice) (m : Emission) (moment : ℕ) → GoodEnd a me e → GoodEmission a m
     → first_broken (if is_syn_sent e.state then syn_sent_rules e how m moment else connected_rules h b me e how m moment) ≡ None
     → Changes a me e (endpoint_taken h e how m moment)
 changes_endpoint a h whole b me e how m moment g good may = go m.flags.rst (is_syn_sent e.state) refl refl may
@@ -428,7 +428,7 @@ changes_endpoint a h whole b me e how m moment g good may = go m.flags.rst (is_s
 reads_itself : (h : Header) → is_half h.version ≡ false → (e : Endpoint) (m : Emission) → as_read h.version e m ≡ m
 reads_itself h whole e m = ap (λ (b : Bool). if b then read_at e m else m) whole
 
-pub moves_taking : (a : Hosts) (h : Header) → is_half h.version ≡ false → (host : Host) (b : Body) (how : TakeChoice) (m : Emission) (moment : ℕ) → GoodEnds a host b.endpoints → GoodEmission a m
+pub moves_taking : (a : Hosts) (h : Header) → is_half h.version ≡ false → (host : Host) (b : HostTcp) (how : TakeChoice) (m : Emission) (moment : ℕ) → GoodEnds a host b.endpoints → GoodEmission a m
     → first_broken (taker_rules h host b how m moment (taker b m)) ≡ None → Moves a host b.endpoints (after_taking h b how m moment (taker b m)).endpoints
 moves_taking a h whole host b how m moment g good may = go (taker b m) refl may
   where

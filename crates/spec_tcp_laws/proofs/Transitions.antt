@@ -20,7 +20,7 @@ use Rattle.case_forms.specs.declared.taken_line.Expired.{Expired}
 use Rattle.case_forms.specs.declared.taken_line.Expired.TheVariants as expireds
 use Rattle.case_forms.specs.declared.timer.Timer.TheVariants.{Msl2, Persist, Rto}
 use Rattle.case_forms.specs.declared.trace.Header.{Header}
-use Rattle.streams.specs.declared.making.Made.{Made}
+use Rattle.streams.specs.declared.transmission.Transmission.{Transmission}
 use Rattle.streams.specs.Lists.{modify}
 use Rattle.streams.specs.Transmissions.{made, mark, once}
 use Rattle.streams.specs.Received.{is_ended}
@@ -38,7 +38,7 @@ use Rattle.spec_tcp.specs.declared.endpoint.SocketTarget.{SocketTarget}
 use Rattle.spec_tcp.specs.declared.endpoint.SocketTarget.TheVariants.{ListenerAt, EndpointAt}
 use Rattle.spec_tcp.specs.declared.endpoint.SendWindow.{SendWindow}
 use Rattle.spec_tcp.specs.Endpoints.{snd_max, rcv_nxt, new_endpoint}
-use Rattle.spec_tcp.specs.Bodies.{Body, place_of, at_ports, with_endpoint, thing_of, queue_of, dead}
+use Rattle.spec_tcp.specs.HostTcp.{HostTcp, place_of, at_ports, with_endpoint, thing_of, queue_of, dead}
 use Rattle.spec_tcp.specs.Calls.Send.{after_send}
 use Rattle.spec_tcp.specs.Calls.Receive.{after_recv}
 use Rattle.spec_tcp.specs.Calls.Close.{shut_down, ended_state, after_shut, after_close, after_abort, orphaned, thing_gone}
@@ -47,15 +47,15 @@ use Rattle.spec_tcp.specs.Calls.{change_thing, after_call}
 use Rattle.spec_tcp.specs.Makes.Payload.{making_length}
 use Rattle.spec_tcp.specs.Makes.Edges.{own_window}
 use Rattle.spec_tcp.specs.Makes.{endpoint_made, after_making, timed}
-use Rattle.spec_tcp.specs.Arrives.OtherStates.Timers.{since_made, timeout_taken, rto_taken, state_timers, timers_taken}
+use Rattle.spec_tcp.specs.Arrives.OtherStates.Timers.{since_made, timeout_after_ack, rto_after_ack, state_timers, timers_after_segment}
 use Rattle.timer_rules.specs.Timers.{armed, stopped, sampled, raised_for_lost_syn}
 use Rattle.timer_rules.specs.declared.timers.Timers.{Timers}
 use Rattle.spec_tcp.specs.Heard.{as_read, read_at}
-use Rattle.spec_tcp.specs.Arrives.OtherStates.Ack.{is_new_ack, acknowledges_syn, fin_acknowledged, acknowledged, snd_una_taken}
+use Rattle.spec_tcp.specs.Arrives.OtherStates.Ack.{is_new_ack, acknowledges_syn, fin_acknowledged, acknowledged, snd_una_after_segment}
 use Rattle.spec_tcp.specs.Arrives.OtherStates.Fin.{finished}
 use Rattle.spec_tcp.specs.Arrives.OtherStates.Reset.{was_reset}
-use Rattle.spec_tcp.specs.Arrives.OtherStates.Text.{receive_after, state_taken}
-use Rattle.spec_tcp.specs.Arrives.OtherStates.Window.{takes_window, window_taken, persist_taken}
+use Rattle.spec_tcp.specs.Arrives.OtherStates.Text.{receive_after, state_after_segment}
+use Rattle.spec_tcp.specs.Arrives.OtherStates.Window.{takes_window, window_after_segment, persist_after_window}
 use Rattle.spec_tcp.specs.Arrives.OtherStates.{taken as segment_taken}
 use Rattle.spec_tcp.specs.Arrives.SynSent.{on_syn}
 use Rattle.spec_tcp.specs.Arrives.Listen.{child}
@@ -135,9 +135,9 @@ gone_push w step host es e new = record {
 }
 
 -- the endpoint of some ports changes
-gone_at_ports : (w : World tcp_shape) (step : Step tcp_shape) (host : Host) (b : Body) (lport rport : ℕ) (f : Endpoint → Endpoint)
+gone_at_ports : (w : World tcp_shape) (step : Step tcp_shape) (host : Host) (b : HostTcp) (lport rport : ℕ) (f : Endpoint → Endpoint)
     → ((i : ℕ) (e : Endpoint) → place_of b lport rport ≡ Some i → Goes w step (name host i) e (f e)) → Gone w step host b.endpoints (at_ports b lport rport f).endpoints
-gone_at_ports w step host b lport rport f new = map_or_cases (λ (x : Body). Gone w step host b.endpoints x.endpoints) (place_of b lport rport) b (λ i. with_endpoint b i f)
+gone_at_ports w step host b lport rport f new = map_or_cases (λ (x : HostTcp). Gone w step host b.endpoints x.endpoints) (place_of b lport rport) b (λ i. with_endpoint b i f)
     (λ e. gone_not w step host b.endpoints) (λ i at. gone_one w step host b.endpoints i f (λ e there. new i e at))
 
 -- 1. one endpoint
@@ -147,14 +147,14 @@ ended_leads states.Established = inr refl
 ended_leads states.CloseWait = inr refl
 ended_leads s = inl refl
 
-length-mark : (position count : ℕ) (all : List Made) → length (mark position count all) ≡ length all
+length-mark : (position count : ℕ) (all : List Transmission) → length (mark position count all) ≡ length all
 length-mark position count [] = refl
 length-mark (suc position) count (x ∷ all) = ap (λ n. suc n) (length-mark position count all)
 length-mark zero zero (x ∷ all) = refl
 length-mark zero (suc count) (x ∷ all) = ap (λ n. suc n) (length-mark zero count all)
 
 -- what was made stays made
-made_rises : (all : List Made) (position count moment : ℕ) → length all ≤ length (made all position count moment)
+made_rises : (all : List Transmission) (position count moment : ℕ) → length all ≤ length (made all position count moment)
 made_rises all position count moment =
     let more = replicate (position + count - length all) (once moment) in
     let longer : length (made all position count moment) ≡ length all + length more = length-append (mark position count all) more ∙ ap (λ n. n + length more) (length-mark position count all) in
@@ -222,7 +222,7 @@ finished_leads states.FinWait1 true = inr refl
 finished_leads states.FinWait2 true = inr refl
 finished_leads s passed = inl refl
 
-taken_edge : (e : Endpoint) (m : Emission) → e.window.rcv_adv ≤ (window_taken e m).rcv_adv
+taken_edge : (e : Endpoint) (m : Emission) → e.window.rcv_adv ≤ (window_after_segment e m).rcv_adv
 taken_edge e m = go (takes_window e m) _ refl
   where
     go : (b : Bool) (new : SendWindow) → new.rcv_adv ≡ e.window.rcv_adv → e.window.rcv_adv ≤ (if b then new else e.window).rcv_adv
@@ -247,7 +247,7 @@ same_reset h e m = go (is_half h.version)
     go false = refl
 
 -- what a segment leaves of the wait in TIME-WAIT
-timeout_waits : (h : Header) (e : Endpoint) (sample : Bool) (ack : ℕ) (syn : Bool) (moment : ℕ) → (timeout_taken h e sample ack syn moment).msl_armed ≡ e.timers.msl_armed
+timeout_waits : (h : Header) (e : Endpoint) (sample : Bool) (ack : ℕ) (syn : Bool) (moment : ℕ) → (timeout_after_ack h e sample ack syn moment).msl_armed ≡ e.timers.msl_armed
 timeout_waits h e sample ack syn moment = go sample (syn && e.syn_lost)
   where
     go : (b c : Bool) → (if c then raised_for_lost_syn (if b then sampled e.timers (since_made e (ack - 1) moment) h else e.timers) else (if b then sampled e.timers (since_made e (ack - 1) moment) h else e.timers)).msl_armed ≡ e.timers.msl_armed
@@ -256,12 +256,12 @@ timeout_waits h e sample ack syn moment = go sample (syn && e.syn_lost)
     go false true = refl
     go false false = refl
 
-rto_waits : (t : Timers) (all new : Bool) (moment : ℕ) → (rto_taken t all new moment).msl_armed ≡ t.msl_armed
+rto_waits : (t : Timers) (all new : Bool) (moment : ℕ) → (rto_after_ack t all new moment).msl_armed ≡ t.msl_armed
 rto_waits t true new moment = refl
 rto_waits t false true moment = refl
 rto_waits t false false moment = refl
 
-persist_waits : (t : Timers) (window moment : ℕ) → (persist_taken t window moment).msl_armed ≡ t.msl_armed
+persist_waits : (t : Timers) (window moment : ℕ) → (persist_after_window t window moment).msl_armed ≡ t.msl_armed
 persist_waits t window moment = go (nat_lt 0 window) (is_some t.persist_armed)
   where
     go : (b c : Bool) → (if b then stopped t Persist else if c then t else armed t Persist moment).msl_armed ≡ t.msl_armed
@@ -277,20 +277,20 @@ state_waits : (t : Timers) (old new : State) (moment : ℕ) → is_time_wait old
 state_waits t old states.TimeWait moment was is = ap (λ (b : Bool). (if b then t else armed t Msl2 moment).msl_armed) was
 state_waits t old new moment was is = absurd cc
 
-taken_waits : (h : Header) (e : Endpoint) (how : TakeChoice) (m : Emission) (moment : ℕ) → is_time_wait e.state ≡ true → is_time_wait (state_taken e how m) ≡ true → (timers_taken h e how m moment).msl_armed ≡ e.timers.msl_armed
-taken_waits h e how m moment was is = state_waits persisting e.state (state_taken e how m) moment was is ∙ either_waits (takes_window e m) (persist_taken running m.window moment) running e.timers.msl_armed (persist_waits running m.window moment ∙ run) run
+taken_waits : (h : Header) (e : Endpoint) (how : TakeChoice) (m : Emission) (moment : ℕ) → is_time_wait e.state ≡ true → is_time_wait (state_after_segment e how m) ≡ true → (timers_after_segment h e how m moment).msl_armed ≡ e.timers.msl_armed
+taken_waits h e how m moment was is = state_waits persisting e.state (state_after_segment e how m) moment was is ∙ either_waits (takes_window e m) (persist_after_window running m.window moment) running e.timers.msl_armed (persist_waits running m.window moment ∙ run) run
   where
     measured : Timers
-    measured = timeout_taken h e (how.sample && is_new_ack e m) m.ack (acknowledges_syn e m) moment
+    measured = timeout_after_ack h e (how.sample && is_new_ack e m) m.ack (acknowledges_syn e m) moment
 
     running : Timers
-    running = rto_taken measured (snd_una_taken e m == snd_max e) (is_new_ack e m) moment
+    running = rto_after_ack measured (snd_una_after_segment e m == snd_max e) (is_new_ack e m) moment
 
     persisting : Timers
-    persisting = if takes_window e m then persist_taken running m.window moment else running
+    persisting = if takes_window e m then persist_after_window running m.window moment else running
 
     run : running.msl_armed ≡ e.timers.msl_armed
-    run = rto_waits measured (snd_una_taken e m == snd_max e) (is_new_ack e m) moment ∙ timeout_waits h e (how.sample && is_new_ack e m) m.ack (acknowledges_syn e m) moment
+    run = rto_waits measured (snd_una_after_segment e m == snd_max e) (is_new_ack e m) moment ∙ timeout_waits h e (how.sample && is_new_ack e m) m.ack (acknowledges_syn e m) moment
 
 not_waiting : (s : State) → is_syn_sent s ≡ true → is_time_wait s ≡ false
 not_waiting states.SynSent is = refl
@@ -320,7 +320,7 @@ gone_taking : (h : Header) (s : ℕ) (w : World tcp_shape) (host : Host) (line :
     → Gone w (At host (Takes line how)) host (pick w.hosts host).body.endpoints (after_taking h (pick w.hosts host).body how m s (taker (pick w.hosts host).body m)).endpoints
 gone_taking h s w host line how m waits = go (taker (pick w.hosts host).body m) refl
   where
-    b : Body
+    b : HostTcp
     b = (pick w.hosts host).body
 
     go : (t : Taker) → taker b m ≡ t → Gone w (At host (Takes line how)) host b.endpoints (after_taking h b how m s t).endpoints
@@ -343,10 +343,10 @@ gone_deed h s w host (Sends line number wire) = gone_not w (At host (Sends line 
 gone_deed h s w host (Gets line copied wire) = gone_not w (At host (Gets line copied wire)) host (pick w.hosts host).body.endpoints
 gone_deed h s w host (Hears line wire) = gone_not w (At host (Hears line wire)) host (pick w.hosts host).body.endpoints
 gone_deed h s w host (Takes line how) = let k = pick w.hosts host in let step : Step tcp_shape = At host (Takes line how) in
-    on_cases (λ (b : Body). Gone w step host k.body.endpoints b.endpoints) (waiting line k.inbox) k.body _ (gone_not w step host k.body.endpoints) (λ m e. gone_taking h s w host line how m e)
+    on_cases (λ (b : HostTcp). Gone w step host k.body.endpoints b.endpoints) (waiting line k.inbox) k.body _ (gone_not w step host k.body.endpoints) (λ m e. gone_taking h s w host line how m e)
 gone_deed h s w host (Drops line) = gone_not w (At host (Drops line)) host (pick w.hosts host).body.endpoints
 gone_deed h s w host (Answers line) = let k = pick w.hosts host in let step : Step tcp_shape = At host (Answers line) in
-    on_cases (λ (b : Body). Gone w step host k.body.endpoints b.endpoints) (waiting line k.inbox) k.body _ (gone_not w step host k.body.endpoints) (λ m e. gone_not w step host k.body.endpoints)
+    on_cases (λ (b : HostTcp). Gone w step host k.body.endpoints b.endpoints) (waiting line k.inbox) k.body _ (gone_not w step host k.body.endpoints) (λ m e. gone_not w step host k.body.endpoints)
 
 -- 3. calls
 
@@ -357,7 +357,7 @@ AtNumber w step host n f = (i : ℕ) (e : Endpoint) → thing_of (pick w.hosts h
 gone_change : (w : World tcp_shape) (step : Step tcp_shape) (host : Host) (n : ℕ) (f : Endpoint → Endpoint) → AtNumber w step host n f
     → Gone w step host (pick w.hosts host).body.endpoints (option_map_or (change_thing (pick w.hosts host).body f) (thing_of (pick w.hosts host).body n) (pick w.hosts host).body).endpoints
 gone_change w step host n f new = let b = (pick w.hosts host).body in
-    map_or_cases (λ (x : Body). Gone w step host b.endpoints x.endpoints) (thing_of b n) b (change_thing b f) (λ e. gone_not w step host b.endpoints) (λ thing e. go thing e)
+    map_or_cases (λ (x : HostTcp). Gone w step host b.endpoints x.endpoints) (thing_of b n) b (change_thing b f) (λ e. gone_not w step host b.endpoints) (λ thing e. go thing e)
   where
     go : (thing : SocketTarget) → thing_of (pick w.hosts host).body n ≡ Some thing → Gone w step host (pick w.hosts host).body.endpoints (change_thing (pick w.hosts host).body f thing).endpoints
     go (ListenerAt l) is = gone_not w step host (pick w.hosts host).body.endpoints
@@ -396,13 +396,13 @@ gone_gone : (w : World tcp_shape) (step : Step tcp_shape) (host : Host) (n : ℕ
     → ((l : ℕ) → thing_of (pick w.hosts host).body n ≡ Some (ListenerAt l) → CallsOn left_number w step host (ListenerAt l))
     → Gone w step host (pick w.hosts host).body.endpoints (option_map_or (λ thing. record (thing_gone (pick w.hosts host).body thing f) { sockets = dead (pick w.hosts host).body.sockets n }) (thing_of (pick w.hosts host).body n) (pick w.hosts host).body).endpoints
 gone_gone w step host n f new left = let b = (pick w.hosts host).body in
-    map_or_cases (λ (x : Body). Gone w step host b.endpoints x.endpoints) (thing_of b n) b (λ thing. record (thing_gone b thing f) { sockets = dead b.sockets n }) (λ e. gone_not w step host b.endpoints) (λ thing e. go thing e)
+    map_or_cases (λ (x : HostTcp). Gone w step host b.endpoints x.endpoints) (thing_of b n) b (λ thing. record (thing_gone b thing f) { sockets = dead b.sockets n }) (λ e. gone_not w step host b.endpoints) (λ thing e. go thing e)
   where
     go : (thing : SocketTarget) → thing_of (pick w.hosts host).body n ≡ Some thing → Gone w step host (pick w.hosts host).body.endpoints (thing_gone (pick w.hosts host).body thing f).endpoints
     go (ListenerAt l) is = gone_map w step host (pick w.hosts host).body.endpoints (orphaned l) (λ i e. orphan_goes w step (name host i) e l (left l is))
     go (EndpointAt i) is = gone_one w step host (pick w.hosts host).body.endpoints i f (λ e at. new i e is)
 
-gone_accept : (w : World tcp_shape) (step : Step tcp_shape) (host : Host) (b : Body) (n : ℕ) (thing : SocketTarget) → Gone w step host b.endpoints (after_accept b n thing).endpoints
+gone_accept : (w : World tcp_shape) (step : Step tcp_shape) (host : Host) (b : HostTcp) (n : ℕ) (thing : SocketTarget) → Gone w step host b.endpoints (after_accept b n thing).endpoints
 gone_accept w step host b n (EndpointAt i) = gone_not w step host b.endpoints
 gone_accept w step host b n (ListenerAt l) = go (queue_of b l)
   where
@@ -418,7 +418,7 @@ gone_call p w thread host (calls.Connect at lport rport) (answers.Given n) turn 
     gone_push w (Effect thread (answers.Given n)) host (pick w.hosts host).body.endpoints (new_endpoint lport rport None states.SynSent p) (inl refl)
 gone_call p w thread host (calls.Accept h) (answers.Given n) turn =
     let b = (pick w.hosts host).body in let step : Step tcp_shape = Effect thread (answers.Given n) in
-    map_or_cases (λ (x : Body). Gone w step host b.endpoints x.endpoints) (thing_of b h) b (after_accept b n) (λ e. gone_not w step host b.endpoints) (λ thing e. gone_accept w step host b n thing)
+    map_or_cases (λ (x : HostTcp). Gone w step host b.endpoints x.endpoints) (thing_of b h) b (after_accept b n) (λ e. gone_not w step host b.endpoints) (λ thing e. gone_accept w step host b n thing)
 gone_call p w thread host (calls.Send h bytes) (answers.Given n) turn =
     gone_change w (Effect thread (answers.Given n)) host h (after_send bytes n) (λ i e is. stays w (Effect thread (answers.Given n)) (name host i) e (after_send bytes n e) refl (level e) refl)
 gone_call p w thread host (calls.Recv h most) (answers.Bytes bytes) turn =

@@ -35,7 +35,7 @@ use Rattle.spec_tcp.specs.declared.endpoint.SocketTarget.{SocketTarget}
 use Rattle.spec_tcp.specs.declared.endpoint.SocketTarget.TheVariants.{ListenerAt, EndpointAt}
 use Rattle.spec_tcp.specs.Endpoints.{new_endpoint, snd_max}
 use Rattle.spec_tcp.specs.Signals.{at_moment, profile_of, recovery_signal, signal_of, timeout_signal}
-use Rattle.spec_tcp.specs.Bodies.{Body, place_of, endpoint_at, endpoint_of, at_ports, with_endpoint, thing_of, queue_of, dead}
+use Rattle.spec_tcp.specs.HostTcp.{HostTcp, place_of, endpoint_at, endpoint_of, at_ports, with_endpoint, thing_of, queue_of, dead}
 use Rattle.case_forms.specs.States.{is_syn_sent}
 use Rattle.spec_tcp.specs.Calls.Send.{after_send}
 use Rattle.spec_tcp.specs.Calls.Receive.{after_recv}
@@ -106,15 +106,15 @@ follows_push p w step host es e new = record {
 }
 
 -- the endpoint of some ports changes
-follows_at_ports : (p : Profile) (w : World tcp_shape) (step : Step tcp_shape) (host : Host) (b : Body) (lport rport : ℕ) (f : Endpoint → Endpoint)
+follows_at_ports : (p : Profile) (w : World tcp_shape) (step : Step tcp_shape) (host : Host) (b : HostTcp) (lport rport : ℕ) (f : Endpoint → Endpoint)
     → ((i : ℕ) (e : Endpoint) → place_of b lport rport ≡ Some i → slice_get b.endpoints i ≡ Some e → WindowsMove w step (name host i) e (f e))
     → Follows p w step host b.endpoints (at_ports b lport rport f).endpoints
 follows_at_ports p w step host b lport rport f new =
-    map_or_cases (λ (x : Body). Follows p w step host b.endpoints x.endpoints) (place_of b lport rport) b (λ i. with_endpoint b i f)
+    map_or_cases (λ (x : HostTcp). Follows p w step host b.endpoints x.endpoints) (place_of b lport rport) b (λ i. with_endpoint b i f)
     (λ e. follows_not p w step host b.endpoints) (λ i at. follows_one p w step host b.endpoints i f (λ e there. new i e at there))
 
 -- the rules on the endpoint of some ports
-rules_there : (b : Body) (lport rport i : ℕ) (e : Endpoint) (f : Endpoint → List (Rule × Bool)) → place_of b lport rport ≡ Some i → slice_get b.endpoints i ≡ Some e → first_broken (rules_at b lport rport f) ≡ None → first_broken (f e) ≡ None
+rules_there : (b : HostTcp) (lport rport i : ℕ) (e : Endpoint) (f : Endpoint → List (Rule × Bool)) → place_of b lport rport ≡ Some i → slice_get b.endpoints i ≡ Some e → first_broken (rules_at b lport rport f) ≡ None → first_broken (f e) ≡ None
 rules_there b lport rport i e f at there may =
     let place : endpoint_of b lport rport ≡ Some e = ap (λ (o : Option ℕ). endpoint_at b o) at ∙ there in
     subst (λ (o : Option Endpoint). first_broken (option_map_or f o ((rules.NoEndpoint, true) ∷ [])) ≡ None) place may
@@ -157,7 +157,7 @@ chosen h e how m moment = go m.flags.rst (is_syn_sent e.state)
     go false true = after_signal (signal_of e m)
     go false false = after_signal (signal_of e m)
 
-allowed : (h : Header) (b : Body) (me : EndpointId) (e : Endpoint) (how : TakeChoice) (m : Emission) (moment : ℕ)
+allowed : (h : Header) (b : HostTcp) (me : EndpointId) (e : Endpoint) (how : TakeChoice) (m : Emission) (moment : ℕ)
     → first_broken (if is_syn_sent e.state then syn_sent_rules e how m moment else connected_rules h b me e how m moment) ≡ None
     → how.cwnd ≤ (greatest e.control (signal_of e m) (at_moment e moment)).0
 allowed h b me e how m moment may = go (is_syn_sent e.state) may
@@ -174,7 +174,7 @@ follows_taking : (h : Header) (s : ℕ) (w : World tcp_shape) (host : Host) (lin
     → Follows (profile_of h.initial) w (At host (Takes line how)) host (pick w.hosts host).body.endpoints (after_taking h (pick w.hosts host).body how m s (taker (pick w.hosts host).body m)).endpoints
 follows_taking h s w host line how m waits may = go (taker (pick w.hosts host).body m) refl may
   where
-    b : Body
+    b : HostTcp
     b = (pick w.hosts host).body
 
     go : (t : Taker) → taker b m ≡ t → first_broken (taker_rules h host b how m s t) ≡ None
@@ -206,42 +206,42 @@ follows_deed h s w host (Gets line copied wire) may =
     follows_not (profile_of h.initial) w (At host (Gets line copied wire)) host (pick w.hosts host).body.endpoints
 follows_deed h s w host (Hears line wire) may = follows_not (profile_of h.initial) w (At host (Hears line wire)) host (pick w.hosts host).body.endpoints
 follows_deed h s w host (Takes line how) may = let k = pick w.hosts host in let step : Step tcp_shape = At host (Takes line how) in
-    on_cases (λ (b : Body). Follows (profile_of h.initial) w step host k.body.endpoints b.endpoints) (waiting line k.inbox) k.body _ (follows_not (profile_of h.initial) w step host k.body.endpoints)
+    on_cases (λ (b : HostTcp). Follows (profile_of h.initial) w step host k.body.endpoints b.endpoints) (waiting line k.inbox) k.body _ (follows_not (profile_of h.initial) w step host k.body.endpoints)
     (λ m e.
     let t = on_passes (waiting line k.inbox) rules.Inbox (λ x. taker_rules h host k.body how x s (taker k.body x)) may in
     let one : t.0 ≡ m = same_Some t.0 m (sym t.1 ∙ e) in
     follows_taking h s w host line how m e (subst (λ (x : Emission). first_broken (taker_rules h host k.body how x s (taker k.body x)) ≡ None) one t.2))
 follows_deed h s w host (Drops line) may = follows_not (profile_of h.initial) w (At host (Drops line)) host (pick w.hosts host).body.endpoints
 follows_deed h s w host (Answers line) may = let k = pick w.hosts host in let step : Step tcp_shape = At host (Answers line) in
-    on_cases (λ (b : Body). Follows (profile_of h.initial) w step host k.body.endpoints b.endpoints) (waiting line k.inbox) k.body _ (follows_not (profile_of h.initial) w step host k.body.endpoints) (λ m e. follows_not (profile_of h.initial) w step host k.body.endpoints)
+    on_cases (λ (b : HostTcp). Follows (profile_of h.initial) w step host k.body.endpoints b.endpoints) (waiting line k.inbox) k.body _ (follows_not (profile_of h.initial) w step host k.body.endpoints) (λ m e. follows_not (profile_of h.initial) w step host k.body.endpoints)
 
 -- 2. calls
 
-follows_same : (p : Profile) (w : World tcp_shape) (step : Step tcp_shape) (host : Host) (b : Body) (i : ℕ) (f : Endpoint → Endpoint)
+follows_same : (p : Profile) (w : World tcp_shape) (step : Step tcp_shape) (host : Host) (b : HostTcp) (i : ℕ) (f : Endpoint → Endpoint)
     → ((e : Endpoint) → (f e).control ≡ e.control) → Follows p w step host b.endpoints (with_endpoint b i f).endpoints
 follows_same p w step host b i f same = follows_one p w step host b.endpoints i f (λ e at. unmoved w step (name host i) e (f e) (same e))
 
-follows_change : (p : Profile) (w : World tcp_shape) (step : Step tcp_shape) (host : Host) (b : Body) (n : ℕ) (f : Endpoint → Endpoint)
+follows_change : (p : Profile) (w : World tcp_shape) (step : Step tcp_shape) (host : Host) (b : HostTcp) (n : ℕ) (f : Endpoint → Endpoint)
     → ((e : Endpoint) → (f e).control ≡ e.control) → Follows p w step host b.endpoints (option_map_or (change_thing b f) (thing_of b n) b).endpoints
 follows_change p w step host b n f same =
-    map_or_cases (λ (x : Body). Follows p w step host b.endpoints x.endpoints) (thing_of b n) b (change_thing b f) (λ e. follows_not p w step host b.endpoints) (λ thing e. go thing)
+    map_or_cases (λ (x : HostTcp). Follows p w step host b.endpoints x.endpoints) (thing_of b n) b (change_thing b f) (λ e. follows_not p w step host b.endpoints) (λ thing e. go thing)
   where
     go : (thing : SocketTarget) → Follows p w step host b.endpoints (change_thing b f thing).endpoints
     go (ListenerAt l) = follows_not p w step host b.endpoints
     go (EndpointAt i) = follows_same p w step host b i f same
 
-follows_gone : (p : Profile) (w : World tcp_shape) (step : Step tcp_shape) (host : Host) (b : Body) (n : ℕ) (f : Endpoint → Endpoint)
+follows_gone : (p : Profile) (w : World tcp_shape) (step : Step tcp_shape) (host : Host) (b : HostTcp) (n : ℕ) (f : Endpoint → Endpoint)
     → ((e : Endpoint) → (f e).control ≡ e.control)
     → Follows p w step host b.endpoints (option_map_or (λ thing. record (thing_gone b thing f) { sockets = dead b.sockets n }) (thing_of b n) b).endpoints
 follows_gone p w step host b n f same =
-    map_or_cases (λ (x : Body). Follows p w step host b.endpoints x.endpoints) (thing_of b n) b (λ thing. record (thing_gone b thing f) { sockets = dead b.sockets n }) (λ e. follows_not p w step host b.endpoints) (λ thing e. go thing)
+    map_or_cases (λ (x : HostTcp). Follows p w step host b.endpoints x.endpoints) (thing_of b n) b (λ thing. record (thing_gone b thing f) { sockets = dead b.sockets n }) (λ e. follows_not p w step host b.endpoints) (λ thing e. go thing)
   where
     go : (thing : SocketTarget) → Follows p w step host b.endpoints (thing_gone b thing f).endpoints
     go (ListenerAt l) =
         follows_map p w step host b.endpoints (orphaned l) (λ e. either_windows (option_map_or (λ holder. holder == l) e.listener false) (after_abort e) e e refl refl)
     go (EndpointAt i) = follows_same p w step host b i f same
 
-follows_accept : (p : Profile) (w : World tcp_shape) (step : Step tcp_shape) (host : Host) (b : Body) (n : ℕ) (thing : SocketTarget)
+follows_accept : (p : Profile) (w : World tcp_shape) (step : Step tcp_shape) (host : Host) (b : HostTcp) (n : ℕ) (thing : SocketTarget)
     → Follows p w step host b.endpoints (after_accept b n thing).endpoints
 follows_accept p w step host b n (EndpointAt i) = follows_not p w step host b.endpoints
 follows_accept p w step host b n (ListenerAt l) = go (queue_of b l)
@@ -250,13 +250,13 @@ follows_accept p w step host b n (ListenerAt l) = go (queue_of b l)
     go [] = follows_not p w step host b.endpoints
     go (c ∷ queue) = follows_same p w step host b c (λ e. record e { listener = None }) (λ e. refl)
 
-follows_call : (p : Profile) (w : World tcp_shape) (step : Step tcp_shape) (host : Host) (b : Body) (call : Call) (answer : Answer)
+follows_call : (p : Profile) (w : World tcp_shape) (step : Step tcp_shape) (host : Host) (b : HostTcp) (call : Call) (answer : Answer)
     → Follows p w step host b.endpoints (after_call p b call answer).endpoints
 follows_call p w step host b (calls.Listen at port backlog) (answers.Given n) = follows_not p w step host b.endpoints
 follows_call p w step host b (calls.Connect at lport rport) (answers.Given n) =
     follows_push p w step host b.endpoints (new_endpoint lport rport None states.SynSent p) (refl, refl, refl)
 follows_call p w step host b (calls.Accept h) (answers.Given n) =
-    map_or_cases (λ (x : Body). Follows p w step host b.endpoints x.endpoints) (thing_of b h) b (after_accept b n) (λ e. follows_not p w step host b.endpoints) (λ thing e. follows_accept p w step host b n thing)
+    map_or_cases (λ (x : HostTcp). Follows p w step host b.endpoints x.endpoints) (thing_of b h) b (after_accept b n) (λ e. follows_not p w step host b.endpoints) (λ thing e. follows_accept p w step host b n thing)
 follows_call p w step host b (calls.Send h bytes) (answers.Given n) = follows_change p w step host b h (after_send bytes n) (λ e. refl)
 follows_call p w step host b (calls.Recv h most) (answers.Bytes bytes) = follows_change p w step host b h (after_recv bytes) (λ e. refl)
 follows_call p w step host b (calls.Shut h) answers.Done = follows_change p w step host b h after_shut (λ e. refl)
@@ -318,7 +318,7 @@ timeout_leaves : (h : Header) (s : ℕ) (w : World tcp_shape) (host : Host) (lin
     → Leaves h s w (At host (Expires line x)) (name host i) (λ c. (c.values.cwnd ≤ (greatest_values e s).0) × (c.values.ssthresh ≤ (greatest_values e s).1))
 timeout_leaves h s w host line x growth i e may is at there = subst Bound (sym is) (after_expiry e (Rto growth) s, at_ports_there w host x.lport x.rport i e (λ e. after_expiry e (Rto growth) s) at there, bound)
   where
-    b : Body
+    b : HostTcp
     b = (pick w.hosts host).body
 
     Bound : Expired → Type 0
@@ -348,7 +348,7 @@ taking_leaves h s w host line how m i e may waits is =
     k : HostState tcp_shape
     k = pick w.hosts host
 
-    b : Body
+    b : HostTcp
     b = k.body
 
     value : ((endpoint_taken h e how r s).control.values.cwnd ≡ how.cwnd) × ((endpoint_taken h e how r s).control.values.ssthresh ≡ e.control.values.ssthresh)

@@ -14,7 +14,7 @@ use Rattle.spec_tcp.specs.declared.endpoint.Endpoint.{Endpoint}
 use Rattle.spec_tcp.specs.declared.endpoint.Emission.{Emission}
 use Rattle.spec_tcp.specs.Endpoints.{snd_max}
 use Rattle.spec_tcp.specs.Signals.{at_moment, profile_of, recovery_signal, signal_of}
-use Rattle.spec_tcp.specs.Bodies.{place_of, endpoint_of}
+use Rattle.spec_tcp.specs.HostTcp.{place_of, endpoint_of}
 use Rattle.case_forms.specs.declared.steps.SegmentPlan.{SegmentPlan}
 use Rattle.case_forms.specs.declared.steps.TakeChoice.{TakeChoice}
 use Rattle.spec_tcp.specs.Heard.{as_read}

@@ -62,8 +62,7 @@ TookFrom hosts me s position = (q : EndpointId) × (s.peer ≡ Some q)
     (slice_get (cells s.accepted s.ended) position ≡ Some cell))
 
 -- each position below the oldest that is not acknowledged after a step, but for the SYN's, was taken by the peer before
--- it; of
--- the SYN nothing is said, since a segment of an older connection may acknowledge it
+-- it; of the SYN nothing is said, since a segment of an older connection may acknowledge it
 abbrev pub AcknowledgedWasTaken : Header → List (Stamped tcp_shape) → Stamped tcp_shape → Type 0
 AcknowledgedWasTaken h steps x =
     (me : EndpointId) (f : Endpoint) → find (after (tcp h) x.moment (world_at_end h steps) x.step).hosts me ≡ Some f

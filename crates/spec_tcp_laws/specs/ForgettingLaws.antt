@@ -78,8 +78,7 @@ kept_broken_from h all w place (s ∷ steps) =
     (kept_broken_from h all (forget (world_after h all w s)) (suc place) steps)
 
 -- a run that forgets is permitted exactly where the whole one is, ends in what is kept of its end, and breaks the same
--- rule
--- first; the first step of a witness stands in line 2
+-- rule first; the first step of a witness stands in line 2
 pub record RunsForget : Type 0 where
   pub starts : (h : Header) → forget (start (tcp h)) ≡ start (tcp h)
   pub lawful : (h : Header) (w : World tcp_shape) (steps : List (Stamped tcp_shape)) → KeptLawful h (forget w) steps

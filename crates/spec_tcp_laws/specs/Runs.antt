@@ -15,7 +15,7 @@ use Rattle.spec_network.specs.HostSteps.{after, after_all, start}
 use Rattle.spec_tcp.specs.declared.endpoint.EndpointId.{EndpointId}
 use Rattle.spec_tcp.specs.declared.endpoint.SocketTarget.{SocketTarget}
 use Rattle.spec_tcp.specs.declared.endpoint.SocketTarget.TheVariants.{ListenerAt, EndpointAt}
-use Rattle.spec_tcp.specs.Bodies.{Body}
+use Rattle.spec_tcp.specs.HostTcp.{HostTcp}
 use Rattle.spec_tcp.specs.Machine.{tcp, tcp_shape}
 
 -- the world at the end of a run
@@ -28,7 +28,7 @@ endpoint_place (ListenerAt l) = None
 endpoint_place (EndpointAt i) = Some i
 
 -- the endpoint that a socket number was given to at this host, if it was given to one; live or not
-abbrev pub owner : Body → ℕ → Option ℕ
+abbrev pub owner : HostTcp → ℕ → Option ℕ
 owner b socket = option_map_or (λ s. endpoint_place s.thing) (lookup (nat_eq socket) b.sockets) None
 
 -- the socket number was given to that endpoint
@@ -47,7 +47,8 @@ call_told_end _ _ socket = false
 
 -- the first bytes of a `send`, as many as it accepted, for this endpoint
 abbrev pub call_accepted : Both (HostState tcp_shape) → Call → Answer → EndpointId → List ℕ
-call_accepted hosts (calls.Send n bytes) (answers.Given count) me = if is_socket_of hosts n me then take count bytes else []
+call_accepted hosts (calls.Send n bytes) (answers.Given count) me =
+    if is_socket_of hosts n me then take count bytes else []
 call_accepted hosts _ _ me = []
 
 -- a `shut` or a `close` ended this endpoint's sending

@@ -18,7 +18,7 @@ use Rattle.spec_tcp.specs.declared.endpoint.Endpoint.{Endpoint}
 use Rattle.spec_tcp.specs.declared.endpoint.Emission.{Emission}
 use Rattle.spec_tcp.specs.declared.endpoint.SocketTarget.{SocketTarget}
 use Rattle.spec_tcp.specs.declared.endpoint.SocketTarget.TheVariants.{ListenerAt, EndpointAt}
-use Rattle.spec_tcp.specs.Bodies.{place_of, thing_of}
+use Rattle.spec_tcp.specs.HostTcp.{place_of, thing_of}
 use Rattle.spec_tcp.specs.Endpoints.{snd_max, rcv_nxt}
 use Rattle.spec_tcp.specs.Machine.{Expiring, tcp, tcp_shape}
 use Rattle.spec_tcp_laws.specs.Runs.{world_at_end}
@@ -33,8 +33,7 @@ close_leads states.CloseWait states.LastAck = true
 close_leads state _ = false
 
 -- those at a SYN and at an acknowledgment. From SYN-RECEIVED to FIN-WAIT-1 the figure leads at CLOSE: here CLOSE ends
--- the
--- sending, and the state follows with the acknowledgment of the SYN (this profile's own)
+-- the sending, and the state follows with the acknowledgment of the SYN (this profile's own)
 abbrev pub segment_leads : State → State → Bool
 segment_leads states.SynSent states.SynReceived = true
 segment_leads states.SynSent states.Established = true

@@ -8,8 +8,7 @@ pub fn forgetting_is_free()
 {}
 
 /// A run that forgets after each step is permitted exactly where the whole one is, breaks the same rule first, and ends
-/// in
-/// what is kept of its end.
+/// in what is kept of its end.
 pub fn runs_forget()
     ensures { RunsForget }
 {}

@@ -26,7 +26,7 @@ use Rattle.spec_tcp.specs.declared.endpoint.Endpoint.{Endpoint}
 use Rattle.spec_tcp.specs.declared.endpoint.Socket.{Socket}
 use Rattle.spec_tcp.specs.declared.endpoint.SocketTarget.{SocketTarget}
 use Rattle.spec_tcp.specs.declared.endpoint.SocketTarget.TheVariants.{EndpointAt}
-use Rattle.spec_tcp.specs.Bodies.{Body, given, if_live, thing_of}
+use Rattle.spec_tcp.specs.HostTcp.{HostTcp, given, if_live, thing_of}
 use Rattle.spec_tcp.specs.Calls.{call_allows, is_bad_socket, socket_allows, thing_allows}
 use Rattle.spec_tcp.specs.Forgetting.{forget, forget_body, forget_endpoint}
 use Rattle.spec_tcp.specs.Machine.{aim, gives, tcp, tcp_shape}
@@ -104,7 +104,7 @@ run_sound : (h : Header) (me : Host) (w : World tcp_shape) (xs : List (Entry tcp
 run_sound h me w [] are runs = are
 run_sound h me w (x ∷ xs) are runs = run_sound h me (next (tcp h) me w x) xs (item_sound h me x.key.moment w x.item are runs.0) runs.2
 
-live_owner : (b : Body) (n i : ℕ) → thing_of b n ≡ Some (EndpointAt i) → owner b n ≡ Some i
+live_owner : (b : HostTcp) (n i : ℕ) → thing_of b n ≡ Some (EndpointAt i) → owner b n ≡ Some i
 live_owner b n i is = by (lookup (nat_eq n) b.sockets) is
   where
     live : (alive : Bool) (s : Socket) → (if alive then Some s.thing else None) ≡ Some (EndpointAt i) → option_map_or (λ x. endpoint_place x.thing) (Some s) None ≡ Some i
@@ -133,7 +133,7 @@ named_left h me xs runs n i is =
 
 -- 3. the effect is permitted
 
-not_live : (b : Body) (n : ℕ) → given b n ≡ false → thing_of b n ≡ None
+not_live : (b : HostTcp) (n : ℕ) → given b n ≡ false → thing_of b n ≡ None
 not_live b n is = by (lookup (nat_eq n) b.sockets) is
   where
     by : (o : Option Socket) → is_some o ≡ false → option_map_or if_live o None ≡ None
@@ -141,7 +141,7 @@ not_live b n is = by (lookup (nat_eq n) b.sockets) is
     by (Some s) is = absurd cc
 
 module _ (h : Header) (me : Host) (moment : ℕ) (v : World tcp_shape) (own : IsOwn me v) (call : Call) (answer : Answer) where
-  abbrev b : Body
+  abbrev b : HostTcp
   b = (pick v.hosts me).body
 
   abbrev Fresh : Host → Type 0
@@ -221,8 +221,8 @@ pub may_have : ForgettingIsFree → (h : Header) (me : Host) (w : World tcp_shap
 may_have free h me w own t call answer is may next moment =
     subst (λ (rs : List (Rule × Bool)). first_broken rs ≡ None) (free.rules h moment w (Effect t answer))
     (effect_may h me moment (forget w) (own_kept me w own) call answer t is
-    (subst (λ (b : Body). call_allows b call answer ≡ true) (sym (kept_body me w)) may)
-    (subst (λ (b : Body). (n : ℕ) → gives call answer ≡ Some n → n ≡ next_socket me b) (sym (kept_body me w)) next))
+    (subst (λ (b : HostTcp). call_allows b call answer ≡ true) (sym (kept_body me w)) may)
+    (subst (λ (b : HostTcp). (n : ℕ) → gives call answer ≡ Some n → n ≡ next_socket me b) (sym (kept_body me w)) next))
 
 -- 5. of a turn
 
@@ -232,20 +232,20 @@ turn_pending Idle call is = absurd (none-some call is)
 turn_pending (Called c) call is = ap (λ (x : Call). let u : Turn tcp_shape = Called x in u) (same_Some c call is)
 turn_pending (Answered a) call is = absurd (none-some call is)
 
-pub gives_next : (me : Host) (b : Body) (u : Turn tcp_shape) (call : Call) (answer : Answer) → u ≡ Called call → ((n : ℕ) → gives call answer ≡ Some n → n ≡ next_socket me b) → GivesNext me b u answer
+pub gives_next : (me : Host) (b : HostTcp) (u : Turn tcp_shape) (call : Call) (answer : Answer) → u ≡ Called call → ((n : ℕ) → gives call answer ≡ Some n → n ≡ next_socket me b) → GivesNext me b u answer
 gives_next me b u call answer is next = subst (λ (u : Turn tcp_shape). GivesNext me b u answer) (sym is) next
 
 -- 6. the answer that is chosen
 
-pub answers_permitted : {E : Type 0} → ForgettingIsFree → (r : Recorded) → IsOwn r.me (world_left r) → (t : ℕ) (call : Call) (me : Host) (b : Body) (next : ℕ) → pending_call (turn_of t (world_left r).threads) ≡ Some call → me ≡ r.me
+pub answers_permitted : {E : Type 0} → ForgettingIsFree → (r : Recorded) → IsOwn r.me (world_left r) → (t : ℕ) (call : Call) (me : Host) (b : HostTcp) (next : ℕ) → pending_call (turn_of t (world_left r).threads) ≡ Some call → me ≡ r.me
     → b ≡ forget_body (pick (world_left r).hosts r.me).body → next ≡ next_socket me b → (res : Result (Option Answer) E) → IfOk res (λ o. IfSome o (λ a. call_allows b call a ≡ true))
     → IfOk res (λ o. IfSome o (λ a. (n : ℕ) → gives call a ≡ Some n → n ≡ next)) → IfOk res (λ o. IfSome o (λ a. (moment : ℕ) → Permitted (tcp r.header) moment (world_left r) (Effect t a)))
 answers_permitted free r own t call me b next pending is body number (Err error) may next_given = tt
 answers_permitted free r own t call me b next pending is body number (Ok None) may next_given = tt
 answers_permitted free r own t call me b next pending is body number (Ok (Some a)) may next_given =
     may_have free r.header r.me (world_left r) own t call a (turn_pending (turn_of t (world_left r).threads) call pending)
-    (subst (λ (x : Body). call_allows x call a ≡ true) body may)
-    (λ n e. next_given n e ∙ number ∙ ap (λ (x : Host). next_socket x b) is ∙ ap (λ (x : Body). next_socket r.me x) body)
+    (subst (λ (x : HostTcp). call_allows x call a ≡ true) body may)
+    (λ n e. next_given n e ∙ number ∙ ap (λ (x : Host). next_socket x b) is ∙ ap (λ (x : HostTcp). next_socket r.me x) body)
 
 -- 7. the steps of an event that ends a call
 
@@ -257,11 +257,11 @@ lane_on n (suc k) = ap lane (let same : n + 2 * suc k ≡ suc (suc (n + 2 * k)) 
     twice Zero = refl
     twice One = refl
 
-lane_next : (me : Host) (b : Body) → lane (next_socket me b) ≡ me
+lane_next : (me : Host) (b : HostTcp) → lane (next_socket me b) ≡ me
 lane_next Zero b = lane_on 2 (length b.sockets)
 lane_next One b = lane_on 3 (length b.sockets)
 
-lanes : (me : Host) (b : Body) (u : Turn tcp_shape) (a : Answer) → GivesNext me b u a → (call : Call) → u ≡ Called call → (n : ℕ) → gives call a ≡ Some n → lane n ≡ me
+lanes : (me : Host) (b : HostTcp) (u : Turn tcp_shape) (a : Answer) → GivesNext me b u a → (call : Call) → u ≡ Called call → (n : ℕ) → gives call a ≡ Some n → lane n ≡ me
 lanes me b u a next call is n e = ap lane (subst (λ (u : Turn tcp_shape). GivesNext me b u a) is next n e) ∙ lane_next me b
 
 pub effect_fits : (c d : Core) (tick : Tick) (t : ℕ) (a b : Answer) → d ≡ opened c tick → b ≡ a → ((moment : ℕ) → Permitted (tcp c.recorded.header) moment (world c) (Effect t a))

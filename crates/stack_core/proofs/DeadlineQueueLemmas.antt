@@ -11,10 +11,10 @@ use Rattle.std.proofs.lemmas.Option.{none-some, same_Some}
 use Rattle.spec_tcp.specs.declared.endpoint.Endpoint.{Endpoint}
 use Rattle.spec_tcp.specs.Forgetting.{forget_endpoint}
 use Rattle.spec_tcp_laws.proofs.Moves.{map_back}
-use Rattle.stack_core.specs.declared.deadline_queue.Touch.{Touch}
-use Rattle.stack_core.specs.declared.deadline_queue.Touch.TheVariants as touches
+use Rattle.stack_core.specs.declared.deadline_queue.Affected.{Affected}
+use Rattle.stack_core.specs.declared.deadline_queue.Affected.TheVariants as kinds
 use Rattle.stack_core.specs.declared.deadline_queue.Deadline.{Deadline}
-use Rattle.stack_core.specs.DeadlineQueues.{AreCovered, AreFrom, AreStill, IsGrown, IsListed, IsRenewed, IsTouchAt, IsTouched, IsTouchedIn, Leaves, at_once, from}
+use Rattle.stack_core.specs.DeadlineQueues.{AreCovered, AreFrom, AreStill, IsGrown, IsListed, IsRenewed, IsAffectedAt, LooksAgain, IsListedAgain, Leaves, at_once, from}
 
 by_test : {A : Type 0} (b : Bool) → (b ≡ true → A) → (b ≡ false → A) → A
 by_test true yes_ no_ = yes_ refl
@@ -122,26 +122,26 @@ module _ (Before : ℕ → Endpoint → Type 0) (Ever : Endpoint → Type 0) whe
   pub none_covered : (looked : ℕ) (ks : List Deadline) (es : List Endpoint) → looked ≡ 0 → AreCovered Before Ever looked ks es
   none_covered looked ks es is = subst (λ (n : ℕ). AreCovered Before Ever n ks es) (sym is) (record { within = omega arith; each = λ i e less at. absurd (omega arith) })
 
-  -- a step changes what was touched
-  pub touched_covered : ((e : Endpoint) → Before 0 e) → (t : Touch) (looked now : ℕ) (ks ls : List Deadline) (es fs : List Endpoint) → IsTouched t looked ks now ls → Leaves t es fs → AreCovered Before Ever looked ks es → AreCovered Before Ever now ls fs
-  touched_covered begins t looked now ks ls es fs (inl none) leaves are = none_covered now ls fs none
-  touched_covered begins t looked now ks ls es fs (inr (same, still, touch)) leaves are = subst (λ (n : ℕ). AreCovered Before Ever n ls fs) (sym same) (record {
+  -- a step changes what it affects
+  pub affected_covered : ((e : Endpoint) → Before 0 e) → (t : Affected) (looked now : ℕ) (ks ls : List Deadline) (es fs : List Endpoint) → LooksAgain t looked ks now ls → Leaves t es fs → AreCovered Before Ever looked ks es → AreCovered Before Ever now ls fs
+  affected_covered begins t looked now ks ls es fs (inl none) leaves are = none_covered now ls fs none
+  affected_covered begins t looked now ks ls es fs (inr (same, still, affected)) leaves are = subst (λ (n : ℕ). AreCovered Before Ever n ls fs) (sym same) (record {
     within = let low = are.within in let more = leaves.count in omega arith;
-    each = λ i f less at. let low = are.within in let inside : i < length es = omega arith in by t touch i f less (leaves.back i f inside at);
+    each = λ i f less at. let low = are.within in let inside : i < length es = omega arith in by t affected i f less (leaves.back i f inside at);
   })
     where
       stays : (i : ℕ) (f : Endpoint) → ((m : ℕ) × IsListed (from m i) ks × Before m f) ⊎ Ever f → ((m : ℕ) × IsListed (from m i) ls × Before m f) ⊎ Ever f
       stays i f (inl (m, listed, before)) = inl (m, still (from m i) listed, before)
       stays i f (inr ever) = inr ever
 
-      by : (t : Touch) → IsTouchedIn t looked ls → (i : ℕ) (f : Endpoint) → i < looked → IsTouchAt t i ⊎ (slice_get es i ≡ Some f) → ((m : ℕ) × IsListed (from m i) ls × Before m f) ⊎ Ever f
-      by t touch i f less (inr at) = stays i f (are.each i f less at)
-      by touches.Nobody touch i f less (inl there) = absurd there
-      by (touches.Place j) touch i f less (inl there) = inl (0, touch_here i j there less touch, begins f)
+      by : (t : Affected) → IsListedAgain t looked ls → (i : ℕ) (f : Endpoint) → i < looked → IsAffectedAt t i ⊎ (slice_get es i ≡ Some f) → ((m : ℕ) × IsListed (from m i) ls × Before m f) ⊎ Ever f
+      by t affected i f less (inr at) = stays i f (are.each i f less at)
+      by kinds.Nobody affected i f less (inl there) = absurd there
+      by (kinds.Place j) affected i f less (inl there) = inl (0, listed_here i j there less affected, begins f)
         where
-          touch_here : (i j : ℕ) → i ≡ j → i < looked → (j < looked → IsListed (at_once j) ls) → IsListed (at_once i) ls
-          touch_here i j same less touch = subst (λ (n : ℕ). IsListed (at_once n) ls) (sym same) (touch (subst (λ (n : ℕ). n < looked) same less))
-      by touches.All touch i f less (inl there) = absurd touch
+          listed_here : (i j : ℕ) → i ≡ j → i < looked → (j < looked → IsListed (at_once j) ls) → IsListed (at_once i) ls
+          listed_here i j same less affected = subst (λ (n : ℕ). IsListed (at_once n) ls) (sym same) (affected (subst (λ (n : ℕ). n < looked) same less))
+      by kinds.All affected i f less (inl there) = absurd affected
 
   -- more are listed
   pub grown_covered : ((e : Endpoint) → Before 0 e) → (looked now : ℕ) (ks ls : List Deadline) (es : List Endpoint) → IsGrown (length es) looked ks now ls → AreCovered Before Ever looked ks es → AreCovered Before Ever now ls es
@@ -199,7 +199,7 @@ there_kept [] i e is = absurd (none-some e is)
 there_kept (x ∷ es) zero e is = ap (λ (y : Endpoint). Some (forget_endpoint y)) (same_Some x e is)
 there_kept (x ∷ es) (suc i) e is = there_kept es i e is
 
-pub leaves_kept : (t : Touch) (es fs : List Endpoint) → Leaves t es fs → Leaves t (map forget_endpoint es) (map forget_endpoint fs)
+pub leaves_kept : (t : Affected) (es fs : List Endpoint) → Leaves t es fs → Leaves t (map forget_endpoint es) (map forget_endpoint fs)
 leaves_kept t es fs leaves = record {
   back = λ i f less at.
       let was = map_back forget_endpoint fs i f at in
@@ -207,6 +207,6 @@ leaves_kept t es fs leaves = record {
   count = subst (λ (n : ℕ). n ≤ length (map forget_endpoint fs)) (sym (length_map es)) (subst (λ (n : ℕ). length es ≤ n) (sym (length_map fs)) leaves.count);
 }
   where
-    by : (i : ℕ) (f x : Endpoint) → forget_endpoint x ≡ f → IsTouchAt t i ⊎ (slice_get es i ≡ Some x) → IsTouchAt t i ⊎ (slice_get (map forget_endpoint es) i ≡ Some f)
+    by : (i : ℕ) (f x : Endpoint) → forget_endpoint x ≡ f → IsAffectedAt t i ⊎ (slice_get es i ≡ Some x) → IsAffectedAt t i ⊎ (slice_get (map forget_endpoint es) i ≡ Some f)
     by i f x is (inl there) = inl there
     by i f x is (inr at) = inr (there_kept es i x at ∙ ap (λ (y : Endpoint). Some y) is)

@@ -17,7 +17,7 @@ use Rattle.spec_network.specs.Hosts.{Deed, Does, Expires, Makes, Sends, Gets, He
 use Rattle.spec_network.specs.HostRules.{aim_of}
 use Rattle.spec_network.specs.HostSteps.{after, call_after, deed_after, effect_after, start}
 use Rattle.spec_network.proofs.Entries.{lookup_insert}
-use Rattle.spec_tcp.specs.Bodies.{Body}
+use Rattle.spec_tcp.specs.HostTcp.{HostTcp}
 use Rattle.spec_tcp.specs.declared.endpoint.Emission.{Emission}
 use Rattle.spec_tcp.specs.Machine.{aim, tcp, tcp_shape}
 use Rattle.spec_tcp.specs.Machine as acts
@@ -124,7 +124,7 @@ picked : (me : Host) (hosts : Both (HostState tcp_shape)) (s : HostState tcp_sha
 picked Zero hosts s = refl
 picked One hosts s = refl
 
-called_wire : (me host : Host) (hosts : Both (HostState tcp_shape)) (b : Body) → (pick (with_host hosts host (record (pick hosts host) { body = b })) me).wire ≡ (pick hosts me).wire
+called_wire : (me host : Host) (hosts : Both (HostState tcp_shape)) (b : HostTcp) → (pick (with_host hosts host (record (pick hosts host) { body = b })) me).wire ≡ (pick hosts me).wire
 called_wire Zero Zero hosts b = refl
 called_wire Zero One hosts b = refl
 called_wire One Zero hosts b = refl

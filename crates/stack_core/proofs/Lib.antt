@@ -14,7 +14,7 @@ pub mod MadeLemmas
 pub mod TimerLemmas
 pub mod ArriveLemmas
 pub mod DeadlineQueueLemmas
-pub mod TouchLemmas
+pub mod AffectedLemmas
 pub mod TendedLemmas
 pub mod CoreWorldLemmas
 pub mod LeavesLemmas

@@ -13,7 +13,7 @@ use Rattle.spec_network.specs.Tables.{pick}
 use Rattle.spec_network.specs.Hosts.{World, At, Makes}
 use Rattle.spec_network.specs.HostRules.{Permitted}
 use Rattle.spec_tcp.specs.Machine.{tcp, tcp_shape}
-use Rattle.spec_tcp.specs.Bodies.{Body}
+use Rattle.spec_tcp.specs.HostTcp.{HostTcp}
 use Rattle.std.specs.Prelude.{if◌then◌else◌, nat_le, slice_get, not, ◌&&◌, ◌||◌, ◌==◌, is_some, ◌⊎◌}
 use Rattle.std.proofs.lemmas.Bool.Decides.{nat_tests}
 use Rattle.verdict.specs.Rules.{first_broken}
@@ -25,7 +25,7 @@ use Rattle.window_rules.specs.Control.{control_edge}
 use Rattle.case_forms.specs.declared.steps.SegmentPlan.{SegmentPlan}
 use Rattle.spec_tcp.specs.declared.endpoint.Endpoint.{Endpoint}
 use Rattle.spec_tcp.specs.Endpoints.{snd_max, rcv_nxt, flag_count}
-use Rattle.spec_tcp.specs.Bodies.{last_from, has_ports, place_of, endpoint_of}
+use Rattle.spec_tcp.specs.HostTcp.{last_from, has_ports, place_of, endpoint_of}
 use Rattle.case_forms.specs.States.{is_closed, is_syn_sent, is_syn_received}
 use Rattle.spec_tcp.specs.Makes.{making_rules}
 use Rattle.spec_tcp.specs.Makes.Payload.{making_length, is_bad_empty_place, old_end}
@@ -379,7 +379,7 @@ same_ports : (l r : ℕ) (e : Endpoint) → has_ports l r e ≡ true → (e.lpor
 same_ports l r e is = let both = both_hold (e.lport == l) (e.rport == r) is in (is_same e.lport l both.0, is_same e.rport r both.1)
 
 -- the endpoint of ports has them
-pub of_ports : (b : Body) (l r : ℕ) (e : Endpoint) → endpoint_of b l r ≡ Some e → (i : ℕ) × (slice_get b.endpoints i ≡ Some e) × (e.lport ≡ l) × (e.rport ≡ r)
+pub of_ports : (b : HostTcp) (l r : ℕ) (e : Endpoint) → endpoint_of b l r ≡ Some e → (i : ℕ) × (slice_get b.endpoints i ≡ Some e) × (e.lport ≡ l) × (e.rport ≡ r)
 of_ports b l r e found = by (place_of b l r) refl found
   where
     by : (o : Option ℕ) → place_of b l r ≡ o → option_map_or (λ i. slice_get b.endpoints i) o None ≡ Some e → (i : ℕ) × (slice_get b.endpoints i ≡ Some e) × (e.lport ≡ l) × (e.rport ≡ r)
@@ -396,7 +396,7 @@ of_ports b l r e found = by (place_of b l r) refl found
 pub nothing : (h : Header) (me : Host) (w : World tcp_shape) → ((i : ℕ) (e : Endpoint) → slice_get (pick w.hosts me).body.endpoints i ≡ Some e → IsTried h me w e) → NothingToMake h me w
 nothing h me w tried m e rst found past permitted = refute (one_may e t.opening t.at_syn t.window m rst may past)
   where
-    b : Body
+    b : HostTcp
     b = (pick w.hosts me).body
 
     at : (i : ℕ) × (slice_get b.endpoints i ≡ Some e) × (e.lport ≡ m.lport) × (e.rport ≡ m.rport)
@@ -455,7 +455,7 @@ tried_far h me w opening window e all above = record {
 }
 
 -- of every world that is kept
-short_body : (steps : ℕ) (b : Body) → steps < most_steps → IsKeptBody steps b → All (λ e. IsShort e) b.endpoints
+short_body : (steps : ℕ) (b : HostTcp) → steps < most_steps → IsKeptBody steps b → All (λ e. IsShort e) b.endpoints
 short_body steps b few k = All-weaker (IsKept steps) IsShort (λ e kept. short e kept) b.endpoints k.kept
   where
     short : (e : Endpoint) → IsKept steps e → IsShort e
@@ -496,7 +496,7 @@ plan_whole free p r me header left is (Some m) f = (
 -- the same is refused where nothing was forgotten
 nothing_whole : ForgettingIsFree → (h : Header) (me : Host) (w : World tcp_shape) → NothingToMake h me (forget w) → NothingToMake h me w
 nothing_whole free h me w none m e rst found past permitted = none m (forget_endpoint e) rst
-    (ap (λ (b : Body). endpoint_of b m.lport m.rport) (kept_body me w) ∙ endpoint-forget (pick w.hosts me).body m.lport m.rport ∙ ap (option_map forget_endpoint) found)
+    (ap (λ (b : HostTcp). endpoint_of b m.lport m.rport) (kept_body me w) ∙ endpoint-forget (pick w.hosts me).body m.lport m.rport ∙ ap (option_map forget_endpoint) found)
     (subst (λ (n : ℕ). n < m.pos + making_length m) (sym (snd_max-forget e)) past)
     (subst (λ (rs : List (Rule × Bool)). first_broken rs ≡ None) (sym (free.rules h 0 w (At me (Makes m)))) permitted)
 

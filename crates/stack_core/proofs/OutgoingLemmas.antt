@@ -17,7 +17,7 @@ use Rattle.spec_network.specs.Hosts.{World, At, Makes, Sends, Step}
 use Rattle.spec_network.specs.HostRules.{Permitted, just}
 use Rattle.spec_network.specs.HostSteps.{after}
 use Rattle.spec_network.proofs.Entries.{lookup_insert}
-use Rattle.spec_tcp.specs.Bodies.{Body, place_of}
+use Rattle.spec_tcp.specs.HostTcp.{HostTcp, place_of}
 use Rattle.spec_tcp.specs.declared.endpoint.Emission.{Emission}
 use Rattle.spec_tcp.specs.declared.endpoint.Endpoint.{Endpoint}
 use Rattle.spec_tcp.specs.Machine.{act_makes, act_rules, made_at, tcp, tcp_shape}
@@ -41,7 +41,7 @@ few_taken (suc n) [] = omega arith
 few_taken (suc n) (x ∷ xs) = let few = few_taken n xs in omega arith
 
 -- a segment that may be made is one, of at most so many bytes
-makes_one : (me : Host) (b : Body) (m : SegmentPlan) (h : Header) (moment : ℕ) → first_broken (act_rules h me moment b (acts.Makes m)) ≡ None → (e : Emission) × (act_makes me b (acts.Makes m) ≡ Some e) × (length e.payload ≤ m.len)
+makes_one : (me : Host) (b : HostTcp) (m : SegmentPlan) (h : Header) (moment : ℕ) → first_broken (act_rules h me moment b (acts.Makes m)) ≡ None → (e : Emission) × (act_makes me b (acts.Makes m) ≡ Some e) × (length e.payload ≤ m.len)
 makes_one me b m h moment may = by (place_of b m.lport m.rport) may
   where
     at : (i : ℕ) (o : Option Endpoint) → first_broken (option_map_or (λ e. making_rules e m) o ((rules.NoEndpoint, true) ∷ [])) ≡ None

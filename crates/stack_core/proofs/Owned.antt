@@ -15,7 +15,7 @@ use Rattle.spec_network.specs.HostRules.{aim_of}
 use Rattle.spec_network.specs.HostSteps.{after, call_after, deed_after, effect_after}
 use Rattle.spec_network.proofs.Entries.{turn_insert}
 use Rattle.spec_tcp.specs.Signals.{profile_of}
-use Rattle.spec_tcp.specs.Bodies.{Body, given}
+use Rattle.spec_tcp.specs.HostTcp.{HostTcp, given}
 use Rattle.spec_tcp.specs.Calls.{after_call}
 use Rattle.spec_tcp.specs.Machine.{aim, gives, tcp, tcp_shape}
 use Rattle.spec_tcp.specs.Machine as acts
@@ -48,11 +48,11 @@ called_same a b is = ap (λ (u : Turn tcp_shape). by u) is
 -- 2. sockets
 
 -- what is asked of the sockets of the host itself
-pub record OwnNumbers (me : Host) (b : Body) : Type 0 where
+pub record OwnNumbers (me : Host) (b : HostTcp) : Type 0 where
   pub own : (n : ℕ) → given b n ≡ true → lane n ≡ me
   pub below : (n : ℕ) → given b n ≡ true → n < next_socket me b
 
-same_numbers : (me : Host) (b c : Body) → c.sockets ≡ b.sockets → OwnNumbers me b → OwnNumbers me c
+same_numbers : (me : Host) (b c : HostTcp) → c.sockets ≡ b.sockets → OwnNumbers me b → OwnNumbers me c
 same_numbers me b c same own = record {
   own = λ n is. own.own n (ap (λ (es : Sockets). is_some (lookup (nat_eq n) es)) (sym same) ∙ is);
   below = λ n is. subst (λ (es : Sockets). n < first_socket me + 2 * length es) (sym same) (own.below n (ap (λ (es : Sockets). is_some (lookup (nat_eq n) es)) (sym same) ∙ is));
@@ -62,7 +62,7 @@ pub not_given : (b : Bool) → (b ≡ true → ⊥) → b ≡ false
 not_given true never = absurd (never refl)
 not_given false never = refl
 
-pub call_numbers : (me : Host) (b c : Body) (o : Option ℕ) → SocketsAfter b.sockets c.sockets o → ((n : ℕ) → o ≡ Some n → n ≡ next_socket me b) → ((n : ℕ) → o ≡ Some n → lane n ≡ me) → OwnNumbers me b
+pub call_numbers : (me : Host) (b c : HostTcp) (o : Option ℕ) → SocketsAfter b.sockets c.sockets o → ((n : ℕ) → o ≡ Some n → n ≡ next_socket me b) → ((n : ℕ) → o ≡ Some n → lane n ≡ me) → OwnNumbers me b
     → OwnNumbers me c × (length c.sockets ≤ suc (length b.sockets))
 call_numbers me b c o (inl same) next lanes own = (same_numbers me b c same own, let count = ap (λ (es : Sockets). length es) same in omega arith)
 call_numbers me b c o (inr (inl (n, gone))) next lanes own =

@@ -16,7 +16,7 @@ use Rattle.spec_network.specs.Hosts.{Deed, Does, Expires, Makes, Sends, Gets, He
 use Rattle.spec_network.specs.HostRules.{aim_of}
 use Rattle.spec_network.specs.HostSteps.{after, call_after, deed_after, effect_after, made_gone_out, start}
 use Rattle.spec_network.proofs.Entries.{lookup_insert}
-use Rattle.spec_tcp.specs.Bodies.{Body, place_of}
+use Rattle.spec_tcp.specs.HostTcp.{HostTcp, place_of}
 use Rattle.spec_tcp.specs.declared.endpoint.Emission.{Emission}
 use Rattle.spec_tcp.specs.declared.endpoint.Endpoint.{Endpoint}
 use Rattle.spec_tcp.specs.Machine.{act_makes, aim, made_at, tcp, tcp_shape}
@@ -93,7 +93,7 @@ gone made xs number are = by (lookup (nat_eq number) made)
 
 -- 3. a deed
 
-making_joins : (me : Host) (b : Body) (m : SegmentPlan) (made : Table) (xs : List ℕ) (fresh : ℕ) → AreAwaited made xs → AreAwaited (on (act_makes me b (acts.Makes m)) made (λ e. insert_entry nat_eq made fresh (unsent e))) xs
+making_joins : (me : Host) (b : HostTcp) (m : SegmentPlan) (made : Table) (xs : List ℕ) (fresh : ℕ) → AreAwaited made xs → AreAwaited (on (act_makes me b (acts.Makes m)) made (λ e. insert_entry nat_eq made fresh (unsent e))) xs
 making_joins me b m made xs fresh are = by (place_of b m.lport m.rport)
   where
     at : (i : ℕ) (o : Option Endpoint) → AreAwaited (on (option_map (λ e. emission_of (record { host = me; number = i }) e m) o) made (λ e. insert_entry nat_eq made fresh (unsent e))) xs
@@ -104,7 +104,7 @@ making_joins me b m made xs fresh are = by (place_of b m.lport m.rport)
     by None = are
     by (Some i) = at i (slice_get b.endpoints i)
 
-answering_joins : (me : Host) (b : Body) (o : Option Emission) (made : Table) (xs : List ℕ) (fresh : ℕ) → AreAwaited made xs → AreAwaited (on o made (λ e. on (act_makes me b (acts.Resets e)) made (λ r. insert_entry nat_eq made fresh (unsent r)))) (xs ++ fresh ∷ [])
+answering_joins : (me : Host) (b : HostTcp) (o : Option Emission) (made : Table) (xs : List ℕ) (fresh : ℕ) → AreAwaited made xs → AreAwaited (on o made (λ e. on (act_makes me b (acts.Resets e)) made (λ r. insert_entry nat_eq made fresh (unsent r)))) (xs ++ fresh ∷ [])
 answering_joins me b None made xs fresh are = more_awaited made xs (fresh ∷ []) are
 answering_joins me b (Some e) made xs fresh are = answer_joins made xs fresh (reset_of e) refl are
 
@@ -126,7 +126,7 @@ picked : (me : Host) (hosts : Both (HostState tcp_shape)) (s : HostState tcp_sha
 picked Zero hosts s = refl
 picked One hosts s = refl
 
-called_made : (me host : Host) (hosts : Both (HostState tcp_shape)) (b : Body) → (pick (with_host hosts host (record (pick hosts host) { body = b })) me).made ≡ (pick hosts me).made
+called_made : (me host : Host) (hosts : Both (HostState tcp_shape)) (b : HostTcp) → (pick (with_host hosts host (record (pick hosts host) { body = b })) me).made ≡ (pick hosts me).made
 called_made Zero Zero hosts b = refl
 called_made Zero One hosts b = refl
 called_made One Zero hosts b = refl

@@ -21,7 +21,7 @@ use Rattle.spec_tcp.specs.declared.endpoint.Socket.{Socket}
 use Rattle.spec_tcp.specs.declared.endpoint.SocketTarget.{SocketTarget}
 use Rattle.spec_tcp.specs.declared.endpoint.SocketTarget.TheVariants.{ListenerAt, EndpointAt}
 use Rattle.spec_tcp.specs.Arrives.{Taker, Nobody, AtListener, AtEndpoint, taker, after_taking}
-use Rattle.spec_tcp.specs.Bodies.{Body, at_ports, dead, place_of, queue_of, thing_of, with_endpoint}
+use Rattle.spec_tcp.specs.HostTcp.{HostTcp, at_ports, dead, place_of, queue_of, thing_of, with_endpoint}
 use Rattle.spec_tcp.specs.Calls.{after_call, change, change_thing}
 use Rattle.spec_tcp.specs.Calls.Accept.{accepted_from, after_accept}
 use Rattle.spec_tcp.specs.Calls.Close.{after_abort, after_close, after_gone, after_shut, thing_gone}
@@ -35,10 +35,10 @@ Sockets = List (ℕ × Socket)
 
 -- 1. what no call does
 
-at_sockets : (b : Body) (l r : ℕ) (f : Endpoint → Endpoint) → (at_ports b l r f).sockets ≡ b.sockets
-at_sockets b l r f = map_or_cases (λ (c : Body). c.sockets ≡ b.sockets) (place_of b l r) b (λ i. with_endpoint b i f) (λ e. refl) (λ i e. refl)
+at_sockets : (b : HostTcp) (l r : ℕ) (f : Endpoint → Endpoint) → (at_ports b l r f).sockets ≡ b.sockets
+at_sockets b l r f = map_or_cases (λ (c : HostTcp). c.sockets ≡ b.sockets) (place_of b l r) b (λ i. with_endpoint b i f) (λ e. refl) (λ i e. refl)
 
-taking_sockets : (h : Header) (b : Body) (how : TakeChoice) (m : Emission) (moment : ℕ) (t : Taker) → (after_taking h b how m moment t).sockets ≡ b.sockets
+taking_sockets : (h : Header) (b : HostTcp) (how : TakeChoice) (m : Emission) (moment : ℕ) (t : Taker) → (after_taking h b how m moment t).sockets ≡ b.sockets
 taking_sockets h b how m moment Nobody = refl
 taking_sockets h b how m moment (AtListener l) = refl
 taking_sockets h b how m moment (AtEndpoint i e) = refl
@@ -50,9 +50,9 @@ deed_sockets h me moment fresh far s (Makes plan) = at_sockets s.body plan.lport
 deed_sockets h me moment fresh far s (Sends line number wire) = refl
 deed_sockets h me moment fresh far s (Gets line copied wire) = refl
 deed_sockets h me moment fresh far s (Hears line wire) = refl
-deed_sockets h me moment fresh far s (Takes line how) = on_cases (λ (b : Body). b.sockets ≡ s.body.sockets) (waiting line s.inbox) s.body _ refl (λ m e. taking_sockets h s.body how m moment (taker s.body m))
+deed_sockets h me moment fresh far s (Takes line how) = on_cases (λ (b : HostTcp). b.sockets ≡ s.body.sockets) (waiting line s.inbox) s.body _ refl (λ m e. taking_sockets h s.body how m moment (taker s.body m))
 deed_sockets h me moment fresh far s (Drops line) = refl
-deed_sockets h me moment fresh far s (Answers line) = on_cases (λ (b : Body). b.sockets ≡ s.body.sockets) (waiting line s.inbox) s.body _ refl (λ m e. refl)
+deed_sockets h me moment fresh far s (Answers line) = on_cases (λ (b : HostTcp). b.sockets ≡ s.body.sockets) (waiting line s.inbox) s.body _ refl (λ m e. refl)
 
 -- 2. what calls do
 
@@ -60,17 +60,17 @@ deed_sockets h me moment fresh far s (Answers line) = on_cases (λ (b : Body). b
 abbrev pub SocketsAfter : Sockets → Sockets → Option ℕ → Type 0
 SocketsAfter old new given = (new ≡ old) ⊎ (((n : ℕ) × (new ≡ dead old n)) ⊎ ((n : ℕ) × (s : Socket) × (given ≡ Some n) × (new ≡ insert_entry nat_eq old n s)))
 
-change_sockets : (b : Body) (n : ℕ) (f : Endpoint → Endpoint) → (change b n f).sockets ≡ b.sockets
-change_sockets b n f = map_or_cases (λ (c : Body). c.sockets ≡ b.sockets) (thing_of b n) b (change_thing b f) (λ e. refl) (λ thing e. by thing)
+change_sockets : (b : HostTcp) (n : ℕ) (f : Endpoint → Endpoint) → (change b n f).sockets ≡ b.sockets
+change_sockets b n f = map_or_cases (λ (c : HostTcp). c.sockets ≡ b.sockets) (thing_of b n) b (change_thing b f) (λ e. refl) (λ thing e. by thing)
   where
     by : (thing : SocketTarget) → (change_thing b f thing).sockets ≡ b.sockets
     by (ListenerAt l) = refl
     by (EndpointAt i) = refl
 
-gone_sockets : (b : Body) (n : ℕ) (f : Endpoint → Endpoint) → SocketsAfter b.sockets (after_gone b n f).sockets None
-gone_sockets b n f = map_or_cases (λ (c : Body). SocketsAfter b.sockets c.sockets None) (thing_of b n) b (λ thing. record (thing_gone b thing f) { sockets = dead b.sockets n }) (λ e. inl refl) (λ thing e. inr (inl (n, refl)))
+gone_sockets : (b : HostTcp) (n : ℕ) (f : Endpoint → Endpoint) → SocketsAfter b.sockets (after_gone b n f).sockets None
+gone_sockets b n f = map_or_cases (λ (c : HostTcp). SocketsAfter b.sockets c.sockets None) (thing_of b n) b (λ thing. record (thing_gone b thing f) { sockets = dead b.sockets n }) (λ e. inl refl) (λ thing e. inr (inl (n, refl)))
 
-accept_sockets : (b : Body) (n : ℕ) (thing : SocketTarget) → SocketsAfter b.sockets (after_accept b n thing).sockets (Some n)
+accept_sockets : (b : HostTcp) (n : ℕ) (thing : SocketTarget) → SocketsAfter b.sockets (after_accept b n thing).sockets (Some n)
 accept_sockets b n (EndpointAt i) = inl refl
 accept_sockets b n (ListenerAt l) = by (queue_of b l)
   where
@@ -78,11 +78,11 @@ accept_sockets b n (ListenerAt l) = by (queue_of b l)
     by [] = inl refl
     by (child ∷ queue) = inr (inr (n, record { thing = EndpointAt child; live = true }, refl, refl))
 
-pub call_sockets : (p : Profile) (b : Body) (call : Call) (answer : Answer) → SocketsAfter b.sockets (after_call p b call answer).sockets (gives call answer)
+pub call_sockets : (p : Profile) (b : HostTcp) (call : Call) (answer : Answer) → SocketsAfter b.sockets (after_call p b call answer).sockets (gives call answer)
 call_sockets p b (calls.Listen host port backlog) (answers.Given n) = inr (inr (n, record { thing = ListenerAt (length b.listeners); live = true }, refl, refl))
 call_sockets p b (calls.Connect host lport rport) (answers.Given n) = inr (inr (n, record { thing = EndpointAt (length b.endpoints); live = true }, refl, refl))
 call_sockets p b (calls.Accept h) (answers.Given n) =
-    map_or_cases (λ (c : Body). SocketsAfter b.sockets c.sockets (Some n)) (thing_of b h) b (after_accept b n) (λ e. inl refl) (λ thing e. accept_sockets b n thing)
+    map_or_cases (λ (c : HostTcp). SocketsAfter b.sockets c.sockets (Some n)) (thing_of b h) b (after_accept b n) (λ e. inl refl) (λ thing e. accept_sockets b n thing)
 call_sockets p b (calls.Send h bytes) (answers.Given n) = inl (change_sockets b h (after_send bytes n))
 call_sockets p b (calls.Recv h most) (answers.Bytes bytes) = inl (change_sockets b h (after_recv bytes))
 call_sockets p b (calls.Shut h) answers.Done = inl (change_sockets b h after_shut)

@@ -22,7 +22,7 @@ use Rattle.spec_network.specs.Tables.{other, pick}
 use Rattle.spec_network.specs.Hosts.{Step, World}
 use Rattle.spec_network.specs.HostSteps.{after, start}
 use Rattle.timer_rules.specs.Timers.{earliest}
-use Rattle.spec_tcp.specs.Bodies.{Body, endpoint_of}
+use Rattle.spec_tcp.specs.HostTcp.{HostTcp, endpoint_of}
 use Rattle.spec_tcp.specs.Bounds.{IsKept}
 use Rattle.spec_tcp.specs.declared.endpoint.Endpoint.{Endpoint}
 use Rattle.spec_tcp.specs.Endpoints.{is_up, snd_max}
@@ -35,24 +35,24 @@ use Rattle.endpoint_state.specs.Kept.{AreReadable, IsKeptWorld}
 use Rattle.spec_merge.specs.Books.{Bring, Do, FitsItem, Flying, bring}
 use Rattle.spec_merge.proofs.Growing.{end_more}
 use Rattle.stack_core.specs.declared.deadline_queue.DeadlineQueue.{DeadlineQueue}
-use Rattle.stack_core.specs.declared.deadline_queue.Touch.{Touch}
+use Rattle.stack_core.specs.declared.deadline_queue.Affected.{Affected}
 use Rattle.stack_core.specs.declared.deadline_queue.Deadline.{Deadline}
 use Rattle.stack_core.specs.declared.plans.SynOptions.{SynOptions}
 use Rattle.stack_core.specs.declared.tick.Tick.{Tick}
-use Rattle.stack_core.specs.DeadlineQueues.{AreFrom, IsListed, IsRenewed, IsTouched, Leaves, from}
+use Rattle.stack_core.specs.DeadlineQueues.{AreFrom, IsListed, IsRenewed, LooksAgain, Leaves, from}
 use Rattle.stack_core.specs.Entries.{entry_at}
 use Rattle.stack_core.specs.Makings.{NothingToMake, bytes_of, fin_of, syn_of}
 use Rattle.stack_core.specs.Recordings.{Recorded, with_entry, world_left}
 use Rattle.stack_core.specs.Tended.{AreQuiet, AreTimed, IsDueSince, IsQuiet, IsSlow, IsStill, IsStillAt, IsStillBefore, IsTended, kept_ends, least}
 use Rattle.stack_core.specs.TimerEvents.{NoneDueAt}
-use Rattle.stack_core.specs.Touches.{touched}
+use Rattle.stack_core.specs.Affected.{affected_by}
 use Rattle.endpoint_state.specs.Worlds.{Progress}
 use Rattle.stack_core.proofs.AnswerLemmas.{kept_body}
-use Rattle.stack_core.proofs.DeadlineQueueLemmas.{left_covered, leaves_kept, none_covered, renewed_covered, touched_covered}
+use Rattle.stack_core.proofs.DeadlineQueueLemmas.{left_covered, leaves_kept, none_covered, renewed_covered, affected_covered}
 use Rattle.stack_core.proofs.MakingLemmas.{OneMay, of_ports, one_may}
 use Rattle.stack_core.proofs.ResetLemmas.{own_host}
 use Rattle.stack_core.proofs.TimerLemmas.{kept_there}
-use Rattle.stack_core.proofs.TouchLemmas.{bring_leaves, ends, leaves_same, step_leaves}
+use Rattle.stack_core.proofs.AffectedLemmas.{bring_leaves, ends, leaves_same, step_leaves}
 
 -- 1. an endpoint makes nothing
 
@@ -160,7 +160,7 @@ module _ (h : Header) (e : Endpoint) (again probe over all : Option ℕ) (is_aga
 pub none_due_by : (r : Recorded) (moment : ℕ) → ((i : ℕ) (e : Endpoint) → slice_get (kept_ends r) i ≡ Some e → IsStillAt r.header moment e) → NoneDueAt r moment
 none_due_by r moment still x unlike may = by (endpoint_of b x.lport x.rport) refl
   where
-    b : Body
+    b : HostTcp
     b = (pick (world_left r).hosts r.me).body
 
     by : (o : Option Endpoint) → endpoint_of b x.lport x.rport ≡ o → ⊥
@@ -179,27 +179,27 @@ tended_starts h me r ready wakes none_ready none_wake = record {
 pub never_before : (h : Header) (e : Endpoint) → IsStillBefore h 0 e
 never_before h e moment early x not may = absurd (omega arith)
 
-module _ (r : Recorded) (ready wakes ready_then wakes_then : DeadlineQueue) (touch : Touch) (is_ready : IsTouched touch ready.looked ready.entries.keys ready_then.looked ready_then.entries.keys)
-    (is_wakes : IsTouched touch wakes.looked wakes.entries.keys wakes_then.looked wakes_then.entries.keys) (is : IsTended r ready wakes) where
-  leads : (s : Recorded) → s.header ≡ r.header → Leaves touch (kept_ends r) (kept_ends s) → IsTended s ready_then wakes_then
+module _ (r : Recorded) (ready wakes ready_then wakes_then : DeadlineQueue) (affected : Affected) (is_ready : LooksAgain affected ready.looked ready.entries.keys ready_then.looked ready_then.entries.keys)
+    (is_wakes : LooksAgain affected wakes.looked wakes.entries.keys wakes_then.looked wakes_then.entries.keys) (is : IsTended r ready wakes) where
+  leads : (s : Recorded) → s.header ≡ r.header → Leaves affected (kept_ends r) (kept_ends s) → IsTended s ready_then wakes_then
   leads s same leaves = record {
-    quiet = touched_covered (λ m e. Unit {0}) IsQuiet (λ e. tt) touch ready.looked ready_then.looked ready.entries.keys ready_then.entries.keys (kept_ends r) (kept_ends s) is_ready leaves is.quiet;
+    quiet = affected_covered (λ m e. Unit {0}) IsQuiet (λ e. tt) affected ready.looked ready_then.looked ready.entries.keys ready_then.entries.keys (kept_ends r) (kept_ends s) is_ready leaves is.quiet;
     timed = subst (λ (h : Header). AreTimed h wakes_then.looked wakes_then.entries.keys (kept_ends s)) (sym same)
-        (touched_covered (IsStillBefore r.header) (IsStill r.header) (never_before r.header) touch wakes.looked wakes_then.looked wakes.entries.keys wakes_then.entries.keys (kept_ends r) (kept_ends s) is_wakes leaves is.timed);
+        (affected_covered (IsStillBefore r.header) (IsStill r.header) (never_before r.header) affected wakes.looked wakes_then.looked wakes.entries.keys wakes_then.entries.keys (kept_ends r) (kept_ends s) is_wakes leaves is.timed);
   }
 
   -- nothing is done
   pub tended_tried : (s : Recorded) → s ≡ r → IsTended s ready_then wakes_then
-  tended_tried s same = subst (λ (t : Recorded). IsTended t ready_then wakes_then) (sym same) (leads r refl (leaves_same touch (kept_ends r)))
+  tended_tried s same = subst (λ (t : Recorded). IsTended t ready_then wakes_then) (sym same) (leads r refl (leaves_same affected (kept_ends r)))
 
   -- a step joins
-  pub tended_steps : (s : Recorded) (last : Tick) (step : Step tcp_shape) → FitsItem (tcp r.header) r.me last.moment (world_left r) (Do step) → touch ≡ touched r.me (world_left r) step → s ≡ with_entry r (entry_at r.me last (Do step)) → IsTended s ready_then wakes_then
-  tended_steps s last step fits touch_is same =
+  pub tended_steps : (s : Recorded) (last : Tick) (step : Step tcp_shape) → FitsItem (tcp r.header) r.me last.moment (world_left r) (Do step) → affected ≡ affected_by r.me (world_left r) step → s ≡ with_entry r (entry_at r.me last (Do step)) → IsTended s ready_then wakes_then
+  tended_steps s last step fits affected_is same =
       let left : world_left (with_entry r (entry_at r.me last (Do step))) ≡ after (tcp r.header) last.moment (world_left r) step = end_more (tcp r.header) r.me (start (tcp r.header)) r.entries (entry_at r.me last (Do step) ∷ []) in
       subst (λ (t : Recorded). IsTended t ready_then wakes_then) (sym same) (leads (with_entry r (entry_at r.me last (Do step))) refl
-      (subst (λ (w : World tcp_shape). Leaves touch (kept_ends r) (map forget_endpoint (ends r.me w))) (sym left)
-      (leaves_kept touch (ends r.me (world_left r)) (ends r.me (after (tcp r.header) last.moment (world_left r) step))
-      (subst (λ (t : Touch). Leaves t (ends r.me (world_left r)) (ends r.me (after (tcp r.header) last.moment (world_left r) step))) (sym touch_is)
+      (subst (λ (w : World tcp_shape). Leaves affected (kept_ends r) (map forget_endpoint (ends r.me w))) (sym left)
+      (leaves_kept affected (ends r.me (world_left r)) (ends r.me (after (tcp r.header) last.moment (world_left r) step))
+      (subst (λ (t : Affected). Leaves t (ends r.me (world_left r)) (ends r.me (after (tcp r.header) last.moment (world_left r) step))) (sym affected_is)
       (step_leaves r.header r.me last.moment (world_left r) step (own_host r.header r.me (world_left r) step fits.1))))))
 
 -- a segment is brought
@@ -215,7 +215,7 @@ tended_brings r s ready wakes last f same is =
 -- what is kept of a world has them
 pub kept_ends_there : (r : Recorded) (p : Progress) (me : Host) → p.world ≡ forget (world_left r) → me ≡ r.me → (pick p.world.hosts me).body.endpoints ≡ kept_ends r
 kept_ends_there r p me left is = ap (λ (w : World tcp_shape). (pick w.hosts me).body.endpoints) left ∙ ap (λ (x : Host). (pick (forget (world_left r)).hosts x).body.endpoints) is
-    ∙ ap (λ (b : Body). b.endpoints) (kept_body r.me (world_left r))
+    ∙ ap (λ (b : HostTcp). b.endpoints) (kept_body r.me (world_left r))
 
 -- 5. when timers may expire
 
@@ -311,11 +311,11 @@ no_probe h e lacks moment expireds.Persist kind may = by lacks (needs (is_some e
 
 -- 6. the first entry leaves
 
-pub left_quiet : (me : Host) (w : World tcp_shape) (b : Body) (looked now : ℕ) (ks ls : List Deadline) (x : Deadline) → b ≡ (pick w.hosts me).body → Some x ≡ slice_get ks 0 → now ≡ looked → ls ≡ drop 1 ks → ((e : Endpoint) → slice_get b.endpoints x.place ≡ Some e → IsQuiet e)
+pub left_quiet : (me : Host) (w : World tcp_shape) (b : HostTcp) (looked now : ℕ) (ks ls : List Deadline) (x : Deadline) → b ≡ (pick w.hosts me).body → Some x ≡ slice_get ks 0 → now ≡ looked → ls ≡ drop 1 ks → ((e : Endpoint) → slice_get b.endpoints x.place ≡ Some e → IsQuiet e)
     → (length (pick w.hosts me).body.endpoints ≤ looked) × AreQuiet looked ks (pick w.hosts me).body.endpoints → (length (pick w.hosts me).body.endpoints ≤ now) × AreQuiet now ls (pick w.hosts me).body.endpoints
 left_quiet me w b looked now ks ls x is first same rest quiet are = (
   subst (λ (n : ℕ). length (pick w.hosts me).body.endpoints ≤ n) (sym same) are.0,
-  left_covered (λ m e. Unit {0}) IsQuiet looked now ks ls x (pick w.hosts me).body.endpoints first same rest (λ e at. quiet e (ap (λ (c : Body). slice_get c.endpoints x.place) is ∙ at)) are.1,
+  left_covered (λ m e. Unit {0}) IsQuiet looked now ks ls x (pick w.hosts me).body.endpoints first same rest (λ e at. quiet e (ap (λ (c : HostTcp). slice_get c.endpoints x.place) is ∙ at)) are.1,
 )
 
 -- 7. timers of a recording

@@ -15,7 +15,7 @@ use Rattle.verdict.proofs.RuleLemmas.{none_all, all_none}
 use Rattle.spec_network.specs.Tables.{pick}
 use Rattle.spec_network.specs.Hosts.{At, Expires}
 use Rattle.spec_network.specs.HostRules.{Permitted}
-use Rattle.spec_tcp.specs.Bodies.{Body, endpoint_of}
+use Rattle.spec_tcp.specs.HostTcp.{HostTcp, endpoint_of}
 use Rattle.spec_tcp.specs.Forgetting.{forget_body, forget_endpoint}
 use Rattle.spec_tcp.specs.Machine.{Expiring, tcp}
 use Rattle.spec_tcp.specs.Timeouts.{expiry_rules, greatest_values}
@@ -65,7 +65,7 @@ back_at : (r : Recorded) (moment : ℕ) (x : Expiring) (e : Endpoint) → endpoi
     → first_broken (expiry_rules r.header moment e x.expired) ≡ None → Permitted (tcp r.header) moment (world_left r) (At r.me (Expires 0 x))
 back_at r moment x e is may = subst (λ (o : Option Endpoint). first_broken (option_map_or (λ e. expiry_rules r.header moment e x.expired) o ((rules.NoEndpoint, true) ∷ [])) ≡ None) (sym is) may
 
-pub none_due : (r : Recorded) (moment : ℕ) (b : Body) → b ≡ forget_body (pick (world_left r).hosts r.me).body
+pub none_due : (r : Recorded) (moment : ℕ) (b : HostTcp) → b ≡ forget_body (pick (world_left r).hosts r.me).body
     → ((i : ℕ) (e : Endpoint) → slice_get b.endpoints i ≡ Some e → IsRefused r moment (record { lport = e.lport; rport = e.rport })) → NoneDueAt r moment
 none_due r moment b is refused x not may = by (endpoint_of (pick (world_left r).hosts r.me).body x.lport x.rport) refl
   where
@@ -73,7 +73,7 @@ none_due r moment b is refused x not may = by (endpoint_of (pick (world_left r).
     by None at = absurd (let none = at_ports r moment x None at may in cc)
     by (Some e) at =
         let place = of_ports (pick (world_left r).hosts r.me).body x.lport x.rport e at in
-        let there : slice_get b.endpoints place.0 ≡ Some (forget_endpoint e) = ap (λ (c : Body). slice_get c.endpoints place.0) is ∙ kept_there (pick (world_left r).hosts r.me).body.endpoints place.0 e place.1 in
+        let there : slice_get b.endpoints place.0 ≡ Some (forget_endpoint e) = ap (λ (c : HostTcp). slice_get c.endpoints place.0) is ∙ kept_there (pick (world_left r).hosts r.me).body.endpoints place.0 e place.1 in
         let refuses : IsRefused r moment (record { lport = x.lport; rport = x.rport }) = subst (λ (p : ℕ). IsRefused r moment (record { lport = x.lport; rport = p })) place.3
         (subst (λ (p : ℕ). IsRefused r moment (record { lport = p; rport = e.rport })) place.2 (refused place.0 (forget_endpoint e) there)) in
         by_kind r moment (record { lport = x.lport; rport = x.rport }) refuses x.expired not (back_at r moment (record x { expired = least x.expired }) e at (timer_may r.header moment e x.expired (at_ports r moment x (Some e) at may)))

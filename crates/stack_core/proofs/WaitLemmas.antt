@@ -6,7 +6,7 @@ use Rattle.std.proofs.lemmas.Option.{none-some, slice_get-map}
 use Rattle.case_forms.specs.declared.calls.Call.{Call}
 use Rattle.case_forms.specs.declared.calls.Call.TheVariants as calls
 use Rattle.case_forms.specs.declared.calls.Answer.TheVariants as answers
-use Rattle.spec_tcp.specs.Bodies.{Body, thing_of}
+use Rattle.spec_tcp.specs.HostTcp.{HostTcp, thing_of}
 use Rattle.spec_tcp.specs.declared.endpoint.Endpoint.{Endpoint}
 use Rattle.spec_tcp.specs.declared.endpoint.SocketTarget.{SocketTarget}
 use Rattle.spec_tcp.specs.declared.endpoint.SocketTarget.TheVariants.{ListenerAt, EndpointAt}
@@ -17,7 +17,7 @@ use Rattle.stack_core.specs.Answers.{SendWaits, Waits, endpoint_named, thing_end
 use Rattle.stack_core.specs.CallEvents.{KeptNoAnswer, NoAnswer}
 use Rattle.stack_core.specs.Cores.{Core, own_body}
 
-named_forget : (b : Body) (n : ℕ) (e : Endpoint) → endpoint_named b n ≡ Some e → endpoint_named (forget_body b) n ≡ Some (forget_endpoint e)
+named_forget : (b : HostTcp) (n : ℕ) (e : Endpoint) → endpoint_named b n ≡ Some e → endpoint_named (forget_body b) n ≡ Some (forget_endpoint e)
 named_forget b n e = by (thing_of b n)
   where
     at : (t : SocketTarget) → thing_endpoint b t ≡ Some e → thing_endpoint (forget_body b) t ≡ Some (forget_endpoint e)
@@ -32,7 +32,7 @@ send_waits : (ring : ℕ) (e : Endpoint) → SendWaits ring (forget_endpoint e) 
 send_waits ring e (inl early) = inl early
 send_waits ring e (inr full) = inr (subst (λ (n : ℕ). ring ≤ n - max e.stream.snd_una 1) (end_of-forget e) full)
 
-waits_whole : (ring : ℕ) (b : Body) (call : Call) → Waits ring (forget_body b) call → Waits ring b call
+waits_whole : (ring : ℕ) (b : HostTcp) (call : Call) → Waits ring (forget_body b) call → Waits ring b call
 waits_whole ring b (calls.Send n bytes) waits = (sym (call_allows-forget b (calls.Send n bytes) answers.Again) ∙ waits.0, λ e is. send_waits ring e (waits.1 (forget_endpoint e) (named_forget b n e is)))
 waits_whole ring b (calls.Listen host port backlog) waits = (sym (call_allows-forget b (calls.Listen host port backlog) answers.Again) ∙ waits.0, tt)
 waits_whole ring b (calls.Connect host lport rport) waits = (sym (call_allows-forget b (calls.Connect host lport rport) answers.Again) ∙ waits.0, tt)

@@ -14,7 +14,7 @@ use Rattle.spec_network.specs.Hosts.{Called, Effect, Finish, Idle, Answered, Ste
 use Rattle.spec_merge.specs.Books.{Aims, Do, FitsItem, Item, Key, step_line}
 use Rattle.spec_merge.specs.Keys.{EachEntry, If}
 use Rattle.spec_merge.specs.Recordings.{IsKept, next_line}
-use Rattle.spec_tcp.specs.Bodies.{Body, given}
+use Rattle.spec_tcp.specs.HostTcp.{HostTcp, given}
 use Rattle.spec_tcp.specs.Machine.{aim, gives, tcp, tcp_shape}
 use Rattle.stack_core.specs.declared.tick.Tick.{Tick}
 use Rattle.stack_core.specs.Entries.{entry_at, steps_in}
@@ -34,7 +34,7 @@ abbrev pub world : Core → World tcp_shape
 world c = world_left c.recorded
 
 -- what its host has
-abbrev pub own_body : Core → Body
+abbrev pub own_body : Core → HostTcp
 own_body c = (pick (world c).hosts c.recorded.me).body
 
 -- the number of the line to come
@@ -108,7 +108,7 @@ abbrev pub first_socket : Host → ℕ
 first_socket Zero = 2
 first_socket One = 3
 
-abbrev pub next_socket : Host → Body → ℕ
+abbrev pub next_socket : Host → HostTcp → ℕ
 next_socket me b = first_socket me + 2 * length b.sockets
 
 -- a call's numbers are within limits: a send has bytes, a read asks for some
@@ -118,7 +118,7 @@ IsCallWithin (calls.Recv n most) = 1 ≤ most
 IsCallWithin call = Unit {0}
 
 -- a socket number that the answer gives is the next one
-abbrev pub GivesNext : Host → Body → Turn tcp_shape → Answer → Type 0
+abbrev pub GivesNext : Host → HostTcp → Turn tcp_shape → Answer → Type 0
 GivesNext me b Idle answer = Unit {0}
 GivesNext me b (Called call) answer = (n : ℕ) → gives call answer ≡ Some n → n ≡ next_socket me b
 GivesNext me b (Answered given) answer = Unit {0}

@@ -1,8 +1,8 @@
 -- Which endpoints of a host are to be looked at, and when: lists of entries, and what holds of endpoints without one.
 use Rattle.std.specs.Prelude.{◌≡◌, ◌≤◌, ◌<◌, ◌⊎◌, ℕ, List, [], ◌∷◌, drop, length, slice_get, Some}
 use Rattle.spec_tcp.specs.declared.endpoint.Endpoint.{Endpoint}
-use Rattle.stack_core.specs.declared.deadline_queue.Touch.{Touch}
-use Rattle.stack_core.specs.declared.deadline_queue.Touch.TheVariants as touches
+use Rattle.stack_core.specs.declared.deadline_queue.Affected.{Affected}
+use Rattle.stack_core.specs.declared.deadline_queue.Affected.TheVariants as kinds
 use Rattle.stack_core.specs.declared.deadline_queue.Deadline.{Deadline}
 
 -- the entry is one of these
@@ -33,15 +33,15 @@ pub record AreCovered (Before : ℕ → Endpoint → Type 0) (Ever : Endpoint �
       → ((m : ℕ) × IsListed (from m i) entries × Before m e) ⊎ Ever e
 
 -- what may be changed is listed
-abbrev pub IsTouchedIn : Touch → ℕ → List Deadline → Type 0
-IsTouchedIn touches.Nobody looked entries = Unit {0}
-IsTouchedIn (touches.Place i) looked entries = i < looked → IsListed (at_once i) entries
-IsTouchedIn touches.All looked entries = ⊥
+abbrev pub IsListedAgain : Affected → ℕ → List Deadline → Type 0
+IsListedAgain kinds.Nobody looked entries = Unit {0}
+IsListedAgain (kinds.Place i) looked entries = i < looked → IsListed (at_once i) entries
+IsListedAgain kinds.All looked entries = ⊥
 
 -- or no endpoint counts as looked at
-abbrev pub IsTouched : Touch → (looked : ℕ) → List Deadline → (looked_then : ℕ) → List Deadline → Type 0
-IsTouched t looked entries looked_then entries_then =
-    (looked_then ≡ 0) ⊎ ((looked_then ≡ looked) × AreStill entries entries_then × IsTouchedIn t looked entries_then)
+abbrev pub LooksAgain : Affected → (looked : ℕ) → List Deadline → (looked_then : ℕ) → List Deadline → Type 0
+LooksAgain t looked entries looked_then entries_then =
+    (looked_then ≡ 0) ⊎ ((looked_then ≡ looked) × AreStill entries entries_then × IsListedAgain t looked entries_then)
 
 -- more are looked at, of so many: each of these is listed
 pub record IsGrown (count : ℕ) (looked : ℕ) (entries : List Deadline) (looked_then : ℕ) (entries_then : List Deadline) : Type 0 where
@@ -56,13 +56,13 @@ IsRenewed w looked entries looked_then entries_then =
     (looked_then ≡ 0) ⊎ ((looked_then ≡ looked) × AreStill (drop 1 entries) entries_then × IsListed w entries_then)
 
 -- the endpoint at a place may be changed
-abbrev pub IsTouchAt : Touch → ℕ → Type 0
-IsTouchAt touches.Nobody i = ⊥
-IsTouchAt (touches.Place j) i = i ≡ j
-IsTouchAt touches.All i = Unit {0}
+abbrev pub IsAffectedAt : Affected → ℕ → Type 0
+IsAffectedAt kinds.Nobody i = ⊥
+IsAffectedAt (kinds.Place j) i = i ≡ j
+IsAffectedAt kinds.All i = Unit {0}
 
 -- endpoints stay as they are but for these, and none goes
-pub record Leaves (t : Touch) (es fs : List Endpoint) : Type 0 where
-  pub back : (i : ℕ) (f : Endpoint) → i < length es → slice_get fs i ≡ Some f → IsTouchAt t i
+pub record Leaves (t : Affected) (es fs : List Endpoint) : Type 0 where
+  pub back : (i : ℕ) (f : Endpoint) → i < length es → slice_get fs i ≡ Some f → IsAffectedAt t i
       ⊎ (slice_get es i ≡ Some f)
   pub count : length es ≤ length fs

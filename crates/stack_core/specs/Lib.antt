@@ -13,7 +13,7 @@ pub mod PumpEvents
 pub mod TimerEvents
 pub mod ArrivalEvents
 pub mod DeadlineQueues
-pub mod Touches
+pub mod Affected
 pub mod Tended
 pub mod CoreWorlds
 pub mod Told

@@ -6,7 +6,7 @@ use Rattle.case_forms.specs.declared.trace.Header.{Header}
 use Rattle.spec_network.specs.Tables.{pick}
 use Rattle.spec_network.specs.Hosts.{At, Makes, World}
 use Rattle.spec_network.specs.HostRules.{Permitted}
-use Rattle.spec_tcp.specs.Bodies.{endpoint_of}
+use Rattle.spec_tcp.specs.HostTcp.{endpoint_of}
 use Rattle.spec_tcp.specs.Bounds.{greatest_position}
 use Rattle.spec_tcp.specs.declared.endpoint.Endpoint.{Endpoint}
 use Rattle.spec_tcp.specs.Endpoints.{snd_max, rcv_nxt}

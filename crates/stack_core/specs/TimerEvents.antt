@@ -8,7 +8,7 @@ use Rattle.case_forms.specs.States.{is_fin_wait_2}
 use Rattle.spec_network.specs.Hosts.{At, Expires, Step}
 use Rattle.spec_network.specs.HostRules.{Permitted}
 use Rattle.spec_network.specs.Tables.{pick}
-use Rattle.spec_tcp.specs.Bodies.{endpoint_of}
+use Rattle.spec_tcp.specs.HostTcp.{endpoint_of}
 use Rattle.spec_tcp.specs.declared.endpoint.Endpoint.{Endpoint}
 use Rattle.spec_tcp.specs.Forgetting.{forget_body}
 use Rattle.spec_tcp.specs.Machine.{Expiring, tcp, tcp_shape}
@@ -18,7 +18,8 @@ use Rattle.stack_core.specs.Recordings.{Recorded, world_left}
 
 -- the line of a timer that expires
 abbrev pub expiry_step : Host → ℕ → Ports → Expired → Step tcp_shape
-expiry_step me line ports expired = At me (Expires line (record { lport = ports.lport; rport = ports.rport; expired = expired }))
+expiry_step me line ports expired =
+    At me (Expires line (record { lport = ports.lport; rport = ports.rport; expired = expired }))
 
 -- that timer may expire there at this moment, with any line
 abbrev pub IsDueAt : Recorded → ℕ → Ports → Expired → Type 0

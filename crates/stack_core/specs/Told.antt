@@ -21,8 +21,7 @@ abbrev pub TellsWell : Version → SegmentPlan → Type 0
 TellsWell v m = IfSome m.shift (IsShift v m.iss)
 
 -- a segment is made at a position that a text may name, with a payload that fits into a segment beside its options, and
--- with a shift
--- that may be told
+-- with a shift that may be told
 abbrev pub IsToldDeed : Version → Deed tcp_shape → Type 0
 IsToldDeed v (Does x) = Unit {0}
 IsToldDeed v (Expires line x) = Unit {0}

@@ -3,7 +3,7 @@
 ghost use Rattle.std.specs.Prelude.{◌≡◌, ℕ, true, false, is_some, slice_get, Some, IfNone, IfOk};
 ghost use Rattle.std.specs.Option.{IfSome};
 ghost use Rattle.case_forms.specs.declared.calls.Answer.TheVariants as answers;
-ghost use Rattle.spec_tcp.specs.Bodies.{queue_of};
+ghost use Rattle.spec_tcp.specs.HostTcp.{queue_of};
 ghost use Rattle.spec_tcp.specs.Calls.{call_allows, socket_allows};
 ghost use Rattle.spec_tcp.specs.Calls.Accept.{listener_allows};
 ghost use Rattle.spec_tcp.specs.Machine.{gives};
@@ -14,16 +14,15 @@ mod connected;
 
 use crate::answers::connected::at_endpoint;
 use case_forms::{Answer, Call, OutOfMemory, State};
-use endpoint_state::Body;
+use endpoint_state::HostTcp;
 use spec_tcp::SocketTarget;
 use std::alloc::Global;
 
 /// The answer of a call at the host that it means, which may give the next socket number. A send is answered by as many
-/// bytes
-/// as the ring has room for, at least one. None: the call waits. The error is that memory ran out.
+/// bytes as the ring has room for, at least one. None: the call waits. The error is that memory ran out.
 pub(crate) fn choose(
     alloc: Global,
-    body: &Body,
+    body: &HostTcp,
     call: &Call,
     next: u32,
     ring: u16,
@@ -60,7 +59,7 @@ pub(crate) fn choose(
 // The same of a call on a socket number.
 fn on_socket(
     alloc: Global,
-    body: &Body,
+    body: &HostTcp,
     number: u32,
     call: &Call,
     next: u32,
@@ -87,7 +86,7 @@ fn on_socket(
 }
 
 // The same of a call on a listener.
-fn at_listener(body: &Body, place: u32, call: &Call, next: u32) -> Option<Answer>
+fn at_listener(body: &HostTcp, place: u32, call: &Call, next: u32) -> Option<Answer>
     requires socket { IsOnSocket call.now }
     ensures some { IfSome result (λ a. listener_allows (queue_of body.now place) call.now a ≡ true) }
     ensures once { IfSome result (λ a. is_again a ≡ false) }
@@ -112,7 +111,7 @@ fn at_listener(body: &Body, place: u32, call: &Call, next: u32) -> Option<Answer
 }
 
 // Whether a child stands in a listener's queue.
-fn has_child(body: &Body, place: u32) -> bool
+fn has_child(body: &HostTcp, place: u32) -> bool
     ensures { result ≡ is_some (slice_get (queue_of body.now place) 0) }
 {
     match body.listener_at(place) {

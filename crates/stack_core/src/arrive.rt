@@ -16,13 +16,14 @@ ghost use Rattle.stack_core.specs.CoreWorlds.CoreCall.{Arrive};
 ghost use Rattle.stack_core.specs.Cores.{IsAfter, IsRecorded, MayDo, line_to_come, with_item};
 ghost use Rattle.stack_core.specs.Entries.{steps_in};
 
-use crate::deadline_queue::Touch;
+use crate::deadline_queue::Affected;
 use crate::flying::Flying;
 use crate::greatest::{at_recovery, cwnd_at_arrival};
 use crate::host_core::HostCore;
 use crate::send_states::{Before, Seen};
 use crate::tick::Tick;
 use case_forms::{OutOfMemory, Ports, Recovery, RtoChoice, TakeChoice, TakenLine};
+use endpoint::is_past_lifetime;
 use spec_step::Label;
 use spec_tcp::Emission;
 
@@ -63,11 +64,11 @@ impl HostCore {
         let before = self.before(flying.emission(), ports);
         self.come_in(flying)?;
         self.resolve_arrival(line, ports, before.window)?;
-        self.note_arrival(ports, before);
+        self.update_after_arrival(ports, before);
         Ok(true)
     }
 
-    // What is told of an endpoint before a segment comes in for its ports.
+    // What is remembered of an endpoint before a segment comes in for its ports.
     fn before(&self, m: &Emission, ports: Ports) -> Before {
         let asks = !m.flags.rst && 0 < m.length();
         let body = self.recording.body();
@@ -89,7 +90,7 @@ impl HostCore {
     }
 
     // It is remembered what an arrival asks of the endpoint of these ports.
-    fn note_arrival(&mut self, ports: Ports, before: Before)
+    fn update_after_arrival(&mut self, ports: Ports, before: Before)
         ensures { self.new ≡ self.old }
     {
         let body = self.recording.body();
@@ -114,7 +115,7 @@ impl HostCore {
     fn is_old(&self, flying: &Flying, moment: u64) -> bool
         ensures { result ≡ nat_lt (flying.now.emission.moment + self.now.recorded.header.msl) moment }
     {
-        flying.emission().moment as u128 + (self.recording.header().msl as u128) < moment as u128
+        is_past_lifetime(self.recording.header(), moment, flying.emission())
     }
 
     // It is brought, and comes in.
@@ -137,7 +138,7 @@ impl HostCore {
             copied,
             wire,
         };
-        self.add(Label::L(line), Touch::Nobody)?;
+        self.add(Label::L(line), Affected::Nobody)?;
         Ok(())
     }
 
@@ -154,8 +155,8 @@ impl HostCore {
             return self.reject(line);
         };
         let host = self.me();
-        let touch = self.touch_at(ports.lport, ports.rport);
-        self.add(Label::T { host, line, choice }, touch)?;
+        let affected = self.affected_at(ports.lport, ports.rport);
+        self.add(Label::T { host, line, choice }, affected)?;
         self.recover(ports)?;
         Ok(())
     }
@@ -172,10 +173,10 @@ impl HostCore {
         let host = self.me();
         let reset = Label::R { host, line };
         if self.admits(&reset) {
-            self.add(reset, Touch::Nobody)?;
+            self.add(reset, Affected::Nobody)?;
             return Ok(());
         }
-        self.add(Label::K { host, line }, Touch::Nobody)?;
+        self.add(Label::K { host, line }, Affected::Nobody)?;
         Ok(())
     }
 
@@ -201,7 +202,8 @@ impl HostCore {
         ensures some { IfSome result (λ choice. (choice.keep ≡ true)
             × MayDo self.now (At self.now.recorded.me (Takes line choice))) }
         ensures same { IfSome result (λ choice. choice ≡ record { cwnd = cwnd; keep = true; sample = sample }) }
-        ensures none { IfNone result (MayDo self.now (At self.now.recorded.me (Takes line (record { cwnd = cwnd; keep = true; sample = sample }))) → ⊥) }
+        ensures none { IfNone result (MayDo self.now
+            (At self.now.recorded.me (Takes line (record { cwnd = cwnd; keep = true; sample = sample }))) → ⊥) }
     {
         let choice = TakeChoice {
             cwnd,
@@ -216,7 +218,7 @@ impl HostCore {
         }
     }
 
-    // Fast recovery begins at the endpoint of these ports, where it may.
+    // Fast recovery begins at the endpoint of these ports, if it may.
     fn recover(&mut self, ports: Ports) -> Result<(), OutOfMemory>
         requires room { steps_in self.old.recorded.entries < 4 * self.old.events }
         requires events { self.old.events ≤ 10000000 }
@@ -228,8 +230,8 @@ impl HostCore {
             return Ok(());
         };
         let host = self.me();
-        let touch = self.touch_at(ports.lport, ports.rport);
-        self.add(Label::F { host, recovery }, touch)?;
+        let affected = self.affected_at(ports.lport, ports.rport);
+        self.add(Label::F { host, recovery }, affected)?;
         Ok(())
     }
 

@@ -13,11 +13,11 @@ ghost use Rattle.stack_core.specs.CallEvents.{IsAttempted, IsAttemptShort, KeptN
 
 use crate::answered::Answered;
 use crate::answers::choose;
-use crate::deadline_queue::Touch;
+use crate::deadline_queue::Affected;
 use crate::host_core::HostCore;
 use crate::tick::Tick;
 use case_forms::{Answer, Call, Host, OutOfMemory, TakenLine};
-use endpoint_state::Body;
+use endpoint_state::HostTcp;
 use spec_step::Label;
 use spec_tcp::SocketTarget;
 use spec_tcp_laws::forgetting_is_free;
@@ -35,12 +35,9 @@ enum Subject {
 
 impl HostCore {
     /// The open call of a thread of this host has its effect, and ends with that answer: its line. A socket number that
-    /// it gives
-    /// is the next one. None, and nothing is changed: the thread has no open call without effect, or the call waits
-    /// (for `send`:
-    /// before the handshake is done, or while the ring is full). The error is that memory ran out; then the tick has
-    /// passed, and
-    /// the effect may stand without the end.
+    /// it gives is the next one. None, and nothing is changed: the thread has no open call without effect, or the call
+    /// waits (for `send`: before the handshake is done, or while the ring is full). The error is that memory ran out;
+    /// then the tick has passed, and the effect may stand without the end.
     pub fn attempt(&mut self, thread: u32, tick: Tick) -> Result<Option<Answered>, OutOfMemory>
         requires tick { IsAfter self.old.last tick }
         requires events { self.old.events < 10000000 }
@@ -89,15 +86,15 @@ impl HostCore {
             answer: answer.copy()?,
         };
         let ending = answer.copy()?;
-        let touch = self.touch_of_call(thread);
-        self.add(effect, touch)?;
+        let affected = self.affected_by_thread(thread);
+        self.add(effect, affected)?;
         let end = TakenLine::CallEnd {
             line: self.line(),
             thread,
             answer: ending,
         };
-        self.add(Label::L(end), Touch::Nobody)?;
-        self.note_answer(subject, &answer);
+        self.add(Label::L(end), Affected::Nobody)?;
+        self.update_after_answer(subject, &answer);
         Ok(Some(Answered { thread, answer }))
     }
 
@@ -123,7 +120,7 @@ impl HostCore {
     }
 
     // It is remembered what an answer asks of the endpoint that it is about.
-    fn note_answer(&mut self, subject: Subject, answer: &Answer)
+    fn update_after_answer(&mut self, subject: Subject, answer: &Answer)
         ensures { self.new ≡ self.old }
     {
         let body = self.recording.body();
@@ -171,7 +168,7 @@ impl HostCore {
 }
 
 // The next socket number that a host gives.
-fn next_socket(me: Host, body: &Body) -> u32
+fn next_socket(me: Host, body: &HostTcp) -> u32
     requires few { length body.now.sockets ≤ 1000000000 }
     ensures { result ≡ next_socket me body.now }
 {

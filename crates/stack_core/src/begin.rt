@@ -10,7 +10,7 @@ ghost use Rattle.stack_core.specs.CallEvents.{begun};
 ghost use Rattle.stack_core.specs.CoreWorlds.{Leaves};
 ghost use Rattle.stack_core.specs.CoreWorlds.CoreCall.{Begin};
 
-use crate::deadline_queue::Touch;
+use crate::deadline_queue::Affected;
 use crate::host_core::HostCore;
 use crate::tick::Tick;
 use case_forms::{Call, OutOfMemory, TakenLine};
@@ -18,8 +18,7 @@ use spec_step::Label;
 
 impl HostCore {
     /// A thread of this host, which is in no call, begins one that means this host or a socket number of its own: the
-    /// line of
-    /// the call. The error is that memory ran out; then the tick has passed, and nothing is added.
+    /// line of the call. The error is that memory ran out; then the tick has passed, and nothing is added.
     pub fn begin(&mut self, thread: u32, call: &Call, tick: Tick) -> Result<(), OutOfMemory>
         requires tick { IsAfter self.old.last tick }
         requires events { self.old.events < 10000000 }
@@ -54,6 +53,6 @@ impl HostCore {
             thread,
             call: call.copy()?,
         };
-        self.add(Label::L(line), Touch::Nobody)
+        self.add(Label::L(line), Affected::Nobody)
     }
 }

@@ -1,15 +1,14 @@
 //! Which endpoints of a host are to be looked at, and when. Moments are microseconds.
 //!
 //! An agenda has a place up to which all endpoints were looked at once, and entries of those among them that are to be
-//! looked at
-//! again. So an endpoint below that place with no entry stays as it was found: nothing is to be done there.
+//! looked at again. So an endpoint below that place with no entry stays as it was found: nothing is to be done there.
 
 ghost use Rattle.std.specs.Prelude.{◌≡◌, ◌+◌, ◌<◌, ◌≤◌, ◌^◌, true, false, [], drop, length, slice_get};
 ghost use Rattle.std.specs.Option.{IfSome};
-ghost use Rattle.stack_core.specs.declared.deadline_queue.Touch.TheVariants.{Place};
-ghost use Rattle.stack_core.specs.DeadlineQueues.{AreFrom, AreStill, IsGrown, IsListed, IsRenewed, IsTouched};
+ghost use Rattle.stack_core.specs.declared.deadline_queue.Affected.TheVariants.{Place};
+ghost use Rattle.stack_core.specs.DeadlineQueues.{AreFrom, AreStill, IsGrown, IsListed, IsRenewed, LooksAgain};
 
-use endpoint_state::Body;
+use endpoint_state::HostTcp;
 use std::alloc::Global;
 use std::collections::BTreeSet;
 
@@ -22,7 +21,7 @@ pub(crate) struct Deadline {
 
 /// Which endpoints of a host a step may change, beside one that it creates.
 #[derive(Clone, Copy, Debug, PartialEq, Eq)]
-pub(crate) enum Touch {
+pub(crate) enum Affected {
     Nobody,
     Place(u32),
     All,
@@ -65,20 +64,20 @@ impl DeadlineQueue {
         }
     }
 
-    /// A step may change these endpoints: they are to be looked at, at once. Where memory refuses that, all are.
-    pub(crate) fn touch(&mut self, touch: Touch)
-        ensures { IsTouched touch self.old.looked self.old.entries.keys self.new.looked self.new.entries.keys }
+    /// A step may change these endpoints: they are to be looked at, at once. If memory refuses that, all are.
+    pub(crate) fn look_again(&mut self, affected: Affected)
+        ensures { LooksAgain affected self.old.looked self.old.entries.keys self.new.looked self.new.entries.keys }
     {
-        match touch {
-            Touch::Nobody => {}
-            Touch::Place(place) => self.touch_place(place),
-            Touch::All => self.looked = 0,
+        match affected {
+            Affected::Nobody => {}
+            Affected::Place(place) => self.look_again_at(place),
+            Affected::All => self.looked = 0,
         }
     }
 
     // The same of one endpoint.
-    fn touch_place(&mut self, place: u32)
-        ensures { IsTouched (Place place) self.old.looked self.old.entries.keys self.new.looked self.new.entries.keys }
+    fn look_again_at(&mut self, place: u32)
+        ensures { LooksAgain (Place place) self.old.looked self.old.entries.keys self.new.looked self.new.entries.keys }
     {
         if self.looked <= place {
             return;
@@ -90,7 +89,7 @@ impl DeadlineQueue {
     }
 
     /// Endpoints that were not looked at get their entries. False: memory ran out before all had theirs.
-    pub(crate) fn list_new(&mut self, body: &Body) -> bool
+    pub(crate) fn list_new(&mut self, body: &HostTcp) -> bool
         requires { length body.now.endpoints < 2 ^ 32 }
         ensures grown { IsGrown (length body.now.endpoints) self.old.looked self.old.entries.keys self.new.looked self.new.entries.keys }
         ensures all { result ≡ true → length body.now.endpoints ≤ self.new.looked }

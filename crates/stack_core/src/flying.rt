@@ -9,8 +9,7 @@ use spec_tcp::Emission;
 use std::marker::Model;
 
 /// A segment on its way, with the key and the line with which it went out. `HostCore::pump` alone makes one, and `copy`
-/// another
-/// like it.
+/// another like it.
 #[derive(Drop)]
 pub struct Flying {
     pub(crate) host: Host,

@@ -13,11 +13,10 @@ pub(crate) fn cwnd_at_arrival(
     m: &Emission,
     moment: u64,
 ) -> u32 {
-    if 1 << 63 <= endpoint.stream.snd_una {
-        return 0;
+    match Arrived::checked_read(header.version, endpoint, m) {
+        Some(m) => narrowed(greatest_taking(endpoint, &m, moment)),
+        None => 0,
     }
-    let m = Arrived::read(header.version, endpoint, m);
-    narrowed(greatest_taking(endpoint, &m, moment))
 }
 
 /// The greatest congestion window and slow start threshold once fast recovery began (RFC 5681, 3.2).

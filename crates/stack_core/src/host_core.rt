@@ -11,9 +11,9 @@ ghost use Rattle.stack_core.specs.Cores.{Fits, IsAfter, IsBelow, IsNextLine, IsO
 ghost use Rattle.stack_core.specs.Cores.{line_to_come, lines_taken, new_core, opened, with_item, with_step, world};
 ghost use Rattle.stack_core.specs.Entries.{steps_in};
 ghost use Rattle.stack_core.specs.Told.{AllTold, IsToldStep};
-ghost use Rattle.stack_core.specs.Touches.{touched};
+ghost use Rattle.stack_core.specs.Affected.{affected_by};
 
-use crate::deadline_queue::{DeadlineQueue, Touch};
+use crate::deadline_queue::{Affected, DeadlineQueue};
 use crate::flying::Flying;
 use crate::recording::Recording;
 use crate::resets::await_reset;
@@ -35,8 +35,7 @@ pub struct CoreConfig {
     /// The initial send sequence number of its first endpoint. Each later one's is 65,536 more.
     pub first_iss: u32,
     /// By how many bits its endpoints shift the windows that they offer, where the header's version scales windows;
-    /// above 14 as
-    /// 14 (RFC 7323, 2.3). None: they tell no shift.
+    /// above 14 as 14 (RFC 7323, 2.3). None: they tell no shift.
     pub shift: Option<u8>,
 }
 
@@ -112,10 +111,8 @@ impl HostCore {
     }
 
     /// A text can tell what it recorded: each segment is made at a position that a text names, with a payload that fits
-    /// into one,
-    /// and with a shift only beside an initial number, where the version scales windows; and nothing stands behind the
-    /// last tick.
-    /// A call that does nothing, whose contract says it.
+    /// into one, and with a shift only beside an initial number, if the version scales windows; and nothing stands
+    /// after the last tick. A call that does nothing, whose contract says it.
     pub fn can_be_told(&self)
         ensures told { AllTold self.now.recorded.header.version self.now.recorded.entries }
         ensures below { EachEntry (tcp self.now.recorded.header)
@@ -202,9 +199,8 @@ impl HostCore {
     }
 
     // A step joins, at the moment of the last tick; these endpoints it may change, beside one that it creates. The
-    // error is that
-    // memory ran out, and then nothing is changed.
-    pub(crate) fn add(&mut self, label: Label, touch: Touch) -> Result<(), OutOfMemory>
+    // error is that memory ran out, and then nothing is changed.
+    pub(crate) fn add(&mut self, label: Label, affected: Affected) -> Result<(), OutOfMemory>
         requires room { steps_in self.old.recorded.entries < 4 * self.old.events }
         requires events { self.old.events ≤ 10000000 }
         requires limits { IsWithinLimits label }
@@ -212,7 +208,7 @@ impl HostCore {
         requires line { IsNextLine self.old (step_of label) }
         requires orderly { IsOrderly self.old.recorded.me (world self.old) (step_of label) }
         requires told { IsToldStep self.old.recorded.header.version (step_of label) }
-        requires touch { touch ≡ touched self.old.recorded.me (world self.old) (step_of label) }
+        requires affected { affected ≡ affected_by self.old.recorded.me (world self.old) (step_of label) }
         ensures ok { OnOk result (self.new ≡ with_step self.old (step_of label)) }
         ensures count { OnOk result (steps_in self.new.recorded.entries ≡ suc (steps_in self.old.recorded.entries)) }
         ensures world { OnOk result (world self.new
@@ -222,8 +218,8 @@ impl HostCore {
         let lines = lines_taken(&label);
         let tick = self.last;
         await_reset(&mut self.resets, &label, self.recording.count())?;
-        self.ready.touch(touch);
-        self.wakes.touch(touch);
+        self.ready.look_again(affected);
+        self.wakes.look_again(affected);
         self.recording.step(tick, label)?;
         self.line += lines;
         Ok(())

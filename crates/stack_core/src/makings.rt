@@ -18,17 +18,16 @@ ghost use Rattle.stack_core.specs.Told.{MayOpen, TellsWell};
 
 use crate::deadline_queue::DeadlineQueue;
 use crate::plans::{
-    AdvertisedWindow, GREATEST_PAYLOAD, GREATEST_POSITION, GREATEST_SHIFT, SynOptions, byte_of,
-    candidate_segments, fin_of, offer_of, syn_of,
+    AdvertisedWindow, GREATEST_PAYLOAD, GREATEST_SHIFT, SynOptions, byte_of, candidate_segments,
+    fin_of, offer_of, syn_of,
 };
 use crate::send_states::SendStates;
-use case_forms::{Host, SegmentPlan, Version};
+use case_forms::{GREATEST_POSITION, Host, SegmentPlan, Version};
 use endpoint::admits_making;
-use endpoint_state::{Body, Endpoint, World};
+use endpoint_state::{Endpoint, HostTcp, World};
 
 /// A segment that may be made: at an endpoint whose duties are listed, or else at any where one may be made that takes
-/// new
-/// positions. None: no segment without RST may be made that does.
+/// new positions. None: no segment without RST may be made that does.
 pub(crate) fn find_plan(
     world: &World,
     me: Host,
@@ -137,7 +136,7 @@ fn make_at(
 }
 
 // Whether the endpoint at a place makes nothing without RST that takes new positions.
-fn is_quiet_at(body: &Body, place: u32, opening: SynOptions) -> bool
+fn is_quiet_at(body: &HostTcp, place: u32, opening: SynOptions) -> bool
     requires { AreReadable body.now.endpoints }
     ensures { result ≡ true → (e : Endpoint) → slice_get body.now.endpoints place ≡ Some e → IsQuiet e }
 {
@@ -148,8 +147,7 @@ fn is_quiet_at(body: &Body, place: u32, opening: SynOptions) -> bool
 }
 
 // Whether an endpoint makes nothing without RST that takes new positions: neither its SYN, nor a new byte, nor its FIN.
-// Beyond
-// the greatest position it may be false of one that makes nothing.
+// Beyond the greatest position it may be false of one that makes nothing.
 fn is_quiet(endpoint: &Endpoint, opening: SynOptions) -> bool
     requires { endpoint.now.stream.snd_una < 2 ^ 63 }
     ensures { result ≡ true → IsQuiet endpoint.now }
@@ -266,9 +264,8 @@ fn try_candidates(
     None
 }
 
-// A segment that may be made, at any endpoint: this goes over all of them, where memory is refused for a list of those
-// that are
-// to be looked at. None: no segment without RST may be made that takes new positions.
+// A segment that may be made, at any endpoint: this goes over all of them, if memory is refused for a list of those
+// that are to be looked at. None: no segment without RST may be made that takes new positions.
 #[tactic(auto, using(crate::proofs::MakingLemmas::short_host))]
 fn find_making(
     world: &World,
@@ -321,7 +318,7 @@ fn try_endpoint(
     if let Some(plan) = try_syn(world, me, endpoint, offer) {
         return Some(plan);
     }
-    // Above the greatest position stands no byte that was accepted, nor an end behind one.
+    // Above the greatest position stands no byte that was accepted, nor an end after one.
     if GREATEST_POSITION < endpoint.snd_max() {
         return None;
     }

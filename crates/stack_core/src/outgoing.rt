@@ -20,8 +20,7 @@ pub(crate) struct Outgoing {
 }
 
 /// A made segment as it goes out, with this MSS option if there is one, and with its shift if it is a SYN that gives
-/// one. The
-/// error is that memory ran out.
+/// one. The error is that memory ran out.
 pub(crate) fn wire_of(alloc: Global, m: &Emission, mss: Option<u16>) -> Result<Wire, OutOfMemory>
     requires short { length m.now.payload ≤ greatest_payload }
     ensures shows { IfOk result (λ w. (h : Header) → matches_sent h w m.now ≡ true) }

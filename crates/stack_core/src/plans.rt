@@ -5,16 +5,13 @@ ghost use Rattle.stack_core.specs.Makings.{bytes_of, fin_of, syn_of};
 ghost use Rattle.stack_core.specs.Told.{MayOpen};
 
 use crate::send_states::{Again, SendState};
-use case_forms::{Flags, SegmentPlan, Version};
+use case_forms::{Flags, GREATEST_POSITION, SegmentPlan, Version};
 use endpoint_state::Endpoint;
 use seqno::Word;
 use window_rules::offered_edge;
 
 // The greatest payload that a core lets out, in bytes: with a header and both options it fits into a segment.
 pub(crate) const GREATEST_PAYLOAD: u16 = 65_487;
-
-// The greatest position that a step names.
-pub(crate) const GREATEST_POSITION: u64 = 1_000_000_000_000_000_000;
 
 // The greatest shift of a window (RFC 7323, 2.3).
 pub(crate) const GREATEST_SHIFT: u8 = 14;
@@ -36,9 +33,8 @@ pub(crate) struct AdvertisedWindow {
     pub(crate) window: u16,
 }
 
-/// What an endpoint offers, where its host has a ring of so many bytes for what it takes. No shift is told where this
-/// version
-/// scales no windows, nor once the peer's SYN told none (RFC 7323, 2.2); above 14 it is 14 (RFC 7323, 2.3).
+/// What an endpoint offers, where its host has a ring of so many bytes for what it takes. No shift is offered if this
+/// version scales no windows, nor once the peer's SYN carried none (RFC 7323, 2.2); above 14 it is 14 (RFC 7323, 2.3).
 pub(crate) fn offer_of(
     version: Version,
     endpoint: &Endpoint,
@@ -67,9 +63,8 @@ pub(crate) fn offer_of(
     }
 }
 
-/// What a core would make at an endpoint, in this order, where it may: a reset that is due; what seems lost; its SYN;
-/// new bytes,
-/// as many as fit, with the FIN behind the last; these without it; an acknowledgment that it owes.
+/// What a core would make at an endpoint, in this order, if it may: a reset that is due; what seems lost; its SYN; new
+/// bytes, as many as fit, with the FIN after the last; these without it; an acknowledgment that it owes.
 pub(crate) fn candidate_segments(
     endpoint: &Endpoint,
     send_state: SendState,
@@ -100,9 +95,8 @@ fn new_bytes(endpoint: &Endpoint, offer: AdvertisedWindow) -> SegmentPlan {
     bytes_from(endpoint, endpoint.snd_max(), edge_of(endpoint), offer)
 }
 
-// What seems lost, from the first of it on: the SYN, or bytes with the FIN behind the last. A segment goes out again
-// also where
-// the congestion window is less than one (RFC 5681, 3.1).
+// What seems lost, from the first of it on: the SYN, or bytes with the FIN after the last. A segment goes out again
+// also where the congestion window is less than one (RFC 5681, 3.1).
 fn retransmitted(
     endpoint: &Endpoint,
     again: Again,
@@ -142,7 +136,7 @@ fn bytes_from(endpoint: &Endpoint, from: u64, edge: u64, offer: AdvertisedWindow
     plain(endpoint, from, len, offer.window)
 }
 
-// The same with the FIN, if it stands behind the last byte.
+// The same with the FIN, if it stands after the last byte.
 fn with_fin(endpoint: &Endpoint, plan: SegmentPlan) -> Option<SegmentPlan> {
     let last = plan.pos.saturating_add(u64::from(plan.len));
     if !endpoint.stream.ended || last != endpoint.stream.accepted.end() {
@@ -174,7 +168,7 @@ fn plain(endpoint: &Endpoint, pos: u64, len: u16, window: u16) -> SegmentPlan
     }
 }
 
-// A reset behind all that was made (RFC 9293, 3.10.4 and 3.10.5).
+// A reset after all that was made (RFC 9293, 3.10.4 and 3.10.5).
 fn reset_of(endpoint: &Endpoint, offer: AdvertisedWindow) -> SegmentPlan {
     let mut plan = plain(endpoint, endpoint.snd_max(), 0, offer.window);
     plan.flags.rst = true;

@@ -17,7 +17,7 @@ ghost use Rattle.stack_core.specs.Told.{TellsWell};
 ghost use Rattle.stack_core.specs.Flown.{HasFlown};
 ghost use Rattle.stack_core.specs.Outgoing.{GoesOut, MayGo, WaitsToGo, greatest_payload};
 
-use crate::deadline_queue::Touch;
+use crate::deadline_queue::Affected;
 use crate::flying::Flying;
 use crate::host_core::HostCore;
 use crate::makings::find_plan;
@@ -33,12 +33,9 @@ use spec_tcp_laws::forgetting_is_free;
 
 impl HostCore {
     /// A segment goes out, and flies: its line. First a reset that waits and answers a segment; else a segment is made:
-    /// a reset
-    /// that is due, what seems lost, new bytes, or an acknowledgment that is owed. None, and nothing is changed: no
-    /// reset waits,
-    /// and no segment without RST may be made that takes new positions. The error is that memory ran out; then the tick
-    /// has
-    /// passed, and the segment may be made and not gone out.
+    /// a reset that is due, what seems lost, new bytes, or an acknowledgment that is owed. None, and nothing is
+    /// changed: no reset waits, and no segment without RST may be made that takes new positions. The error is that
+    /// memory ran out; then the tick has passed, and the segment may be made and not gone out.
     pub fn pump(&mut self, tick: Tick) -> Result<Option<Flying>, OutOfMemory>
         requires tick { IsAfter self.old.last tick }
         requires events { self.old.events < 10000000 }
@@ -74,7 +71,7 @@ impl HostCore {
         self.open(tick);
         self.make(plan)?;
         self.spend_iss(plan);
-        self.note_making(plan);
+        self.update_after_making(plan);
         let number = self.count();
         let flying = self.send(number)?;
         Ok(Some(flying))
@@ -132,8 +129,8 @@ impl HostCore {
         ensures err { OnErr result (self.new ≡ self.old) }
     {
         let host = self.me();
-        let touch = self.touch_at(plan.lport, plan.rport);
-        self.add(Label::M { host, plan }, touch)?;
+        let affected = self.affected_at(plan.lport, plan.rport);
+        self.add(Label::M { host, plan }, affected)?;
         Ok(())
     }
 
@@ -147,7 +144,7 @@ impl HostCore {
     }
 
     // What was made is remembered.
-    fn note_making(&mut self, plan: SegmentPlan)
+    fn update_after_making(&mut self, plan: SegmentPlan)
         ensures { self.new ≡ self.old }
     {
         if let Some(place) = self.recording.body().place_of(plan.lport, plan.rport) {
@@ -171,7 +168,7 @@ impl HostCore {
             made: number,
             wire,
         };
-        self.add(Label::L(line), Touch::Nobody)?;
+        self.add(Label::L(line), Affected::Nobody)?;
         Ok(flying)
     }
 

@@ -25,7 +25,7 @@ use crate::flying::Flying;
 use crate::item::Item;
 use crate::tick::Tick;
 use case_forms::{Call, Header, Host, OutOfMemory};
-use endpoint_state::{Body, Made, World};
+use endpoint_state::{HostTcp, Made, World};
 use spec_merge::books_grow;
 use spec_step::{Label, StepFault, admits, apply, bring};
 use spec_tcp::Emission;
@@ -152,7 +152,7 @@ impl Recording {
     }
 
     /// What the host has, as far as it is kept.
-    pub fn body(&self) -> &Body
+    pub fn body(&self) -> &HostTcp
         ensures { result.now ≡ forget_body (pick (world_left self.now).hosts self.now.me).body }
     {
         self.world.body(self.me)
@@ -206,7 +206,7 @@ impl Recording {
     {
         books_grow();
         self.entries.reserve(1)?;
-        let from = other(self.me);
+        let from = self.me.other();
         bring(&mut self.world, from, flying.line, &flying.emission)?;
         self.entries.push_reserved(Entry {
             host: self.me,
@@ -214,15 +214,5 @@ impl Recording {
             item: Item::Brings(flying),
         });
         Ok(())
-    }
-}
-
-/// The other of the two hosts.
-pub fn other(host: Host) -> Host
-    ensures { result ≡ other host }
-{
-    match host {
-        Host::Zero => Host::One,
-        Host::One => Host::Zero,
     }
 }

@@ -11,9 +11,8 @@ use case_forms::OutOfMemory;
 use spec_step::Label;
 use std::collections::VecDeque;
 
-/// A step is about to make a segment under the number behind this count: where it is a reset that answers, it is
-/// awaited. The
-/// error is that memory ran out, and then nothing is changed.
+/// A step is about to make a segment under the number after this count: where it is a reset that answers, it is
+/// awaited. The error is that memory ran out, and then nothing is changed.
 pub(crate) fn await_reset(
     resets: &mut VecDeque<u32>,
     label: &Label,

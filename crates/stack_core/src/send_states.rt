@@ -1,6 +1,5 @@
-//! What a core remembers of each endpoint so that it chooses well. What is permitted is asked of the machine each time,
-//! and no
-//! contract rests on anything here. Positions and windows count bytes.
+//! What a core remembers of each endpoint so that it chooses well. Whether a step is permitted is decided by the
+//! machine each time, and no contract rests on anything here. Positions and windows count bytes.
 
 use case_forms::{Answer, Expired, OutOfMemory, SegmentPlan};
 use endpoint_state::Endpoint;
@@ -101,7 +100,7 @@ impl SendStates {
     }
 }
 
-/// What is told of an endpoint before a segment comes in.
+/// What is remembered of an endpoint before a segment comes in.
 #[derive(Clone, Copy)]
 pub(crate) struct Seen {
     snd_una: u64,
@@ -110,7 +109,7 @@ pub(crate) struct Seen {
 }
 
 impl Seen {
-    /// What is told of this endpoint now.
+    /// What is remembered of this endpoint now.
     pub(crate) fn of(endpoint: &Endpoint) -> Seen {
         Seen {
             snd_una: endpoint.stream.snd_una,
@@ -123,7 +122,7 @@ impl Seen {
 /// Before a segment comes in.
 #[derive(Clone, Copy)]
 pub(crate) struct Before {
-    /// The place of the endpoint of its ports, and what is told of that.
+    /// The place of the endpoint of its ports, and what is remembered of it.
     pub(crate) place: Option<u32>,
     pub(crate) seen: Option<Seen>,
     /// The greatest congestion window that the segment allows there.
@@ -136,10 +135,8 @@ pub(crate) struct Before {
 
 impl SendState {
     /// Once a segment came in for the endpoint at this place. What takes positions is acknowledged, whether it was
-    /// taken or not
-    /// (RFC 9293, 3.10.7.4). The first segment that is not acknowledged is made again in fast recovery (RFC 5681, 3.2);
-    /// all of
-    /// it, where a window of 0 opened; and a SYN, where the peer's SYN came once more.
+    /// taken or not (RFC 9293, 3.10.7.4). The first segment that is not acknowledged is made again in fast recovery
+    /// (RFC 5681, 3.2); all of it, where a window of 0 opened; and a SYN, where the peer's SYN came once more.
     pub(crate) fn after_arrival(
         mut self,
         place: u32,
@@ -197,7 +194,7 @@ impl SendState {
         self
     }
 
-    /// Once a call had its effect: a read may open the window so far that the peer is told (RFC 9293, 3.8.6.2.2).
+    /// Once a call had its effect: a read may open the window so far that the peer is notified (RFC 9293, 3.8.6.2.2).
     pub(crate) fn after_call(mut self, now: &Endpoint, answer: &Answer, ring: u16) -> SendState {
         if let Answer::Bytes(bytes) = answer {
             self.read = self.read.saturating_add(bytes.len() as u64);
@@ -227,7 +224,7 @@ fn all_outstanding(now: &Endpoint) -> Again {
     }
 }
 
-// The position behind what a segment takes.
+// The position after what a segment takes.
 fn end_of(plan: &SegmentPlan) -> u64 {
     let flags = u64::from(plan.flags.syn) + u64::from(plan.flags.fin);
     plan.pos.saturating_add(u64::from(plan.len) + flags)

@@ -20,7 +20,7 @@ use crate::recording::Recording;
 use crate::tick::Tick;
 use case_forms::{Expired, Header, OutOfMemory, Ports, RtoChoice, TakenLine};
 use endpoint::has_more;
-use endpoint_state::{Body, Endpoint};
+use endpoint_state::{Endpoint, HostTcp};
 use spec_step::Label;
 
 // A core gives up after so many expiries without an answer.
@@ -35,9 +35,8 @@ pub(crate) struct Due {
 
 impl HostCore {
     /// A timer that is due expires: its line. False, and nothing is changed: no line of a retransmission timer, a
-    /// persist timer
-    /// or a wait in TIME-WAIT is permitted. The error is that memory ran out; then the tick has passed, and nothing is
-    /// added.
+    /// persist timer or a wait in TIME-WAIT is permitted. The error is that memory ran out; then the tick has passed,
+    /// and nothing is added.
     pub fn timers(&mut self, tick: Tick) -> Result<bool, OutOfMemory>
         requires tick { IsAfter self.old.last tick }
         requires events { self.old.events < 10000000 }
@@ -69,14 +68,14 @@ impl HostCore {
             ports: due.ports,
             expired: due.expired,
         };
-        let touch = self.touch_at(due.ports.lport, due.ports.rport);
-        self.add(Label::L(line), touch)?;
-        self.note_expiry(due);
+        let affected = self.affected_at(due.ports.lport, due.ports.rport);
+        self.add(Label::L(line), affected)?;
+        self.update_after_expiry(due);
         Ok(true)
     }
 
     // It is remembered what an expiry asks of its endpoint.
-    fn note_expiry(&mut self, due: Due)
+    fn update_after_expiry(&mut self, due: Due)
         ensures { self.new ≡ self.old }
     {
         let body = self.recording.body();
@@ -105,8 +104,7 @@ impl HostCore {
 }
 
 // A timer that may expire at a moment, at an endpoint that is to be looked at by then. None: no retransmission timer,
-// persist
-// timer or wait in TIME-WAIT may.
+// persist timer or wait in TIME-WAIT may.
 fn find_due(wakes: &mut DeadlineQueue, recording: &Recording, moment: u64) -> Option<Due>
     requires steps { steps_in recording.now.entries < most_steps }
     requires timed { AreTimed recording.now.header wakes.old.looked wakes.old.entries.keys (kept_ends recording.now) }
@@ -154,7 +152,7 @@ fn find_among(wakes: &mut DeadlineQueue, recording: &Recording, moment: u64) -> 
 }
 
 // The endpoint of the first entry is to be looked at when its next timer may expire. False: memory refused that.
-fn look_later(wakes: &mut DeadlineQueue, wake: Deadline, header: &Header, body: &Body) -> bool
+fn look_later(wakes: &mut DeadlineQueue, wake: Deadline, header: &Header, body: &HostTcp) -> bool
     requires first { slice_get wakes.old.entries.keys 0 ≡ Some wake }
     requires timed { AreTimed header.now wakes.old.looked wakes.old.entries.keys body.now.endpoints }
     ensures timed { AreTimed header.now wakes.new.looked wakes.new.entries.keys body.now.endpoints }
@@ -173,7 +171,7 @@ fn look_later(wakes: &mut DeadlineQueue, wake: Deadline, header: &Header, body: 
 }
 
 // The moment before which no timer of the endpoint at a place may expire. None: none may ever.
-fn next_due(header: &Header, body: &Body, place: u32) -> Option<u64>
+fn next_due(header: &Header, body: &HostTcp, place: u32) -> Option<u64>
     ensures some { IfSome result (λ m. (e : Endpoint) → slice_get body.now.endpoints place ≡ Some e
         → IsStillBefore header.now m e) }
     ensures none { IfNone result ((e : Endpoint) → slice_get body.now.endpoints place ≡ Some e → IsStill header.now e) }
@@ -249,9 +247,8 @@ fn least(one: Option<u64>, other: Option<u64>) -> Option<u64>
     }
 }
 
-// A timer that may expire at a moment, at any endpoint: this goes over all of them, where memory is refused for a list
-// of those
-// that are to be looked at. None: no retransmission timer, persist timer or wait in TIME-WAIT may.
+// A timer that may expire at a moment, at any endpoint: this goes over all of them, if memory is refused for a list of
+// those that are to be looked at. None: no retransmission timer, persist timer or wait in TIME-WAIT may.
 fn find_any_due(recording: &Recording, moment: u64) -> Option<Due>
     requires steps { steps_in recording.now.entries < most_steps }
     ensures some { IfSome result (λ due. IsDueAt recording.now moment due.ports due.expired) }
@@ -275,7 +272,8 @@ fn due_at(recording: &Recording, moment: u64, endpoint: &Endpoint) -> Option<Due
     requires steps { steps_in recording.now.entries < most_steps }
     ensures some { IfSome result (λ due. IsDueAt recording.now moment due.ports due.expired) }
     ensures tried { IfSome result (λ due. IfGivesUp recording.now due.ports due.expired) }
-    ensures none { IfNone result (IsRefused recording.now moment (record { lport = endpoint.now.lport; rport = endpoint.now.rport })) }
+    ensures none { IfNone result (IsRefused recording.now moment
+        (record { lport = endpoint.now.lport; rport = endpoint.now.rport })) }
 {
     let ports = Ports {
         lport: endpoint.lport,

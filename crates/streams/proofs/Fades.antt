@@ -3,7 +3,7 @@ use Rattle.std.proofs.Common.{◌≡◌, ℕ, zero, suc, ◌≤◌, List, [], �
 use Rattle.std.specs.Prelude.{slice_get}
 use Rattle.streams.specs.declared.cell.Cell.{Cell}
 use Rattle.streams.specs.declared.cell.Cell.TheVariants.{Syn, Byte, Fin}
-use Rattle.streams.specs.declared.making.Made.{Made}
+use Rattle.streams.specs.declared.transmission.Transmission.{Transmission}
 use Rattle.streams.specs.Cells.{front, is_fin, put, put_all}
 use Rattle.streams.specs.Transmissions.{mark, once}
 use Rattle.streams.specs.Forgetting.{fade, faded, made_below}
@@ -63,9 +63,9 @@ fade-put_all n xs p (c ∷ cs) =
     sym (fade-put_all n (put (fade n xs) p c) (suc p) cs) ∙ (ap (λ (ys : List (Option Cell)). fade n (put_all ys (suc p) cs)) (fade-put n xs p c) ∙ fade-put_all n (put xs p c) (suc p) cs)
 
 -- marking what was discarded as made again leaves it as it is
-pub below-mark : (snd_una position count : ℕ) (all new : List Made) → made_below snd_una (mark position count (made_below snd_una all) ++ new) ≡ made_below snd_una (mark position count all ++ new)
+pub below-mark : (snd_una position count : ℕ) (all new : List Transmission) → made_below snd_una (mark position count (made_below snd_una all) ++ new) ≡ made_below snd_una (mark position count all ++ new)
 below-mark zero position count all new = refl
 below-mark (suc snd_una) position count [] new = refl
-below-mark (suc snd_una) (suc position) count (x ∷ all) new = ap (λ (xs : List Made). once 0 ∷ xs) (below-mark snd_una position count all new)
-below-mark (suc snd_una) zero zero (x ∷ all) new = ap (λ (xs : List Made). once 0 ∷ xs) (covered-append (once 0) snd_una all new)
-below-mark (suc snd_una) zero (suc count) (x ∷ all) new = ap (λ (xs : List Made). once 0 ∷ xs) (below-mark snd_una zero count all new)
+below-mark (suc snd_una) (suc position) count (x ∷ all) new = ap (λ (xs : List Transmission). once 0 ∷ xs) (below-mark snd_una position count all new)
+below-mark (suc snd_una) zero zero (x ∷ all) new = ap (λ (xs : List Transmission). once 0 ∷ xs) (covered-append (once 0) snd_una all new)
+below-mark (suc snd_una) zero (suc count) (x ∷ all) new = ap (λ (xs : List Transmission). once 0 ∷ xs) (below-mark snd_una zero count all new)

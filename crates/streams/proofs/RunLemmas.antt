@@ -1,7 +1,7 @@
 -- Runs of positions.
 use Rattle.std.proofs.Common.{◌≡◌, Some, None, ℕ, ◌+◌, ◌-◌, ◌<◌, ◌≤◌, List, [], ◌∷◌, ◌++◌, length, drop, get_or, replicate, refl, sym, ap, ◌∙◌, arith, append_assoc, zero, suc, length-append}
 use Rattle.std.proofs.lemmas.List.{drop_more, drop_all, append-nil, length-replicate}
-use Rattle.streams.specs.declared.making.Made.{Made}
+use Rattle.streams.specs.declared.transmission.Transmission.{Transmission}
 use Rattle.streams.specs.declared.runs.Run.{Run}
 use Rattle.std.specs.Prelude.{slice_get}
 use Rattle.streams.specs.Transmissions.{made_moment, once}
@@ -12,15 +12,15 @@ expand-append [] ss = refl
 expand-append (r ∷ rs) ss = rw (expand-append rs ss) (sym (append_assoc (replicate r.count (once r.moment)) (expand rs) (expand ss)))
 
 pub expand-push : (rs : List Run) (r : Run) → expand (rs ++ r ∷ []) ≡ expand rs ++ replicate r.count (once r.moment)
-expand-push rs r = expand-append rs (r ∷ []) ∙ ap (λ (xs : List Made). expand rs ++ xs) (append-nil (replicate r.count (once r.moment)))
+expand-push rs r = expand-append rs (r ∷ []) ∙ ap (λ (xs : List Transmission). expand rs ++ xs) (append-nil (replicate r.count (once r.moment)))
 
 -- letting go inside a run
-drop-run : (k n : ℕ) (x : Made) (xs : List Made) → k ≤ n → drop k (replicate n x ++ xs) ≡ replicate (n - k) x ++ xs
+drop-run : (k n : ℕ) (x : Transmission) (xs : List Transmission) → k ≤ n → drop k (replicate n x ++ xs) ≡ replicate (n - k) x ++ xs
 drop-run zero n x xs h = let same : n - 0 ≡ n = omega arith in rw same refl
 drop-run (suc k) zero x xs h = absurd (omega arith)
 drop-run (suc k) (suc n) x xs h = let same : suc n - suc k ≡ n - k = omega arith in rw same (drop-run k n x xs (omega arith))
 
-drop-past : (k n : ℕ) (x : Made) (xs : List Made) → n ≤ k → drop k (replicate n x ++ xs) ≡ drop (k - n) xs
+drop-past : (k n : ℕ) (x : Transmission) (xs : List Transmission) → n ≤ k → drop k (replicate n x ++ xs) ≡ drop (k - n) xs
 drop-past k zero x xs h = let same : k - 0 ≡ k = omega arith in rw same refl
 drop-past zero (suc n) x xs h = absurd (omega arith)
 drop-past (suc k) (suc n) x xs h = let same : suc k - suc n ≡ k - n = omega arith in rw same (drop-past k n x xs (omega arith))
@@ -47,20 +47,20 @@ pop_long all rest r k e h l =
 here : (xs : List Run) (i : ℕ) (r : Run) → i < length xs → r ≡ get_or xs i r → drop i xs ≡ r ∷ drop (i + 1) xs
 here xs i r h e = drop_more xs i r h ∙ ap (λ (x : Run). x ∷ drop (i + 1) xs) (sym e)
 
-get_past : (p n : ℕ) (x : Made) (all : List Made) → n ≤ p → slice_get (replicate n x ++ all) p ≡ slice_get all (p - n)
+get_past : (p n : ℕ) (x : Transmission) (all : List Transmission) → n ≤ p → slice_get (replicate n x ++ all) p ≡ slice_get all (p - n)
 get_past p zero x all h = let same : p - 0 ≡ p = omega arith in rw same refl
 get_past zero (suc n) x all h = absurd (omega arith)
 get_past (suc p) (suc n) x all h = let same : suc p - suc n ≡ p - n = omega arith in rw same (get_past p n x all (omega arith))
 
-get_inside : (p n : ℕ) (x : Made) (all : List Made) → p < n → slice_get (replicate n x ++ all) p ≡ Some x
+get_inside : (p n : ℕ) (x : Transmission) (all : List Transmission) → p < n → slice_get (replicate n x ++ all) p ≡ Some x
 get_inside p zero x all h = absurd (omega arith)
 get_inside zero (suc n) x all h = refl
 get_inside (suc p) (suc n) x all h = get_inside p n x all (omega arith)
 
-pub moment_past : (p n : ℕ) (x : Made) (all : List Made) → n ≤ p → made_moment (replicate n x ++ all) p ≡ made_moment all (p - n)
+pub moment_past : (p n : ℕ) (x : Transmission) (all : List Transmission) → n ≤ p → made_moment (replicate n x ++ all) p ≡ made_moment all (p - n)
 moment_past p n x all h = rw (get_past p n x all h) refl
 
-pub moment_inside : (p n : ℕ) (x : Made) (all : List Made) → p < n → made_moment (replicate n x ++ all) p ≡ Some x.moment
+pub moment_inside : (p n : ℕ) (x : Transmission) (all : List Transmission) → p < n → made_moment (replicate n x ++ all) p ≡ Some x.moment
 moment_inside p n x all h = rw (get_inside p n x all h) refl
 
 pub moment_on : (xs : List Run) (i skip : ℕ) (r : Run) → i < length xs → r ≡ get_or xs i r → r.count ≤ skip → made_moment (expand (drop (i + 1) xs)) (skip - r.count) ≡ made_moment (expand (drop i xs)) skip

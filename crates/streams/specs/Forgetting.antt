@@ -1,10 +1,9 @@
 -- What may be discarded: bytes that were delivered, and bytes and transmissions below the oldest position that is not
--- acknowledged (RFC 9293,
--- 3.3.1: SND.UNA). Something fixed stands in their places.
+-- acknowledged (RFC 9293, 3.3.1: SND.UNA). Something fixed stands in their places.
 use Rattle.std.specs.Prelude.{◌≡◌, ℕ, zero, suc, ◌-◌, ◌≤◌, Bool, List, [], ◌∷◌, ◌++◌, length, Option, None, Some}
 use Rattle.streams.specs.declared.cell.Cell.{Cell}
 use Rattle.streams.specs.declared.cell.Cell.TheVariants.{Syn, Byte, Fin}
-use Rattle.streams.specs.declared.making.Made.{Made}
+use Rattle.streams.specs.declared.transmission.Transmission.{Transmission}
 use Rattle.streams.specs.Lists.{covered}
 use Rattle.streams.specs.Received.{Receiving, is_ended, kept, next, told, waiting}
 use Rattle.streams.specs.Sent.{end_of, piece}
@@ -36,7 +35,7 @@ abbrev pub below : ℕ → List ℕ → List ℕ
 below snd_una accepted = blank (snd_una - 1) accepted
 
 -- the transmissions below this position are discarded: as if they had been made once, at the moment 0
-abbrev pub made_below : ℕ → List Made → List Made
+abbrev pub made_below : ℕ → List Transmission → List Transmission
 made_below snd_una all = covered (once 0) snd_una all
 
 -- nothing that an endpoint does with its streams reads what was discarded, and discarding sooner or later is the same
@@ -58,13 +57,13 @@ pub record ForgettingStreams : Type 0 where
 
 -- the same of transmissions
 pub record ForgettingMakings : Type 0 where
-  pub measures : (snd_una : ℕ) (all : List Made) → length (made_below snd_una all) ≡ length all
-  pub makes : (snd_una : ℕ) (all : List Made) (position count moment : ℕ) →
+  pub measures : (snd_una : ℕ) (all : List Transmission) → length (made_below snd_una all) ≡ length all
+  pub makes : (snd_una : ℕ) (all : List Transmission) (position count moment : ℕ) →
       made_below snd_una (made (made_below snd_una all) position count moment)
       ≡ made_below snd_una (made all position count moment)
-  pub asks : (snd_una : ℕ) (all : List Made) (from upto : ℕ) → snd_una ≤ from
+  pub asks : (snd_una : ℕ) (all : List Transmission) (from upto : ℕ) → snd_una ≤ from
       → retransmitted (made_below snd_una all) from upto ≡ retransmitted all from upto
-  pub times : (snd_una : ℕ) (all : List Made) (position : ℕ) → snd_una ≤ position
+  pub times : (snd_una : ℕ) (all : List Transmission) (position : ℕ) → snd_una ≤ position
       → made_moment (made_below snd_una all) position ≡ made_moment all position
-  pub acks : (snd_una higher : ℕ) (all : List Made) → snd_una ≤ higher
+  pub acks : (snd_una higher : ℕ) (all : List Transmission) → snd_una ≤ higher
       → made_below higher (made_below snd_una all) ≡ made_below higher all

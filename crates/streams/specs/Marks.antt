@@ -1,7 +1,7 @@
 -- Positions that are marked, as ranges of them.
 use Rattle.std.specs.Prelude.{ℕ, suc, ◌<◌, ◌≤◌, Bool, ◌&&◌, ◌||◌, nat_le, nat_lt, if◌then◌else◌, List, [], ◌∷◌}
 use Rattle.std.specs.List.{AllByRecursion, list_any}
-use Rattle.streams.specs.declared.making.Made.{Made}
+use Rattle.streams.specs.declared.transmission.Transmission.{Transmission}
 use Rattle.streams.specs.declared.marks.Marks.{Marks}
 use Rattle.streams.specs.Transmissions.{remade}
 
@@ -22,6 +22,6 @@ abbrev pub IsBelow : ℕ → Marks → Type 0
 IsBelow end m = AreRanges m.floor end m.ranges.entries × (m.reached ≤ end)
 
 -- what was made, from a position on, where those that are marked were made again
-abbrev pub marked : (ℕ → Bool) → ℕ → List Made → List Made
+abbrev pub marked : (ℕ → Bool) → ℕ → List Transmission → List Transmission
 marked is_marked position [] = []
 marked is_marked position (x ∷ all) = (if is_marked position then remade x else x) ∷ marked is_marked (suc position) all

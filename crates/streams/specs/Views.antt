@@ -2,7 +2,7 @@
 use Rattle.std.specs.Prelude.{ℕ, zero, suc, Bool, true, false, List, [], ◌∷◌, ◌++◌, Option, Some, replicate}
 use Rattle.streams.specs.declared.cell.Cell.{Cell}
 use Rattle.streams.specs.declared.cell.Cell.TheVariants.{Syn, Byte, Fin}
-use Rattle.streams.specs.declared.making.Made.{Made}
+use Rattle.streams.specs.declared.transmission.Transmission.{Transmission}
 use Rattle.streams.specs.declared.runs.Run.{Run}
 use Rattle.streams.specs.Transmissions.{once}
 
@@ -22,6 +22,6 @@ fin_alone true = Some Fin ∷ []
 fin_alone false = []
 
 -- runs, position by position
-abbrev pub expand : List Run → List Made
+abbrev pub expand : List Run → List Transmission
 expand [] = []
 expand (run ∷ runs) = replicate run.count (once run.moment) ++ expand runs

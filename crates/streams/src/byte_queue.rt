@@ -60,8 +60,7 @@ impl ByteQueue {
     }
 
     /// The first so many bytes leave. What is there is moved to the beginning once no more bytes are there than left,
-    /// so at most one
-    /// byte is moved for each that leaves.
+    /// so at most one byte is moved for each that leaves.
     pub(crate) fn drop_front(&mut self, count: usize)
         requires { count ≤ length self.old }
         ensures { self.new ≡ drop count self.old }

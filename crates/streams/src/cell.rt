@@ -7,6 +7,6 @@ pub enum Cell {
     Syn,
     /// A byte of data; data byte k has position 1 + k.
     Byte(u8),
-    /// The FIN, behind the last byte.
+    /// The FIN, after the last byte.
     Fin,
 }

@@ -1,4 +1,4 @@
-//! What was taken and waits, from one place on: bytes in one piece of memory, and behind them a cell for each place.
+//! What was taken and waits, from one place on: bytes in one piece of memory, and after them a cell for each place.
 
 ghost use Rattle.std.specs.Prelude.{◌≡◌, ◌+◌, ◌-◌, ◌≤◌, ◌<◌, ◌^◌, ◌++◌, [], nat_lt, OnOk, OnErr, IfOk, length, take};
 ghost use Rattle.std.specs.Prelude.{drop, slice_get};
@@ -15,11 +15,11 @@ use std::alloc::{AllocError, Global};
 use std::collections::VecDeque;
 use std::marker::Model;
 
-/// Cells by place. What comes in order while there is no cell behind the bytes joins the bytes.
+/// Cells by place. What comes in order while there is no cell after the bytes joins the bytes.
 #[derive(Drop)]
 pub(crate) struct CellQueue {
     bytes: ByteQueue,
-    /// What was taken behind the bytes, a cell for each place up to the furthest that was taken; a missing one has
+    /// What was taken after the bytes, a cell for each place up to the furthest that was taken; a missing one has
     /// `None`.
     rest: VecDeque<Option<Cell>>,
     /// How many of `rest` stand in front of the first gap.
@@ -98,10 +98,9 @@ impl CellQueue {
         Ok(bytes)
     }
 
-    /// Takes these bytes from this place on, which is not in front of the first gap, and a FIN behind them where there
-    /// is one. What
-    /// was taken at a place before stays; nothing is taken at or behind a FIN that was taken, and no FIN at or below a
-    /// place that was.
+    /// Takes these bytes from this place on, which is not in front of the first gap, and a FIN after them if there is
+    /// one. What was taken at a place before stays; nothing is taken at or after a FIN that was taken, and no FIN at or
+    /// below a place that was.
     pub(crate) fn keep(&mut self, at: usize, bytes: &[u8], fin: bool) -> Result<(), AllocError>
         requires at { length (front self.old) ≤ at }
         requires small { at + length bytes.now + 1 < 2 ^ 63 }
@@ -133,7 +132,7 @@ impl CellQueue {
     }
 }
 
-// These bytes join the others, and a FIN stands behind them where there is one, where no cell did.
+// These bytes join the others, and a FIN stands after them if there is one, if no cell did.
 fn append(
     bytes: &mut ByteQueue,
     rest: &mut VecDeque<Option<Cell>>,

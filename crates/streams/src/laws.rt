@@ -9,7 +9,7 @@ pub fn forgetting_streams()
     ensures { ForgettingStreams }
 {}
 
-/// Nothing that is asked of transmissions reads those that were discarded.
+/// No query of transmissions reads those that were discarded.
 pub fn forgetting_transmissions()
     ensures { ForgettingMakings }
 {}

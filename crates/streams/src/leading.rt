@@ -1,6 +1,6 @@
 //! Reading the bytes in front of a queue of cells, up to the first place that has none.
 
-ghost use Rattle.std.specs.Prelude.{◌≡◌, ◌++◌, ◌+◌, ◌≤◌, length, slice_get, take};
+ghost use Rattle.std.specs.Prelude.{◌≡◌, ◌++◌, ◌+◌, ◌≤◌, slice_get, take};
 ghost use Rattle.std.specs.Vec.{vec_capacity, vec_len};
 ghost use Rattle.streams.specs.Cells.{byte_of, leading};
 ghost use Rattle.streams.specs.Received.{starts};
@@ -36,7 +36,7 @@ pub(crate) fn starts_with(cells: &VecDeque<Option<Cell>>, bytes: &[u8]) -> bool
     true
 }
 
-/// Copies the bytes in front, so many or as many as there are, behind those of `bytes`, where there is room.
+/// Copies the bytes in front, so many or as many as there are, after those of `bytes`, if there is room.
 pub(crate) fn copy_leading(cells: &VecDeque<Option<Cell>>, most: usize, bytes: &mut Vec<u8>)
     requires { vec_len bytes.old + most ≤ vec_capacity bytes.old }
     ensures { bytes.new.items ≡ bytes.old.items ++ take most (leading cells.now.items) }

@@ -1,10 +1,8 @@
 //! Which positions were made again.
 //!
 //! A segment that is made again marks one range, however long it is and whatever stands before it. Ranges may overlap.
-//! They
-//! are found in order, and one that lies below all that may still be asked for is discarded, so each costs the
-//! logarithm of
-//! how many there are.
+//! They are found in order, and one that lies below all that may still be looked up is discarded, so each costs the
+//! logarithm of how many there are.
 
 ghost use Rattle.std.specs.List.{list_any};
 ghost use Rattle.std.specs.Prelude.{◌≡◌, ℕ, ◌<◌, ◌≤◌, ◌∷◌, ◌&&◌, ◌||◌, nat_le, nat_lt, true, false, IfNone, IfSome};
@@ -17,7 +15,7 @@ use std::collections::BTreeMap;
 /// The positions that were made again.
 #[derive(Drop)]
 pub(crate) struct Marks {
-    /// Where ranges of them begin, with the position behind each range. None begins below `floor`.
+    /// Where ranges of them begin, with the position after each range. None begins below `floor`.
     ranges: BTreeMap<u64, u64>,
     /// All from here on and below `reached` were made again, too.
     floor: u64,
@@ -37,7 +35,7 @@ impl Marks {
         }
     }
 
-    /// The positions from `from` to before `upto` were made again. Where memory runs out none of them is marked.
+    /// The positions from `from` to before `upto` were made again. If memory runs out none of them is marked.
     pub(crate) fn add(&mut self, from: u64, upto: u64) -> Result<(), AllocError>
         ensures marked { OnOk result ((position : ℕ) → is_marked self.new position
             ≡ (is_marked self.old position || (nat_le from position && nat_lt position upto))) }

@@ -36,7 +36,7 @@ fn part_kept<'a>(cells: &VecDeque<Option<Cell>>, at: usize, bytes: &'a [u8]) -> 
     &bytes[..most.min(bytes.len())]
 }
 
-// Whether a FIN behind these bytes is kept.
+// Whether a FIN after these bytes is kept.
 fn end_kept(cells: &VecDeque<Option<Cell>>, at: usize, bytes: &[u8], fin: bool) -> bool
     requires { at + length bytes.now < deque_capacity cells.now }
     ensures { result ≡ end_kept cells.now.items at bytes.now fin }
@@ -44,7 +44,7 @@ fn end_kept(cells: &VecDeque<Option<Cell>>, at: usize, bytes: &[u8], fin: bool) 
     fin && !has_end(cells) && cells.len() <= at + bytes.len()
 }
 
-// Writes one cell, where there is room; places before it that have none yet stay missing.
+// Writes one cell, if there is room; places before it that have none yet stay missing.
 fn write_cell(cells: &mut VecDeque<Option<Cell>>, at: usize, cell: Cell)
     requires { at < deque_capacity cells.old }
     ensures items { cells.new.items ≡ put cells.old.items at cell }
@@ -62,7 +62,7 @@ fn write_cell(cells: &mut VecDeque<Option<Cell>>, at: usize, cell: Cell)
     cells.push_back_reserved(Some(cell));
 }
 
-// Writes these bytes from a place on, where there is room.
+// Writes these bytes from a place on, if there is room.
 fn place_bytes(cells: &mut VecDeque<Option<Cell>>, at: usize, bytes: &[u8])
     requires { at + length bytes.now ≤ deque_capacity cells.old }
     ensures items { cells.new.items ≡ put_all cells.old.items at (cells_of bytes.now) }
@@ -77,7 +77,7 @@ fn place_bytes(cells: &mut VecDeque<Option<Cell>>, at: usize, bytes: &[u8])
     }
 }
 
-// Writes these bytes behind the last cell, where there is room.
+// Writes these bytes after the last cell, if there is room.
 fn append_bytes(cells: &mut VecDeque<Option<Cell>>, bytes: &[u8])
     requires { length cells.old.items + length bytes.now ≤ deque_capacity cells.old }
     ensures items { cells.new.items ≡ put_all cells.old.items (length cells.old.items) (cells_of bytes.now) }
@@ -88,7 +88,7 @@ fn append_bytes(cells: &mut VecDeque<Option<Cell>>, bytes: &[u8])
     }
 }
 
-/// Writes what is kept of these bytes, and of a FIN behind them where there is one.
+/// Writes what is kept of these bytes, and of a FIN after them if there is one.
 pub(crate) fn place(cells: &mut VecDeque<Option<Cell>>, at: usize, bytes: &[u8], fin: bool)
     requires { at + length bytes.now < deque_capacity cells.old }
     ensures items { cells.new.items ≡ put_all cells.old.items at (body_kept cells.old.items at bytes.now fin) }
@@ -98,7 +98,7 @@ pub(crate) fn place(cells: &mut VecDeque<Option<Cell>>, at: usize, bytes: &[u8],
     place_body(cells, at, bytes, fin);
 }
 
-// Writes these bytes, and a FIN behind them where there is one.
+// Writes these bytes, and a FIN after them if there is one.
 fn place_body(cells: &mut VecDeque<Option<Cell>>, at: usize, bytes: &[u8], fin: bool)
     requires { at + length bytes.now < deque_capacity cells.old }
     ensures items { cells.new.items ≡ put_all cells.old.items at (body bytes.now fin) }

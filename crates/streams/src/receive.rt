@@ -1,10 +1,8 @@
 //! What an endpoint took of its peer (RFC 9293, 3.10.7.4): bytes may come out of order, and wait for those before them.
 //!
 //! The buffer keeps what was taken from the first byte on that was not delivered, up to the furthest position that was
-//! taken. So
-//! memory grows with what waits and with the gaps in it, not with the stream. A delivered byte is discarded, and shows
-//! as 0.
-//! `specs/Received` says what each call does.
+//! taken. So memory grows with what waits and with the gaps in it, not with the stream. A delivered byte is discarded,
+//! and shows as 0. `specs/Received` says what each call does.
 
 ghost use Rattle.std.specs.Prelude.{◌≡◌, ◌+◌, ◌≤◌, ◌<◌, ◌^◌, nat_lt, OnOk, OnErr, IfOk, length, take};
 ghost use Rattle.streams.specs.Received.{empty, is_ended, kept, met, next, starts, told, waiting};
@@ -84,16 +82,16 @@ impl ReceiveBuffer {
     }
 
     /// Takes the SYN, where nothing was taken yet.
-    pub fn meet(&mut self)
+    pub fn take_syn(&mut self)
         requires { self.old ≡ empty }
         ensures { self.new ≡ met }
     {
         self.gone = 1;
     }
 
-    /// Takes these bytes from this position on, which is not below the next, and a FIN behind them where there is one.
-    /// What was taken at a position before stays; nothing is taken at or behind a FIN that was taken, and no FIN at or
-    /// below a position that was.
+    /// Takes these bytes from this position on, which is not below the next, and a FIN after them if there is one. What
+    /// was taken at a position before stays; nothing is taken at or after a FIN that was taken, and no FIN at or below
+    /// a position that was.
     pub fn keep(&mut self, position: u64, bytes: &[u8], fin: bool) -> Result<(), AllocError>
         requires met { 1 ≤ next self.old }
         requires next { next self.old ≤ position }

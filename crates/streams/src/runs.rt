@@ -2,10 +2,9 @@
 //!
 //! A segment makes one run, however long it is, so that a queue is as long as there are segments in flight.
 
-ghost use Rattle.std.specs.Prelude.{◌≡◌, ◌+◌, ◌-◌, ◌<◌, ◌≤◌, ◌++◌, ◌∷◌, drop, length, replicate, slice_get, take};
-ghost use Rattle.std.specs.Option.{option_map};
+ghost use Rattle.std.specs.Prelude.{◌≡◌, ◌+◌, ◌-◌, ◌<◌, ◌≤◌, ◌++◌, drop, length, replicate};
 ghost use Rattle.std.specs.VecDeque.{deque_capacity, deque_len};
-ghost use Rattle.streams.specs.Transmissions.{any_again, made_moment, mark, once, remade};
+ghost use Rattle.streams.specs.Transmissions.{made_moment, once};
 ghost use Rattle.streams.specs.Views.{expand};
 
 use std::collections::VecDeque;
@@ -19,7 +18,7 @@ pub(crate) struct Run {
     pub(crate) moment: u64,
 }
 
-/// So many positions are made at the end, where there is room for a run.
+/// So many positions are made at the end, if there is room for a run.
 pub(crate) fn grow(runs: &mut VecDeque<Run>, count: u64, moment: u64)
     requires { deque_len runs.old < deque_capacity runs.old }
     ensures { expand runs.new.items ≡ expand runs.old.items ++ replicate count (once moment) }

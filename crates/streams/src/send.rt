@@ -3,7 +3,7 @@
 //! The buffer keeps the bytes from the oldest on that may be made again. Bytes that were discarded show as 0.
 //! `specs/Sent` says what each call does.
 
-ghost use Rattle.std.specs.Prelude.{◌≡◌, ℕ, ◌+◌, ◌≤◌, ◌<◌, ◌^◌, List, [], ◌++◌, OnOk, OnErr, IfOk, length, take, drop};
+ghost use Rattle.std.specs.Prelude.{◌≡◌, ℕ, ◌+◌, ◌<◌, ◌^◌, List, [], ◌++◌, OnOk, OnErr, IfOk, length, take, drop};
 ghost use Rattle.streams.specs.Sent.{end_of, piece};
 ghost use Rattle.streams.specs.Forgetting.{below};
 
@@ -41,7 +41,7 @@ impl SendBuffer {
         }
     }
 
-    /// The position behind the last byte that was accepted.
+    /// The position after the last byte that was accepted.
     pub fn end(&self) -> u64
         ensures { result ≡ end_of self.now }
     {

@@ -1,10 +1,8 @@
 //! When each position of a stream was made, and whether it was made again (RFC 6298, 3).
 //!
 //! Positions that one segment made are kept as one run, those that were made again as ranges beside them, so that a
-//! segment
-//! walks over none that stands before it. Those that were acknowledged are discarded: they show as made once at the
-//! moment 0.
-//! `specs/Transmissions` says what each call does.
+//! segment walks over none that stands before it. Those that were acknowledged are discarded: they show as made once at
+//! the moment 0. `specs/Transmissions` says what each call does.
 
 ghost use Rattle.std.specs.Prelude.{◌≡◌, ◌+◌, ◌<◌, ◌^◌, [], OnOk, OnErr, length};
 ghost use Rattle.streams.specs.Transmissions.{made, retransmitted, made_moment};
@@ -23,7 +21,7 @@ pub struct Transmissions {
     runs: VecDeque<Run>,
     /// How many positions were discarded.
     gone: u64,
-    /// The position behind the last that was made.
+    /// The position after the last that was made.
     end: u64,
     /// Those that were made again.
     marks: Marks,
@@ -31,16 +29,17 @@ pub struct Transmissions {
 
 impl Model for Transmissions {
     ghost use Rattle.std.specs.Prelude.{◌≡◌, ◌++◌, ◌+◌, ◌<◌, ◌^◌, List, length, replicate};
-    ghost use Rattle.streams.specs.declared.making.Made.{Made};
+    ghost use Rattle.streams.specs.declared.transmission.Transmission.{Transmission};
     ghost use Rattle.streams.specs.Transmissions.{once};
     ghost use Rattle.streams.specs.Marks.{IsBelow, is_marked, marked};
     ghost use Rattle.streams.specs.Views.{expand};
 
-    ghost Value = { List Made };
+    ghost Value = { List Transmission };
 
     ghost view = { λ a. marked (is_marked a.marks) 0 (replicate a.gone (once 0) ++ expand a.runs.items) };
 
-    ghost invariant = { λ a. (a.end ≡ a.gone + length (expand a.runs.items)) × (a.end < 2 ^ 63) × IsBelow a.end a.marks };
+    ghost invariant = { λ a. (a.end ≡ a.gone + length (expand a.runs.items)) × (a.end < 2 ^ 63)
+        × IsBelow a.end a.marks };
 }
 
 impl Transmissions {
@@ -56,7 +55,7 @@ impl Transmissions {
         }
     }
 
-    /// The position behind the last that was made, 0 if none was.
+    /// The position after the last that was made, 0 if none was.
     pub fn end(&self) -> u64
         ensures { result ≡ length self.now }
     {
@@ -64,8 +63,7 @@ impl Transmissions {
     }
 
     /// A segment is made at this moment (in microseconds), with so many positions from this one on. Those that were
-    /// made
-    /// before are made again.
+    /// made before are made again.
     pub fn make(&mut self, position: u64, count: u64, moment: u64) -> Result<(), AllocError>
         requires { position + count < 2 ^ 63 }
         ensures ok { OnOk result (self.new ≡ made self.old position count moment) }

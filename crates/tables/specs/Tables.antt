@@ -60,8 +60,7 @@ pub record IsPlaced {V : Type 0} (top : Option ℕ) (risen : List (ℕ × ℕ)) 
   pub new : (number : ℕ) → is_above top number ≡ true → place_of entries number ≡ None
 
 -- an entry of the number, if there is one, fits with no more memory: one more entry fits, and one more number that
--- rises,
--- or the number has its place in the map
+-- rises, or the number has its place in the map
 abbrev pub IsReady : Option ℕ → (Fits FitsRisen : Type 0) → List (ℕ × Option ℕ) → Option ℕ → Type 0
 IsReady top Fits FitsRisen others ready = IfSome ready (λ number.
     Fits × (is_above top number ≡ true → FitsRisen)

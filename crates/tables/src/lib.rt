@@ -1,8 +1,7 @@
 //! Tables by numbers that a text chooses.
 //!
 //! An entry is found in the logarithm of their number, whatever the numbers are: a table with hashes would let a text
-//! choose
-//! numbers that collide. Entries stay in the order in which they were added.
+//! choose numbers that collide. Entries stay in the order in which they were added.
 //!
 //! - `queue`: items numbered one after the other, taken out in any order
 //! - `rising`: numbers that rise, searched from the end

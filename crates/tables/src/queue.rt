@@ -11,9 +11,8 @@ use std::alloc::{AllocError, Global};
 use std::collections::VecDeque;
 use std::marker::Model;
 
-/// Items numbered one after the other, of which some were taken out. Behind the first item that is left one that was
-/// taken
-/// out keeps its slot, so an item is found at once by its number.
+/// Items numbered one after the other, of which some were taken out. After the first item that is left one that was
+/// taken out keeps its slot, so an item is found at once by its number.
 #[derive(Drop)]
 pub struct Queue<V> {
     /// The number of the first slot.
@@ -32,7 +31,8 @@ impl<V> Model for Queue<V> {
 
     ghost view = { λ q. record { entries = standing q.first q.slots.items; next = q.first + length q.slots.items } };
 
-    ghost invariant = { λ q. (q.count ≡ length (standing q.first q.slots.items)) × (q.first + length q.slots.items < 2 ^ 64) × IsTrimmed q.slots.items };
+    ghost invariant = { λ q. (q.count ≡ length (standing q.first q.slots.items))
+        × (q.first + length q.slots.items < 2 ^ 64) × IsTrimmed q.slots.items };
 }
 
 impl<V: Drop> Queue<V> {
@@ -48,10 +48,11 @@ impl<V: Drop> Queue<V> {
         }
     }
 
-    /// One more item, whose number is the next one. Where memory runs out nothing is changed.
+    /// One more item, whose number is the next one. If memory runs out, nothing is changed.
     pub fn push(&mut self, item: V) -> Result<(), AllocError>
         requires { self.old.next + 1 < 2 ^ 64 }
-        ensures ok { OnOk result (self.new ≡ record { entries = self.old.entries ++ (self.old.next, item) ∷ []; next = self.old.next + 1 }) }
+        ensures ok { OnOk result (self.new ≡ record {
+            entries = self.old.entries ++ (self.old.next, item) ∷ []; next = self.old.next + 1 }) }
         ensures err { OnErr result (self.new ≡ self.old) }
     {
         self.slots.push_back(Some(item))?;

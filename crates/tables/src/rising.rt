@@ -1,11 +1,9 @@
 //! Numbers that rise, with the places of their entries, and how one is found among them.
 //!
 //! Numbers are often given one after the other: then a number's place is how far above the first one it lies, and is
-//! looked at
-//! first. Most other look-ups are of numbers that came last. So the search steps back from the end, each step twice as
-//! wide as the
-//! one before, and then halves what lies between its last two steps: it takes the logarithm of how far from the end the
-//! number stands.
+//! looked at first. Most other look-ups are of numbers that came last. So the search steps back from the end, each step
+//! twice as wide as the one before, and then halves what lies between its last two steps: it takes the logarithm of how
+//! far from the end the number stands.
 
 ghost use Rattle.std.specs.Prelude.{◌≡◌, ◌≤◌, length, nat_eq, IfSome};
 ghost use Rattle.std.specs.Map.{lookup};

@@ -93,9 +93,8 @@ impl<V: Drop> Table<V> {
         Ok(())
     }
 
-    /// The value of a number becomes this one: an entry that is there keeps its place, and a new one goes last. Where
-    /// memory
-    /// runs out nothing is changed; it doesn't where there is an entry of the number, or room for it.
+    /// The value of a number becomes this one: an entry that is there keeps its place, and a new one goes last. If
+    /// memory runs out, nothing is changed; it doesn't if there is an entry of the number, or room for it.
     #[inline(always)]
     pub fn insert(&mut self, number: u64, value: V) -> Result<(), AllocError>
         ensures ok { OnOk result (self.new.entries ≡ insert_entry nat_eq self.old.entries number value) }

@@ -1,6 +1,5 @@
 //! The program `tcpwit`: `cli::run_all` on the process's words, its standard input and its standard output; or, where
-//! the
-//! words name two files, `cli::run_files` on these.
+//! the words name two files, `cli::run_files` on these.
 #![tactic(auto)]
 
 ghost use Rattle.std.specs.Prelude.{◌≡◌, ◌<◌, ◌^◌, OnErr};
@@ -36,7 +35,7 @@ fn main(rt: HostRuntime) -> ExitCode {
     ExitCode::from(status)
 }
 
-// Runs with the words behind the program's name. Where they find no memory nothing is read or written.
+// Runs with the words after the program's name. Where they find no memory nothing is read or written.
 fn run_given<R: BufRead, W: Write, H: Files + Threads + Wait + Sync>(
     rt: &H,
     alloc: Global,

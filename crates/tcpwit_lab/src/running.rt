@@ -22,9 +22,8 @@ const MEMORY: u8 = 4;
 // A read or a write failed.
 const DEVICE: u8 = 5;
 
-/// Does what the words behind the program's name ask for, and answers the status: 0 where it is done, 2 where the text
-/// is
-/// refused, 3 where the words are none of the program's, 4 where memory ran out, and 5 where a read or a write failed.
+/// Does what the words after the program's name ask for, and answers the status: 0 where it is done, 2 where the text
+/// is refused, 3 where the words are none of the program's, 4 if memory ran out, and 5 where a read or a write failed.
 pub(crate) fn run<R: BufRead, W: Write>(
     alloc: Global,
     words: &[&str],
@@ -68,8 +67,7 @@ fn asked_by(words: &[&str]) -> Option<Asked> {
 }
 
 // The lines that `--from N`, `--to M` or both ask for, in either order. None: other words, an option twice, a number
-// that is
-// badly written, or M below N.
+// that is badly written, or M below N.
 fn range_of(options: &[&str]) -> Option<Range> {
     let range = match options {
         [] => Range {

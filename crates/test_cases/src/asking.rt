@@ -64,7 +64,7 @@ pub fn ask_each(
     Ok(())
 }
 
-/// Asks for all cases in one input of `many`, but for those whose text is cut: behind them no line `end` can stand, so
+/// Asks for all cases in one input of `many`, but for those whose text is cut: after them no line `end` can stand, so
 /// each is asked for as the only case of an input.
 pub fn ask_many<H: Threads + Wait + Sync>(
     rt: &H,

@@ -1,7 +1,7 @@
 //! Each beginning of a case, byte by byte.
 //!
 //! A beginning that ends inside a line is cut there: that line is refused with its number and its length. Line k of
-//! `beginnings/NAME.txt`, counted from 0, has what is wanted for the beginning that ends behind k whole lines.
+//! `beginnings/NAME.txt`, counted from 0, has what is wanted for the beginning that ends after k whole lines.
 
 use crate::table::Case;
 use std::alloc::{AllocError, Global};
@@ -15,8 +15,7 @@ struct Place {
 }
 
 impl Place {
-    // Where the line behind this one stands. The line `witness 1` is the last of the trace where it is cut, and else
-    // the
+    // Where the line after this one stands. The line `witness 1` is the last of the trace where it is cut, and else the
     // first of the witness.
     fn next(self, line: &str) -> Place {
         if line == "witness 1" {

@@ -13,7 +13,7 @@ use std::thread::Threads;
 // What stands in the input. Only `check` and `many` read it, and the fault of its first line is their answer.
 const INPUT: &[u8] = b"trace 9\nend\n";
 
-// A command line of these words, behind the program's name.
+// A command line of these words, after the program's name.
 #[derive(Drop)]
 struct Words<'a> {
     words: &'a [Vec<u8>],
@@ -51,9 +51,8 @@ fn fill(word: &[u8], buf: &mut [u8]) -> Result<usize, FillError>
     Ok(word.len())
 }
 
-/// Asks for each row of a table: the line that is wanted, then the words behind the program's name, with a tab before
-/// each.
-/// Answers how many rows there are.
+/// Asks for each row of a table: the line that is wanted, then the words after the program's name, with a tab before
+/// each. Answers how many rows there are.
 pub fn ask_rows<H: Threads + Wait + Sync>(
     rt: &H,
     alloc: Global,

@@ -6,8 +6,7 @@ use std::alloc::{AllocError, Global};
 const HEADER: &str = "trace 1\nskew 0\nmsl 120000000\ngrain 1000\nminrto 1000000\nextra 0\n";
 
 // So many letters, which may be digits of hex: what stands between the header and them, what follows them, and the line
-// that
-// is wanted.
+// that is wanted.
 #[derive(Clone, Copy)]
 struct Long {
     before: &'static str,

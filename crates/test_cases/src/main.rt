@@ -1,16 +1,12 @@
 //! Asks for the answer to every case file, in several ways, and holds each answer to the line that is wanted.
 //!
 //! The case of each name is `data/NAME.case`, and `data/expected.txt` has the line that `tcpwit check` must print for
-//! it
-//! (`data/README.md`). Beside the files, each beginning of two of them is asked for, lines of the greatest length,
-//! inputs of
-//! several cases, pairs of texts that no case would be cut into, the command lines of `data/command_lines.txt`, what
-//! `tcpwit_lab` says of some cases (`data/told.txt`), and the cases that are found for recordings of the Linux kernel
-//! (`data/kernel/`).
-//! Where all is answered as wanted, one line with the counts is printed. Else each answer that differs has a line on
-//! standard error, with the name of the case, how it was asked, what was wanted and what was found, and the program
-//! ends
-//! with status 1.
+//! it (`data/README.md`). Beside the files, each beginning of two of them is asked for, lines of the greatest length,
+//! inputs of several cases, pairs of texts that no case would be cut into, the command lines of
+//! `data/command_lines.txt`, what `tcpwit_lab` says of some cases (`data/told.txt`), and the cases that are found for
+//! recordings of the Linux kernel (`data/kernel/`). Where all is answered as wanted, one line with the counts is
+//! printed. Else each answer that differs has a line on standard error, with the name of the case, how it was asked,
+//! what was wanted and what was found, and the program ends with status 1.
 //!
 //! - `table`: cases, and those of the files
 //! - `beginnings`: each beginning of a case

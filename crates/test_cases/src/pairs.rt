@@ -44,8 +44,7 @@ const PAIRS: [(&str, &str, &str); 12] = [
 ];
 
 /// Asks for each pair, and for the trace of a whole case with each beginning of its witness's first line. Answers how
-/// many
-/// pairs there are.
+/// many pairs there are.
 pub fn ask_pairs(rt: &HostRuntime, name: &str, differing: &mut Vec<String>) -> io::Result<usize> {
     let alloc = rt.alloc();
     for (trace, witness, wanted) in &PAIRS {

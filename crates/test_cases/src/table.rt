@@ -27,7 +27,7 @@ impl Case {
         }
     }
 
-    /// Whether the text is empty or ends with an LF, so that a line `end` can stand behind it.
+    /// Whether the text is empty or ends with an LF, so that a line `end` can stand after it.
     pub fn is_ended(&self) -> bool {
         self.text.is_empty() || self.text.as_slice().ends_with(b"\n")
     }

@@ -5,9 +5,8 @@ use std::alloc::{AllocError, Global};
 use std::{fs, io};
 use why::explain;
 
-/// Asks for each text of a table: a line `== WORD NAME` with the word of `tcpwit_lab` and the name of a case, and
-/// behind it the
-/// text that is wanted. Answers how many texts there are.
+/// Asks for each text of a table: a line `== WORD NAME` with the word of `tcpwit_lab` and the name of a case, and after
+/// it the text that is wanted. Answers how many texts there are.
 pub fn ask_told(
     rt: &HostRuntime,
     alloc: Global,
@@ -32,7 +31,7 @@ pub fn ask_told(
     Ok(count)
 }
 
-// What a word says of a case; nothing where the word is another one, or the trace can't be read.
+// What a word says of a case; nothing if the word is another one, or the trace can't be read.
 fn told(alloc: Global, word: &str, case: &[u8]) -> Result<Vec<u8>, AllocError> {
     let range = Range {
         from: None,

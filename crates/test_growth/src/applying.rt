@@ -5,17 +5,12 @@ ghost use Rattle.case_forms.specs.Witnesses.{IsWithinLimits};
 
 use crate::progress::{Progress, Report, Request};
 use crate::worlds::shown;
-use case_forms::{Label, NamedLine, Step, TakenLine, Trace};
+use case_forms::{GREATEST_POSITION, Label, MOST_STEPS, NamedLine, Step, TakenLine, Trace};
 use endpoint_state::World;
 use spec_step::{StepFault, apply};
 use std::alloc::{AllocError, Global};
 use trace_reader::read_trace;
 use witness::read_witness;
-
-// The greatest position that a step may name, and more steps than any case here has.
-const MOST_POSITION: u64 = 1_000_000_000_000_000_000;
-
-const MOST_STEPS: u64 = 40_000_000;
 
 /// `apply` of one step of the case to the world that the steps before it leave. What a world shows of itself is
 /// compared with what it showed before.
@@ -83,7 +78,7 @@ fn is_within_limits(label: &Label<TakenLine>) -> bool
     ensures { IsTrue result → IsWithinLimits label.now }
 {
     match label {
-        Label::M { plan, .. } => plan.pos <= MOST_POSITION,
+        Label::M { plan, .. } => plan.pos <= GREATEST_POSITION,
         Label::L(_)
         | Label::D { .. }
         | Label::T { .. }

@@ -7,14 +7,12 @@ ghost use Rattle.stack_core.specs.Cores.{IsAfter};
 
 use crate::progress::{Progress, Report, Request};
 use crate::rows::added;
-use case_forms::{Call, Header, Host, Initial, OutOfMemory, Version};
+use case_forms::{
+    Call, GREATEST_COUNTER, GREATEST_MOMENT, Header, Host, Initial, MOST_EVENTS, OutOfMemory,
+    Version,
+};
 use stack_core::{CoreConfig, Flying, HostCore, Tick};
 use std::alloc::{AllocError, Global};
-
-// No tick passes these: the greatest moment and counter, and how many events a host may have.
-const MOST: u64 = 1_000_000_000_000_000_000;
-
-const EVENTS: u64 = 10_000_000;
 
 // When a retransmission timer has expired, in microseconds.
 const LATE: u64 = 10_000_000;
@@ -49,12 +47,12 @@ fn tick_at(core: &HostCore, moment: u64) -> Option<Tick>
     ensures after { IfSome result (IsAfter core.now.last) }
     ensures events { IfSome result (λ tick. core.now.events < 10000000) }
 {
-    if core.events() >= EVENTS {
+    if core.events() >= MOST_EVENTS {
         return None;
     }
     let last = core.last_tick();
     let moment = moment.max(last.moment);
-    if moment > MOST || last.counter >= MOST {
+    if moment > GREATEST_MOMENT || last.counter >= GREATEST_COUNTER {
         return None;
     }
     Some(Tick {

@@ -4,7 +4,7 @@ ghost use Rattle.trace_reader.specs.TraceLeft.{IsBegun, IsFresh};
 
 use crate::progress::{Progress, Report, Request};
 use counted::Counted;
-use line_fields::{ReadFault, TextFault};
+use line_fields::{SourceFault, TextFault};
 use segment::decode;
 use std::alloc::{AllocError, Global};
 use trace_reader::{Trace, TraceReader, print_trace, read_trace, version_named};
@@ -133,8 +133,8 @@ pub fn call_trace_reader(
     report.say("again", format!(in alloc; "{again:?}")?.as_str())
 }
 
-// How many lines a trace has behind its header.
-fn count_lines(reader: &mut TraceReader<&[u8]>) -> Result<u32, ReadFault>
+// How many lines a trace has after its header.
+fn count_lines(reader: &mut TraceReader<&[u8]>) -> Result<u32, SourceFault>
     requires { IsFresh reader.old }
     ensures { IsBegun reader.new }
 {
@@ -175,7 +175,7 @@ pub fn call_step_reader(
 }
 
 // How many steps a witness has.
-fn count_steps(reader: &mut StepReader<&[u8]>) -> Result<u32, ReadFault> {
+fn count_steps(reader: &mut StepReader<&[u8]>) -> Result<u32, SourceFault> {
     for count in 0..MANY {
         if reader.next()?.is_none() {
             return Ok(count);

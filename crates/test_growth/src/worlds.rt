@@ -1,7 +1,7 @@
 //! What a world shows of itself.
 
 use case_forms::Host;
-use endpoint_state::{Body, Endpoint, World};
+use endpoint_state::{Endpoint, HostTcp, World};
 use std::alloc::{AllocError, Global};
 
 // More threads, lines and endpoints of a host than any case here has.
@@ -47,7 +47,7 @@ fn push_segments(
 }
 
 // The endpoints and listeners of a host.
-fn push_body(alloc: Global, body: &Body, text: &mut String) -> Result<(), AllocError> {
+fn push_body(alloc: Global, body: &HostTcp, text: &mut String) -> Result<(), AllocError> {
     let sockets = body.socket_count();
     text.push_str(format!(in alloc; " sockets {sockets}")?.as_str())?;
     for place in 0..ENDPOINTS {

@@ -2,7 +2,7 @@
 //! - `segments`: what is written of segments, which the program only reads
 //! - `first_pages`: the calls that the first pages of the libraries show
 //! - `ends`: the reader and the writer that fail
-//! - `counted_calls`: each call of a `Counted` makes one call of its end, and fails where that fails
+//! - `counted_calls`: each call of a `Counted` makes one call of its end, and fails if that fails
 //! - `texts`: traces and witnesses that are read in pieces, and up to the call that fails
 //! - `two_texts`: a case in two texts, judged in pieces, up to a call that fails, and with no more of it read than a
 //!   step needs

@@ -80,11 +80,11 @@ is_early t timer moment h =
 
 -- why a timer can't expire at a moment, if it can't
 abbrev pub refusal : Timers → Timer → ℕ → Header → Option TimerFault
-refusal t timer moment h = if not (is_armed t timer) then Some Off else (if is_early t timer moment h then Some Early else None)
+refusal t timer moment h =
+    if not (is_armed t timer) then Some Off else (if is_early t timer moment h then Some Early else None)
 
 -- after an expiry: the retransmission timer runs anew with twice the timeout (RFC 6298, 5.5 and 5.6), the persist timer
--- with
--- the same one, the wait in TIME-WAIT is over
+-- with the same one, the wait in TIME-WAIT is over
 abbrev pub expired : Timers → Timer → ℕ → Timers
 expired t Rto moment = armed (backed_off t) Rto moment
 expired t Persist moment = armed t Persist moment

@@ -30,7 +30,7 @@ pub fn back_off_is_exponential()
     ensures { BackOffIsExponential }
 {}
 
-/// A timer expires exactly where it is armed and ran out (RFC 6298, 4 and 5).
+/// A timer expires exactly if it is armed and ran out (RFC 6298, 4 and 5).
 pub fn expiry_is_exact()
     ensures { ExpiryIsExact }
 {}

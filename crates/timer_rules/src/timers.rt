@@ -16,8 +16,7 @@ pub const LONGEST_RTO: u64 = 60_000_000;
 /// The timers of an endpoint. All times and moments are microseconds.
 ///
 /// These are the retransmission timer, the persist timer and the wait in TIME-WAIT. `Timer::Giveup` is no timer that is
-/// armed,
-/// so the calls that name a timer take each but that one.
+/// armed, so the calls that name a timer take each but that one.
 #[derive(Clone, Copy, Debug, PartialEq, Eq)]
 pub struct Timers {
     /// The smoothed round trip time; None before the first sample.
@@ -26,11 +25,11 @@ pub struct Timers {
     pub rttvar: u64,
     /// The retransmission timeout, at most 60,000,000.
     pub rto: u64,
-    /// Since when the retransmission timer is armed; None where it is off.
+    /// Since when the retransmission timer is armed; None if it is off.
     pub rto_armed: Option<u64>,
-    /// Since when the persist timer is armed; None where it is off.
+    /// Since when the persist timer is armed; None if it is off.
     pub persist_armed: Option<u64>,
-    /// Since when the wait in TIME-WAIT lasts; None where it is off.
+    /// Since when the wait in TIME-WAIT lasts; None if it is off.
     pub msl_armed: Option<u64>,
 }
 
@@ -61,7 +60,7 @@ impl Timers {
         self.rto = timeout(header, srtt, rttvar);
     }
 
-    /// Arms a timer, any but `Giveup`, at a moment in microseconds, anew where it is armed.
+    /// Arms a timer, any but `Giveup`, at a moment in microseconds, anew if it is armed.
     pub fn arm(&mut self, timer: Timer, moment: u64)
         requires { timer ≢ Giveup }
         ensures { self.new ≡ armed self.old timer moment }
@@ -103,11 +102,9 @@ impl Timers {
     }
 
     /// Lets a timer, any but `Giveup`, expire at a moment in microseconds. An expiry of the retransmission timer
-    /// doubles the
-    /// timeout and arms the timer anew (RFC 6298, 5.5 and 5.6), one of the persist timer arms it anew, and the wait in
-    /// TIME-WAIT
-    /// is then over.
-    /// `Off` where the timer is not armed, else `Early` where the moment is before the earliest.
+    /// doubles the timeout and arms the timer anew (RFC 6298, 5.5 and 5.6), one of the persist timer arms it anew, and
+    /// the wait in TIME-WAIT is then over. `Off` where the timer is not armed, else `Early` where the moment is before
+    /// the earliest.
     pub fn expire(&mut self, timer: Timer, moment: u64, header: &Header) -> Result<(), TimerFault>
         requires { timer ≢ Giveup }
         ensures exact { result_err result ≡ refusal self.old timer moment header.now }
@@ -144,7 +141,7 @@ impl Timers {
         }
     }
 
-    /// Since when a timer, any but `Giveup`, is armed, in microseconds; None where it is off.
+    /// Since when a timer, any but `Giveup`, is armed, in microseconds; None if it is off.
     pub fn armed_since(&self, timer: Timer) -> Option<u64>
         requires { timer ≢ Giveup }
         ensures { result ≡ armed_since self.now timer }

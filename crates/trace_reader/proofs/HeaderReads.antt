@@ -3,7 +3,7 @@ use Rattle.std.proofs.Common.{◌≡◌, ℕ, Option, None, Some, Result, Ok, Er
 use Rattle.case_forms.specs.declared.trace.Header.{Header}
 use Rattle.case_forms.specs.declared.version.Initial.{Initial}
 use Rattle.line_fields.specs.declared.fault.TextFault.{TextFault}
-use Rattle.line_fields.specs.declared.fault.ReadFault.{ReadFault}
+use Rattle.line_fields.specs.declared.fault.SourceFault.{SourceFault}
 use Rattle.line_fields.specs.Reading.{◌>>=◌}
 use Rattle.line_fields.specs.Rows.{with_rest, Reads}
 use Rattle.line_fields.proofs.ReadsLemmas.{reads_then, reads_not}
@@ -14,7 +14,7 @@ abbrev Known : Type 0
 Known = Option Raws
 
 -- a part of the header is read so from here on
-abbrev Heads : {B : Type 0} → (Raws → Result (B × Raws) TextFault) → Known → Known → Result B ReadFault → Type 0
+abbrev Heads : {B : Type 0} → (Raws → Result (B × Raws) TextFault) → Known → Known → Result B SourceFault → Type 0
 Heads read a c r = Reads with_rest read a c r
 
 -- a value, and what is read behind it
@@ -22,10 +22,10 @@ module _ {A B : Type 0} (value : Raws → Result (A × Raws) TextFault) (next : 
   abbrev pub both : Raws → Result (B × Raws) TextFault
   both raws = value raws >>= next
 
-  pub value_then : (a b c : Known) (x : A) (r : Result B ReadFault) → Reads with_rest value a b (Ok x) → Heads (λ rest. next (x, rest)) b c r → Heads both a c r
+  pub value_then : (a b c : Known) (x : A) (r : Result B SourceFault) → Reads with_rest value a b (Ok x) → Heads (λ rest. next (x, rest)) b c r → Heads both a c r
   value_then a b c x r p q = reads_then with_rest value with_rest next a b c x r p q
 
-  pub value_not : (a b : Known) (f : ReadFault) → Reads with_rest value a b (Err f) → Heads both a b (Err f)
+  pub value_not : (a b : Known) (f : SourceFault) → Reads with_rest value a b (Err f) → Heads both a b (Err f)
   value_not a b f p = reads_not with_rest value with_rest next a b b f p
 
   -- it is the last
@@ -35,7 +35,7 @@ module _ {A B : Type 0} (value : Raws → Result (A × Raws) TextFault) (next : 
   value_last (Some raws) (Some rest) x y made p = rw p (made rest)
 
 -- the header is its first line and what is behind it
-pub is_header : (a c : Known) (r : Result Header ReadFault) → Heads (both first_line with_first) a c r → Heads header_of a c r
+pub is_header : (a c : Known) (r : Result Header SourceFault) → Heads (both first_line with_first) a c r → Heads header_of a c r
 unfolding header_of
 is_header a c r p = p
 

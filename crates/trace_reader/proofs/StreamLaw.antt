@@ -7,7 +7,7 @@ use Rattle.case_forms.specs.declared.trace.Line.{Line}
 use Rattle.case_forms.specs.declared.trace.Trace.{Trace}
 use Rattle.case_forms.specs.declared.version.Version.{Version}
 use Rattle.line_fields.specs.declared.fault.TextFault.{TextFault}
-use Rattle.line_fields.specs.declared.fault.ReadFault.TheVariants as reads
+use Rattle.line_fields.specs.declared.fault.SourceFault.TheVariants as reads
 use Rattle.line_fields.specs.Word.{Rest}
 use Rattle.line_fields.specs.Reading.{Fails}
 use Rattle.line_fields.specs.Lines.{line_text, line_rest}

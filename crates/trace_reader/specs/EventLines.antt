@@ -38,7 +38,8 @@ pub record IsEventLine (v : Version) (place : Place) (line : Line) (raw : List �
 
 -- a moment that is not below the one before
 abbrev pub moment_value : ℕ → Word → Result ℕ TextFault
-moment_value before w = number_value 0 1000000000000000000 w >>= λ m. if nat_lt m before then Err (fault_at MomentFalls w) else Ok m
+moment_value before w =
+    number_value 0 1000000000000000000 w >>= λ m. if nat_lt m before then Err (fault_at MomentFalls w) else Ok m
 
 -- the next field, which is such a moment
 abbrev pub moment_field : ℕ → Rest → Result (ℕ × Rest) TextFault

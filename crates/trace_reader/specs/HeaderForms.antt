@@ -82,8 +82,7 @@ AreRows number (r ∷ rows) [] = ⊥
 AreRows number (r ∷ rows) (raw ∷ raws) = IsRow r number raw × AreRows (number + 1) rows raws
 
 -- the first fault of lines that have to have these forms, from the line of that number on: those before have theirs,
--- and the next one is
--- missing or has this fault
+-- and the next one is missing or has this fault
 pub record IsRowsFault (number : ℕ) (rows : List Row) (raws : List (List ℕ)) (e : TextFault) : Type 0 where
   pub done : List Row
   pub next : Row

@@ -23,8 +23,7 @@ abbrev pub HasBytes : Line → Type 0
 HasBytes l = AllByRecursion IsBytePiece (event_pieces l.event)
 
 -- the numbers and the event of a line are within the limits of this version (that of a half case names host 0 alone),
--- and its
--- bytes are bytes
+-- and its bytes are bytes
 pub record IsPrintableLine (v : Version) (l : Line) : Type 0 where
   pub moment : l.moment ≤ 1000000000000000000
   pub thread : l.thread ≤ 4294967295

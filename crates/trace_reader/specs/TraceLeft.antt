@@ -8,7 +8,7 @@ use Rattle.case_forms.specs.declared.version.Version.{Version}
 use Rattle.counted.specs.declared.ends.Counted.{Counted}
 use Rattle.counted.specs.Counting.{left_of, failures_of}
 use Rattle.line_fields.specs.declared.fault.TextFault.{TextFault}
-use Rattle.line_fields.specs.declared.fault.ReadFault.{ReadFault}
+use Rattle.line_fields.specs.declared.fault.SourceFault.{SourceFault}
 use Rattle.line_fields.specs.Reading.{◌>>=◌}
 use Rattle.line_fields.specs.Folding.{read_lines}
 use Rattle.line_fields.specs.Rows.{rows_of}
@@ -33,7 +33,7 @@ abbrev pub version_of : {A : Type 0} → TraceReader A → Version
 version_of r = r.version
 
 -- the fault that was met, if one was
-abbrev pub fault_of : {A : Type 0} → TraceReader A → Option ReadFault
+abbrev pub fault_of : {A : Type 0} → TraceReader A → Option SourceFault
 fault_of r = r.fault
 
 -- nothing was read, or a fault was met

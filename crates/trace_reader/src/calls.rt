@@ -1,6 +1,5 @@
 //! The calls that a thread may begin.
 
-ghost use Rattle.std.specs.Prelude.{◌≡◌};
 ghost use Rattle.line_fields.specs.Reading.{Gives};
 ghost use Rattle.line_fields.specs.Choice.{kind_field};
 ghost use Rattle.trace_reader.specs.Calls.{call_name, all_call_words};

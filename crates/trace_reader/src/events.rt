@@ -1,6 +1,5 @@
 //! Events and event lines.
 
-ghost use Rattle.std.specs.Prelude.{◌≡◌};
 ghost use Rattle.line_fields.specs.Reading.{Gives};
 ghost use Rattle.line_fields.specs.Choice.{kind_field};
 ghost use Rattle.trace_reader.specs.Events.{letter_name, all_letters};
@@ -9,11 +8,9 @@ ghost use Rattle.trace_reader.specs.EventLines.{line_of};
 
 use crate::calls::call;
 use crate::wires::wire;
-use case_forms::{Event, Host, Line, Version, Wire};
-use line_fields::{FaultKind, Fields, Span, TextFault, answer, fields_of, timer};
+use case_forms::{Event, GREATEST_MOMENT, Host, Line, Version, Wire};
+use line_fields::{FaultKind, Fields, Span, TextFault, answer, checked_fields, timer};
 use std::alloc::Global;
-
-const MAX_MOMENT: u64 = 1_000_000_000_000_000_000;
 
 // The letter of an event.
 #[derive(Clone, Copy)]
@@ -92,9 +89,8 @@ fn event(alloc: Global, version: Version, fields: &mut Fields) -> Result<Event, 
 }
 
 /// The event line of that number in a text of this version, whose bytes are given with the line's end. `before` is the
-/// moment of the event line
-/// before it, in microseconds, or 0 where there is none; a moment below it is MomentFalls at its field. Fields are
-/// looked at from left to right, and a field too many last.
+/// moment of the event line before it, in microseconds, or 0 if there is none; a moment below it is MomentFalls at its
+/// field. Fields are looked at from left to right, and a field too many last.
 #[tactic(auto, unfolding(crate::specs::EventLines::line_of))]
 #[inline(always)]
 pub fn event_line(
@@ -106,10 +102,10 @@ pub fn event_line(
 ) -> Result<Line, TextFault>
     ensures { Gives (λ line. line) result (line_of version (before, number) raw.now) }
 {
-    let mut fields = fields_of(number, raw)?;
+    let mut fields = checked_fields(number, raw)?;
     let stop = fields.stop();
     let word = fields.next()?;
-    let moment = word.number(0, MAX_MOMENT)?;
+    let moment = word.number(0, GREATEST_MOMENT)?;
     if moment < before {
         return Err(word.fault(FaultKind::MomentFalls));
     }

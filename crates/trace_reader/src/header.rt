@@ -14,8 +14,8 @@ use bstr::ByteSlice;
 use case_forms::{Header, Initial, Version};
 use counted::Counted;
 use line_fields::{
-    FaultKind, Fields, ReadFault, Span, TextFault, content, fields_of, is_text, needed_line,
-    text_of,
+    FaultKind, Fields, SourceFault, Span, TextFault, checked_fields, checked_line, is_text,
+    require_line, without_line_end,
 };
 use std::io::BufRead;
 
@@ -50,7 +50,7 @@ pub(crate) fn first_text(version: Version) -> &'static str
 fn begins_trace(version: Version, raw: &[u8]) -> bool
     ensures { result ≡ begins_trace version raw.now }
 {
-    let (text, ended) = content(raw);
+    let (text, ended) = without_line_end(raw);
     ended && is_text(text, first_text(version))
 }
 
@@ -65,7 +65,7 @@ pub fn version_named(text: &[u8]) -> Version
     }
 }
 
-// The fields of a line behind its name, of which there is one at least, and the fault of another count of fields. It is
+// The fields of a line after its name, of which there is one at least, and the fault of another count of fields. It is
 // Header at the whole line, as another name is.
 #[tactic(auto, unfolding(crate::specs::Headers::named_rest))]
 fn named_rest<'a>(
@@ -75,7 +75,7 @@ fn named_rest<'a>(
 ) -> Result<(Fields<'a>, TextFault), TextFault>
     ensures { Gives (λ rest. rest) result (named_rest number name.now raw.now) }
 {
-    let mut fields = fields_of(number, raw)?;
+    let mut fields = checked_fields(number, raw)?;
     let span = Span {
         line: number,
         start: 0,
@@ -144,14 +144,14 @@ fn next_number<A: BufRead>(
     name: &str,
     least: u64,
     most: u64,
-) -> Result<u64, ReadFault>
+) -> Result<u64, SourceFault>
     ensures value { Reads with_rest (next_value number name.now (number_field least most))
         (rows_of (left_of A.remaining source.old)) (rows_of (left_of A.remaining source.new)) result }
     ensures range { IfOk result (λ n. (least ≤ n) × (n ≤ most)) }
-    ensures read { result ≡ Err ReadFault.Read → failures_of source.new ≡ one_more (failures_of source.old) }
-    ensures same { result ≢ Err ReadFault.Read → failures_of source.new ≡ failures_of source.old }
+    ensures read { result ≡ Err SourceFault.Read → failures_of source.new ≡ one_more (failures_of source.old) }
+    ensures same { result ≢ Err SourceFault.Read → failures_of source.new ≡ failures_of source.old }
 {
-    needed_line(source, number, line)?;
+    require_line(source, number, line)?;
     let value = number_line(number, name, least, most, line.as_slice())?;
     Ok(value)
 }
@@ -161,26 +161,26 @@ fn next_number<A: BufRead>(
 fn next_initial<A: BufRead>(
     source: &mut Counted<A>,
     line: &mut Vec<u8>,
-) -> Result<Initial, ReadFault>
+) -> Result<Initial, SourceFault>
     ensures value { Reads with_rest initial_line
         (rows_of (left_of A.remaining source.old)) (rows_of (left_of A.remaining source.new)) result }
-    ensures read { result ≡ Err ReadFault.Read → failures_of source.new ≡ one_more (failures_of source.old) }
-    ensures same { result ≢ Err ReadFault.Read → failures_of source.new ≡ failures_of source.old }
+    ensures read { result ≡ Err SourceFault.Read → failures_of source.new ≡ one_more (failures_of source.old) }
+    ensures same { result ≢ Err SourceFault.Read → failures_of source.new ≡ failures_of source.old }
 {
-    needed_line(source, INITIAL_LINE, line)?;
+    require_line(source, INITIAL_LINE, line)?;
     let initial = named_initial(line.as_slice())?;
     Ok(initial)
 }
 
-// The RFC of the first congestion window, and behind it the line `half 0`, which says that host 0 alone is recorded.
+// The RFC of the first congestion window, and after it the line `half 0`, which says that host 0 alone is recorded.
 fn half_initial<A: BufRead>(
     source: &mut Counted<A>,
     line: &mut Vec<u8>,
-) -> Result<Initial, ReadFault>
+) -> Result<Initial, SourceFault>
     ensures value { Reads with_rest (late_lines Version.Three)
         (rows_of (left_of A.remaining source.old)) (rows_of (left_of A.remaining source.new)) result }
-    ensures read { result ≡ Err ReadFault.Read → failures_of source.new ≡ one_more (failures_of source.old) }
-    ensures same { result ≢ Err ReadFault.Read → failures_of source.new ≡ failures_of source.old }
+    ensures read { result ≡ Err SourceFault.Read → failures_of source.new ≡ one_more (failures_of source.old) }
+    ensures same { result ≢ Err SourceFault.Read → failures_of source.new ≡ failures_of source.old }
 {
     let initial = next_initial(source, line)?;
     next_number(source, line, HALF_LINE, "half", 0, 0)?;
@@ -192,11 +192,11 @@ fn late_lines<A: BufRead>(
     source: &mut Counted<A>,
     line: &mut Vec<u8>,
     version: Version,
-) -> Result<Initial, ReadFault>
+) -> Result<Initial, SourceFault>
     ensures value { Reads with_rest (late_lines version)
         (rows_of (left_of A.remaining source.old)) (rows_of (left_of A.remaining source.new)) result }
-    ensures read { result ≡ Err ReadFault.Read → failures_of source.new ≡ one_more (failures_of source.old) }
-    ensures same { result ≢ Err ReadFault.Read → failures_of source.new ≡ failures_of source.old }
+    ensures read { result ≡ Err SourceFault.Read → failures_of source.new ≡ one_more (failures_of source.old) }
+    ensures same { result ≢ Err SourceFault.Read → failures_of source.new ≡ failures_of source.old }
 {
     match version {
         Version::One => Ok(Initial::Rfc5681),
@@ -210,7 +210,7 @@ fn late_lines<A: BufRead>(
 fn first_version(raw: &[u8]) -> Result<Version, TextFault>
     ensures { Gives (λ version. version) result (first_version raw.now) }
 {
-    let text = text_of(1, raw)?;
+    let text = checked_line(1, raw)?;
     if is_text(text, first_text(Version::One)) {
         return Ok(Version::One);
     }
@@ -232,13 +232,16 @@ fn first_version(raw: &[u8]) -> Result<Version, TextFault>
 }
 
 // The version that the first line names.
-fn first_line<A: BufRead>(source: &mut Counted<A>, line: &mut Vec<u8>) -> Result<Version, ReadFault>
+fn first_line<A: BufRead>(
+    source: &mut Counted<A>,
+    line: &mut Vec<u8>,
+) -> Result<Version, SourceFault>
     ensures line { Reads with_rest first_line (rows_of (left_of A.remaining source.old))
         (rows_of (left_of A.remaining source.new)) result }
-    ensures read { result ≡ Err ReadFault.Read → failures_of source.new ≡ one_more (failures_of source.old) }
-    ensures same { result ≢ Err ReadFault.Read → failures_of source.new ≡ failures_of source.old }
+    ensures read { result ≡ Err SourceFault.Read → failures_of source.new ≡ one_more (failures_of source.old) }
+    ensures same { result ≢ Err SourceFault.Read → failures_of source.new ≡ failures_of source.old }
 {
-    needed_line(source, 1, line)?;
+    require_line(source, 1, line)?;
     let version = first_version(line.as_slice())?;
     Ok(version)
 }
@@ -247,11 +250,11 @@ fn first_line<A: BufRead>(source: &mut Counted<A>, line: &mut Vec<u8>) -> Result
 pub(crate) fn header<A: BufRead>(
     source: &mut Counted<A>,
     line: &mut Vec<u8>,
-) -> Result<Header, ReadFault>
+) -> Result<Header, SourceFault>
     ensures header { Reads with_rest header_of (rows_of (left_of A.remaining source.old))
         (rows_of (left_of A.remaining source.new)) result }
-    ensures read { result ≡ Err ReadFault.Read → failures_of source.new ≡ one_more (failures_of source.old) }
-    ensures same { result ≢ Err ReadFault.Read → failures_of source.new ≡ failures_of source.old }
+    ensures read { result ≡ Err SourceFault.Read → failures_of source.new ≡ one_more (failures_of source.old) }
+    ensures same { result ≢ Err SourceFault.Read → failures_of source.new ≡ failures_of source.old }
 {
     let version = first_line(source, line)?;
     let skew = next_number(source, line, 2, "skew", 0, MAX_SKEW)?;

@@ -8,7 +8,7 @@
 //!
 //! - `Trace`, `Header`, `Line`, `Event`, `Call`, `Answer`, `Wire`: what a trace says
 //! - `read_trace`: a whole text; `TextFault`, `FaultKind`, `Span`: the first fault, and where it stands
-//! - `TraceReader`: a text whose lines are read as they are asked for; `ReadFault`: a fault, or a read that failed
+//! - `TraceReader`: a text whose lines are read as they are requested; `SourceFault`: a fault, or a read that failed
 //! - `print_trace`: the text of a trace
 //!
 //! A text is six lines of a header, seven in version 2 and eight in version 3, and after them event lines.
@@ -19,7 +19,7 @@
 //! Private modules:
 //!
 //! - `reading`: the reader of a whole text, by the reader of `stream`
-//! - `stream`: the reader of a text whose lines are read as they are asked for
+//! - `stream`: the reader of a text whose lines are read as they are requested
 //! - `header`: the header's lines
 //! - `events`: events, and event lines, each read alone
 //! - `calls`: the calls that a thread may begin
@@ -45,7 +45,7 @@ pub use counted::Counted;
 pub use events::event_line;
 pub use header::version_named;
 pub use laws::{event_line_faults, first_event_fault, header_faults, trace_faults};
-pub use line_fields::{FaultKind, ReadFault, SegFault, Span, TextFault, Token};
+pub use line_fields::{FaultKind, SegFault, SourceFault, Span, TextFault, Token};
 pub use printing::{event_bytes, line_in_memory, print_law, print_trace, printable_law};
 pub use reading::read_trace;
 pub use stream::TraceReader;

@@ -66,7 +66,7 @@ fn push_header(out: &mut Vec<u8>, header: &Header) -> Result<(), OutOfMemory>
     Ok(())
 }
 
-// Writes a number behind a space.
+// Writes a number after a space.
 fn push_next(out: &mut Vec<u8>, number: u64) -> Result<(), OutOfMemory>
     ensures { OnOk result (out.new.items ≡ out.old.items ++ 32 ∷ decimal number) }
 {
@@ -74,7 +74,7 @@ fn push_next(out: &mut Vec<u8>, number: u64) -> Result<(), OutOfMemory>
     push_number(out, number)
 }
 
-// Writes a word and a socket number, each behind a space.
+// Writes a word and a socket number, each after a space.
 fn push_socket(out: &mut Vec<u8>, word: &str, socket: u32) -> Result<(), OutOfMemory>
     ensures { OnOk result (out.new.items ≡ out.old.items ++ printed_behind (plain word.now ∷ number socket ∷ [])) }
 {
@@ -83,7 +83,7 @@ fn push_socket(out: &mut Vec<u8>, word: &str, socket: u32) -> Result<(), OutOfMe
     push_next(out, u64::from(socket))
 }
 
-// Writes a word and a host, each behind a space.
+// Writes a word and a host, each after a space.
 fn push_host_word(out: &mut Vec<u8>, word: &str, host: Host) -> Result<(), OutOfMemory>
     ensures { OnOk result (out.new.items
         ≡ out.old.items ++ printed_behind (plain word.now ∷ number (host_number host) ∷ [])) }
@@ -94,7 +94,7 @@ fn push_host_word(out: &mut Vec<u8>, word: &str, host: Host) -> Result<(), OutOf
     push_host(out, host)
 }
 
-// Writes a word, a host and two numbers, each behind a space.
+// Writes a word, a host and two numbers, each after a space.
 fn push_ports(
     out: &mut Vec<u8>,
     word: &str,
@@ -110,7 +110,7 @@ fn push_ports(
     push_next(out, u64::from(second))
 }
 
-// Writes the fields of a call, each behind a space.
+// Writes the fields of a call, each after a space.
 fn push_call(out: &mut Vec<u8>, call: &Call) -> Result<(), OutOfMemory>
     ensures { OnOk result (out.new.items ≡ out.old.items ++ printed_behind (call_pieces call.now)) }
 {
@@ -135,7 +135,7 @@ fn push_call(out: &mut Vec<u8>, call: &Call) -> Result<(), OutOfMemory>
     }
 }
 
-// Writes a letter, a host and the bytes of a segment, each behind a space.
+// Writes a letter, a host and the bytes of a segment, each after a space.
 fn push_seen(out: &mut Vec<u8>, letter: &str, host: Host, bytes: &[u8]) -> Result<(), OutOfMemory>
     ensures { OnOk result (out.new.items ≡ out.old.items
         ++ printed_behind (plain letter.now ∷ number (host_number host) ∷ hex bytes.now ∷ [])) }
@@ -145,7 +145,7 @@ fn push_seen(out: &mut Vec<u8>, letter: &str, host: Host, bytes: &[u8]) -> Resul
     push_hex(out, bytes)
 }
 
-// Writes the fields of an event, each behind a space.
+// Writes the fields of an event, each after a space.
 fn push_event(out: &mut Vec<u8>, event: &Event) -> Result<(), OutOfMemory>
     ensures { OnOk result (out.new.items ≡ out.old.items ++ printed_behind (event_pieces event.now)) }
 {
@@ -199,7 +199,7 @@ pub fn print_law()
     ensures { (t : Trace) (text : List ℕ) → IsTraceText t text → IsTraceText t (trace_text t) }
 {}
 
-/// A trace is printed as a text that stands for it, with the spans of that text, exactly where it is within the limits.
+/// A trace is printed as a text that stands for it, with the spans of that text, exactly if it is within the limits.
 pub fn printable_law()
     ensures printed { (t : Trace) → IsPrintableTrace t → IsTraceText (with_columns t) (trace_text t) }
     ensures read { (t : Trace) → IsPrintableTrace t → trace_of (trace_text t) ≡ Ok (with_columns t) }
@@ -299,8 +299,7 @@ fn event_bits(event: &Event)
 }
 
 /// A line is as the types of values in memory say: its numbers have their bits, its bytes are bytes, and those of a
-/// segment
-/// stand for it.
+/// segment stand for it.
 pub fn line_in_memory(line: &Line)
     ensures { IsInMemory line.now }
 {

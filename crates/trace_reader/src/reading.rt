@@ -1,6 +1,6 @@
 //! The reader of a whole text.
 
-ghost use Rattle.std.specs.Prelude.{◌≡◌, IfOk, Ok};
+ghost use Rattle.std.specs.Prelude.{IfOk, Ok};
 ghost use Rattle.case_forms.specs.declared.trace.Trace.{Trace};
 ghost use Rattle.case_forms.specs.Traces.{IsTrace};
 ghost use Rattle.line_fields.specs.Reading.{Gives};

@@ -1,9 +1,9 @@
-//! The reader of a trace whose lines are read as they are asked for.
+//! The reader of a trace whose lines are read as they are requested.
 
 ghost use Rattle.std.specs.Prelude.{◌≡◌, ◌≢◌, IfOk, IfSome, Some, None, Err};
 ghost use Rattle.counted.specs.Counting.{one_more};
 ghost use Rattle.line_fields.specs.declared.fault.TextFault.{TextFault};
-ghost use Rattle.line_fields.specs.declared.fault.ReadFault.{ReadFault};
+ghost use Rattle.line_fields.specs.declared.fault.SourceFault.{SourceFault};
 ghost use Rattle.line_fields.specs.Left.{Yields, FailsLeft};
 ghost use Rattle.trace_reader.specs.EventLines.{behind};
 ghost use Rattle.trace_reader.specs.TraceText.{first_place};
@@ -14,11 +14,11 @@ use crate::events::event_line;
 use crate::header::header;
 use case_forms::{Header, Line, Version};
 use counted::Counted;
-use line_fields::{ReadFault, next_line};
+use line_fields::{SourceFault, next_line};
 use std::alloc::Global;
 use std::io::BufRead;
 
-/// A trace whose lines are read as they are asked for, first its header. Of the text one line is kept in memory. After
+/// A trace whose lines are read as they are requested, first its header. Of the text one line is kept in memory. After
 /// a fault each later call answers that fault.
 #[derive(Drop)]
 pub struct TraceReader<A> {
@@ -32,7 +32,7 @@ pub struct TraceReader<A> {
     before: u64,
     // The number of the next line, 1 before the header is read.
     number: u64,
-    fault: Option<ReadFault>,
+    fault: Option<SourceFault>,
 }
 
 impl<A> TraceReader<A> {
@@ -53,7 +53,7 @@ impl<A> TraceReader<A> {
         }
     }
 
-    /// The source, of which what was asked for is read, and no more.
+    /// The source, of which what was requested is read, and no more.
     pub fn into_source(self) -> Counted<A>
         ensures { result ≡ source_of self }
     {
@@ -62,14 +62,14 @@ impl<A> TraceReader<A> {
 
     // What was read; a fault is kept for the calls to come.
     #[inline(always)]
-    fn keep_fault<T>(&mut self, read: Result<T, ReadFault>) -> Result<T, ReadFault>
+    fn keep_fault<T>(&mut self, read: Result<T, SourceFault>) -> Result<T, SourceFault>
         requires { fault_of self.old ≡ None }
         ensures read { result ≡ read }
         ensures source { source_of self.new ≡ source_of self.old }
         ensures place { place_of self.new ≡ place_of self.old }
         ensures version { version_of self.new ≡ version_of self.old }
         ensures open { IfOk result (λ x. fault_of self.new ≡ None) }
-        ensures kept { (f : ReadFault) → result ≡ Err f → fault_of self.new ≡ Some f }
+        ensures kept { (f : SourceFault) → result ≡ Err f → fault_of self.new ≡ Some f }
     {
         if let Err(fault) = &read {
             self.fault = Some(*fault);
@@ -80,22 +80,22 @@ impl<A> TraceReader<A> {
 
 impl<A: BufRead> TraceReader<A> {
     /// The header, which is read before any line.
-    pub fn header(&mut self) -> Result<Header, ReadFault>
+    pub fn header(&mut self) -> Result<Header, SourceFault>
         requires { IsFresh self.old }
         ensures header { fault_of self.old ≡ None
             → IfOk result (Begins (trace_left A.remaining self.old) (lines_left A.remaining self.new)) }
         ensures place { IfOk result (λ header. place_of self.new ≡ first_place header) }
         ensures version { IfOk result (λ header. version_of self.new ≡ header.version) }
-        ensures fault { (e : TextFault) → fault_of self.old ≡ None → result ≡ Err (ReadFault.Text e)
+        ensures fault { (e : TextFault) → fault_of self.old ≡ None → result ≡ Err (SourceFault.Text e)
             → FailsLeft e (trace_left A.remaining self.old) }
-        ensures again { (f : ReadFault) → fault_of self.old ≡ Some f → result ≡ Err f }
-        ensures stays { (f : ReadFault) → fault_of self.old ≡ Some f → self.new ≡ self.old }
-        ensures kept { (f : ReadFault) → result ≡ Err f → fault_of self.new ≡ Some f }
+        ensures again { (f : SourceFault) → fault_of self.old ≡ Some f → result ≡ Err f }
+        ensures stays { (f : SourceFault) → fault_of self.old ≡ Some f → self.new ≡ self.old }
+        ensures kept { (f : SourceFault) → result ≡ Err f → fault_of self.new ≡ Some f }
         ensures open { IfOk result (λ header. fault_of self.new ≡ None) }
         ensures begun { IsBegun self.new }
-        ensures read { fault_of self.old ≡ None → result ≡ Err ReadFault.Read
+        ensures read { fault_of self.old ≡ None → result ≡ Err SourceFault.Read
             → reader_failures self.new ≡ one_more (reader_failures self.old) }
-        ensures same { result ≢ Err ReadFault.Read → reader_failures self.new ≡ reader_failures self.old }
+        ensures same { result ≢ Err SourceFault.Read → reader_failures self.new ≡ reader_failures self.old }
     {
         if let Some(fault) = self.fault {
             return Err(fault);
@@ -109,23 +109,23 @@ impl<A: BufRead> TraceReader<A> {
 
     /// The next event line, or none at the end of the text. The header is read before.
     #[inline(always)]
-    pub fn next(&mut self) -> Result<Option<Line>, ReadFault>
+    pub fn next(&mut self) -> Result<Option<Line>, SourceFault>
         requires { IsBegun self.old }
         ensures next { fault_of self.old ≡ None → IfOk result
             (Yields (lines_left A.remaining self.old) (lines_left A.remaining self.new)) }
         ensures place { IfOk result (λ item. IfSome item (λ line. StandsAt (place_of self.old) line
             × (place_of self.new ≡ behind (place_of self.old) line))) }
-        ensures fault { (e : TextFault) → fault_of self.old ≡ None → result ≡ Err (ReadFault.Text e)
+        ensures fault { (e : TextFault) → fault_of self.old ≡ None → result ≡ Err (SourceFault.Text e)
             → FailsLeft e (lines_left A.remaining self.old) }
-        ensures again { (f : ReadFault) → fault_of self.old ≡ Some f → result ≡ Err f }
-        ensures stays { (f : ReadFault) → fault_of self.old ≡ Some f → self.new ≡ self.old }
-        ensures kept { (f : ReadFault) → result ≡ Err f → fault_of self.new ≡ Some f }
+        ensures again { (f : SourceFault) → fault_of self.old ≡ Some f → result ≡ Err f }
+        ensures stays { (f : SourceFault) → fault_of self.old ≡ Some f → self.new ≡ self.old }
+        ensures kept { (f : SourceFault) → result ≡ Err f → fault_of self.new ≡ Some f }
         ensures open { IfOk result (λ item. fault_of self.new ≡ None) }
         ensures begun { IsBegun self.new }
         ensures version { version_of self.new ≡ version_of self.old }
-        ensures read { fault_of self.old ≡ None → result ≡ Err ReadFault.Read
+        ensures read { fault_of self.old ≡ None → result ≡ Err SourceFault.Read
             → reader_failures self.new ≡ one_more (reader_failures self.old) }
-        ensures same { result ≢ Err ReadFault.Read → reader_failures self.new ≡ reader_failures self.old }
+        ensures same { result ≢ Err SourceFault.Read → reader_failures self.new ≡ reader_failures self.old }
     {
         if let Some(fault) = self.fault {
             return Err(fault);
@@ -134,19 +134,19 @@ impl<A: BufRead> TraceReader<A> {
         self.keep_fault(read)
     }
 
-    // The next event line, where no fault was met.
+    // The next event line, if no fault was met.
     #[inline(always)]
-    fn read(&mut self) -> Result<Option<Line>, ReadFault>
+    fn read(&mut self) -> Result<Option<Line>, SourceFault>
         ensures next { IfOk result (Yields (lines_left A.remaining self.old) (lines_left A.remaining self.new)) }
         ensures place { IfOk result (λ item. IfSome item (λ line. StandsAt (place_of self.old) line
             × (place_of self.new ≡ behind (place_of self.old) line))) }
         ensures end { result ≡ Ok None → place_of self.new ≡ place_of self.old }
-        ensures fault { (e : TextFault) → result ≡ Err (ReadFault.Text e)
+        ensures fault { (e : TextFault) → result ≡ Err (SourceFault.Text e)
             → FailsLeft e (lines_left A.remaining self.old) }
         ensures open { fault_of self.new ≡ fault_of self.old }
         ensures version { version_of self.new ≡ version_of self.old }
-        ensures read { result ≡ Err ReadFault.Read → reader_failures self.new ≡ one_more (reader_failures self.old) }
-        ensures same { result ≢ Err ReadFault.Read → reader_failures self.new ≡ reader_failures self.old }
+        ensures read { result ≡ Err SourceFault.Read → reader_failures self.new ≡ one_more (reader_failures self.old) }
+        ensures same { result ≢ Err SourceFault.Read → reader_failures self.new ≡ reader_failures self.old }
     {
         if !next_line(&mut self.source, self.number, &mut self.line)? {
             return Ok(None);

@@ -1,6 +1,5 @@
 //! Segments in hex.
 
-ghost use Rattle.std.specs.Prelude.{◌≡◌};
 ghost use Rattle.line_fields.specs.Reading.{Gives};
 ghost use Rattle.trace_reader.specs.Wires.{wire_field};
 

@@ -30,9 +30,8 @@ told measure thread [] = 0
 told measure thread (line ∷ lines) = line_amount measure thread line + told measure thread lines
 
 -- host 1's thread was told the 64 bytes of each round and then the end, and was answered `ok` once, as it closed; host
--- 0's thread was
--- answered `ok` three times, as it awaited, ended sending and closed (`specs/Rounds` says it of what they were
--- answered)
+-- 0's thread was answered `ok` three times, as it awaited, ended sending and closed (`specs/Rounds` says it of what
+-- they were answered)
 abbrev pub has_ended : ℕ → List Line → Bool
 has_ended rounds lines =
     (told Bytes 3 lines == 64 * rounds) && (told Eofs 3 lines == 1) && (told Dones 3 lines == 1) &&

@@ -41,8 +41,8 @@ is_eof answers.Eof = true
 is_eof _ = false
 
 -- Host 1's application, thread 3, received 64 bytes for each round, was told once that there are no more, and one of
--- its calls was
--- answered `ok`, its `close`; three of host 0's, thread 2's, were: its `await`, its `shut` and its `close`.
+-- its calls was answered `ok`, its `close`; three of host 0's, thread 2's, were: its `await`, its `shut` and its
+-- `close`.
 pub record HaveEnded (rounds : ℕ) (lines : List Line) : Type 0 where
   pub received : length (received 3 lines) ≡ 64 * rounds
   pub told_end : count_by is_eof (answers_of 3 lines) ≡ 1

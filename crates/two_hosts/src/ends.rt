@@ -9,11 +9,11 @@ use case_forms::{Answer, Event, Line};
 // What is added up over answers.
 #[derive(Clone, Copy)]
 enum Measure {
-    // The bytes that reads were told.
+    // The bytes that reads returned.
     Bytes,
     // How often `ok` was answered.
     Dones,
-    // How often a read was told the end of the stream.
+    // How often a read returned the end of the stream.
     Eofs,
 }
 

@@ -6,8 +6,7 @@ ghost use Rattle.two_hosts.specs.Ends.{has_ended};
 ghost use Rattle.two_hosts.specs.Rounds.{HaveEnded};
 
 /// A recording is said to have come to its end exactly where all bytes of all rounds were received, the end of the
-/// stream was read,
-/// and both applications closed.
+/// stream was read, and both applications closed.
 pub fn rounds_have_ended()
     ensures { (rounds : ℕ) (lines : List Line) → (has_ended rounds lines ≡ true) ↔ HaveEnded rounds lines }
 {}

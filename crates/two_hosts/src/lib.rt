@@ -1,19 +1,17 @@
 //! A recording of two hosts that talk over one connection: host 0 opens it and sends, host 1 listens and receives.
 //!
 //! Each host has a recorder of its own, an application thread, and three threads for its segments and its timers. What
-//! both
-//! recorders have in the end is merged into a trace and a witness, and that witness explains that trace: the contract
-//! of `record`
-//! says so.
+//! both recorders have in the end is merged into a trace and a witness, and that witness explains that trace: the
+//! contract of `record` says so.
 //!
-//! - `plan`: what is asked of a recording, and what both hosts begin with (`specs/Plans`)
+//! - `plan`: what a recording is to be, and what both hosts begin with (`specs/Plans`)
 //! - `caller`: an application thread at its recorder
 //! - `talking`: what both applications do
 //! - `wire`: what becomes of the segments on their way
 //! - `threads`: both applications and the loops of both recorders
 //! - `fault`: why there is no recording
 //! - `ends`: whether a trace tells that all rounds ended
-//! - `laws`: that the end of all rounds is told exactly where all was received and both applications closed
+//! - `laws`: that the end of all rounds is reported exactly if all was received and both applications closed
 //! - `recording`: the whole recording
 #![tactic(auto)]
 

@@ -1,4 +1,4 @@
-//! What is asked of a recording, and what both hosts begin with.
+//! What a recording is to be, and what both hosts begin with.
 
 ghost use Rattle.std.specs.Prelude.{◌≡◌};
 ghost use Rattle.two_hosts.specs.Plans.{header_of};
@@ -27,7 +27,7 @@ pub(crate) const SERVER_THREAD: u32 = 3;
 /// How many bytes are sent in a round.
 pub(crate) const ROUND_BYTES: usize = 64;
 
-/// What is asked of a recording.
+/// What a recording is to be.
 #[derive(Clone, Copy)]
 pub struct Plan {
     /// How many rounds there are.

@@ -30,7 +30,7 @@ pub struct Recording {
     /// Whether the trace tells that host 1 received the bytes of all rounds, and that both applications came to their
     /// end.
     pub ended: bool,
-    /// The receipts of host 0's thread, and behind them those of host 1's.
+    /// The receipts of host 0's thread, and after them those of host 1's.
     pub receipts: Vec<Receipt>,
 }
 
@@ -41,7 +41,7 @@ pub struct Books {
     pub one: HostBook,
     /// Whether all rounds ended, and both applications came to their end.
     pub ended: bool,
-    /// The receipts of host 0's thread, and behind them those of host 1's.
+    /// The receipts of host 0's thread, and after them those of host 1's.
     pub receipts: Vec<Receipt>,
 }
 
@@ -120,8 +120,7 @@ fn let_talk<
 }
 
 // The book of host 0, and that of a recorder of which one seat was given. What isn't handed on is dropped by a call,
-// which the proof meets
-// once, and not at the end of its scope.
+// which the proof meets once, and not at the end of its scope.
 fn finish_one<M: Site, R: Wait>(
     rt: &R,
     alloc: Global,

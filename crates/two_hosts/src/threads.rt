@@ -76,9 +76,8 @@ pub(crate) struct Place<'a, L: Site> {
     pub(crate) seat: Seat<L>,
 }
 
-/// Runs both applications and all loops until they end. Where a thread can't be started: out of memory where memory is
-/// refused at
-/// that time, else a fault of the device.
+/// Runs both applications and all loops until they end. Where a thread can't be started: out of memory if memory is
+/// refused at that time, else a fault of the device.
 pub(crate) fn run_threads<
     L: Site + Send + Sync,
     M: Site + Send + Sync,
@@ -215,8 +214,7 @@ fn ask_room(alloc: Global) -> Result<usize, OutOfMemory> {
 }
 
 // Why not all threads started, asked while those that did hold their memory. A refused thread comes back with no cause,
-// so memory is
-// asked for: where it is refused, memory is the cause.
+// so memory is asked for: if it is refused, memory is the cause.
 fn why_not(alloc: Global, all: bool) -> Option<RecordFault> {
     if all {
         return None;
@@ -227,9 +225,8 @@ fn why_not(alloc: Global, all: bool) -> Option<RecordFault> {
     }
 }
 
-// A thread of the scope. Where it is refused it is asked for once more: a refusal of memory may be the only one. None:
-// it is refused
-// again.
+// A thread of the scope. If it is refused it is asked for once more: a refusal of memory may be the only one. None: it
+// is refused again.
 fn start<'s, E, F: FnOnce() -> T + Send + Drop + 's, T: Send + Drop + 's>(
     scope: &Scope<'s, E>,
     work: F,

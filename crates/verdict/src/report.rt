@@ -32,7 +32,7 @@ pub enum Verdict {
 }
 
 /// Appends the verdict's text, `yes <lines> <hidden>` or `no <witness line> <trace line> <rule>`, without an end of
-/// line. Memory is taken only where `out` has not the room, and where there is none `out` stays as it was.
+/// line. Memory is taken only where `out` has not the room, and if there is none `out` stays as it was.
 pub fn print_verdict(verdict: &Verdict, out: &mut Vec<u8>) -> Result<(), AllocError>
     ensures ok { OnOk result (out.new.items ≡ out.old.items ++ verdict_text verdict.now) }
     ensures err { OnErr result (out.new.items ≡ out.old.items) }

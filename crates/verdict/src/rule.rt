@@ -1,4 +1,4 @@
-//! The rules that a step may break, by name, in the order in which they are asked.
+//! The rules that a step may break, by name, in the order in which they are tested.
 
 ghost use Rattle.std.specs.Prelude.{◌≡◌, ◌≤◌, Some, length};
 ghost use Rattle.verdict.specs.Rules.{rule_name};
@@ -75,7 +75,7 @@ pub enum Rule {
     QueueFull,
     /// The congestion window or the slow start threshold is above the greatest that is allowed.
     Growth,
-    /// A round trip time is sampled where it may not be (RFC 6298, 3).
+    /// A round trip time is sampled if it may not be (RFC 6298, 3).
     Sample,
     /// The timer is not armed, or what it waits for is not there.
     TimerOff,

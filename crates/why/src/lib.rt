@@ -1,10 +1,8 @@
 //! Why a case gets its verdict, in plain words.
 //!
 //! `explain` says the verdict and what it rests on. Nobody has to trust what is said here: the verdict is `checker`'s,
-//! and the
-//! values that a rule compares are read from the world of `endpoint_state` and from the functions that the rules
-//! themselves call.
-//! Of each function it is proved that it is safe and returns, and no more.
+//! and the values that a rule compares are read from the world of `endpoint_state` and from the functions that the
+//! rules themselves call. Of each function it is proved that it is safe and returns, and no more.
 //!
 //! - `explain`, `Said`: a case in words; `fault_line`: a fault of a text, as one line
 //! - `text`: lines of plain words; `words`: segments, calls and steps in words; `numbers`: numbers on the wire as

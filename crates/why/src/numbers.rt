@@ -24,12 +24,11 @@ impl Numbers {
     }
 
     /// A line is seen: a SYN that goes out tells its host's initial sequence number; in a half case one that comes in
-    /// tells
-    /// the other host's.
+    /// tells the other host's.
     pub fn read(&mut self, line: &Line) -> Result<(), OutOfMemory> {
         match &line.event {
             Event::Sent(host, wire) => self.see(*host, wire),
-            Event::Came(host, wire) if self.half => self.see(other(*host), wire),
+            Event::Came(host, wire) if self.half => self.see(host.other(), wire),
             _ => Ok(()),
         }
     }
@@ -43,14 +42,14 @@ impl Numbers {
         Ok(())
     }
 
-    /// The position of a segment of a host, modulo 2^32; its number where no SYN was seen.
+    /// The position of a segment of a host, modulo 2^32; its number if no SYN was seen.
     pub fn position(&self, host: Host, seg: &Segment) -> u32 {
         self.from(connection_key(host, seg.src, seg.dst), seg.seq.0)
     }
 
     /// The position that a segment of a host acknowledges.
     pub fn acknowledged(&self, host: Host, seg: &Segment) -> u32 {
-        self.from(connection_key(other(host), seg.dst, seg.src), seg.ack.0)
+        self.from(connection_key(host.other(), seg.dst, seg.src), seg.ack.0)
     }
 
     fn from(&self, key: ConnectionKey, number: u32) -> u32 {
@@ -65,13 +64,5 @@ fn connection_key(host: Host, lport: u16, rport: u16) -> ConnectionKey {
     match host {
         Host::Zero => (0, lport, rport),
         Host::One => (1, lport, rport),
-    }
-}
-
-/// The other host.
-pub fn other(host: Host) -> Host {
-    match host {
-        Host::Zero => Host::One,
-        Host::One => Host::Zero,
     }
 }

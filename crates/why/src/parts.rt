@@ -1,7 +1,7 @@
 //! The two texts of a case, and the lines of each.
 
 use bstr::ByteSlice;
-use line_fields::content;
+use line_fields::without_line_end;
 use trace_reader::version_named;
 use witness::begins_witness;
 
@@ -33,7 +33,7 @@ pub fn line_at(text: &[u8], number: u64) -> Option<&[u8]> {
     let mut here: u64 = 1;
     for raw in text.lines_with_terminator() {
         if here == number {
-            return Some(content(raw).0);
+            return Some(without_line_end(raw).0);
         }
         here = here.saturating_add(1);
     }

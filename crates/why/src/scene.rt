@@ -4,19 +4,16 @@ ghost use Rattle.std.specs.Prelude.{◌<◌, IsTrue, OnOk};
 ghost use Rattle.case_forms.specs.Witnesses.{IsWithinLimits};
 ghost use Rattle.spec_tcp.specs.Bounds.{most_steps};
 
-use case_forms::{Flags, Header, Host, Label, Line, NamedLine, OutOfMemory, SegmentPlan, Step};
+use case_forms::{
+    Flags, GREATEST_POSITION, Header, Host, Label, Line, MOST_STEPS, NamedLine, OutOfMemory,
+    SegmentPlan, Step,
+};
 use endpoint_state::{Endpoint, StepFault, World};
 use indexmap::IndexMap;
 use spec_step::{apply_hidden, apply_line};
 use spec_tcp::{Arrived, Emission};
 use std::alloc::{AllocError, Global};
 use verdict::Rule;
-
-// The greatest position of a segment that is made.
-const GREATEST_POSITION: u64 = 1_000_000_000_000_000_000;
-
-// A world takes fewer steps than this.
-const MOST_STEPS: u64 = 40_000_000;
 
 // Whether one more step may be done; no witness that `check` reads has so many.
 fn has_room(world: &World) -> Result<(), StepFault>
@@ -102,7 +99,7 @@ impl<'t> Scene<'t> {
         self.lines.get(usize::try_from(place).ok()?)
     }
 
-    /// The step that is refused. None: the fault shows behind the last one.
+    /// The step that is refused. None: the fault shows after the last one.
     pub(crate) fn step(&self) -> Option<&'t Step> {
         self.steps.get(self.place)
     }
@@ -114,11 +111,7 @@ impl<'t> Scene<'t> {
 
     /// A segment as an endpoint reads it. None: the endpoint is further than positions go.
     pub(crate) fn as_read<'m>(&self, endpoint: &Endpoint, m: &'m Emission) -> Option<Arrived<'m>> {
-        if endpoint.stream.snd_una < 1 << 63 {
-            Some(Arrived::read(self.header.version, endpoint, m))
-        } else {
-            None
-        }
+        Arrived::checked_read(self.header.version, endpoint, m)
     }
 
     /// Whether the state of the endpoint at the ports of a making allows a segment of this kind there.

@@ -1,4 +1,4 @@
-//! Lines of plain words, as bytes at the end of a `Vec`. Where memory runs out a part may have been written.
+//! Lines of plain words, as bytes at the end of a `Vec`. If memory runs out a part may have been written.
 
 use case_forms::{Host, OutOfMemory};
 use line_fields::{TextFault, push_end, push_number, push_space, push_word};

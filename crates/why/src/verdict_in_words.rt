@@ -13,7 +13,7 @@ use trace_reader::read_trace;
 use verdict::{Rule, Verdict, print_verdict};
 use witness::read_witness_for;
 
-/// What is said of a case: the line that `tcpwit check` prints and its status, and behind a no or a fault some lines
+/// What is said of a case: the line that `tcpwit check` prints and its status, and after a no or a fault some lines
 /// more.
 #[derive(Drop)]
 pub struct Said {

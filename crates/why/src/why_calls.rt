@@ -13,7 +13,7 @@ use spec_tcp::SocketTarget;
 use std::alloc::Global;
 use verdict::Rule;
 
-// Data of more bytes than these is told by its length.
+// Data of more bytes than these is shown by its length.
 const SHOWN: usize = 60;
 
 /// What is known of a thread's call whose effect is refused.
@@ -122,7 +122,7 @@ fn begun_at(scene: &Scene<'_>, thread: u32) -> u64 {
     begun
 }
 
-// The line of the witness with the last effect of a thread before the step; 0 where there is none.
+// The line of the witness with the last effect of a thread before the step; 0 if there is none.
 fn effect_at(scene: &Scene<'_>, thread: u32) -> u64 {
     let mut found: u64 = 0;
     for (place, step) in scene.steps.iter().enumerate().take(scene.place) {

@@ -8,7 +8,7 @@ use crate::words::push_flags;
 use case_forms::{Event, Host, Label, OutOfMemory};
 use spec_tcp::Emission;
 
-/// A segment that waits. In a half case it has no positions where nobody reads it: then its numbers are told.
+/// A segment that waits. In a half case it has no positions where nobody reads it: then its numbers are printed.
 pub(crate) fn describe_waiting(
     out: &mut Vec<u8>,
     scene: &Scene<'_>,
@@ -117,7 +117,7 @@ pub(crate) fn nothing_waits(
     )
 }
 
-// The line of the witness that took what came in with a line out of the inbox; 0 where there is none.
+// The line of the witness that took what came in with a line out of the inbox; 0 if there is none.
 fn emptied_at(scene: &Scene<'_>, host: Host, line: u64) -> u64 {
     let mut found: u64 = 0;
     for (place, step) in scene.steps.iter().enumerate().take(scene.place) {

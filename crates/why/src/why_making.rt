@@ -5,13 +5,10 @@ use crate::scene::Scene;
 use crate::text::{Piece, add, say};
 use crate::why_wire::no_endpoint;
 use crate::words::push_flags;
-use case_forms::{Flags, Host, OutOfMemory, SegmentPlan};
+use case_forms::{Flags, Host, OutOfMemory, POSITIONS, SegmentPlan};
 use endpoint_state::Endpoint;
 use verdict::Rule;
 use window_rules::offered_edge;
-
-// Positions of the world are below this.
-const POSITIONS: u64 = 1 << 63;
 
 /// What the rule compares at a segment that is to be made.
 pub(crate) fn explain_rule(

@@ -1,13 +1,10 @@
 //! Numbers of what is taken as positions, and the ranges that the rules ask for.
 
 use crate::text::{Piece, add, say};
-use case_forms::OutOfMemory;
+use case_forms::{OutOfMemory, POSITIONS};
 use endpoint_state::Endpoint;
 use seqno::{Word, read_near};
 use spec_tcp::Arrived;
-
-// Positions of the world are below this.
-const POSITIONS: u64 = 1 << 63;
 
 // What a number reads as, near a position.
 fn reads(

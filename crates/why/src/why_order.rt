@@ -92,7 +92,7 @@ fn wanted(line: &Line, half: bool) -> &'static str {
     }
 }
 
-/// What is left over behind the last step.
+/// What is left over after the last step.
 pub(crate) fn why_unplaced(out: &mut Vec<u8>, scene: &Scene<'_>) -> Result<(), OutOfMemory> {
     let (taken, all) = (scene.taken.len() as u64, scene.lines.len() as u64);
     say(

@@ -56,7 +56,7 @@ fn why_at(
     }
 }
 
-// What the rule compares where no endpoint is there that isn't CLOSED.
+// What the rule compares if no endpoint is there that isn't CLOSED.
 fn why_listening(
     out: &mut Vec<u8>,
     scene: &Scene<'_>,

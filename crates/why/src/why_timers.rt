@@ -177,7 +177,7 @@ fn early(
     )
 }
 
-/// What the rule compares where fast recovery begins.
+/// What the rule compares if fast recovery begins.
 pub(crate) fn why_recovery(
     out: &mut Vec<u8>,
     scene: &Scene<'_>,

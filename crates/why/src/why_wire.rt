@@ -1,7 +1,6 @@
 //! The rules of the machine at a step that takes a line.
 
 use crate::described::describe;
-use crate::numbers::other;
 use crate::scene::Scene;
 use crate::text::{Piece, say};
 use crate::{why_calls, why_timers};
@@ -97,7 +96,7 @@ fn why_sent(
     }
 }
 
-// The O line that showed a made segment before the step; 0 where there is none.
+// The O line that showed a made segment before the step; 0 if there is none.
 fn shown_before(scene: &Scene<'_>, number: u32) -> u64 {
     let mut found = 0;
     for step in scene.steps.iter().take(scene.place) {
@@ -117,7 +116,7 @@ fn is_going_out(scene: &Scene<'_>, number: u64) -> bool {
     }
 }
 
-// Both sides, field by field, where they differ.
+// Both sides, field by field, if they differ.
 fn differences(out: &mut Vec<u8>, m: &Emission, wire: &Wire) -> Result<(), OutOfMemory> {
     let seg = &wire.seg;
     differ(out, "source port", u64::from(m.lport), u64::from(seg.src))?;
@@ -231,7 +230,7 @@ fn why_came(
     moment: u64,
     rule: Rule,
 ) -> Result<(), OutOfMemory> {
-    let other = other(host);
+    let other = host.other();
     let copied = u64::from(first_extra(extras));
     match scene.world.sent(other, copied) {
         None => no_emission(out, scene, other, copied),

@@ -1,6 +1,6 @@
 //! Segments, calls, answers and steps in words.
 
-use crate::numbers::{Numbers, other};
+use crate::numbers::Numbers;
 use crate::text::{Piece, add};
 use case_forms::{
     Answer, Call, Event, Flags, Host, Label, Line, NamedLine, OutOfMemory, Recovery, SegmentPlan,
@@ -175,7 +175,7 @@ pub fn push_event(out: &mut Vec<u8>, numbers: &Numbers, line: &Line) -> Result<(
         }
         Event::Sent(host, wire) => push_passing(out, numbers, (*host, " sends ", *host), &wire.seg),
         Event::Came(host, wire) => {
-            push_passing(out, numbers, (*host, " gets ", other(*host)), &wire.seg)
+            push_passing(out, numbers, (*host, " gets ", host.other()), &wire.seg)
         }
         Event::Expired(host, lport, rport, timer) => add(
             out,

@@ -38,7 +38,9 @@ is_avoiding c = not c.fast && nat_le c.ssthresh c.cwnd
 -- counted after a new acknowledgment: it grows by what is acknowledged, and falls by cwnd where that makes a whole
 -- window (RFC 5681, 3.1)
 abbrev pub counted_after : Congestion → ℕ → ℕ
-counted_after c acked = if is_avoiding c then (if fills_window c acked then c.counted + acked - c.cwnd else c.counted + acked) else c.counted
+counted_after c acked =
+    if is_avoiding c then (if fills_window c acked then c.counted + acked - c.cwnd else c.counted + acked)
+    else c.counted
 
 -- the greatest cwnd after a duplicate acknowledgment: one segment more in fast recovery (RFC 5681, 3.2, step 4)
 abbrev pub on_duplicate : Congestion → ℕ

@@ -10,8 +10,7 @@ use crate::windows::capped;
 
 /// The greatest cwnd and ssthresh in bytes after an expiry of the retransmission timer: one segment, and half of the
 /// flight or two segments. `syn_pending` means that the SYN is not acknowledged, `again` that the timer expired before
-/// and nothing new was
-/// acknowledged since: both keep the old ssthresh.
+/// and nothing new was acknowledged since: both keep the old ssthresh.
 pub fn on_timeout(
     congestion: &Congestion,
     flight: u64,
@@ -30,7 +29,7 @@ pub fn on_timeout(
     }
 }
 
-/// The greatest cwnd and ssthresh in bytes where fast recovery begins; the cwnd is the one for the greatest ssthresh.
+/// The greatest cwnd and ssthresh in bytes if fast recovery begins; the cwnd is the one for the greatest ssthresh.
 pub fn on_fast(congestion: &Congestion, flight: u64) -> (u64, u64)
     ensures greatest { result ≡ on_fast congestion.now flight }
     ensures cwnd_limit { result.0 ≤ greatest_window }
@@ -40,7 +39,7 @@ pub fn on_fast(congestion: &Congestion, flight: u64) -> (u64, u64)
     (recovery_window(congestion, ssthresh as u32), ssthresh)
 }
 
-/// The greatest cwnd in bytes where fast recovery begins with this ssthresh: a segment more for each duplicate
+/// The greatest cwnd in bytes if fast recovery begins with this ssthresh: a segment more for each duplicate
 /// acknowledgment.
 pub fn recovery_window(congestion: &Congestion, ssthresh: u32) -> u64
     ensures greatest { result ≡ recovery_window congestion.now ssthresh }

@@ -20,8 +20,8 @@ pub fn offered_edge(una: u64, wnd: u32, probe: bool) -> u64
 }
 
 /// The position at which new data ends at most by the congestion window from position `una` on, which is below 2^63;
-/// two
-/// segments later at the first and the second duplicate acknowledgment, outside fast recovery (RFC 5681, 3.1 and 3.2).
+/// two segments later at the first and the second duplicate acknowledgment, outside fast recovery (RFC 5681, 3.1 and
+/// 3.2).
 pub fn congestion_edge(una: u64, congestion: &Congestion) -> u64
     requires { una < 2 ^ 63 }
     ensures { result ≡ congestion_edge una congestion.now }

@@ -30,8 +30,7 @@ fn none_is_lost(rt: HostRuntime) {
 }
 
 // Which segments go out late in each turn, where segments have the numbers 1 to 6 and the given ones are held back
-// behind so many
-// further ones.
+// after so many further ones.
 fn late(alloc: Global, holds: &[(u64, u32)]) -> Result<Vec<(u64, u64)>, AllocError> {
     let mut held = HeldBack::new(alloc);
     let mut gone = Vec::new(alloc);

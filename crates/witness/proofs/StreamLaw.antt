@@ -7,9 +7,9 @@ use Rattle.case_forms.specs.declared.steps.Step.{Step}
 use Rattle.case_forms.specs.declared.steps.Witness.{Witness}
 use Rattle.case_forms.specs.declared.version.Version.{Version}
 use Rattle.line_fields.specs.declared.fault.TextFault.{TextFault}
-use Rattle.line_fields.specs.declared.fault.ReadFault.TheVariants as reads
+use Rattle.line_fields.specs.declared.fault.SourceFault.TheVariants as reads
 use Rattle.line_fields.specs.Reading.{◌>>=◌, Fails}
-use Rattle.line_fields.specs.Lines.{line_text, line_rest, exact_line}
+use Rattle.line_fields.specs.Lines.{line_text, line_rest, expect_line}
 use Rattle.line_fields.specs.Folding.{read_lines}
 use Rattle.line_fields.specs.Rows.{rest_alone, TakesRow, HasNoRow, next_text, FailsAt, Reads}
 use Rattle.line_fields.specs.Left.{in_front, Yields, FailsLeft, Remains}
@@ -52,7 +52,7 @@ module _ (v : Version) where
 
   from_first : (raws : List (List ℕ)) → steps_from v None raws ≡ (first_line v raws >>= λ rest. read_lines (step_of v) number_after 2 rest)
   from_first [] = refl
-  from_first (raw ∷ raws) = by_first (exact_line 1 (first_text v) raw)
+  from_first (raw ∷ raws) = by_first (expect_line 1 (first_text v) raw)
     where
       by_first : (first : Result (Unit {0}) TextFault) → steps_of (first >>= λ u. read_lines (step_of v) number_after 2 raws >>= λ steps. Ok (record { version = v; steps = steps }))
           ≡ ((first >>= λ u. Ok raws) >>= λ rest. read_lines (step_of v) number_after 2 rest)

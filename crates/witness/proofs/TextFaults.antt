@@ -8,7 +8,7 @@ use Rattle.case_forms.specs.declared.version.Version.{Version}
 use Rattle.line_fields.specs.Faults.{missing_line}
 use Rattle.line_fields.specs.Folding.{read_lines}
 use Rattle.line_fields.specs.LineFaults.{IsTextFaultOf, IsNextFault}
-use Rattle.line_fields.specs.Lines.{exact_line}
+use Rattle.line_fields.specs.Lines.{expect_line}
 use Rattle.line_fields.specs.Reading.{◌>>=◌}
 use Rattle.line_fields.specs.declared.fault.TextFault.{TextFault}
 use Rattle.line_fields.proofs.LineFaults.{exact_faults, faults_among}
@@ -69,9 +69,9 @@ witness_faults v text e = go (lines_of text) refl
         back : IsWitnessFault v text e → bad (missing_line 1) ≡ Err e
         back (First fault) = let same : e ≡ missing_line 1 = subst (λ (l : List (List ℕ)). IsNextFault (Text v) 1 l e) lines fault in ap bad (sym same)
         back (Steps first raws split line fault) = let clash : first ∷ raws ≡ [] = sym split ∙ lines in absurd cc
-    go (raw ∷ raws) lines = by (exact_line 1 (first_text v) raw) refl
+    go (raw ∷ raws) lines = by (expect_line 1 (first_text v) raw) refl
       where
-        by : (o : Result (Unit {0}) TextFault) → exact_line 1 (first_text v) raw ≡ o → ((o >>= λ begun. behind v raws) ≡ Err e) ↔ IsWitnessFault v text e
+        by : (o : Result (Unit {0}) TextFault) → expect_line 1 (first_text v) raw ≡ o → ((o >>= λ begun. behind v raws) ≡ Err e) ↔ IsWitnessFault v text e
         by (Err f) is = (
           λ same. let one : f ≡ e = cc in First (subst (λ (l : List (List ℕ)). IsNextFault (Text v) 1 l e) (sym lines) ((exact_faults 1 (first_text v) raw e).0 (is ∙ ap bad_line one))),
           λ g. back g,
@@ -84,7 +84,7 @@ witness_faults v text e = go (lines_of text) refl
             back (Steps first rest split line fault) =
                 let same : first ∷ rest ≡ raw ∷ raws = sym split ∙ lines in
                 let one : first ≡ raw = cc in
-                let clash : bad_line f ≡ Ok tt = sym is ∙ ap (exact_line 1 (first_text v)) (sym one) ∙ exact_again 1 (first_text v) first (first_ends v) line in
+                let clash : bad_line f ≡ Ok tt = sym is ∙ ap (expect_line 1 (first_text v)) (sym one) ∙ exact_again 1 (first_text v) first (first_ends v) line in
                 absurd cc
         by (Ok u) is = (λ same. Steps raw raws lines (exact_takes 1 (first_text v) raw u is) ((behind_err v raws e).0 same), λ g. back g)
           where

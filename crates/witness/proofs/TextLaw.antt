@@ -12,7 +12,7 @@ use Rattle.case_forms.specs.declared.version.Version.{Version}
 use Rattle.case_forms.specs.declared.version.Version.TheVariants as versions
 use Rattle.line_fields.specs.declared.fault.TextFault.{TextFault}
 use Rattle.line_fields.specs.Reading.{◌>>=◌, Gives}
-use Rattle.line_fields.specs.Lines.{NoReturn, Ends, IsRaw, IsLine, is_ended, exact_line, next_raw}
+use Rattle.line_fields.specs.Lines.{NoReturn, Ends, IsRaw, IsLine, is_ended, expect_line, next_raw}
 use Rattle.line_fields.specs.Spelling.{IsClean, joined}
 use Rattle.line_fields.specs.Folding.{read_lines}
 use Rattle.line_fields.proofs.Readers.{bind_ok, ok_is}
@@ -36,13 +36,13 @@ abbrev witness_by : Version → List Step → Result Witness TextFault
 witness_by v steps = Ok (record { version = v; steps = steps })
 
 abbrev behind_first : Version → List ℕ × List (List ℕ) → Result Witness TextFault
-behind_first v first = exact_line 1 (first_text v) first.0 >>= λ begun. read_lines (step_of v) number_after 2 first.1 >>= witness_by v
+behind_first v first = expect_line 1 (first_text v) first.0 >>= λ begun. read_lines (step_of v) number_after 2 first.1 >>= witness_by v
 
 pub text_takes : (v : Version) (w : Witness) (text : List ℕ) → witness_for v text ≡ Ok w → (w.version ≡ v) × IsWitnessText w text
 unfolding witness_for
 text_takes v w text e =
     let a = bind_ok (next_raw 1 (lines_of text)) (behind_first v) w e in
-    let b = bind_ok (exact_line 1 (first_text v) a.0.0) (λ begun. read_lines (step_of v) number_after 2 a.0.1 >>= witness_by v) w a.2 in
+    let b = bind_ok (expect_line 1 (first_text v) a.0.0) (λ begun. read_lines (step_of v) number_after 2 a.0.1 >>= witness_by v) w a.2 in
     let c = bind_ok (read_lines (step_of v) number_after 2 a.0.1) (witness_by v) w b.2 in
     subst (λ (u : Witness). (u.version ≡ v) × IsWitnessText u text) (ok_is (record { version = v; steps = c.0 }) w c.2) (
       refl,

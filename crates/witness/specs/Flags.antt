@@ -15,7 +15,9 @@ letter_if false letter = []
 
 -- the letters of the flags that are set, in their order
 abbrev pub letters_of : Flags → List ℕ
-letters_of f = letter_if f.ack (codes "A") ++ (letter_if f.rst (codes "R") ++ (letter_if f.syn (codes "S") ++ letter_if f.fin (codes "F")))
+letters_of f =
+    letter_if f.ack (codes "A")
+    ++ (letter_if f.rst (codes "R") ++ (letter_if f.syn (codes "S") ++ letter_if f.fin (codes "F")))
 
 -- letters, and a dash where there are none
 abbrev pub or_dash : List ℕ → List ℕ

@@ -8,9 +8,9 @@ use Rattle.case_forms.specs.Witnesses.{IsWithinLimits, TellsShift}
 use Rattle.counted.specs.declared.ends.Counted.{Counted}
 use Rattle.counted.specs.Counting.{left_of, failures_of}
 use Rattle.line_fields.specs.declared.fault.TextFault.{TextFault}
-use Rattle.line_fields.specs.declared.fault.ReadFault.{ReadFault}
+use Rattle.line_fields.specs.declared.fault.SourceFault.{SourceFault}
 use Rattle.line_fields.specs.Reading.{◌>>=◌}
-use Rattle.line_fields.specs.Lines.{exact_line, next_raw}
+use Rattle.line_fields.specs.Lines.{expect_line, next_raw}
 use Rattle.line_fields.specs.Folding.{read_lines}
 use Rattle.line_fields.specs.Rows.{rows_of}
 use Rattle.witness.specs.FirstLine.{first_text}
@@ -39,7 +39,7 @@ abbrev pub number_of : {B : Type 0} → StepReader B → ℕ
 number_of r = number_or_first r.number
 
 -- the fault that was met, if one was
-abbrev pub fault_of : {B : Type 0} → StepReader B → Option ReadFault
+abbrev pub fault_of : {B : Type 0} → StepReader B → Option SourceFault
 fault_of r = r.fault
 
 -- the version that it reads
@@ -48,7 +48,7 @@ version_of r = r.version
 
 -- the lines behind the first, which has to stand as it is
 abbrev pub first_line : Version → List (List ℕ) → Result (List (List ℕ)) TextFault
-first_line v raws = next_raw 1 raws >>= λ raw. exact_line 1 (first_text v) raw.0 >>= λ begun. Ok raw.1
+first_line v raws = next_raw 1 raws >>= λ raw. expect_line 1 (first_text v) raw.0 >>= λ begun. Ok raw.1
 
 -- the steps of a witness
 abbrev pub steps_of : Result Witness TextFault → Result (List Step) TextFault

@@ -8,7 +8,7 @@ use Rattle.case_forms.specs.declared.version.Version.{Version}
 use Rattle.case_forms.specs.declared.version.Version.TheVariants.{One, Two, Three}
 use Rattle.line_fields.specs.declared.fault.TextFault.{TextFault}
 use Rattle.line_fields.specs.Reading.{◌>>=◌}
-use Rattle.line_fields.specs.Lines.{IsLine, exact_line, next_raw}
+use Rattle.line_fields.specs.Lines.{IsLine, expect_line, next_raw}
 use Rattle.line_fields.specs.Folding.{read_lines, AreSpelled}
 use Rattle.witness.specs.FirstLine.{first_text, begins_witness}
 use Rattle.witness.specs.Steps.{IsStepText, step_of}
@@ -29,7 +29,7 @@ pub record IsWitnessText (w : Witness) (text : List ℕ) : Type 0 where
 abbrev pub witness_in : Version → List (List ℕ) → Result Witness TextFault
 witness_in v raws = do
   first ← next_raw 1 raws
-  begun ← exact_line 1 (first_text v) first.0
+  begun ← expect_line 1 (first_text v) first.0
   steps ← read_lines (step_of v) number_after 2 first.1
   Ok (record { version = v; steps = steps })
 

@@ -5,7 +5,7 @@ ghost use Rattle.line_fields.specs.Lines.{Ends};
 ghost use Rattle.witness.specs.FirstLine.{first_text, begins_witness};
 
 use case_forms::Version;
-use line_fields::content;
+use line_fields::without_line_end;
 
 // The first line's text, which names the version.
 pub(crate) fn first_text(version: Version) -> &'static str
@@ -23,6 +23,6 @@ pub fn begins_witness(version: Version, raw: &[u8]) -> bool
     ensures value { result ≡ begins_witness version raw.now }
     ensures exact { IsTrue result ↔ Ends raw.now (first_text version) }
 {
-    let (text, ended) = content(raw);
+    let (text, ended) = without_line_end(raw);
     ended && text == first_text(version).as_bytes()
 }

@@ -8,7 +8,7 @@ ghost use Rattle.witness.specs.Flags.{behind_letter, letters_named, flags_text, 
 use case_forms::{Flags, OutOfMemory};
 use line_fields::{FaultKind, Fields, TextFault, push_space, push_word};
 
-// Whether a text begins with this letter, and the text behind it.
+// Whether a text begins with this letter, and the text after it.
 fn behind_letter(letter: u8, text: &[u8]) -> (bool, &[u8])
     ensures set { result.0 ≡ (behind_letter letter text.now).0 }
     ensures rest { result.1.now ≡ (behind_letter letter text.now).1 }
@@ -77,7 +77,7 @@ fn flags_text(flags: Flags) -> &'static str
     }
 }
 
-// Writes flags behind a space.
+// Writes flags after a space.
 pub(crate) fn push_flags(out: &mut Vec<u8>, flags: Flags) -> Result<(), OutOfMemory>
     ensures { OnOk result (out.new.items ≡ out.old.items ++ printed_behind (plain (flags_text flags) ∷ [])) }
 {

@@ -9,12 +9,9 @@ ghost use Rattle.witness.specs.LabelFields.{label_field};
 
 use crate::flags::flags;
 use crate::parts::{bit, endpoint, entry, extras, start};
-use case_forms::{Label, NamedLine, Recovery, SegmentPlan, TakeChoice, Version};
+use case_forms::{GREATEST_POSITION, Label, NamedLine, Recovery, SegmentPlan, TakeChoice, Version};
 use line_fields::{FaultKind, Fields, TextFault, Token, answer};
 use std::alloc::Global;
-
-// The greatest position in a stream.
-const MAX_POSITION: u64 = 1_000_000_000_000_000_000;
 
 // The greatest length of a payload, in bytes.
 const MAX_LEN: u64 = 65_515;
@@ -94,7 +91,7 @@ fn segment_label(version: Version, fields: &mut Fields) -> Result<Label<NamedLin
     ensures { Gives (λ label. (label, fields.new)) result (segment_label version fields.old) }
 {
     let (host, lport, rport) = endpoint(version, fields)?;
-    let pos = fields.number(0, MAX_POSITION)?;
+    let pos = fields.number(0, GREATEST_POSITION)?;
     let len = fields.number(0, MAX_LEN)? as u16;
     let flags = flags(fields)?;
     let window = fields.number(0, MAX_WINDOW)? as u16;

@@ -8,7 +8,7 @@
 //!
 //! - `Witness`, `Step`, `Label`: what a witness says; `SegmentPlan`, `TakeChoice`, `NamedLine`: what labels hold
 //! - `read_witness`: a whole text; `TextFault`, `FaultKind`, `Span`: the first fault, and where it stands
-//! - `StepReader`: a text whose steps are read as they are asked for; `ReadFault`: a fault, or a read that failed
+//! - `StepReader`: a text whose steps are read as they are requested; `SourceFault`: a fault, or a read that failed
 //! - `print_witness`: the text of a witness, which is read again as the same witness
 //!
 //! A text is bytes. Its first line is `witness 1`, `witness 2` or `witness 3`, by its version, and each further line is
@@ -21,7 +21,7 @@
 //! Private modules:
 //!
 //! - `reading`: one step, and a whole witness, by the reader of `stream`
-//! - `stream`: the reader of a text whose steps are read as they are asked for
+//! - `stream`: the reader of a text whose steps are read as they are requested
 //! - `first_line`: the line that a witness begins with
 //! - `labels`: what a step does
 //! - `parts`: the parts of labels: endpoints, inbox entries, yes or no, numbers that may be missing
@@ -46,7 +46,7 @@ pub use case_forms::{
 pub use counted::Counted;
 pub use first_line::begins_witness;
 pub use laws::{step_faults, witness_faults};
-pub use line_fields::{FaultKind, ReadFault, TextFault};
+pub use line_fields::{FaultKind, SourceFault, TextFault};
 pub use printing::{label_bytes, print_law, print_witness, printable_law, step_in_memory};
 pub use reading::{read_step, read_witness, read_witness_for};
 pub use stream::StepReader;

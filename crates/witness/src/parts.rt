@@ -1,6 +1,5 @@
-//! The parts of labels: what the fields behind a label's first word are made of.
+//! The parts of labels: what the fields after a label's first word are made of.
 
-ghost use Rattle.std.specs.Prelude.{◌≡◌};
 ghost use Rattle.line_fields.specs.Reading.{Gives};
 ghost use Rattle.witness.specs.Parts.{endpoint_field, entry_field, bit_field, extras_field, start_field};
 
@@ -40,7 +39,7 @@ pub(crate) fn bit(fields: &mut Fields) -> Result<bool, TextFault>
     Ok(fields.number(0, 1)? == 1)
 }
 
-// The numbers behind a line's number, at most two. A further field is always a number, and a third is left.
+// The numbers after a line's number, at most two. A further field is always a number, and a third is left.
 #[tactic(auto, unfolding(crate::specs::Parts::extras_field))]
 pub(crate) fn extras(fields: &mut Fields) -> Result<Extras, TextFault>
     ensures { Gives (λ extras. (extras, fields.new)) result (extras_field fields.old) }
@@ -56,9 +55,8 @@ pub(crate) fn extras(fields: &mut Fields) -> Result<Extras, TextFault>
     Ok(Extras::Two(first, second))
 }
 
-// The initial send sequence number behind a segment's window, where there is a further field, and where windows may be
-// scaled
-// the shift, where there is one more. These fields are always numbers.
+// The initial send sequence number after a segment's window, if there is a further field, and if windows may be scaled
+// the shift, if there is one more. These fields are always numbers.
 #[tactic(auto, unfolding(crate::specs::Parts::start_field))]
 pub(crate) fn start(
     version: Version,

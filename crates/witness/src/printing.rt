@@ -19,7 +19,7 @@ use line_fields::{push_answer, push_end, push_host, push_number, push_space, pus
 use seqno::Word;
 use std::alloc::Global;
 
-// Writes a number behind a space.
+// Writes a number after a space.
 fn push_field(out: &mut Vec<u8>, value: u64) -> Result<(), OutOfMemory>
     ensures { OnOk result (out.new.items ≡ out.old.items ++ printed_behind (number value ∷ [])) }
 {
@@ -27,14 +27,14 @@ fn push_field(out: &mut Vec<u8>, value: u64) -> Result<(), OutOfMemory>
     push_number(out, value)
 }
 
-// Writes yes or no behind a space, as 1 or 0.
+// Writes yes or no after a space, as 1 or 0.
 fn push_bit(out: &mut Vec<u8>, bit: bool) -> Result<(), OutOfMemory>
     ensures { OnOk result (out.new.items ≡ out.old.items ++ printed_behind (number (bit_number bit) ∷ [])) }
 {
     push_field(out, u64::from(bit))
 }
 
-// Writes a host, its port and the other host's, each behind a space.
+// Writes a host, its port and the other host's, each after a space.
 fn push_endpoint(out: &mut Vec<u8>, host: Host, local: u16, remote: u16) -> Result<(), OutOfMemory>
     ensures { OnOk result (out.new.items ≡ out.old.items ++ printed_behind (endpoint_pieces host local remote)) }
 {
@@ -44,7 +44,7 @@ fn push_endpoint(out: &mut Vec<u8>, host: Host, local: u16, remote: u16) -> Resu
     push_field(out, u64::from(remote))
 }
 
-// Writes a host and the number of a line, each behind a space.
+// Writes a host and the number of a line, each after a space.
 fn push_entry(out: &mut Vec<u8>, host: Host, line: u64) -> Result<(), OutOfMemory>
     ensures { OnOk result (out.new.items ≡ out.old.items ++ printed_behind (entry_pieces host line)) }
 {
@@ -53,7 +53,7 @@ fn push_entry(out: &mut Vec<u8>, host: Host, line: u64) -> Result<(), OutOfMemor
     push_field(out, line)
 }
 
-// Writes the extra numbers, each behind a space.
+// Writes the extra numbers, each after a space.
 fn push_extras(out: &mut Vec<u8>, extras: Extras) -> Result<(), OutOfMemory>
     ensures { OnOk result (out.new.items ≡ out.old.items ++ printed_behind (extras_pieces extras)) }
 {
@@ -67,7 +67,7 @@ fn push_extras(out: &mut Vec<u8>, extras: Extras) -> Result<(), OutOfMemory>
     }
 }
 
-// Writes what the segment is that an endpoint makes, each field behind a space.
+// Writes what the segment is that an endpoint makes, each field after a space.
 fn push_segment(out: &mut Vec<u8>, plan: SegmentPlan) -> Result<(), OutOfMemory>
     ensures { OnOk result (out.new.items ≡ out.old.items ++ printed_behind (segment_pieces plan)) }
 {
@@ -79,7 +79,7 @@ fn push_segment(out: &mut Vec<u8>, plan: SegmentPlan) -> Result<(), OutOfMemory>
     Ok(())
 }
 
-// Writes an initial send sequence number and a shift, where there are, each behind a space.
+// Writes an initial send sequence number and a shift, if there are, each after a space.
 fn push_start(out: &mut Vec<u8>, iss: Option<Word>, shift: Option<u8>) -> Result<(), OutOfMemory>
     ensures { OnOk result (out.new.items ≡ out.old.items ++ printed_behind (iss_pieces iss ++ shift_pieces shift)) }
 {
@@ -92,7 +92,7 @@ fn push_start(out: &mut Vec<u8>, iss: Option<Word>, shift: Option<u8>) -> Result
     Ok(())
 }
 
-// Writes a label, each field behind a space.
+// Writes a label, each field after a space.
 fn push_label(out: &mut Vec<u8>, label: &Label<NamedLine>) -> Result<(), OutOfMemory>
     ensures { OnOk result (out.new.items ≡ out.old.items ++ printed_behind (label_pieces label.now)) }
 {
@@ -161,15 +161,13 @@ pub fn print_witness(alloc: Global, witness: &Witness) -> Result<Vec<u8>, OutOfM
 }
 
 /// A witness of the same version that says what some text says, wherever its spans are, is printed as a text that
-/// stands for
-/// the same.
+/// stands for the same.
 pub fn print_law()
     ensures { (v w : Witness) (text : List ℕ) → IsWitnessText v text → without_spans v ≡ without_spans w
         → IsWitnessText v (witness_text w) }
 {}
 
-/// A witness is printed as a text that stands for it, with the spans of that text, exactly where it is within the
-/// limits.
+/// A witness is printed as a text that stands for it, with the spans of that text, exactly if it is within the limits.
 pub fn printable_law()
     ensures printed { (w : Witness) → IsPrintableWitness w → IsWitnessText (with_columns w) (witness_text w) }
     ensures read { (w : Witness) → IsPrintableWitness w → witness_of (witness_text w) ≡ Ok (with_columns w) }

@@ -12,17 +12,13 @@ use crate::first_line::begins_witness;
 use crate::labels::label;
 use crate::stream::StepReader;
 use bstr::ByteSlice;
-use case_forms::{Span, Step, Steps, Version, Witness};
+use case_forms::{GREATEST_MOMENT, Span, Step, Steps, Version, Witness};
 use counted::Counted;
-use line_fields::{TextFault, fields_of};
+use line_fields::{TextFault, checked_fields};
 use std::alloc::Global;
 
-// The greatest moment, in microseconds.
-const MAX_MOMENT: u64 = 1_000_000_000_000_000_000;
-
 /// The step of the line of that number in this version, whose bytes are given with the line's end. Its span is the
-/// whole
-/// line.
+/// whole line.
 #[tactic(auto, unfolding(crate::specs::Steps::step_of))]
 #[inline(always)]
 pub fn read_step(
@@ -33,9 +29,9 @@ pub fn read_step(
 ) -> Result<Step, TextFault>
     ensures { Gives (λ step. step) result (step_of version number raw.now) }
 {
-    let mut fields = fields_of(number, raw)?;
+    let mut fields = checked_fields(number, raw)?;
     let stop = fields.stop();
-    let moment = fields.number(0, MAX_MOMENT)?;
+    let moment = fields.number(0, GREATEST_MOMENT)?;
     let label = label(alloc, version, &mut fields)?;
     fields.end()?;
     let span = Span {
@@ -74,8 +70,7 @@ fn version_named(text: &[u8]) -> Version
 }
 
 /// The witness that a text stands for, whichever version it is of, or the text's first fault. A first line that names
-/// no
-/// version is Header. No fault says that moments fall.
+/// no version is Header. No fault says that moments fall.
 pub fn read_witness(alloc: Global, text: &[u8]) -> Result<Witness, TextFault>
     // What is read is spelled so.
     ensures found { IfOk result (λ w. IsWitnessText w text.now) }
@@ -90,8 +85,7 @@ pub fn read_witness(alloc: Global, text: &[u8]) -> Result<Witness, TextFault>
 }
 
 /// The witness that a text stands for to a trace of this version, or the text's first fault. A witness of another
-/// version
-/// has the fault of its first line, Header.
+/// version has the fault of its first line, Header.
 pub fn read_witness_for(alloc: Global, version: Version, text: &[u8]) -> Result<Witness, TextFault>
     // What is read is spelled so, and of this version.
     ensures found { IfOk result (λ w. (w.version ≡ version) × IsWitnessText w text.now) }

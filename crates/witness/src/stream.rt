@@ -1,9 +1,9 @@
-//! The reader of a witness whose steps are read as they are asked for.
+//! The reader of a witness whose steps are read as they are requested.
 
 ghost use Rattle.std.specs.Prelude.{◌≡◌, ◌≢◌, IfOk, OnOk, IfSome, Some, None, Err};
 ghost use Rattle.counted.specs.Counting.{left_of, failures_of, one_more};
 ghost use Rattle.line_fields.specs.declared.fault.TextFault.{TextFault};
-ghost use Rattle.line_fields.specs.declared.fault.ReadFault.{ReadFault};
+ghost use Rattle.line_fields.specs.declared.fault.SourceFault.{SourceFault};
 ghost use Rattle.line_fields.specs.Rows.{rows_of, rest_alone, Reads};
 ghost use Rattle.line_fields.specs.Left.{Yields, FailsLeft, Remains};
 ghost use Rattle.witness.specs.WitnessText.{number_after};
@@ -14,16 +14,15 @@ use crate::first_line::first_text;
 use crate::reading::read_step;
 use case_forms::{Step, Version};
 use counted::Counted;
-use line_fields::{ReadFault, exact_line, needed_line, next_line};
+use line_fields::{SourceFault, expect_line, next_line, require_line};
 use std::alloc::Global;
 use std::io::BufRead;
 
 // The number of the line of the first step.
 const FIRST_STEP: u64 = 2;
 
-/// A witness of some version, whose steps are read as they are asked for. Of the text one line is kept in memory. After
-/// a
-/// fault each later call answers that fault.
+/// A witness of some version, whose steps are read as they are requested. Of the text one line is kept in memory. After
+/// a fault each later call answers that fault.
 #[derive(Drop)]
 pub struct StepReader<B> {
     alloc: Global,
@@ -33,7 +32,7 @@ pub struct StepReader<B> {
     line: Vec<u8>,
     // The number of the next line, none before the first line is read.
     number: Option<u64>,
-    fault: Option<ReadFault>,
+    fault: Option<SourceFault>,
 }
 
 // The first line, which has to stand as it is.
@@ -41,21 +40,20 @@ fn first_line<B: BufRead>(
     source: &mut Counted<B>,
     line: &mut Vec<u8>,
     version: Version,
-) -> Result<(), ReadFault>
+) -> Result<(), SourceFault>
     ensures line { Reads rest_alone (first_line version) (rows_of (left_of B.remaining source.old))
         (rows_of (left_of B.remaining source.new)) result }
-    ensures read { result ≡ Err ReadFault.Read → failures_of source.new ≡ one_more (failures_of source.old) }
-    ensures same { result ≢ Err ReadFault.Read → failures_of source.new ≡ failures_of source.old }
+    ensures read { result ≡ Err SourceFault.Read → failures_of source.new ≡ one_more (failures_of source.old) }
+    ensures same { result ≢ Err SourceFault.Read → failures_of source.new ≡ failures_of source.old }
 {
-    needed_line(source, 1, line)?;
-    exact_line(1, first_text(version), line.as_slice())?;
+    require_line(source, 1, line)?;
+    expect_line(1, first_text(version), line.as_slice())?;
     Ok(())
 }
 
 impl<B> StepReader<B> {
     /// A reader of a whole text for a trace of this version, of which nothing is read yet. A witness of another version
-    /// has
-    /// the fault of its first line, Header.
+    /// has the fault of its first line, Header.
     pub fn new(alloc: Global, version: Version, source: Counted<B>) -> StepReader<B>
         ensures source { source_of result ≡ source }
         ensures version { version_of result ≡ version }
@@ -72,7 +70,7 @@ impl<B> StepReader<B> {
         }
     }
 
-    /// The source, of which what was asked for is read, and no more.
+    /// The source, of which what was requested is read, and no more.
     pub fn into_source(self) -> Counted<B>
         ensures { result ≡ source_of self }
     {
@@ -83,15 +81,15 @@ impl<B> StepReader<B> {
     #[inline(always)]
     fn keep_fault(
         &mut self,
-        read: Result<Option<Step>, ReadFault>,
-    ) -> Result<Option<Step>, ReadFault>
+        read: Result<Option<Step>, SourceFault>,
+    ) -> Result<Option<Step>, SourceFault>
         requires { fault_of self.old ≡ None }
         ensures read { result ≡ read }
         ensures source { source_of self.new ≡ source_of self.old }
         ensures version { version_of self.new ≡ version_of self.old }
         ensures number { number_read self.new ≡ number_read self.old }
         ensures open { IfOk result (λ x. fault_of self.new ≡ None) }
-        ensures kept { (f : ReadFault) → result ≡ Err f → fault_of self.new ≡ Some f }
+        ensures kept { (f : SourceFault) → result ≡ Err f → fault_of self.new ≡ Some f }
     {
         if let Err(fault) = &read {
             self.fault = Some(*fault);
@@ -103,22 +101,22 @@ impl<B> StepReader<B> {
 impl<B: BufRead> StepReader<B> {
     /// The next step, or none at the end of the text.
     #[inline(always)]
-    pub fn next(&mut self) -> Result<Option<Step>, ReadFault>
+    pub fn next(&mut self) -> Result<Option<Step>, SourceFault>
         ensures next { fault_of self.old ≡ None → IfOk result
             (Yields (steps_left B.remaining self.old) (steps_left B.remaining self.new)) }
         ensures place { IfOk result (λ item. IfSome item
             (λ step. StandsAt (version_of self.old) (number_of self.old) step
             × (number_of self.new ≡ number_after (number_of self.old) step))) }
-        ensures fault { (e : TextFault) → fault_of self.old ≡ None → result ≡ Err (ReadFault.Text e)
+        ensures fault { (e : TextFault) → fault_of self.old ≡ None → result ≡ Err (SourceFault.Text e)
             → FailsLeft e (steps_left B.remaining self.old) }
-        ensures again { (f : ReadFault) → fault_of self.old ≡ Some f → result ≡ Err f }
-        ensures stays { (f : ReadFault) → fault_of self.old ≡ Some f → self.new ≡ self.old }
-        ensures kept { (f : ReadFault) → result ≡ Err f → fault_of self.new ≡ Some f }
+        ensures again { (f : SourceFault) → fault_of self.old ≡ Some f → result ≡ Err f }
+        ensures stays { (f : SourceFault) → fault_of self.old ≡ Some f → self.new ≡ self.old }
+        ensures kept { (f : SourceFault) → result ≡ Err f → fault_of self.new ≡ Some f }
         ensures open { IfOk result (λ item. fault_of self.new ≡ None) }
         ensures version { version_of self.new ≡ version_of self.old }
-        ensures read { fault_of self.old ≡ None → result ≡ Err ReadFault.Read
+        ensures read { fault_of self.old ≡ None → result ≡ Err SourceFault.Read
             → reader_failures self.new ≡ one_more (reader_failures self.old) }
-        ensures same { result ≢ Err ReadFault.Read → reader_failures self.new ≡ reader_failures self.old }
+        ensures same { result ≢ Err SourceFault.Read → reader_failures self.new ≡ reader_failures self.old }
     {
         if let Some(fault) = self.fault {
             return Err(fault);
@@ -127,19 +125,19 @@ impl<B: BufRead> StepReader<B> {
         self.keep_fault(read)
     }
 
-    // The next step, where no fault was met.
+    // The next step, if no fault was met.
     #[inline(always)]
-    fn read(&mut self) -> Result<Option<Step>, ReadFault>
+    fn read(&mut self) -> Result<Option<Step>, SourceFault>
         ensures next { IfOk result (Yields (steps_left B.remaining self.old) (steps_left B.remaining self.new)) }
         ensures place { IfOk result (λ item. IfSome item
             (λ step. StandsAt (version_of self.old) (number_of self.old) step
             × (number_of self.new ≡ number_after (number_of self.old) step))) }
-        ensures fault { (e : TextFault) → result ≡ Err (ReadFault.Text e)
+        ensures fault { (e : TextFault) → result ≡ Err (SourceFault.Text e)
             → FailsLeft e (steps_left B.remaining self.old) }
         ensures open { fault_of self.new ≡ fault_of self.old }
         ensures version { version_of self.new ≡ version_of self.old }
-        ensures read { result ≡ Err ReadFault.Read → reader_failures self.new ≡ one_more (reader_failures self.old) }
-        ensures same { result ≢ Err ReadFault.Read → reader_failures self.new ≡ reader_failures self.old }
+        ensures read { result ≡ Err SourceFault.Read → reader_failures self.new ≡ one_more (reader_failures self.old) }
+        ensures same { result ≢ Err SourceFault.Read → reader_failures self.new ≡ reader_failures self.old }
     {
         let number = self.begin()?;
         self.read_line(number)
@@ -147,15 +145,15 @@ impl<B: BufRead> StepReader<B> {
 
     // The number of the next line. Before the first step the first line is read.
     #[inline(always)]
-    fn begin(&mut self) -> Result<u64, ReadFault>
+    fn begin(&mut self) -> Result<u64, SourceFault>
         ensures remains { OnOk result (Remains (steps_left B.remaining self.old) (steps_left B.remaining self.new)) }
         ensures number { IfOk result (λ number. (number_read self.new ≡ Some number) × (number ≡ number_of self.old)) }
-        ensures fault { (e : TextFault) → result ≡ Err (ReadFault.Text e)
+        ensures fault { (e : TextFault) → result ≡ Err (SourceFault.Text e)
             → FailsLeft e (steps_left B.remaining self.old) }
         ensures open { fault_of self.new ≡ fault_of self.old }
         ensures version { version_of self.new ≡ version_of self.old }
-        ensures read { result ≡ Err ReadFault.Read → reader_failures self.new ≡ one_more (reader_failures self.old) }
-        ensures same { result ≢ Err ReadFault.Read → reader_failures self.new ≡ reader_failures self.old }
+        ensures read { result ≡ Err SourceFault.Read → reader_failures self.new ≡ one_more (reader_failures self.old) }
+        ensures same { result ≢ Err SourceFault.Read → reader_failures self.new ≡ reader_failures self.old }
     {
         if let Some(number) = self.number {
             return Ok(number);
@@ -167,17 +165,17 @@ impl<B: BufRead> StepReader<B> {
 
     // The step of the next line, which has this number.
     #[inline(always)]
-    fn read_line(&mut self, number: u64) -> Result<Option<Step>, ReadFault>
+    fn read_line(&mut self, number: u64) -> Result<Option<Step>, SourceFault>
         requires { number_read self.old ≡ Some number }
         ensures next { IfOk result (Yields (steps_left B.remaining self.old) (steps_left B.remaining self.new)) }
         ensures place { IfOk result (λ item. IfSome item (λ step. StandsAt (version_of self.old) number step ×
             (number_read self.new ≡ Some (number_after number step)))) }
-        ensures fault { (e : TextFault) → result ≡ Err (ReadFault.Text e)
+        ensures fault { (e : TextFault) → result ≡ Err (SourceFault.Text e)
             → FailsLeft e (steps_left B.remaining self.old) }
         ensures open { fault_of self.new ≡ fault_of self.old }
         ensures version { version_of self.new ≡ version_of self.old }
-        ensures read { result ≡ Err ReadFault.Read → reader_failures self.new ≡ one_more (reader_failures self.old) }
-        ensures same { result ≢ Err ReadFault.Read → reader_failures self.new ≡ reader_failures self.old }
+        ensures read { result ≡ Err SourceFault.Read → reader_failures self.new ≡ one_more (reader_failures self.old) }
+        ensures same { result ≢ Err SourceFault.Read → reader_failures self.new ≡ reader_failures self.old }
     {
         if !next_line(&mut self.source, number, &mut self.line)? {
             return Ok(None);

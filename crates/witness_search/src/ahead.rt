@@ -19,7 +19,7 @@ pub(crate) fn connection_key(host: Host, lport: u16, rport: u16) -> ConnectionKe
 pub(crate) struct LaterLines {
     /// For the place of each beginning, that of its end.
     ends: IndexMap<usize, usize>,
-    /// For each thread, the place of the first end behind what was read, where no beginning was met before it.
+    /// For each thread, the place of the first end after what was read, if no beginning was met before it.
     ended: IndexMap<u32, usize>,
     /// For each endpoint, the places of what goes out there and was not made yet.
     outgoing: Chains,

@@ -17,14 +17,7 @@ use verdict::Rule;
 // How many lines with the same bytes are tried for a copy, where those before are too old.
 const SENDINGS: usize = 16;
 
-fn other(host: Host) -> Host {
-    match host {
-        Host::Zero => Host::One,
-        Host::One => Host::Zero,
-    }
-}
-
-// The endpoint that a segment finds, where it is not CLOSED.
+// The endpoint that a segment finds, if it is not CLOSED.
 fn endpoint_found<'w>(world: &'w World, host: Host, m: &Emission) -> Option<&'w Endpoint> {
     let endpoint = world.body(host).endpoint_of(m.rport, m.lport)?;
     if endpoint.state.is_closed() {
@@ -36,11 +29,7 @@ fn endpoint_found<'w>(world: &'w World, host: Host, m: &Emission) -> Option<&'w 
 
 // A segment as the endpoint reads it. None: the endpoint is further than positions go.
 fn as_read<'m>(world: &World, endpoint: &Endpoint, m: &'m Emission) -> Option<Arrived<'m>> {
-    if endpoint.stream.snd_una < 1 << 63 {
-        Some(Arrived::read(world.header().version, endpoint, m))
-    } else {
-        None
-    }
+    Arrived::checked_read(world.header().version, endpoint, m)
 }
 
 // The greatest congestion window with which a segment may be taken; 0 at a listener.
@@ -94,8 +83,7 @@ fn is_before(endpoint: &Endpoint, changes: &Changes, m: &Arrived<'_>, wire: &Wir
 }
 
 // Whether a segment was made before its sender took another one, and whether that shows in what it acknowledges. None:
-// it was made
-// behind it, or that can't be told.
+// it was made after it, or that can't be told.
 fn needs_earlier(world: &World, host: Host, m: &Emission, wire: &Wire) -> Option<bool> {
     let endpoint = endpoint_found(world, host, m)?;
     let read = as_read(world, endpoint, m)?;
@@ -129,7 +117,7 @@ impl<'t> Search<'t> {
         let copied = self.copied(host, wire)?;
         self.push_line_step(Extras::One(saturated(copied)))?;
         self.arrive_in_world(host, copied, wire)?;
-        self.copies.pass(other(host), wire.bytes.as_slice());
+        self.copies.pass(host.other(), wire.bytes.as_slice());
         self.resolve_arrival(host, line)
     }
 
@@ -137,19 +125,19 @@ impl<'t> Search<'t> {
     fn copied(&mut self, host: Host, wire: &'t Wire) -> Result<u64, StepFault> {
         let bytes = wire.bytes.as_slice();
         for _ in 0..SENDINGS {
-            let Some(line) = self.copies.first(other(host), bytes) else {
+            let Some(line) = self.copies.first(host.other(), bytes) else {
                 return Ok(0);
             };
             match self.world.admits_arrival(host, self.moment, line, wire) {
                 Err(Rule::Lifetime) => {
-                    if !self.copies.pass(other(host), bytes) {
+                    if !self.copies.pass(host.other(), bytes) {
                         return Ok(line);
                     }
                 }
                 _ => return Ok(line),
             }
         }
-        Ok(self.copies.first(other(host), bytes).unwrap_or(0))
+        Ok(self.copies.first(host.other(), bytes).unwrap_or(0))
     }
 
     // What came in is taken, answered or dropped.
@@ -167,7 +155,7 @@ impl<'t> Search<'t> {
         self.drop_arrival(host, line)
     }
 
-    // Takes what came in, where that may be.
+    // Takes what came in, if that may be.
     fn try_taking(&mut self, host: Host, line: u64, keep: bool) -> Result<bool, StepFault> {
         let Some(choice) = self.choice(host, line, keep) else {
             return Ok(false);

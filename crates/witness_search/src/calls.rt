@@ -55,7 +55,7 @@ impl Waiting {
         }
     }
 
-    // A call waits behind all others.
+    // A call waits after all others.
     fn put(&mut self, meant: Meant, pending: Pending) -> Result<(), OutOfMemory> {
         if let Some(queue) = self.queues.get_mut(&meant) {
             queue.push_back(pending)?;
@@ -186,7 +186,7 @@ fn supposed(call: &Call) -> Option<Answer> {
 }
 
 impl Search<'_> {
-    /// A line begins a call; the call has its effect where that may be.
+    /// A line begins a call; the call has its effect if that may be.
     pub(crate) fn begin(
         &mut self,
         place: usize,
@@ -229,7 +229,7 @@ impl Search<'_> {
         self.finish_in_world(thread, answer)
     }
 
-    // The effect of a call whose end is here. Where it may not be, a timer may have to expire before.
+    // The effect of a call whose end is here. If it may not be, a timer may have to expire before.
     fn effect_now(&mut self, thread: u32, answer: &Answer) -> Result<(), StepFault> {
         match self.effect(thread, answer) {
             Err(StepFault::Broken(_)) => {}

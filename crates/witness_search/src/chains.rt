@@ -1,4 +1,4 @@
-//! Places that stand behind one another, for each endpoint.
+//! Places that stand after one another, for each endpoint.
 
 use case_forms::OutOfMemory;
 use indexmap::IndexMap;

@@ -1,20 +1,14 @@
-//! One step of the world, written down where it was done.
+//! One step of the world, written down if it was done.
 
 ghost use Rattle.std.specs.Prelude.{◌<◌, OnOk};
 ghost use Rattle.spec_tcp.specs.Bounds.{most_steps};
 
 use crate::search::Search;
 use case_forms::{
-    Answer, Expired, Extras, Host, Label, NamedLine, Ports, Recovery, SegmentPlan, Span, Step,
-    TakeChoice,
+    Answer, Expired, Extras, GREATEST_POSITION, Host, Label, MOST_STEPS, NamedLine, Ports,
+    Recovery, SegmentPlan, Span, Step, TakeChoice,
 };
 use endpoint_state::{StepFault, World};
-
-// A world takes fewer steps than this.
-const MOST_STEPS: u64 = 40_000_000;
-
-// The greatest position of a segment that is made.
-const GREATEST_POSITION: u64 = 1_000_000_000_000_000_000;
 
 // Whether one more step may be done. A case that has too many is answered as if memory had run out.
 pub(crate) fn has_room(world: &World) -> Result<(), StepFault>

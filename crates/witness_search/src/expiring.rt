@@ -70,7 +70,7 @@ impl Search<'_> {
         }
     }
 
-    /// Adds a line that tells of an expiry, where it may be now. The answer is whether it was added.
+    /// Adds a line that tells of an expiry, if it may be now. The answer is whether it was added.
     pub(crate) fn add_expiry(
         &mut self,
         host: Host,
@@ -94,7 +94,7 @@ impl Search<'_> {
         Ok(true)
     }
 
-    /// Adds a line that tells of an expiry at these ports, where it may be now, and tries calls there.
+    /// Adds a line that tells of an expiry at these ports, if it may be now, and tries calls there.
     pub(crate) fn try_expiry(
         &mut self,
         host: Host,
@@ -107,7 +107,7 @@ impl Search<'_> {
         Ok(())
     }
 
-    /// Fast recovery begins, with the greatest values, where it may. The answer is whether it did.
+    /// Fast recovery begins, with the greatest values, if it may. The answer is whether it did.
     pub(crate) fn try_recovery(&mut self, host: Host, ports: Ports) -> Result<bool, StepFault> {
         let Some(endpoint) = self.world.body(host).endpoint_of(ports.lport, ports.rport) else {
             return Ok(false);

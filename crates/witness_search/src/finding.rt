@@ -2,21 +2,17 @@
 
 use crate::search::{Added, Search};
 use bstr::ByteSlice;
-use case_forms::{Event, Line, OutOfMemory, Span, Trace, Witness};
+use case_forms::{Line, OutOfMemory, Trace, Witness};
 use endpoint_state::StepFault;
-use line_fields::{
-    FaultKind, TextFault, push_end, push_host, push_number, push_space, push_word, timer_name,
-};
+use line_fields::{TextFault, push_end, push_host, push_number, push_space, push_word, timer_name};
 use std::alloc::{AllocError, Global};
 use trace_reader::read_trace;
 use witness::print_witness;
 
 /// The text of a case: the trace, in which lines are added for expiries that it doesn't tell and that were needed, and
-/// a
-/// witness. Where a line's step is not permitted in the world that was reached, the witness ends with that step, so
-/// that `check`
-/// names the rule. An error is the trace's first fault; its kind is `OutOfMemory` where memory ran out, and where more
-/// than 40,000,000 steps would be needed.
+/// a witness. Where a line's step is not permitted in the world that was reached, the witness ends with that step, so
+/// that `check` names the rule. An error is the trace's first fault; its kind is `OutOfMemory` if memory ran out, and
+/// where more than 40,000,000 steps would be needed.
 pub fn find(alloc: Global, text: &[u8]) -> Result<Vec<u8>, TextFault> {
     let trace = read_trace(alloc, text)?;
     let (added, witness) = search(alloc, &trace)?;

@@ -1,15 +1,14 @@
 //! Helpers that nobody has to trust: a witness is found for a trace that has none.
 //!
 //! What is found here is judged by `tcpwit check`, and nothing that is proved rests on it. Of each function it is
-//! proved that
-//! it is safe and returns, and no more. No rule of TCP stands here: what may be done is asked of `endpoint_state`'s
-//! `World`.
+//! proved that it is safe and returns, and no more. No rule of TCP stands here: what may be done is decided by
+//! `endpoint_state`'s `World`.
 //!
 //! - `finding`: the text of a trace becomes the text of a case
 //! - `search`: one pass over the lines, each with the steps that belong to it
-//! - `deeds`: one step of the world, written down where it was done
+//! - `deeds`: one step of the world, written down if it was done
 //! - `ahead`: what later lines tell of earlier ones: ends of calls, segments that go out
-//! - `chains`: places that stand behind one another, for each endpoint
+//! - `chains`: places that stand after one another, for each endpoint
 //! - `copies`: the lines that went out and have no copy yet
 //! - `calls`: a call has its effect as soon as the machine permits the answer that its end tells
 //! - `sending`: a line that goes out is made at its moment

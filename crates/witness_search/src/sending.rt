@@ -3,14 +3,11 @@
 use crate::ahead::connection_key;
 use crate::calls::endpoint_at;
 use crate::search::Search;
-use case_forms::{Extras, Flags, Host, Label, Ports, SegmentPlan, Timer, Wire};
+use case_forms::{Extras, Flags, Host, Label, POSITIONS, Ports, SegmentPlan, Timer, Wire};
 use endpoint_state::{Endpoint, StepFault, World};
 use segment::Flag;
 use seqno::{Word, read_near};
 use verdict::Rule;
-
-// Positions of the world are below this.
-const POSITIONS: u64 = 1 << 63;
 
 // How often something is done so that a segment may be made.
 const REMEDIES: usize = 20;
@@ -79,7 +76,7 @@ impl<'t> Search<'t> {
         Ok(())
     }
 
-    // Makes the segment that a line shows; where it may not be made yet, what is missing is done first.
+    // Makes the segment that a line shows; if it may not be made yet, what is missing is done first.
     fn make_shown(&mut self, host: Host, wire: &Wire) -> Result<u32, StepFault> {
         for _ in 0..REMEDIES {
             let plan = plan_of(&self.world, host, wire);

@@ -5,7 +5,7 @@ ghost use Rattle.std.specs.Prelude.{◌≡◌};
 ghost use Rattle.std.specs.Result.{result_err};
 ghost use Rattle.verdict.specs.Rules.{first_broken};
 
-use crate::arrives::other_states::window::persist_taken;
+use crate::arrives::other_states::window::persist_after_window;
 use crate::signals::{at_moment, told_smss};
 use case_forms::{State, TakeChoice};
 use spec_tcp::{Emission, Endpoint};
@@ -63,10 +63,10 @@ pub fn child(
     child.irs = Some(m.seq);
     child.peer_shift = m.scale;
     child.stream.peer = Some(m.sender);
-    child.stream.receive.meet();
+    child.stream.receive.take_syn();
     child.window.snd_wnd = u32::from(m.window);
     child.window.snd_wl1 = m.pos;
     child.control = control;
-    child.timers = persist_taken(child.timers, m.window, moment);
+    child.timers = persist_after_window(child.timers, m.window, moment);
     child
 }

@@ -1,8 +1,7 @@
 //! A segment arrives in any other state (RFC 9293, 3.10.7.4).
 //!
 //! In the order of the RFC: `sequence` (first), `reset` (second), `ack` (fifth), `text` (seventh), `fin` (eighth).
-//! Beside them
-//! `peer`: whose segment it is; `timers`, `window`: what these are then.
+//! Beside them `peer`: whose segment it is; `timers`, `window`: what these are then.
 
 ghost use Rattle.spec_tcp.specs.Arrives.OtherStates.{taken, rules_with_queue};
 ghost use Rattle.spec_tcp.specs.Bounds.{HasRoom, IsSmallEmission};
@@ -22,14 +21,17 @@ pub(crate) mod timers;
 pub(crate) mod window;
 
 use crate::arrives::other_states::ack::{
-    acknowledged, backoffs_taken, is_bad_ack_range, may_sample, recover_taken, snd_una_taken,
+    acknowledged, backoffs_after_segment, is_bad_ack_range, may_sample, recover_after_segment,
+    snd_una_after_segment,
 };
 use crate::arrives::other_states::fin::finished;
 use crate::arrives::other_states::peer::is_from_peer;
 use crate::arrives::other_states::sequence::{is_acceptable, is_bad_number};
 use crate::arrives::other_states::text::receive;
 use crate::arrives::other_states::timers::{state_timers, timers_before};
-use crate::arrives::other_states::window::{is_unread, probe_due_taken, window_taken};
+use crate::arrives::other_states::window::{
+    is_unread, probe_due_after_segment, window_after_segment,
+};
 use crate::signals::{control_taken, greatest_taking};
 use case_forms::{Header, TakeChoice};
 use segment::OutOfMemory;
@@ -76,7 +78,7 @@ pub fn admits_connected(
     Ok(())
 }
 
-/// What the endpoint has then, at a moment in microseconds. Where memory runs out, it stays as it was.
+/// What the endpoint has then, at a moment in microseconds. If memory runs out, it stays as it was.
 pub(crate) fn taken(
     header: &Header,
     endpoint: &mut Endpoint,
@@ -90,15 +92,15 @@ pub(crate) fn taken(
     ensures ok { OnOk result (endpoint.new ≡ forget_endpoint (taken header.now endpoint.old how m.now moment)) }
     ensures err { OnErr result (endpoint.new ≡ endpoint.old) }
 {
-    let snd_una = snd_una_taken(endpoint, m);
+    let snd_una = snd_una_after_segment(endpoint, m);
     let old = endpoint.state;
     let state = acknowledged(endpoint, m);
-    let window = window_taken(endpoint, m);
+    let window = window_after_segment(endpoint, m);
     let control = control_taken(endpoint, how, m, moment);
-    let recover = recover_taken(endpoint, m);
-    let probe_due = probe_due_taken(endpoint, m);
+    let recover = recover_after_segment(endpoint, m);
+    let probe_due = probe_due_after_segment(endpoint, m);
     let timers = timers_before(header, endpoint, how, m, moment);
-    let backoffs = backoffs_taken(endpoint, m);
+    let backoffs = backoffs_after_segment(endpoint, m);
     let ended = receive(endpoint, how, m)?;
     let state = finished(state, ended);
     endpoint.state = state;

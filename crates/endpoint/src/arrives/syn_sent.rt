@@ -5,7 +5,8 @@ ghost use Rattle.streams.specs.Received as received;
 ghost use Rattle.spec_tcp.specs.Forgetting.{forget_endpoint};
 ghost use Rattle.case_forms.specs.States.{is_syn_received};
 ghost use Rattle.spec_tcp.specs.Same.{same_word};
-ghost use Rattle.spec_tcp.specs.Arrives.SynSent.{on_syn, snd_una_met, timers_met, syn_sent_rules, answers_syn};
+ghost use Rattle.spec_tcp.specs.Arrives.SynSent.{on_syn, snd_una_after_syn, timers_after_syn, syn_sent_rules};
+ghost use Rattle.spec_tcp.specs.Arrives.SynSent.{answers_syn};
 ghost use Rattle.spec_tcp.specs.Arrives.OtherStates.Ack.{acknowledges_syn};
 ghost use Rattle.seqno.specs.Numbers.{number_of};
 ghost use Rattle.std.specs.Option.{option_map_or};
@@ -15,8 +16,8 @@ ghost use Rattle.verdict.specs.Rules.{first_broken};
 ghost use Rattle.window_rules.specs.Counts.{HasCounts};
 
 use crate::arrives::other_states::ack::{acknowledges_syn, is_no_sample};
-use crate::arrives::other_states::timers::{rto_taken, timeout_taken};
-use crate::arrives::other_states::window::{is_unread, persist_taken};
+use crate::arrives::other_states::timers::{rto_after_ack, timeout_after_ack};
+use crate::arrives::other_states::window::{is_unread, persist_after_window};
 use crate::same::same_word;
 use crate::signals::{control_taken, greatest_taking};
 use case_forms::{Header, State, TakeChoice};
@@ -90,16 +91,16 @@ pub(crate) fn on_syn(
     requires small { m.now.ack < 2 ^ 63 }
     ensures { endpoint.new ≡ forget_endpoint (on_syn header.now endpoint.old how m.now moment) }
 {
-    let snd_una = snd_una_met(endpoint, m);
+    let snd_una = snd_una_after_syn(endpoint, m);
     let control = control_taken(endpoint, how, m, moment);
-    let window = window_met(endpoint, m);
+    let window = window_after_syn(endpoint, m);
     let backoffs = if m.flags().ack { 0 } else { endpoint.backoffs };
-    endpoint.timers = timers_met(header, endpoint, how, m, moment, snd_una);
-    endpoint.state = state_met(m);
+    endpoint.timers = timers_after_syn(header, endpoint, how, m, moment, snd_una);
+    endpoint.state = state_after_syn(m);
     endpoint.irs = Some(m.seq());
     endpoint.peer_shift = m.scale();
     endpoint.stream.peer = Some(m.sender());
-    endpoint.stream.receive.meet();
+    endpoint.stream.receive.take_syn();
     endpoint.stream.snd_una = snd_una;
     endpoint.window = window;
     endpoint.control = control;
@@ -109,7 +110,7 @@ pub(crate) fn on_syn(
     endpoint.transmissions.forget_below(snd_una);
 }
 
-fn state_met(m: &Arrived<'_>) -> State
+fn state_after_syn(m: &Arrived<'_>) -> State
     ensures { result ≡ (if m.now.flags.ack then states.Established else states.SynReceived) }
 {
     if m.flags().ack {
@@ -119,8 +120,8 @@ fn state_met(m: &Arrived<'_>) -> State
     }
 }
 
-fn snd_una_met(endpoint: &Endpoint, m: &Arrived<'_>) -> u64
-    ensures { result ≡ snd_una_met endpoint.now m.now }
+fn snd_una_after_syn(endpoint: &Endpoint, m: &Arrived<'_>) -> u64
+    ensures { result ≡ snd_una_after_syn endpoint.now m.now }
 {
     let snd_una = endpoint.stream.snd_una;
     if m.flags().ack {
@@ -130,8 +131,12 @@ fn snd_una_met(endpoint: &Endpoint, m: &Arrived<'_>) -> u64
     }
 }
 
-fn window_met(endpoint: &Endpoint, m: &Arrived<'_>) -> SendWindow
-    ensures { result ≡ record endpoint.now.window { snd_wnd = m.now.window; snd_wl1 = m.now.pos; snd_wl2 = if m.now.flags.ack then 1 else 0 } }
+fn window_after_syn(endpoint: &Endpoint, m: &Arrived<'_>) -> SendWindow
+    ensures { result ≡ record endpoint.now.window {
+      snd_wnd = m.now.window;
+      snd_wl1 = m.now.pos;
+      snd_wl2 = if m.now.flags.ack then 1 else 0;
+    } }
 {
     let mut window = endpoint.window;
     window.snd_wnd = u32::from(m.window());
@@ -142,7 +147,7 @@ fn window_met(endpoint: &Endpoint, m: &Arrived<'_>) -> SendWindow
 
 // The timers once the peer's SYN was taken in SYN-SENT. A round trip is that of the own SYN, while it is not
 // acknowledged.
-fn timers_met(
+fn timers_after_syn(
     header: &Header,
     endpoint: &Endpoint,
     how: TakeChoice,
@@ -150,11 +155,11 @@ fn timers_met(
     moment: u64,
     snd_una: u64,
 ) -> Timers
-    requires { snd_una ≡ snd_una_met endpoint.now m.now }
-    ensures { result ≡ timers_met header.now endpoint.now how m.now moment }
+    requires { snd_una ≡ snd_una_after_syn endpoint.now m.now }
+    ensures { result ≡ timers_after_syn header.now endpoint.now how m.now moment }
 {
     let sample = how.sample && m.flags().ack && endpoint.stream.snd_una == 0;
-    let measured = timeout_taken(header, endpoint, sample, 1, m.flags().ack, moment);
-    let running = rto_taken(measured, snd_una == endpoint.snd_max(), false, moment);
-    persist_taken(running, m.window(), moment)
+    let measured = timeout_after_ack(header, endpoint, sample, 1, m.flags().ack, moment);
+    let running = rto_after_ack(measured, snd_una == endpoint.snd_max(), false, moment);
+    persist_after_window(running, m.window(), moment)
 }

@@ -52,7 +52,7 @@ pub fn close(endpoint: &mut Endpoint)
     endpoint.closed = true;
 }
 
-/// `abort`: the endpoint is CLOSED at once, and a reset is due where the peer may know of it (RFC 9293, 3.10.5).
+/// `abort`: the endpoint is CLOSED at once, and a reset is due if the peer may know of it (RFC 9293, 3.10.5).
 pub fn abort(endpoint: &mut Endpoint)
     requires { HasRoom endpoint.old }
     ensures { endpoint.new ≡ forget_endpoint (after_abort endpoint.old) }

@@ -60,8 +60,8 @@ pub(crate) fn send_allows(endpoint: &Endpoint, bytes: &[u8], answer: &Answer) ->
     open_send_allows(endpoint.state, bytes, answer)
 }
 
-/// The first so many bytes of a `send` are accepted; all of them where there are no more. Where memory runs out, the
-/// endpoint stays as it was.
+/// The first so many bytes of a `send` are accepted; all of them if there are no more. If memory runs out, the endpoint
+/// stays as it was.
 pub fn send(endpoint: &mut Endpoint, bytes: &[u8], count: u32) -> Result<(), OutOfMemory>
     requires { HasRoom endpoint.old }
     ensures ok { OnOk result (endpoint.new ≡ forget_endpoint (after_send bytes.now count endpoint.old)) }

@@ -47,7 +47,8 @@ pub(crate) fn is_congesting(endpoint: &Endpoint, making: &SegmentPlan) -> bool
 // The position that a segment acknowledges, and its number.
 pub(crate) fn acknowledgment(endpoint: &Endpoint, making: &SegmentPlan) -> (u64, Word)
     ensures position { result.0 ≡ (if making.now.flags.ack then rcv_nxt endpoint.now else 0) }
-    ensures number { result.1 ≡ (if making.now.flags.ack then seq_of endpoint.now.irs (rcv_nxt endpoint.now) else word_zero) }
+    ensures number { result.1 ≡ (if making.now.flags.ack then seq_of endpoint.now.irs (rcv_nxt endpoint.now)
+        else word_zero) }
     ensures small { result.0 < 2 ^ 63 }
 {
     if !making.flags.ack {

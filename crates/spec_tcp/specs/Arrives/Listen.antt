@@ -6,7 +6,7 @@ use Rattle.verdict.specs.declared.rule.Rule.{Rule}
 use Rattle.verdict.specs.declared.rule.Rule.TheVariants as rules
 use Rattle.streams.specs.Received.{met}
 use Rattle.spec_tcp.specs.Endpoints.{Endpoint, Emission, new_endpoint}
-use Rattle.spec_tcp.specs.Arrives.OtherStates.Window.{persist_taken}
+use Rattle.spec_tcp.specs.Arrives.OtherStates.Window.{persist_after_window}
 use Rattle.window_rules.specs.Control.{after}
 use Rattle.window_rules.specs.declared.control.Profile.{Profile}
 use Rattle.window_rules.specs.declared.control.Signal.TheVariants.{Syn}
@@ -29,5 +29,5 @@ child profile l how m moment =
       window = record fresh.window { snd_wnd = m.window; snd_wl1 = m.pos };
       control =
           after fresh.control (Syn (told_smss m.mss)) (at_moment fresh moment) how.cwnd fresh.control.values.ssthresh;
-      timers = persist_taken fresh.timers m.window moment;
+      timers = persist_after_window fresh.timers m.window moment;
     }

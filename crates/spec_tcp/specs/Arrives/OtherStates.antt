@@ -18,21 +18,21 @@ use Rattle.case_forms.specs.declared.trace.Header.{Header}
 use Rattle.verdict.specs.declared.rule.Rule.{Rule}
 use Rattle.verdict.specs.declared.rule.Rule.TheVariants as rules
 use Rattle.spec_tcp.specs.Endpoints.{EndpointId, Endpoint, Emission, snd_max}
-use Rattle.spec_tcp.specs.Bodies.{Body}
+use Rattle.spec_tcp.specs.HostTcp.{HostTcp}
 use Rattle.spec_tcp.specs.Arrives.OtherStates.Peer.{is_from_peer}
 use Rattle.spec_tcp.specs.Arrives.OtherStates.Sequence.{is_bad_number, is_acceptable}
 use Rattle.spec_tcp.specs.Arrives.OtherStates.Ack.{is_bad_ack_range, is_new_ack, may_sample}
 use Rattle.window_rules.specs.Control.{greatest, after}
 use Rattle.spec_tcp.specs.Signals.{at_moment, signal_of}
-use Rattle.spec_tcp.specs.Arrives.OtherStates.Window.{is_unread, window_taken, opens_window}
-use Rattle.spec_tcp.specs.Arrives.OtherStates.Text.{stream_taken, state_taken}
-use Rattle.spec_tcp.specs.Arrives.OtherStates.Timers.{timers_taken}
+use Rattle.spec_tcp.specs.Arrives.OtherStates.Window.{is_unread, window_after_segment, opens_window}
+use Rattle.spec_tcp.specs.Arrives.OtherStates.Text.{stream_after_segment, state_after_segment}
+use Rattle.spec_tcp.specs.Arrives.OtherStates.Timers.{timers_after_segment}
 
 -- the child would join a full queue (this profile's own: `extra` more than the backlog)
-abbrev pub is_queue_full : Header → Body → ℕ → Bool
+abbrev pub is_queue_full : Header → HostTcp → ℕ → Bool
 is_queue_full h b l = option_map_or (λ x. nat_le (x.backlog + h.extra) (length x.queue)) (slice_get b.listeners l) false
 
-abbrev pub joins_full_queue : Header → Body → Endpoint → Emission → Bool
+abbrev pub joins_full_queue : Header → HostTcp → Endpoint → Emission → Bool
 joins_full_queue h b e m =
     is_syn_received e.state && not m.flags.rst && option_map_or (is_queue_full h b) e.listener false
 
@@ -47,20 +47,20 @@ rules_with_queue h full me e how m moment =
     ∷ (rules.Sample, how.sample && not (may_sample e m))
     ∷ (rules.ScaleUnread, is_unread e m) ∷ []
 
-abbrev pub connected_rules : Header → Body → EndpointId → Endpoint → TakeChoice → Emission → (moment : ℕ)
+abbrev pub connected_rules : Header → HostTcp → EndpointId → Endpoint → TakeChoice → Emission → (moment : ℕ)
     → List (Rule × Bool)
 connected_rules h b me e how m moment = rules_with_queue h (joins_full_queue h b e m) me e how m moment
 
 -- a segment without RST is taken, in all states but SYN-SENT
 abbrev pub taken : Header → Endpoint → TakeChoice → Emission → ℕ → Endpoint
 taken h e how m moment = record e {
-  state = state_taken e how m;
-  stream = stream_taken e how m;
-  window = window_taken e m;
+  state = state_after_segment e how m;
+  stream = stream_after_segment e how m;
+  window = window_after_segment e m;
   control = after e.control (signal_of e m) (at_moment e moment) how.cwnd e.control.values.ssthresh;
   recover = if opens_window e m && is_some e.timers.persist_armed then snd_max e else e.recover;
   probe_due = e.probe_due && not (opens_window e m);
-  timers = timers_taken h e how m moment;
+  timers = timers_after_segment h e how m moment;
   unanswered_expiries = 0;
   backoffs = if is_new_ack e m then 0 else e.backoffs;
 }

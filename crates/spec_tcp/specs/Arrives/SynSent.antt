@@ -15,8 +15,8 @@ use Rattle.spec_tcp.specs.Endpoints.{Endpoint, Emission, snd_max}
 use Rattle.spec_tcp.specs.Same.{same_word}
 use Rattle.window_rules.specs.Control.{greatest, after}
 use Rattle.spec_tcp.specs.Signals.{at_moment, signal_of}
-use Rattle.spec_tcp.specs.Arrives.OtherStates.Window.{is_unread, persist_taken}
-use Rattle.spec_tcp.specs.Arrives.OtherStates.Timers.{timeout_taken, rto_taken}
+use Rattle.spec_tcp.specs.Arrives.OtherStates.Window.{is_unread, persist_after_window}
+use Rattle.spec_tcp.specs.Arrives.OtherStates.Timers.{timeout_after_ack, rto_after_ack}
 
 -- in SYN-SENT: it acknowledges the SYN, which is all that was made (RFC 9293, 3.10.7.3)
 abbrev pub answers_syn : Endpoint → Emission → Bool
@@ -34,14 +34,14 @@ syn_sent_rules e how m moment =
 
 -- the oldest position that is not acknowledged, once the peer's SYN was taken in SYN-SENT; an acknowledgment is of the
 -- own SYN
-abbrev pub snd_una_met : Endpoint → Emission → ℕ
-snd_una_met e m = if m.flags.ack then max e.stream.snd_una 1 else e.stream.snd_una
+abbrev pub snd_una_after_syn : Endpoint → Emission → ℕ
+snd_una_after_syn e m = if m.flags.ack then max e.stream.snd_una 1 else e.stream.snd_una
 
 -- the timers then; a round trip is that of the own SYN, while it is not acknowledged
-abbrev pub timers_met : Header → Endpoint → TakeChoice → Emission → ℕ → Timers
-timers_met h e how m moment =
-    persist_taken (rto_taken (timeout_taken h e (how.sample && m.flags.ack
-    && e.stream.snd_una == 0) 1 m.flags.ack moment) (snd_una_met e m == snd_max e) false moment) m.window moment
+abbrev pub timers_after_syn : Header → Endpoint → TakeChoice → Emission → ℕ → Timers
+timers_after_syn h e how m moment =
+    persist_after_window (rto_after_ack (timeout_after_ack h e (how.sample && m.flags.ack
+    && e.stream.snd_una == 0) 1 m.flags.ack moment) (snd_una_after_syn e m == snd_max e) false moment) m.window moment
 
 -- in SYN-SENT the peer's SYN is taken: ESTABLISHED with an acknowledgment, else SYN-RECEIVED
 abbrev pub on_syn : Header → Endpoint → TakeChoice → Emission → ℕ → Endpoint
@@ -49,10 +49,10 @@ on_syn h e how m moment = record e {
   state = if m.flags.ack then states.Established else states.SynReceived;
   irs = Some m.seq;
   peer_shift = m.scale;
-  stream = record e.stream { peer = Some m.sender; receive = met; snd_una = snd_una_met e m };
+  stream = record e.stream { peer = Some m.sender; receive = met; snd_una = snd_una_after_syn e m };
   window = record e.window { snd_wnd = m.window; snd_wl1 = m.pos; snd_wl2 = if m.flags.ack then 1 else 0 };
   control = after e.control (signal_of e m) (at_moment e moment) how.cwnd e.control.values.ssthresh;
-  timers = timers_met h e how m moment;
+  timers = timers_after_syn h e how m moment;
   unanswered_expiries = 0;
   backoffs = if m.flags.ack then 0 else e.backoffs;
 }

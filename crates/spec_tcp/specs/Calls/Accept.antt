@@ -8,7 +8,7 @@ use Rattle.case_forms.specs.declared.calls.Call.TheVariants as calls
 use Rattle.case_forms.specs.declared.calls.State.TheVariants as states
 use Rattle.streams.specs.Lists.{modify}
 use Rattle.spec_tcp.specs.Endpoints.{SocketTarget, ListenerAt, EndpointAt}
-use Rattle.spec_tcp.specs.Bodies.{Body, queue_of, with_socket}
+use Rattle.spec_tcp.specs.HostTcp.{HostTcp, queue_of, with_socket}
 
 -- a call on a live socket number of a listener, in whose queue these stand
 abbrev pub listener_allows : List ℕ → Call → Answer → Bool
@@ -24,13 +24,13 @@ listener_allows queue (calls.Status n) (answers.State states.Listen) = true
 listener_allows queue _ _ = false
 
 -- `accept`: the first child of the queue gets the number
-abbrev pub accepted_from : Body → ℕ → ℕ → List ℕ → Body
+abbrev pub accepted_from : HostTcp → ℕ → ℕ → List ℕ → HostTcp
 accepted_from b l n [] = b
 accepted_from b l n (child ∷ queue) = with_socket (record b {
   endpoints = modify b.endpoints child (λ e. record e { listener = None });
   listeners = modify b.listeners l (λ x. record x { queue = queue });
 }) n (EndpointAt child)
 
-abbrev pub after_accept : Body → ℕ → SocketTarget → Body
+abbrev pub after_accept : HostTcp → ℕ → SocketTarget → HostTcp
 after_accept b n (ListenerAt l) = accepted_from b l n (queue_of b l)
 after_accept b n (EndpointAt i) = b

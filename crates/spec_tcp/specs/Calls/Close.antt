@@ -9,7 +9,7 @@ use Rattle.case_forms.specs.declared.calls.State.TheVariants as states
 use Rattle.streams.specs.Lists.{modify}
 use Rattle.timer_rules.specs.Timers.{all_stopped}
 use Rattle.spec_tcp.specs.Endpoints.{Endpoint, SocketTarget, ListenerAt, EndpointAt}
-use Rattle.spec_tcp.specs.Bodies.{Body, with_endpoint, thing_of, dead}
+use Rattle.spec_tcp.specs.HostTcp.{HostTcp, with_endpoint, thing_of, dead}
 use Rattle.spec_tcp.specs.Calls.Await.{tells_fault}
 
 -- `shut` (RFC 9293, 3.10.4)
@@ -54,7 +54,7 @@ abbrev pub orphaned : ℕ → Endpoint → Endpoint
 orphaned l e = if option_map_or (λ holder. holder == l) e.listener false then after_abort e else e
 
 -- a listener is gone, and with it its children that were not accepted
-abbrev pub without_listener : Body → ℕ → Body
+abbrev pub without_listener : HostTcp → ℕ → HostTcp
 without_listener b l =
     record b {
       endpoints = map (orphaned l) b.endpoints;
@@ -63,10 +63,10 @@ without_listener b l =
     }
 
 -- `close` and `abort` of what a socket number names
-abbrev pub thing_gone : Body → SocketTarget → (Endpoint → Endpoint) → Body
+abbrev pub thing_gone : HostTcp → SocketTarget → (Endpoint → Endpoint) → HostTcp
 thing_gone b (ListenerAt l) f = without_listener b l
 thing_gone b (EndpointAt i) f = with_endpoint b i f
 
-abbrev pub after_gone : Body → ℕ → (Endpoint → Endpoint) → Body
+abbrev pub after_gone : HostTcp → ℕ → (Endpoint → Endpoint) → HostTcp
 after_gone b n f =
     option_map_or (λ thing. record (thing_gone b thing f) { sockets = dead b.sockets n }) (thing_of b n) b

@@ -34,7 +34,9 @@ may_not_send _ = false
 
 -- a SYN: alone in SYN-SENT, with an acknowledgment in SYN-RECEIVED, until it is acknowledged (RFC 9293, 3.5)
 abbrev pub may_make_syn : Endpoint → SegmentPlan → Bool
-may_make_syn e m = (if m.flags.ack then is_syn_received e.state else is_syn_sent e.state) && e.stream.snd_una == 0 && not m.flags.fin && not m.flags.rst
+may_make_syn e m =
+    (if m.flags.ack then is_syn_received e.state else is_syn_sent e.state) && e.stream.snd_una == 0
+    && not m.flags.fin && not m.flags.rst
 
 -- a reset: one that is due, or by a closed socket that has met its peer (RFC 9293, 3.10.4 and 3.10.5; the second is
 -- this profile's own)

@@ -31,8 +31,7 @@ abbrev pub is_bad_empty_place : Endpoint → SegmentPlan → Bool
 is_bad_empty_place e m = nat_lt (m.pos + 1) e.stream.snd_una || nat_lt (snd_max e) m.pos
 
 -- other segments: from the oldest position that is not acknowledged, no gap behind what was made; and what was made
--- before is
--- made again only up to where recovery began
+-- before is made again only up to where recovery began
 abbrev pub is_bad_place : Endpoint → SegmentPlan → Bool
 is_bad_place e m =
     if m.flags.rst then nat_lt m.pos e.stream.snd_una || nat_lt (snd_max e) m.pos

@@ -156,7 +156,7 @@ fn recv_answer(alloc: Global, endpoint: &Endpoint, most: u16) -> Result<Option<A
     }
 }
 
-// The bytes that wait, as many as were asked for.
+// The bytes that wait, as many as were requested.
 #[tactic(auto, using(crate::proofs::AnswerLemmas::read_allowed))]
 fn read_answer(alloc: Global, endpoint: &Endpoint, most: u16) -> Result<Answer, OutOfMemory>
     requires most { 1 ≤ most }

@@ -6,11 +6,11 @@ use streams::{ReceiveBuffer, Transmissions};
 // A buffer that took the SYN.
 fn met(alloc: Global) -> ReceiveBuffer {
     let mut buffer = ReceiveBuffer::new(alloc);
-    buffer.meet();
+    buffer.take_syn();
     buffer
 }
 
-// Keeps these bytes where they may be kept; the answer is the next position then.
+// Keeps these bytes if they may be kept; the answer is the next position then.
 fn keep(
     buffer: &mut ReceiveBuffer,
     position: u64,

@@ -1,6 +1,5 @@
-//! Each call of a `Counted` makes one call of its end, fails where that fails, and at no other; loops go on to the last
-//! piece,
-//! or up to the call that fails.
+//! Each call of a `Counted` makes one call of its end, fails if that fails, and at no other; loops go on to the last
+//! piece, or up to the call that fails.
 //!
 //! What happens at an end is one word a call: what was answered, and `x` for a failure.
 

@@ -1,10 +1,10 @@
-//! Traces and witnesses whose lines are read as they are asked for: in pieces, and up to the call that fails.
+//! Traces and witnesses whose lines are read as they are requested: in pieces, and up to the call that fails.
 
 ghost use Rattle.trace_reader.specs.TraceLeft.{IsBegun, IsFresh};
 
 use crate::tests::ends::Source;
 use counted::Counted;
-use line_fields::ReadFault;
+use line_fields::SourceFault;
 use std::alloc::{AllocError, Global};
 use std::test::Fail;
 use trace_reader::{Lines, TextFault, Trace, TraceReader, Version, event_line, print_trace};
@@ -49,7 +49,7 @@ const WITNESS: &str = "witness 2\n\
 2 T 1 16 2144 0 1\n";
 
 // All lines, of which there are at most a hundred.
-fn all_lines(alloc: Global, reader: &mut TraceReader<Source<'_>>) -> Result<Trace, ReadFault>
+fn all_lines(alloc: Global, reader: &mut TraceReader<Source<'_>>) -> Result<Trace, SourceFault>
     requires { IsFresh reader.old }
     ensures { IsBegun reader.new }
 {
@@ -77,7 +77,7 @@ fn a_trace_is_the_same_in_pieces(rt: HostRuntime) -> Result<(), Fail> {
 }
 
 // All steps, of which there are at most a hundred.
-fn all_steps(alloc: Global, reader: &mut StepReader<Source<'_>>) -> Result<Witness, ReadFault> {
+fn all_steps(alloc: Global, reader: &mut StepReader<Source<'_>>) -> Result<Witness, SourceFault> {
     let mut steps = Steps::new(alloc);
     for _ in 0..100 {
         match reader.next()? {
@@ -104,12 +104,12 @@ fn a_witness_is_the_same_in_pieces(rt: HostRuntime) -> Result<(), Fail> {
 }
 
 // A word for what was read.
-fn word<T>(read: &Result<Option<T>, ReadFault>) -> &'static str {
+fn word<T>(read: &Result<Option<T>, SourceFault>) -> &'static str {
     match read {
         Ok(Some(_)) => "line ",
         Ok(None) => "end ",
-        Err(ReadFault::Read) => "x ",
-        Err(ReadFault::Text(_)) => "fault ",
+        Err(SourceFault::Read) => "x ",
+        Err(SourceFault::Text(_)) => "fault ",
     }
 }
 
@@ -131,8 +131,8 @@ fn trace_read(alloc: Global, lines: &str, fails_at: u32) -> Result<String, Alloc
     Ok(told)
 }
 
-// Six calls read the header, one a line, and one the end: nothing is read ahead, and behind a failure or a fault
-// nothing at all.
+// Six calls read the header, one a line, and one the end: nothing is read ahead, and after a failure or a fault nothing
+// at all.
 #[test]
 fn a_trace_is_read_up_to_a_failure(rt: HostRuntime) -> Result<(), Fail> {
     for (lines, fails_at, wanted) in [
@@ -161,7 +161,7 @@ fn witness_read(alloc: Global, text: &[u8], fails_at: u32) -> Result<String, All
     Ok(told)
 }
 
-// One call reads the first line, one a step, and one the end; behind a failure or a fault nothing is read.
+// One call reads the first line, one a step, and one the end; after a failure or a fault nothing is read.
 #[test]
 fn a_witness_is_read_up_to_a_failure(rt: HostRuntime) -> Result<(), Fail> {
     let table: [(&[u8], u32, &str); 5] = [

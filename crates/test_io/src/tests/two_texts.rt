@@ -104,8 +104,7 @@ fn judged(
 }
 
 // Each line of a text takes one call, and its end one more: 25 of the trace and 33 of the witness. Whichever fails,
-// there
-// is no verdict.
+// there is no verdict.
 #[test]
 fn a_read_that_fails_is_no_verdict(rt: HostRuntime) -> Result<(), Fail> {
     for (from, upto, wanted) in [(1, 25, "x 1 0"), (26, 27, "yes 18 13 0 0")] {
@@ -123,7 +122,7 @@ fn a_read_that_fails_is_no_verdict(rt: HostRuntime) -> Result<(), Fail> {
     Ok(())
 }
 
-// The first step takes a line of a moment that is not reached, and behind its line the trace ends in one that can't be
+// The first step takes a line of a moment that is not reached, and after its line the trace ends in one that can't be
 // read.
 #[test]
 fn a_fault_of_the_trace_behind_a_broken_step_is_told(rt: HostRuntime) -> Result<(), Fail> {
@@ -145,9 +144,8 @@ struct Handed {
     trace: Cell<u64>,
     /// Lines of the witness.
     witness: Cell<u64>,
-    /// How many lines of the trace behind its header were at most handed out, beyond those that are placed, as the
-    /// witness
-    /// was asked for a line.
+    /// How many lines of the trace after its header were at most handed out, beyond those that are placed, as the
+    /// witness was asked for a line.
     ahead: Cell<u64>,
 }
 

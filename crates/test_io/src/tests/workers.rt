@@ -45,7 +45,7 @@ impl Holds {
         }
     }
 
-    // Adds to the calls of a case, and far more where they were not as many as they should be.
+    // Adds to the calls of a case, and far more if they were not as many as they should be.
     fn count(&self, case: usize, due: u64, more: u64) {
         if case < 3 {
             let before = self.calls[case].fetch_add(more, Ordering::SeqCst);

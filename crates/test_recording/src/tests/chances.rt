@@ -61,8 +61,7 @@ fn close_both<L: Site, M: Site, R: Wait>(
 }
 
 /// Host 0 fills host 1's ring over a wire that loses, doubles and holds back, sends ten bytes more, which wait until
-/// host 1 reads, and
-/// both close; with an odd seed at once.
+/// host 1 reads, and both close; with an odd seed at once.
 pub fn talk_by_chance<L: Site, M: Site, R: Wait>(
     rt: &R,
     alloc: Global,

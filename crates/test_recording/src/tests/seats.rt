@@ -1,5 +1,5 @@
-//! A recording ends where all seats are handed in; where one is missing, all that was handed in comes back.
-//! A thread that has a seat gets no second one, and the threads of segments and timers get none.
+//! A recording ends if all seats are handed in; if one is missing, all that was handed in comes back. A thread that has
+//! a seat gets no second one, and the threads of segments and timers get none.
 
 ghost use Rattle.std.specs.Prelude.{◌≡◌};
 ghost use Rattle.case_forms.specs.declared.calls.Host.TheVariants.{Zero};

@@ -14,7 +14,7 @@ use two_hosts::{Plan, RecordFault, Recording, Talk, Wire, record, record_books};
 // How many segments a host takes at most.
 const MOST: u64 = 2_000_000;
 
-// The bytes that a thread was told, joined.
+// The bytes that a thread received, joined.
 fn bytes_told(alloc: Global, lines: &[Line], thread: u32) -> Result<Vec<u8>, AllocError> {
     let mut told = Vec::new(alloc);
     for line in lines {
@@ -77,7 +77,7 @@ enum Way {
     Drawn(u32),
 }
 
-// Twice, behind two others, lost, and passed twice, in turn.
+// Twice, after two others, lost, and passed twice, in turn.
 #[derive(Clone, Copy, Drop)]
 struct InTurn {
     turn: u8,
@@ -159,8 +159,7 @@ fn recording_of<R: Threads + Wait + Sync>(
 }
 
 /// How often a talk is recorded whose rounds do not end. The clocks of both hosts go on while the system lets another
-/// thread of theirs wait, so
-/// where it waits for long a host gives up.
+/// thread of theirs wait, so where it waits for long a host gives up.
 pub const TRIES: u32 = 5;
 
 // What is wrong with a talk of so many rounds; `yes` where nothing is. Each recording is explained, also one whose

@@ -257,8 +257,7 @@ fn scenes_are_explained(rt: HostRuntime) -> Result<(), Fail> {
     Ok(())
 }
 
-// Where memory is refused for a copy its segment goes once, and all else is as it was
-// (`tools/refused_memory/copies.py`).
+// If memory is refused for a copy its segment goes once, and all else is as it was (`tools/refused_memory/copies.py`).
 #[test]
 fn segments_sent_twice_are_explained(rt: HostRuntime) -> Result<(), Fail> {
     assert_eq!(rt; seen(&rt, rt.alloc(), Scene::Twice), "yes");
@@ -340,7 +339,7 @@ fn stranger<R: Wait>(rt: &R, alloc: Global) -> Option<u64> {
     }
 }
 
-// Host 0's lines are the call, its answer, the SYN that goes out, and behind it what comes in.
+// Host 0's lines are the call, its answer, the SYN that goes out, and after it what comes in.
 #[test]
 fn books_of_two_runs_are_strangers(rt: HostRuntime) -> Result<(), Fail> {
     assert_eq!(rt; stranger(&rt, rt.alloc()), Some(10));

@@ -64,8 +64,7 @@ fn events<L: Site, R: Wait>(rt: &R, side: &Side<L>) -> u64 {
 }
 
 /// Whether a SYN that host 0 let out is let in by host 1 once its clock has gone on by so many milliseconds; one that
-/// is not leaves no
-/// event.
+/// is not leaves no event.
 pub fn comes_in_after<L: Site, M: Site, R: Wait>(
     rt: &R,
     alloc: Global,

@@ -1,7 +1,7 @@
 //! Fifth, the ACK field.
 
 ghost use Rattle.case_forms.specs.declared.calls.State.TheVariants as states;
-ghost use Rattle.spec_tcp.specs.Arrives.OtherStates.Ack.{acknowledged, snd_una_taken, fin_acknowledged};
+ghost use Rattle.spec_tcp.specs.Arrives.OtherStates.Ack.{acknowledged, snd_una_after_segment, fin_acknowledged};
 ghost use Rattle.spec_tcp.specs.Arrives.OtherStates.Ack.{is_bad_ack_range, is_new_ack, acknowledges_syn, acked};
 ghost use Rattle.spec_tcp.specs.Arrives.OtherStates.Ack.{is_duplicate, may_sample};
 ghost use Rattle.spec_tcp.specs.Arrives.OtherStates.Window.{opens_window};
@@ -10,7 +10,7 @@ ghost use Rattle.std.specs.Prelude.{◌≡◌, ◌||◌, not, ◌<◌, ◌+◌, 
 ghost use Rattle.streams.specs.Transmissions.{retransmitted};
 
 use crate::arrives::other_states::window::takes_window;
-use case_forms::{State, TakeChoice};
+use case_forms::State;
 use spec_tcp::{Arrived, Endpoint};
 
 /// Whether the segment acknowledges nothing, or what was not made. In SYN-RECEIVED it has to acknowledge the SYN.
@@ -79,8 +79,8 @@ pub(crate) fn is_no_sample(endpoint: &Endpoint, m: &Arrived<'_>) -> bool
 }
 
 /// The oldest position that is not acknowledged, then.
-pub(crate) fn snd_una_taken(endpoint: &Endpoint, m: &Arrived<'_>) -> u64
-    ensures { result ≡ snd_una_taken endpoint.now m.now }
+pub(crate) fn snd_una_after_segment(endpoint: &Endpoint, m: &Arrived<'_>) -> u64
+    ensures { result ≡ snd_una_after_segment endpoint.now m.now }
 {
     endpoint.stream.snd_una.max(m.ack())
 }
@@ -108,8 +108,9 @@ pub(crate) fn acknowledged(endpoint: &Endpoint, m: &Arrived<'_>) -> State
 }
 
 /// Up to which position what was made may be made again: all of it, where a window above 0 ends the waiting for one.
-pub(crate) fn recover_taken(endpoint: &Endpoint, m: &Arrived<'_>) -> u64
-    ensures { result ≡ (if opens_window endpoint.now m.now && is_some endpoint.now.timers.persist_armed then snd_max endpoint.now else endpoint.now.recover) }
+pub(crate) fn recover_after_segment(endpoint: &Endpoint, m: &Arrived<'_>) -> u64
+    ensures { result ≡ (if opens_window endpoint.now m.now && is_some endpoint.now.timers.persist_armed
+        then snd_max endpoint.now else endpoint.now.recover) }
 {
     if opens_window(endpoint, m) && endpoint.timers.persist_armed.is_some() {
         endpoint.snd_max()
@@ -119,7 +120,7 @@ pub(crate) fn recover_taken(endpoint: &Endpoint, m: &Arrived<'_>) -> u64
 }
 
 /// How often the retransmission timer expired since a new acknowledgment.
-pub(crate) fn backoffs_taken(endpoint: &Endpoint, m: &Arrived<'_>) -> u32
+pub(crate) fn backoffs_after_segment(endpoint: &Endpoint, m: &Arrived<'_>) -> u32
     ensures { result ≡ (if is_new_ack endpoint.now m.now then 0 else endpoint.now.backoffs) }
 {
     if is_new_ack(endpoint, m) {
@@ -145,7 +146,7 @@ fn syn_acknowledged(endpoint: &Endpoint, m: &Arrived<'_>) -> State
 fn fin_acknowledged(endpoint: &Endpoint, m: &Arrived<'_>) -> bool
     ensures { result ≡ fin_acknowledged endpoint.now m.now }
 {
-    endpoint.stream.ended && endpoint.stream.accepted.end() < snd_una_taken(endpoint, m)
+    endpoint.stream.ended && endpoint.stream.accepted.end() < snd_una_after_segment(endpoint, m)
 }
 
 pub(crate) fn opens_window(endpoint: &Endpoint, m: &Arrived<'_>) -> bool

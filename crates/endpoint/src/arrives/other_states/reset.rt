@@ -31,7 +31,7 @@ pub(crate) fn was_reset(endpoint: &mut Endpoint, how: TakeChoice, moment: u64)
     endpoint.unanswered_expiries = 0;
 }
 
-// A child that no connection stands for yet goes without a fault: nobody was told of it.
+// A child that no connection stands for yet ends without a fault: no call knows of it.
 fn reset_fault(endpoint: &Endpoint) -> Option<Fault>
     ensures { result ≡ reset_fault endpoint.now.state endpoint.now }
 {

@@ -1,6 +1,6 @@
 //! First, the sequence number.
 
-ghost use Rattle.spec_tcp.specs.Arrives.OtherStates.Sequence.{place_taken, is_bad_number, reads_as, is_acceptable};
+ghost use Rattle.spec_tcp.specs.Arrives.OtherStates.Sequence.{read_position, is_bad_number, reads_as, is_acceptable};
 ghost use Rattle.spec_tcp.specs.Arrives.OtherStates.Sequence.{is_acceptable_at, is_in_window};
 ghost use Rattle.std.specs.Prelude.{◌≡◌, ◌&&◌, ◌+◌, ◌^◌, nat_le, nat_lt};
 
@@ -13,8 +13,8 @@ const HALF_TURN: u64 = 1 << 31;
 
 // The position at which the segment begins; of a reset that answers, what its number reads as near the next position.
 // None: that would be below position 0, or the endpoint took no SYN.
-fn place_taken(endpoint: &Endpoint, m: &Arrived<'_>) -> Option<u64>
-    ensures { result ≡ place_taken endpoint.now m.now }
+fn read_position(endpoint: &Endpoint, m: &Arrived<'_>) -> Option<u64>
+    ensures { result ≡ read_position endpoint.now m.now }
 {
     if !m.is_reset_reply() {
         return Some(m.pos());
@@ -31,7 +31,7 @@ pub(crate) fn is_bad_number(endpoint: &Endpoint, m: &Arrived<'_>) -> bool
     ensures { result ≡ is_bad_number endpoint.now m.now }
 {
     if m.is_reset_reply() {
-        return place_taken(endpoint, m).is_none();
+        return read_position(endpoint, m).is_none();
     }
     !reads_as(endpoint.rcv_nxt(), endpoint.irs, m.seq(), m.pos())
         || (m.flags().ack && !reads_as(endpoint.stream.snd_una, endpoint.iss, m.ack_seq(), m.ack()))
@@ -54,8 +54,7 @@ fn is_near(near: u64, pos: u64) -> bool
 
 /// Whether the segment is acceptable: its first or its last position lies in the receive window; at a window of 0 it
 /// begins at the next position. In SYN-RECEIVED the peer's SYN is let in again with its acknowledgment (RFC 9293, 3.5);
-/// no
-/// other segment with a SYN is, but for a reset.
+/// no other segment with a SYN is, but for a reset.
 pub(crate) fn is_acceptable(endpoint: &Endpoint, m: &Arrived<'_>) -> bool
     ensures { result ≡ is_acceptable endpoint.now m.now }
 {
@@ -70,7 +69,7 @@ pub(crate) fn is_acceptable(endpoint: &Endpoint, m: &Arrived<'_>) -> bool
     if m.flags().syn && !m.flags().rst {
         return false;
     }
-    match place_taken(endpoint, m) {
+    match read_position(endpoint, m) {
         Some(pos) => is_acceptable_at(endpoint, m, pos),
         None => false,
     }

@@ -1,18 +1,18 @@
 //! The timers then.
 
-ghost use Rattle.spec_tcp.specs.Arrives.OtherStates.Ack.{snd_una_taken, acknowledges_syn, is_new_ack};
-ghost use Rattle.spec_tcp.specs.Arrives.OtherStates.Timers.{rto_taken, since_made, state_timers, timeout_taken};
-ghost use Rattle.spec_tcp.specs.Arrives.OtherStates.Window.{persist_taken, takes_window};
+ghost use Rattle.spec_tcp.specs.Arrives.OtherStates.Ack.{snd_una_after_segment, acknowledges_syn, is_new_ack};
+ghost use Rattle.spec_tcp.specs.Arrives.OtherStates.Timers.{rto_after_ack, since_made, state_timers, timeout_after_ack};
+ghost use Rattle.spec_tcp.specs.Arrives.OtherStates.Window.{persist_after_window, takes_window};
 ghost use Rattle.spec_tcp.specs.Endpoints.{snd_max};
 ghost use Rattle.std.specs.Prelude.{◌≡◌, ◌==◌, ◌&&◌, if◌then◌else◌};
 
-use crate::arrives::other_states::ack::{acknowledges_syn, is_new_ack, snd_una_taken};
-use crate::arrives::other_states::window::{persist_taken, takes_window};
+use crate::arrives::other_states::ack::{acknowledges_syn, is_new_ack, snd_una_after_segment};
+use crate::arrives::other_states::window::{persist_after_window, takes_window};
 use case_forms::{Header, State, TakeChoice, Timer};
 use spec_tcp::{Arrived, Endpoint};
 use timer_rules::Timers;
 
-/// The timers before the state is looked at: `timers_taken` is `state_timers` of them.
+/// The timers before the state is looked at: `timers_after_segment` is `state_timers` of them.
 pub(crate) fn timers_before(
     header: &Header,
     endpoint: &Endpoint,
@@ -20,18 +20,18 @@ pub(crate) fn timers_before(
     m: &Arrived<'_>,
     moment: u64,
 ) -> Timers
-    ensures { let measured = timeout_taken header.now endpoint.now (how.sample && is_new_ack endpoint.now m.now) m.now.ack
+    ensures { let measured = timeout_after_ack header.now endpoint.now (how.sample && is_new_ack endpoint.now m.now) m.now.ack
         (acknowledges_syn endpoint.now m.now) moment in
-        let running = rto_taken measured (snd_una_taken endpoint.now m.now == snd_max endpoint.now) (is_new_ack endpoint.now m.now) moment in
-        result ≡ (if takes_window endpoint.now m.now then persist_taken running m.now.window moment else running) }
+        let running = rto_after_ack measured (snd_una_after_segment endpoint.now m.now == snd_max endpoint.now) (is_new_ack endpoint.now m.now) moment in
+        result ≡ (if takes_window endpoint.now m.now then persist_after_window running m.now.window moment else running) }
 {
     let is_new = is_new_ack(endpoint, m);
     let syn = acknowledges_syn(endpoint, m);
-    let measured = timeout_taken(header, endpoint, how.sample && is_new, m.ack(), syn, moment);
-    let all_acked = snd_una_taken(endpoint, m) == endpoint.snd_max();
-    let running = rto_taken(measured, all_acked, is_new, moment);
+    let measured = timeout_after_ack(header, endpoint, how.sample && is_new, m.ack(), syn, moment);
+    let all_acked = snd_una_after_segment(endpoint, m) == endpoint.snd_max();
+    let running = rto_after_ack(measured, all_acked, is_new, moment);
     if takes_window(endpoint, m) {
-        persist_taken(running, m.window(), moment)
+        persist_after_window(running, m.window(), moment)
     } else {
         running
     }
@@ -64,8 +64,8 @@ pub(crate) fn state_timers(timers: Timers, old: State, new: State, moment: u64) 
 
 // The retransmission timer stops where all is acknowledged, and starts anew at a new acknowledgment (RFC 6298, 5.2 and
 // 5.3).
-pub(crate) fn rto_taken(timers: Timers, all_acked: bool, is_new: bool, moment: u64) -> Timers
-    ensures { result ≡ rto_taken timers all_acked is_new moment }
+pub(crate) fn rto_after_ack(timers: Timers, all_acked: bool, is_new: bool, moment: u64) -> Timers
+    ensures { result ≡ rto_after_ack timers all_acked is_new moment }
 {
     let mut timers = timers;
     if all_acked {
@@ -76,9 +76,9 @@ pub(crate) fn rto_taken(timers: Timers, all_acked: bool, is_new: bool, moment: u
     timers
 }
 
-// The timeout after a new acknowledgment up to a position, with a sample where one is taken, and longer where the SYN
-// was lost (RFC 6298, 2, 3 and 5.7).
-pub(crate) fn timeout_taken(
+// The timeout after a new acknowledgment up to a position, with a sample if one is taken, and longer where the SYN was
+// lost (RFC 6298, 2, 3 and 5.7).
+pub(crate) fn timeout_after_ack(
     header: &Header,
     endpoint: &Endpoint,
     sample: bool,
@@ -86,7 +86,7 @@ pub(crate) fn timeout_taken(
     syn: bool,
     moment: u64,
 ) -> Timers
-    ensures { result ≡ timeout_taken header.now endpoint.now sample ack syn moment }
+    ensures { result ≡ timeout_after_ack header.now endpoint.now sample ack syn moment }
 {
     let mut timers = endpoint.timers;
     if sample {

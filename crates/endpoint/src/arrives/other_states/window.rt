@@ -1,7 +1,8 @@
 //! The send window then.
 
-ghost use Rattle.spec_tcp.specs.Arrives.OtherStates.Window.{takes_window, window_taken, is_unread, opens_window};
-ghost use Rattle.spec_tcp.specs.Arrives.OtherStates.Window.{persist_taken};
+ghost use Rattle.spec_tcp.specs.Arrives.OtherStates.Window.{takes_window, window_after_segment, is_unread};
+ghost use Rattle.spec_tcp.specs.Arrives.OtherStates.Window.{opens_window};
+ghost use Rattle.spec_tcp.specs.Arrives.OtherStates.Window.{persist_after_window};
 ghost use Rattle.std.specs.Prelude.{◌≡◌, ◌&&◌, not};
 
 use crate::arrives::other_states::ack::{acknowledges_syn, opens_window};
@@ -30,8 +31,8 @@ pub(crate) fn takes_window(endpoint: &Endpoint, m: &Arrived<'_>) -> bool
 }
 
 /// The window that the peer offers then.
-pub(crate) fn window_taken(endpoint: &Endpoint, m: &Arrived<'_>) -> SendWindow
-    ensures { result ≡ window_taken endpoint.now m.now }
+pub(crate) fn window_after_segment(endpoint: &Endpoint, m: &Arrived<'_>) -> SendWindow
+    ensures { result ≡ window_after_segment endpoint.now m.now }
 {
     let mut window = endpoint.window;
     if takes_window(endpoint, m) {
@@ -42,16 +43,16 @@ pub(crate) fn window_taken(endpoint: &Endpoint, m: &Arrived<'_>) -> SendWindow
     window
 }
 
-/// Whether a byte behind a window of 0 is still to be made.
-pub(crate) fn probe_due_taken(endpoint: &Endpoint, m: &Arrived<'_>) -> bool
+/// Whether a byte beyond a window of 0 is still to be made.
+pub(crate) fn probe_due_after_segment(endpoint: &Endpoint, m: &Arrived<'_>) -> bool
     ensures { result ≡ endpoint.now.probe_due && not (opens_window endpoint.now m.now) }
 {
     endpoint.probe_due && !opens_window(endpoint, m)
 }
 
-/// A window of 0 arms the persist timer where it is off, another turns it off (RFC 9293, 3.8.6.1).
-pub(crate) fn persist_taken(timers: Timers, window: u16, moment: u64) -> Timers
-    ensures { result ≡ persist_taken timers window moment }
+/// A window of 0 arms the persist timer if it is off, another turns it off (RFC 9293, 3.8.6.1).
+pub(crate) fn persist_after_window(timers: Timers, window: u16, moment: u64) -> Timers
+    ensures { result ≡ persist_after_window timers window moment }
 {
     let mut timers = timers;
     if 0 < window {

@@ -35,16 +35,18 @@ abbrev pub may_sample : Endpoint → Emission → Bool
 may_sample e m = is_new_ack e m && not (retransmitted e.transmissions e.stream.snd_una m.ack)
 
 -- the oldest position that is not acknowledged, then
-abbrev pub snd_una_taken : Endpoint → Emission → ℕ
-snd_una_taken e m = max e.stream.snd_una m.ack
+abbrev pub snd_una_after_segment : Endpoint → Emission → ℕ
+snd_una_after_segment e m = max e.stream.snd_una m.ack
 
 -- the own FIN is acknowledged
 abbrev pub fin_acknowledged : Endpoint → Emission → Bool
-fin_acknowledged e m = e.stream.ended && nat_lt (end_of e.stream.accepted) (snd_una_taken e m)
+fin_acknowledged e m = e.stream.ended && nat_lt (end_of e.stream.accepted) (snd_una_after_segment e m)
 
 -- the state once the acknowledgment is looked at (RFC 9293, 3.10.7.4, fifth)
 abbrev pub acknowledged : State → Endpoint → Emission → State
-acknowledged states.SynReceived e m = if acknowledges_syn e m then (if e.stream.ended then states.FinWait1 else states.Established) else states.SynReceived
+acknowledged states.SynReceived e m =
+    if acknowledges_syn e m then (if e.stream.ended then states.FinWait1 else states.Established)
+    else states.SynReceived
 acknowledged states.FinWait1 e m = if fin_acknowledged e m then states.FinWait2 else states.FinWait1
 acknowledged states.Closing e m = if fin_acknowledged e m then states.TimeWait else states.Closing
 acknowledged states.LastAck e m = if fin_acknowledged e m then states.Closed else states.LastAck

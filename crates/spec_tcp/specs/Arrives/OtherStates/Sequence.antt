@@ -10,8 +10,9 @@ use Rattle.spec_tcp.specs.Endpoints.{Endpoint, Emission, rcv_nxt, receive_window
 use Rattle.spec_tcp.specs.Same.{same_word}
 
 -- where the segment begins: its true position; of a reset that answers, what its number reads as near the next position
-abbrev pub place_taken : Endpoint → Emission → Option ℕ
-place_taken e m = if m.is_reset_reply then option_map_or (λ irs. near_position (rcv_nxt e) irs m.seq) e.irs None else Some m.pos
+abbrev pub read_position : Endpoint → Emission → Option ℕ
+read_position e m =
+    if m.is_reset_reply then option_map_or (λ irs. near_position (rcv_nxt e) irs m.seq) e.irs None else Some m.pos
 
 -- the number reads as this position, near another (RFC 9293, 3.4)
 abbrev pub reads_as : ℕ → Option Word → Word → ℕ → Bool
@@ -22,7 +23,7 @@ reads_as near base w pos =
 -- both numbers read as the positions at making; of a reset that answers the sequence number reads as some position
 abbrev pub is_bad_number : Endpoint → Emission → Bool
 is_bad_number e m =
-    if m.is_reset_reply then not (is_some (place_taken e m))
+    if m.is_reset_reply then not (is_some (read_position e m))
     else not (reads_as (rcv_nxt e) e.irs m.seq m.pos) || m.flags.ack && not
     (reads_as e.stream.snd_una e.iss m.ack_seq m.ack)
 
@@ -38,9 +39,8 @@ is_acceptable_at e m pos =
     else is_in_window e pos || nat_lt 0 (segment_length m) && is_in_window e (pos + segment_length m - 1)
 
 -- in SYN-RECEIVED the SYN of the peer is let in again with its acknowledgment (simultaneous open; RFC 9293, 3.5); any
--- other
--- segment with SYN and without RST is not acceptable
+-- other segment with SYN and without RST is not acceptable
 abbrev pub is_acceptable : Endpoint → Emission → Bool
 is_acceptable e m =
     is_syn_received e.state && m.flags.syn && m.flags.ack && m.pos == 0 && not m.is_reset_reply
-    || not (m.flags.syn && not m.flags.rst) && option_map_or (is_acceptable_at e m) (place_taken e m) false
+    || not (m.flags.syn && not m.flags.rst) && option_map_or (is_acceptable_at e m) (read_position e m) false

@@ -4,7 +4,7 @@ use Rattle.case_forms.specs.declared.calls.State.{State}
 use Rattle.case_forms.specs.declared.steps.TakeChoice.{TakeChoice}
 use Rattle.streams.specs.Received.{Receiving, is_ended, kept}
 use Rattle.spec_tcp.specs.Endpoints.{Stream, Endpoint, Emission, rcv_nxt}
-use Rattle.spec_tcp.specs.Arrives.OtherStates.Ack.{snd_una_taken, acknowledged}
+use Rattle.spec_tcp.specs.Arrives.OtherStates.Ack.{snd_una_after_segment, acknowledged}
 use Rattle.spec_tcp.specs.Arrives.OtherStates.Fin.{first_byte, fin_place, keeps_fin, finished}
 
 -- the bytes that are kept: from the next position expected on, below the edge
@@ -17,8 +17,8 @@ kept_bytes e how m = if how.keep then slice_range m.payload (kept_start e m - fi
 abbrev pub receive_after : Endpoint → TakeChoice → Emission → Receiving
 receive_after e how m = kept e.stream.receive (kept_start e m) (kept_bytes e how m) (keeps_fin e how m)
 
-abbrev pub stream_taken : Endpoint → TakeChoice → Emission → Stream
-stream_taken e how m = record e.stream { receive = receive_after e how m; snd_una = snd_una_taken e m }
+abbrev pub stream_after_segment : Endpoint → TakeChoice → Emission → Stream
+stream_after_segment e how m = record e.stream { receive = receive_after e how m; snd_una = snd_una_after_segment e m }
 
-abbrev pub state_taken : Endpoint → TakeChoice → Emission → State
-state_taken e how m = finished (acknowledged e.state e m) (is_ended (receive_after e how m))
+abbrev pub state_after_segment : Endpoint → TakeChoice → Emission → State
+state_after_segment e how m = finished (acknowledged e.state e m) (is_ended (receive_after e how m))

@@ -20,13 +20,16 @@ abbrev pub takes_window : Endpoint → Emission → Bool
 takes_window e m =
     nat_le e.stream.snd_una m.ack && (acknowledges_syn e m || nat_lt e.window.snd_wl1 m.pos || e.window.snd_wl1 == m.pos && nat_le e.window.snd_wl2 m.ack)
 
-abbrev pub window_taken : Endpoint → Emission → SendWindow
-window_taken e m = if takes_window e m then record e.window { snd_wnd = peer_window e m; snd_wl1 = m.pos; snd_wl2 = m.ack } else e.window
+abbrev pub window_after_segment : Endpoint → Emission → SendWindow
+window_after_segment e m =
+    if takes_window e m then record e.window { snd_wnd = peer_window e m; snd_wl1 = m.pos; snd_wl2 = m.ack }
+    else e.window
 
 -- a window above 0 was taken
 abbrev pub opens_window : Endpoint → Emission → Bool
 opens_window e m = takes_window e m && nat_lt 0 m.window
 
 -- a window of 0 arms the persist timer where it is off, another turns it off (RFC 9293, 3.8.6.1)
-abbrev pub persist_taken : Timers → ℕ → ℕ → Timers
-persist_taken t window moment = if nat_lt 0 window then stopped t Persist else if is_some t.persist_armed then t else armed t Persist moment
+abbrev pub persist_after_window : Timers → ℕ → ℕ → Timers
+persist_after_window t window moment =
+    if nat_lt 0 window then stopped t Persist else if is_some t.persist_armed then t else armed t Persist moment

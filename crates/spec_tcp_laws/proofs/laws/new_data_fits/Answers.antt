@@ -11,7 +11,7 @@ use Rattle.spec_network.specs.Tables.{pick}
 use Rattle.spec_tcp.specs.declared.endpoint.Endpoint.{Endpoint}
 use Rattle.spec_tcp.specs.declared.endpoint.Emission.{Emission}
 use Rattle.spec_tcp.specs.Endpoints.{snd_max}
-use Rattle.spec_tcp.specs.Bodies.{place_of}
+use Rattle.spec_tcp.specs.HostTcp.{place_of}
 use Rattle.case_forms.specs.declared.steps.SegmentPlan.{SegmentPlan}
 use Rattle.spec_tcp.specs.Makes.Payload.{has_new_bytes}
 use Rattle.spec_tcp.specs.Makes.{making_rules, emission_of}

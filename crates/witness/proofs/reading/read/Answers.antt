@@ -1,6 +1,6 @@
 use Rattle.std.proofs.Common.{ap, ◌∙◌, Err}
 use Rattle.std.proofs.lemmas.Result.{err_from_is_err_and}
-use Rattle.line_fields.specs.declared.fault.ReadFault.{ReadFault}
+use Rattle.line_fields.specs.declared.fault.SourceFault.{SourceFault}
 use Rattle.line_fields.proofs.ReadsLemmas.{text_fault}
 use Rattle.witness.specs.WitnessText.{witness_for}
 use Rattle.witness.specs.StepsLeft.{steps_of}
@@ -18,7 +18,7 @@ returns-in_err-step c =
     let loop = c.loop-steps.invariant in
     let p = err_from_is_err_and c.from_residual.result c.from_residual.ensures.1 in
     let fails = text_fault c.in_err-step.field-0.0 p.0 (witness_for c.args.version c.args.text.now) p.2
-    (λ d is. whole_fails (witness_for c.args.version c.args.text.now) c.loop-steps.steps _ d loop.whole (c.next.ensures.fault d loop.well (c.in_err-step.was ∙ ap (λ (f : ReadFault). Err f) is))) in
+    (λ d is. whole_fails (witness_for c.args.version c.args.text.now) c.loop-steps.steps _ d loop.whole (c.next.ensures.fault d loop.well (c.in_err-step.was ∙ ap (λ (f : SourceFault). Err f) is))) in
     rw p.1 fails
 
 pub loop-steps-preserved : goal.loop-steps-preserved

@@ -1,7 +1,7 @@
 use Rattle.std.proofs.Common.{List, None, nat_eq, arith, ap, ◌∙◌}
 use Rattle.std.specs.Map.{lookup}
 use Rattle.spec_tcp.specs.declared.endpoint.Listener.{Listener}
-use Rattle.spec_tcp.specs.Bodies.{last_from, listens_on}
+use Rattle.spec_tcp.specs.HostTcp.{last_from, listens_on}
 use Rattle.endpoint_state.proofs.ListenLemmas.{listening_push}
 use Rattle.endpoint_state.proofs.listeners.Listeners.add.Goals as goal
 

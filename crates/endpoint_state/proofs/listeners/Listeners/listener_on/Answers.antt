@@ -1,7 +1,7 @@
 use Rattle.std.proofs.Common.{◌∙◌, sym, ap, List, None, nat_eq, slice_get}
 use Rattle.std.specs.Map.{lookup}
 use Rattle.spec_tcp.specs.declared.endpoint.Listener.{Listener}
-use Rattle.spec_tcp.specs.Bodies.{last_from, listens_on}
+use Rattle.spec_tcp.specs.HostTcp.{last_from, listens_on}
 use Rattle.endpoint_state.proofs.ListenLemmas.{unknown_port, no_port, open_port, closed_port}
 use Rattle.endpoint_state.proofs.listeners.Listeners.listener_on.Goals as goal
 

@@ -7,7 +7,7 @@ use Rattle.stack_core.specs.Resets.{AreAwaited, made_of}
 use Rattle.stack_core.proofs.Cores.{add_ok, core_grows, counts, leads, may_join}
 use Rattle.stack_core.proofs.ResetLemmas.{core_awaits, core_tried}
 use Rattle.stack_core.specs.Told.{IsToldStep}
-use Rattle.stack_core.specs.Touches.{touched}
+use Rattle.stack_core.specs.Affected.{affected_by}
 use Rattle.stack_core.proofs.TendedLemmas.{tended_steps, tended_tried}
 use Rattle.stack_core.proofs.host_core.HostCore.add.Goals as goal
 
@@ -26,7 +26,7 @@ invariant_of-self-in_err-step c = (
   subst (λ (r : Recorded). IsCore r c.self.inside.line c.self.inside.last c.self.inside.events) (sym c.in_err-step.ensures.err) c.self.invariant.0,
   subst (λ (r : Recorded). AreAwaited (made_of r) c.await_reset.new.resets.items) (sym c.in_err-step.ensures.err)
       (core_tried (made_of c.self.inside.recording) c.self.inside.resets.items c.await_reset.new.resets.items (step_of c.args.label) (suc c.count.result) c.in_ok-await_reset.ensures.ok c.self.invariant.1),
-  tended_tried c.self.inside.recording c.self.inside.ready c.self.inside.wakes c.touch.new.self c.touch-2.new.self c.args.touch c.touch.ensures c.touch-2.ensures c.self.invariant.2 c.step.new.self c.in_err-step.ensures.err,
+  tended_tried c.self.inside.recording c.self.inside.ready c.self.inside.wakes c.look_again.new.self c.look_again-2.new.self c.args.affected c.look_again.ensures c.look_again-2.ensures c.self.invariant.2 c.step.new.self c.in_err-step.ensures.err,
 )
 
 pub invariant_of-self-2 : goal.invariant_of-self-2
@@ -41,9 +41,9 @@ invariant_of-self-2 c = (
   core_awaits c.self.inside.recording c.step.new.self c.self.inside.last (step_of c.args.label) c.self.inside.resets.items c.await_reset.new.resets.items c.count.result
       (subst (λ (k : Core). Fits k (step_of c.args.label)) (sym c.self.view_is) c.requires.fits)
       c.in_ok-step.ensures.ok c.count.ensures.count c.in_ok-await_reset.ensures.ok c.self.invariant.1,
-  tended_steps c.self.inside.recording c.self.inside.ready c.self.inside.wakes c.touch.new.self c.touch-2.new.self c.args.touch c.touch.ensures c.touch-2.ensures c.self.invariant.2 c.step.new.self c.self.inside.last (step_of c.args.label)
+  tended_steps c.self.inside.recording c.self.inside.ready c.self.inside.wakes c.look_again.new.self c.look_again-2.new.self c.args.affected c.look_again.ensures c.look_again-2.ensures c.self.invariant.2 c.step.new.self c.self.inside.last (step_of c.args.label)
       (subst (λ (k : Core). Fits k (step_of c.args.label)) (sym c.self.view_is) c.requires.fits)
-      (subst (λ (k : Core). c.args.touch ≡ touched k.recorded.me (world k) (step_of c.args.label)) (sym c.self.view_is) c.requires.touch)
+      (subst (λ (k : Core). c.args.affected ≡ affected_by k.recorded.me (world k) (step_of c.args.label)) (sym c.self.view_is) c.requires.affected)
       c.in_ok-step.ensures.ok,
 )
 

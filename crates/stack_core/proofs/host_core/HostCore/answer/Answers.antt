@@ -3,7 +3,7 @@ use Rattle.std.specs.Prelude.{IfOk}
 use Rattle.std.specs.Option.{IfSome}
 use Rattle.spec_network.specs.Hosts.{Effect}
 use Rattle.spec_network.specs.HostRules.{Permitted}
-use Rattle.spec_tcp.specs.Bodies.{Body}
+use Rattle.spec_tcp.specs.HostTcp.{HostTcp}
 use Rattle.spec_tcp.specs.Machine.{tcp}
 use Rattle.stack_core.specs.Answers.{IsNamed}
 use Rattle.stack_core.specs.Cores.{Core, world}
@@ -11,7 +11,7 @@ use Rattle.stack_core.proofs.AnswerLemmas.{answers_permitted, named_left}
 use Rattle.stack_core.proofs.host_core.HostCore.answer.Goals as goal
 
 pub choose-requires-clause-named : goal.choose-requires-clause-named
-choose-requires-clause-named c = subst (λ (b : Body). IsNamed b) (sym c.body-body.ensures) (named_left c.self.inside.recording.header c.self.inside.recording.me c.self.inside.recording.entries c.is_recording.ensures.runs)
+choose-requires-clause-named c = subst (λ (b : HostTcp). IsNamed b) (sym c.body-body.ensures) (named_left c.self.inside.recording.header c.self.inside.recording.me c.self.inside.recording.entries c.is_recording.ensures.runs)
 
 pub returns-clause-permitted : goal.returns-clause-permitted
 returns-clause-permitted c =

@@ -10,7 +10,7 @@ returns-in_err-resolve_arrival-clause-err c = any_error c.from_residual-in_err-r
     (c.ports_of-ports.ensures ∙ ap ports_of c.emission.ensures) c.in_err-resolve_arrival.ensures.err)
 
 pub returns-clause-ok : goal.returns-clause-ok
-returns-clause-ok c = subst (λ (d : Core). IsArrived c.args.self.now c.args.tick c.args.flying d) (sym c.note_arrival.ensures) (arrived c.args.self.now c.open_with_room.new.self c.come_in.new.self c.resolve_arrival.new.self c.args.tick c.args.flying c.line-line.result c.ports_of-ports.result c.open_with_room.ensures.opened c.in_ok-come_in.ensures.ok c.line-line.ensures
+returns-clause-ok c = subst (λ (d : Core). IsArrived c.args.self.now c.args.tick c.args.flying d) (sym c.update_after_arrival.ensures) (arrived c.args.self.now c.open_with_room.new.self c.come_in.new.self c.resolve_arrival.new.self c.args.tick c.args.flying c.line-line.result c.ports_of-ports.result c.open_with_room.ensures.opened c.in_ok-come_in.ensures.ok c.line-line.ensures
     (c.ports_of-ports.ensures ∙ ap ports_of c.emission.ensures) c.in_ok-resolve_arrival.ensures.ok)
 
 pub resolve_arrival-requires-clause-holds : goal.resolve_arrival-requires-clause-holds

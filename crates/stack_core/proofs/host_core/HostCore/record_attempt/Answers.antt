@@ -29,7 +29,7 @@ add-requires-2-clause-fits c =
 pub returns-clause-some : goal.returns-clause-some
 returns-clause-some c = (
   refl,
-  c.note_answer.ensures ∙ ended_call c.args.self.now c.open_with_room.new.self c.add.new.self c.add-2.new.self c.args.tick c.line.result c.args.thread c.in-Ok-Some.answer c.in_ok-copy.field-0 c.in_ok-ending.ending c.open_with_room.ensures.opened c.in_ok-add.ensures.ok c.in_ok-add-2.ensures.ok
+  c.update_after_answer.ensures ∙ ended_call c.args.self.now c.open_with_room.new.self c.add.new.self c.add-2.new.self c.args.tick c.line.result c.args.thread c.in-Ok-Some.answer c.in_ok-copy.field-0 c.in_ok-ending.ending c.open_with_room.ensures.opened c.in_ok-add.ensures.ok c.in_ok-add-2.ensures.ok
       c.in_ok-copy.ensures c.in_ok-ending.ensures c.line.ensures,
 )
 

@@ -13,7 +13,7 @@ returns-in-Some-clause-some c = Answered c.in-Some.number c.in-Some.ensures.some
 pub returns-clause-some : goal.returns-clause-some
 returns-clause-some c =
     let plan = c.in-Some-plan.plan in
-    let same : c.note_making.new.self ≡ made c.args.self.now c.args.tick plan = c.note_making.ensures ∙ c.spend_iss.ensures ∙ c.in_ok-make.ensures.ok
+    let same : c.update_after_making.new.self ≡ made c.args.self.now c.args.tick plan = c.update_after_making.ensures ∙ c.spend_iss.ensures ∙ c.in_ok-make.ensures.ok
     ∙ ap (λ (x : Core). with_step x (At x.recorded.me (Makes plan))) (c.open-2.ensures.opened ∙ ap (λ (x : Core). opened x c.args.tick) (c.plan.ensures.same ∙ c.reset_to_go.ensures.same)) in
     Made c.in_default.ensures.none plan (subst (λ (x : Core). GoesOut x (world x).count c.in_ok-flying-2.flying c.send-2.new.self) same
-    (subst (λ (n : ℕ). GoesOut c.note_making.new.self n c.in_ok-flying-2.flying c.send-2.new.self) c.count-number.ensures c.in_ok-flying-2.ensures.ok))
+    (subst (λ (n : ℕ). GoesOut c.update_after_making.new.self n c.in_ok-flying-2.flying c.send-2.new.self) c.count-number.ensures c.in_ok-flying-2.ensures.ok))

@@ -1,6 +1,6 @@
 use Rattle.std.proofs.Common.{◌≡◌, ◌<◌, refl, ◌++◌, List, Bool, true, false, ap, ◌∙◌, arith, length, length-append, replicate}
 use Rattle.std.proofs.lemmas.List.{length-replicate}
-use Rattle.streams.specs.declared.making.Made.{Made}
+use Rattle.streams.specs.declared.transmission.Transmission.{Transmission}
 use Rattle.streams.specs.Transmissions.{retransmitted, once}
 use Rattle.streams.specs.Marks.{is_marked, marked}
 use Rattle.streams.specs.Views.{expand}
@@ -8,9 +8,9 @@ use Rattle.streams.proofs.MadeLemmas.{asked_some, asked_none, fresh_run, fresh_r
 use Rattle.streams.proofs.transmissions.Transmissions.is_retransmitted.Goals as goal
 
 pub returns-then-from-upto : goal.returns-then-from-upto
-returns-then-from-upto c = by c.meets.result refl ∙ ap (λ (all : List Made). retransmitted all c.args.from c.args.upto) c.self.view_is
+returns-then-from-upto c = by c.meets.result refl ∙ ap (λ (all : List Transmission). retransmitted all c.args.from c.args.upto) c.self.view_is
   where
-    base : List Made
+    base : List Transmission
     base = replicate c.self.inside.gone (once 0) ++ expand c.self.inside.runs.items
 
     long : c.self.inside.end ≡ length base

@@ -1,6 +1,6 @@
 use Rattle.std.proofs.Common.{◌≡◌, ◌+◌, ◌++◌, ℕ, List, ap, sym, ◌∙◌, arith, length, length-append, min, replicate, append_assoc, ◌||◌, ◌&&◌, nat_le, nat_lt}
 use Rattle.std.proofs.lemmas.List.{length-replicate}
-use Rattle.streams.specs.declared.making.Made.{Made}
+use Rattle.streams.specs.declared.transmission.Transmission.{Transmission}
 use Rattle.streams.specs.declared.runs.Run.{Run}
 use Rattle.streams.specs.Transmissions.{made, once}
 use Rattle.streams.specs.Marks.{is_marked, marked}
@@ -43,6 +43,6 @@ returns-clause-ok c =
     (replicate c.self.inside.gone (once 0) ++ expand c.self.inside.runs.items) (replicate c.self.inside.gone (once 0) ++ expand c.grow.new.runs.items)
     (omega arith) c.self.invariant.2 (omega arith)
     (λ p. c.in_ok-add.ensures.marked p ∙ ap (λ (n : ℕ). is_marked c.self.inside.marks p || (nat_le c.args.position p && nat_lt p n)) least)
-    (ap (λ (all : List Made). replicate c.self.inside.gone (once 0) ++ all) (c.grow.ensures ∙ ap (λ (runs : List Run). expand runs ++ replicate c.saturating_sub-fresh.result (once c.args.moment)) c.reserve.ensures.items)
+    (ap (λ (all : List Transmission). replicate c.self.inside.gone (once 0) ++ all) (c.grow.ensures ∙ ap (λ (runs : List Run). expand runs ++ replicate c.saturating_sub-fresh.result (once c.args.moment)) c.reserve.ensures.items)
     ∙ sym (append_assoc (replicate c.self.inside.gone (once 0)) (expand c.self.inside.runs.items) (replicate c.saturating_sub-fresh.result (once c.args.moment))))
-    ∙ ap (λ (all : List Made). made all c.args.position c.args.count c.args.moment) c.self.view_is
+    ∙ ap (λ (all : List Transmission). made all c.args.position c.args.count c.args.moment) c.self.view_is

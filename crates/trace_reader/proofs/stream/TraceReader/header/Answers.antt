@@ -1,7 +1,7 @@
 use Rattle.std.proofs.Common.{◌≡◌, ◌∙◌, sym, ap, Err}
 use Rattle.std.proofs.lemmas.Result.{err_from_is_err_and}
-use Rattle.line_fields.specs.declared.fault.ReadFault.{ReadFault}
-use Rattle.line_fields.specs.declared.fault.ReadFault.TheVariants.{Text}
+use Rattle.line_fields.specs.declared.fault.SourceFault.{SourceFault}
+use Rattle.line_fields.specs.declared.fault.SourceFault.TheVariants.{Text}
 use Rattle.trace_reader.specs.EventLines.{Place}
 use Rattle.trace_reader.proofs.StreamLaw.{header_begins, header_fails}
 use Rattle.trace_reader.proofs.stream.TraceReader.header.Goals as goal
@@ -12,7 +12,7 @@ returns-in_err-header-clause-fault g c = λ e none is.
     let made = p.1 in
     let gave = p.2 in
     let same : c.in_err-header.field-0.0 ≡ Text e = cc in
-    let read = sym c.keep_fault.ensures.read ∙ c.in_err-header.was ∙ ap (λ (f : ReadFault). Err f) same in
+    let read = sym c.keep_fault.ensures.read ∙ c.in_err-header.was ∙ ap (λ (f : SourceFault). Err f) same in
     header_fails _ _ e (rw read at c.header-read.ensures.header)
 
 pub returns-clause-header : goal.returns-clause-header

@@ -1,8 +1,8 @@
 use Rattle.std.proofs.Common.{◌≡◌, ◌∙◌, Err, Ok, ap, refl, arith, subst}
 use Rattle.std.proofs.lemmas.Result.{err_from_is_err_and}
 use Rattle.line_fields.specs.declared.fault.TextFault.{TextFault}
-use Rattle.line_fields.specs.declared.fault.ReadFault.{ReadFault}
-use Rattle.line_fields.specs.declared.fault.ReadFault.TheVariants.{Text}
+use Rattle.line_fields.specs.declared.fault.SourceFault.{SourceFault}
+use Rattle.line_fields.specs.declared.fault.SourceFault.TheVariants.{Text}
 use Rattle.line_fields.specs.Left.{FailsLeft}
 use Rattle.witness.specs.StepsLeft.{steps_left}
 use Rattle.witness.proofs.StreamLaw.{next_fails, line_fails, step_read, all_read, stands}
@@ -14,7 +14,7 @@ returns-in_err-next_line-clause-fault g c = λ e is.
     let made = p.1 in
     let gave = p.2 in
     let same : c.in_err-next_line.field-0.0 ≡ Text e = cc in
-    rw c.requires (next_fails c.args.self.now.version c.args.number _ e (c.next_line.ensures.fault e (c.in_err-next_line.was ∙ ap (λ (f : ReadFault). Err f) same)))
+    rw c.requires (next_fails c.args.self.now.version c.args.number _ e (c.next_line.ensures.fault e (c.in_err-next_line.was ∙ ap (λ (f : SourceFault). Err f) same)))
 
 pub returns-then-not-branch-clause-next : goal.returns-then-not-branch-clause-next
 returns-then-not-branch-clause-next g c = rw c.requires (all_read c.args.self.now.version c.args.number _ _ (c.next_line.ensures.none (c.in_ok-next_line.was ∙ ap (λ b. Ok b) c.if-not-branch.true)))

@@ -1,0 +1,41 @@
+//! Fast recovery begins (RFC 5681, 3.2).
+
+ghost use Rattle.std.specs.Prelude.{◌≡◌, Some, IfOk, OnOk, OnErr};
+ghost use Rattle.std.specs.List.{All};
+ghost use Rattle.std.specs.Result.{result_err};
+ghost use Rattle.verdict.specs.Rules.{first_broken};
+ghost use Rattle.spec_tcp.specs.HostTcp.{place_of};
+ghost use Rattle.spec_tcp.specs.Bounds.{HasRoom};
+ghost use Rattle.spec_tcp.specs.Forgetting.{forget_body};
+ghost use Rattle.endpoint_state.specs.Kinds.{recovered_body, recovering_rules};
+
+use crate::host_tcp::HostTcp;
+use case_forms::Recovery;
+use endpoint::admits_recovery;
+use verdict::Rule;
+
+impl HostTcp {
+    /// The place of the endpoint where fast recovery may begin. An error is the first rule that is broken.
+    pub(crate) fn admitted_recovery(&self, recovery: Recovery, moment: u64) -> Result<u32, Rule>
+        ensures rule { result_err result ≡ first_broken (recovering_rules moment recovery self.now) }
+        ensures place { IfOk result (λ place. place_of self.now recovery.lport recovery.rport ≡ Some place) }
+    {
+        let (place, endpoint) = self.endpoint_on(recovery.lport, recovery.rport)?;
+        admits_recovery(endpoint, recovery.cwnd, recovery.ssthresh, moment)?;
+        Ok(place)
+    }
+
+    /// Fast recovery begins. An error is the first rule that is broken; nothing is changed then.
+    #[tactic(auto, using(crate::proofs::BodyLemmas::body_same))]
+    pub(crate) fn recover(&mut self, recovery: Recovery, moment: u64) -> Result<(), Rule>
+        requires { All HasRoom self.old.endpoints }
+        ensures rule { result_err result ≡ first_broken (recovering_rules moment recovery self.old) }
+        ensures ok { OnOk result (self.new ≡ forget_body (recovered_body moment recovery self.old)) }
+        ensures err { OnErr result (self.new ≡ self.old) }
+    {
+        let place = self.admitted_recovery(recovery, moment)?;
+        self.endpoints
+            .recover(place, recovery.cwnd, recovery.ssthresh, moment);
+        Ok(())
+    }
+}
