@@ -130,12 +130,12 @@ read_syn v e m = by (is_half v)
 
 -- a segment that comes in (`m`), as the endpoint reads it (`r`)
 meets_taking : (h : Header) (s : ℕ) (w : World tcp_shape) (host : Host) (line : ℕ) (how : TakeChoice) (m r : Emission) (i : ℕ) (e : Endpoint) → waiting line (pick w.hosts host).inbox ≡ Some m
-    → slice_get (pick w.hosts host).body.endpoints i ≡ Some e → taker (pick w.hosts host).body m ≡ AtEndpoint i e → Waits e → m.sender ≡ r.sender → m.flags.syn ≡ r.flags.syn → first_broken (endpoint_rules h host (pick w.hosts host).body how r i e) ≡ None
+    → slice_get (pick w.hosts host).body.endpoints i ≡ Some e → taker (pick w.hosts host).body m ≡ AtEndpoint i e → Waits e → m.sender ≡ r.sender → m.flags.syn ≡ r.flags.syn → first_broken (endpoint_rules h host (pick w.hosts host).body how r s i e) ≡ None
     → Meets w (At host (Takes line how)) (name host i) e.stream.peer (endpoint_taken h e how r s).stream.peer
 meets_taking h s w host line how m r i e waits there is calm sender syn may = go r.flags.rst (is_syn_sent e.state) refl refl may
   where
     go : (b t : Bool) → r.flags.rst ≡ b → is_syn_sent e.state ≡ t
-        → first_broken (if t then syn_sent_rules e how r s else connected_rules h (pick w.hosts host).body (name host i) e how r) ≡ None
+        → first_broken (if t then syn_sent_rules e how r s else connected_rules h (pick w.hosts host).body (name host i) e how r s) ≡ None
         → Meets w (At host (Takes line how)) (name host i) e.stream.peer (if b then was_reset e how s else if t then on_syn h e how r s else segment_taken h e how r s).stream.peer
     go true t reset sent may = inl refl
     go false true reset sent may = inr (
@@ -176,7 +176,7 @@ moves_taking h s w host line how m steady waits may = go (taker (pick w.hosts ho
         (λ x there.
         let one : e ≡ x = same_Some e x (sym (taker_there b m i e is) ∙ there) in
         meets_taking h s w host line how m r i x waits there (is ∙ ap (λ (y : Endpoint). AtEndpoint i y) one) (steady.own host i x there).waits (read_maker h.version e m) (read_syn h.version e m)
-        (subst (λ (y : Endpoint). first_broken (endpoint_rules h host b how r i y) ≡ None) one may))
+        (subst (λ (y : Endpoint). first_broken (endpoint_rules h host b how r s i y) ≡ None) one may))
 
 moves_deed : (h : Header) (s : ℕ) (w : World tcp_shape) (host : Host) (d : Deed tcp_shape) → Steady w.hosts → Permitted (tcp h) s w (At host d)
     → Moves w (At host d) host (pick w.hosts host).body.endpoints (deed_after (tcp h) host s (suc w.count) (pick w.hosts (other host)).wire (pick w.hosts host) d).body.endpoints

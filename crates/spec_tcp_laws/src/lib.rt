@@ -9,8 +9,8 @@
 //! - `forgetting`: what may be discarded matters to no rule, and to nothing that is kept
 //!
 //! What is said of it stands in specs/: `Runs` has what the steps of a run say by themselves, `Consequences` what
-//! follows from streams between two recorded hosts, `Carried` what follows from one host's reads in every case, `Bounds`
-//! what follows from windows, `Transitions` how states and positions change, `Ascending` the rules' numbers,
+//! follows from streams between two recorded hosts, `Carried` what follows from one host's reads in every case,
+//! `Bounds` what follows from windows, `Transitions` how states and positions change, `Ascending` the rules' numbers,
 //! `HeardNumbers` how a number is read, and `ForgettingLaws` what may be discarded.
 #![tactic(auto)]
 

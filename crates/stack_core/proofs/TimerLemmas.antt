@@ -40,7 +40,8 @@ no_more x y = rw (never x, never y) refl
 timer_may : (h : Header) (moment : ℕ) (e : Endpoint) (x : Expired) → first_broken (expiry_rules h moment e x) ≡ None → first_broken (expiry_rules h moment e (least x)) ≡ None
 timer_may h moment e (Rto growth) may =
     let t = none_all (expiry_rules h moment e (Rto growth)) may in
-    all_none (expiry_rules h moment e (least (Rto growth))) (t.0, (no_more ((greatest_values e).0) ((greatest_values e).1), (t.1.1.0, (t.1.1.1.0, tt))))
+    all_none (expiry_rules h moment e (least (Rto growth)))
+    (t.0, (no_more ((greatest_values e moment).0) ((greatest_values e moment).1), (t.1.1.0, (t.1.1.1.0, tt))))
 timer_may h moment e Persist may = may
 timer_may h moment e Msl2 may = may
 timer_may h moment e Giveup may = may
