@@ -39,7 +39,8 @@
 //! - `Seat`: a thread's place; `Receipt`, `receipt_stands`: what a call returned, and that its line stands in what was
 //!   merged
 //! - `HostBook`: what one host recorded; `merge`, `Recorded`, `MergeFault`: two books as a trace and its witness
-//! - `LoopEnd`: why a loop ended; `Fate`, `WireFate`, `LoseEach`: what becomes of segments on their way
+//! - `LoopEnd`: why a loop ended; `Fate`, `WireFate`, `LoseEach` of `wire_fates`: what becomes of segments on
+//!   their way
 //!
 //! Private modules:
 //!
@@ -49,13 +50,10 @@
 //! - `desk`: what lies under the lock
 //! - `recorder`: seats, calls, looking, stopping, finishing
 //! - `loops`: segments go out and come in, timers expire
-//! - `fate`, `held_back`: what becomes of segments on their way
 //! - `joining`: the merge of two books
 #![tactic(auto)]
 
 mod desk;
-mod fate;
-mod held_back;
 mod host_book;
 mod joining;
 mod loops;
@@ -64,7 +62,6 @@ mod recorder;
 mod seat;
 mod site;
 
-pub use fate::{Fate, LoseEach, WireFate};
 pub use host_book::HostBook;
 pub use joining::merge;
 pub use loops::LoopEnd;
@@ -74,6 +71,4 @@ pub use recorder::{Cause, RecFault, Recorder, Unfinished};
 pub use seat::Seat;
 pub use site::Site;
 pub use stack_core::{Answered, CoreConfig, Flying};
-
-#[cfg(test)]
-mod tests;
+pub use wire_fates::{Fate, LoseEach, WireFate};

@@ -1,7 +1,5 @@
 //! The loops of a host: its segments go out, those of the other host come in, its timers expire.
 
-use crate::fate::{Fate, LoseEach, WireFate};
-use crate::held_back::HeldBack;
 use crate::recorder::Recorder;
 use crate::site::Site;
 use case_forms::OutOfMemory;
@@ -10,6 +8,7 @@ use stack_core::Flying;
 use std::alloc::Global;
 use std::sync::Wait;
 use std::thread;
+use wire_fates::{Fate, HeldBack, LoseEach, WireFate};
 
 /// Why a loop ended.
 #[derive(Clone, Copy)]

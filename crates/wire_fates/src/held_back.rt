@@ -1,12 +1,11 @@
 //! Segments that are held back until further ones of their host went out.
 
-use case_forms::OutOfMemory;
-use std::alloc::Global;
+use std::alloc::{AllocError, Global};
 use std::collections::BTreeMap;
 
 /// What is held back. `T` is a segment on its way.
 #[derive(Drop)]
-pub(crate) struct HeldBack<T> {
+pub struct HeldBack<T> {
     // By the count of pumped segments at which each is due, then by that at which it was pumped.
     waiting: BTreeMap<(u64, u64), T, Global>,
     // How many segments were pumped.
@@ -14,7 +13,8 @@ pub(crate) struct HeldBack<T> {
 }
 
 impl<T: Drop> HeldBack<T> {
-    pub(crate) fn new(alloc: Global) -> HeldBack<T> {
+    /// None is held.
+    pub fn new(alloc: Global) -> HeldBack<T> {
         HeldBack {
             waiting: BTreeMap::new(alloc),
             pumped: 0,
@@ -22,12 +22,13 @@ impl<T: Drop> HeldBack<T> {
     }
 
     /// One more segment was pumped.
-    pub(crate) fn count(&mut self) {
+    pub fn count(&mut self) {
         self.pumped = self.pumped.saturating_add(1);
     }
 
-    /// Holds the segment that was pumped last until so many further ones were.
-    pub(crate) fn hold(&mut self, further: u32, segment: T) -> Result<(), OutOfMemory> {
+    /// Holds the segment that was pumped last until so many further ones were. The error is that memory ran out; then
+    /// the segment is dropped.
+    pub fn hold(&mut self, further: u32, segment: T) -> Result<(), AllocError> {
         let due = self.pumped.saturating_add(u64::from(further));
         let pumped = self.pumped;
         self.waiting.insert((due, pumped), segment)?;
@@ -35,12 +36,12 @@ impl<T: Drop> HeldBack<T> {
     }
 
     /// How many are held.
-    pub(crate) fn len(&self) -> usize {
+    pub fn len(&self) -> usize {
         self.waiting.len()
     }
 
     /// One that is due. None: none is.
-    pub(crate) fn take_due(&mut self) -> Option<T> {
+    pub fn take_due(&mut self) -> Option<T> {
         let ((due, _), _) = self.waiting.first_key_value()?;
         if *due > self.pumped {
             return None;
