@@ -4,7 +4,7 @@ ghost use Rattle.std.specs.Prelude.{◌≡◌, false};
 ghost use Rattle.case_forms.specs.Versions.{is_half};
 
 use crate::tests::talks::TRIES;
-use case_forms::{Event, Host, Line, Version};
+use case_forms::{Event, Header, Host, Initial, Line, Trace, Version};
 use segment::{Flag, Segment};
 use std::alloc::Global;
 use std::sync::Wait;
@@ -77,8 +77,20 @@ fn has_own_thread(line: &Line) -> bool {
     }
 }
 
-// What is wrong with these lines, where both hosts tell this shift; `yes` where nothing is.
-fn judge(lines: &[Line], shift: Option<u8>) -> &'static str {
+// Whether the first congestion window is that of the version.
+fn has_own_window(header: &Header) -> bool {
+    match header.version {
+        Version::One => matches!(header.initial, Initial::Rfc5681),
+        Version::Two | Version::Three => matches!(header.initial, Initial::Rfc6928),
+    }
+}
+
+// What is wrong with this trace, where both hosts tell this shift; `yes` where nothing is.
+fn judge(trace: &Trace, shift: Option<u8>) -> &'static str {
+    if !has_own_window(&trace.header) {
+        return "another first window";
+    }
+    let lines = trace.lines.as_slice();
     if !lines.iter().all(has_own_thread) {
         return "another thread";
     }
@@ -124,7 +136,7 @@ fn told<R: Threads + Wait + Sync>(
             version,
         };
         let said = match record(rt, alloc, plan) {
-            Ok(recording) => judge(recording.recorded.trace.lines.as_slice(), shift),
+            Ok(recording) => judge(&recording.recorded.trace, shift),
             Err(_) => "no recording",
         };
         if said != UNANSWERED {

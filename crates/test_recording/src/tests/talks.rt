@@ -95,17 +95,18 @@ impl WireFate for InTurn {
     }
 }
 
-// The recording of a talk in version 1.
+// The recording of a talk in version 1. It ended only if both books count as many answers as there are receipts.
 fn talked<F: WireFate + Send + Drop, G: WireFate + Send + Drop, R: Threads + Wait + Sync>(
     rt: &R,
     alloc: Global,
     talk: Talk<F, G>,
 ) -> Result<Recording, RecordFault> {
     let books = record_books(rt, alloc, Version::One, talk)?;
+    let answers = books.zero.total().saturating_add(books.one.total());
     let recorded = merge(alloc, books.zero, books.one)?;
     Ok(Recording {
         recorded,
-        ended: books.ended,
+        ended: books.ended && answers == books.receipts.len() as u64,
         receipts: books.receipts,
     })
 }
