@@ -57,8 +57,12 @@ impl Model for HostState {
 
     ghost Value = { HostState tcp_shape };
 
-    ghost view = { λ a. record { body = a.body; made = a.made.entries; wire = a.wire.entries;
-        inbox = a.inbox.entries } };
+    ghost view = { λ a. record {
+      body = a.body;
+      made = a.made.entries;
+      wire = a.wire.entries;
+      inbox = a.inbox.entries;
+    } };
 }
 
 /// A segment is made under this number, and waits to go out. An error is the first rule that is broken, or that memory

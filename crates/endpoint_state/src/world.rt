@@ -56,8 +56,11 @@ impl Model for World {
 
     ghost Value = { Progress };
 
-    ghost view = { λ a. record { header = a.header; steps = a.steps;
-        world = record { hosts = a.hosts; threads = a.threads.entries; count = a.count } } };
+    ghost view = { λ a. record {
+      header = a.header;
+      steps = a.steps;
+      world = record { hosts = a.hosts; threads = a.threads.entries; count = a.count };
+    } };
 
     ghost invariant = { λ a. IsKeptWorld a.steps
         (record { hosts = a.hosts; threads = a.threads.entries; count = a.count }) };

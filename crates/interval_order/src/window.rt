@@ -55,8 +55,12 @@ impl Model for Window {
 
     ghost Value = { Order };
 
-    ghost view = { λ a. record { header = a.header; next = a.waiting.next; held = lines_of a.waiting.entries;
-        last = a.last } };
+    ghost view = { λ a. record {
+      header = a.header;
+      next = a.waiting.next;
+      held = lines_of a.waiting.entries;
+      last = a.last;
+    } };
 
     ghost invariant = { λ a. IsSound a.waiting.next a.waiting.entries (latest_in a.latest.entries) };
 }

@@ -52,7 +52,9 @@ impl<V: Drop> Queue<V> {
     pub fn push(&mut self, item: V) -> Result<(), AllocError>
         requires { self.old.next + 1 < 2 ^ 64 }
         ensures ok { OnOk result (self.new ≡ record {
-            entries = self.old.entries ++ (self.old.next, item) ∷ []; next = self.old.next + 1 }) }
+          entries = self.old.entries ++ (self.old.next, item) ∷ [];
+          next = self.old.next + 1;
+        }) }
         ensures err { OnErr result (self.new ≡ self.old) }
     {
         self.slots.push_back(Some(item))?;
