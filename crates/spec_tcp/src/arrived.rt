@@ -1,6 +1,6 @@
 //! A segment as the endpoint reads it that takes it.
 
-ghost use Rattle.std.specs.Prelude.{◌≡◌, ◌<◌, ◌≤◌, ◌×◌, ◌^◌, IfSome, None};
+ghost use Rattle.std.specs.Prelude.{◌≡◌, ◌<◌, ◌≤◌, ◌^◌, IfSome, None};
 ghost use Rattle.spec_tcp.specs.Bounds.{IsSmallEmission, greatest_position};
 ghost use Rattle.spec_tcp.specs.Endpoints.{segment_length};
 ghost use Rattle.spec_tcp.specs.Heard.{as_read, position_near, readable};
