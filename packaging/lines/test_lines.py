@@ -1,3 +1,4 @@
+#!/usr/bin/env python3
 """Tests of tcpwit-junit and tcpwit-status, on the lines that docs/FORMATS.md and examples/README.md name."""
 import os
 import subprocess

@@ -29,7 +29,7 @@ HANDSHAKE = os.path.join(TOP, "examples/handshake.case")
 def expected():
     """The cases of the gate, with the line that each has to be answered by."""
     with open(f"{DATA}/expected.txt", encoding="utf-8") as file:
-        rows = [line.rstrip("\n").split(": ", 1) for line in file if ": " in line]
+        rows = [line.rstrip("\n").split("\t", 1) for line in file if "\t" in line]
     return {f"{DATA}/{name}.case": line for name, line in rows if os.path.exists(f"{DATA}/{name}.case")}
 
 
