@@ -1,0 +1,17 @@
+#!/bin/bash
+#SBATCH --job-name=tcpwit
+#SBATCH --ntasks=1
+#SBATCH --cpus-per-task=2
+#SBATCH --requeue
+# Checks one of the files that `tcpwit-parts` cut, as a task of a Slurm array job; the page RECORDING has the whole batch.
+#
+#     sbatch --array=1-FILES batches.sbatch PARTS LINES
+#
+# PARTS and LINES are folders that all machines see. The lines of PARTS/00007 are left in LINES/00007 once they are whole, so a task may run again.
+# The task is COMPLETED where all its cases were answered, whatever the answers are; memory that ran out and failed devices are FAILED.
+set -u
+part=$(printf %05d "$SLURM_ARRAY_TASK_ID")
+"${TCPWIT:-/usr/bin/tcpwit}" many --workers "${SLURM_CPUS_PER_TASK:-1}" < "$1/$part" > "$2/.$part"
+status=$?
+[ "$status" -le 2 ] || exit "$status"
+mv "$2/.$part" "$2/$part"
