@@ -241,7 +241,7 @@ keeps_accept b n (ListenerAt l) g new = go (queue_of b l) refl
 keeps_call : (p : Profile) (b : HostTcp) (call : Call) (answer : Answer) → Sound b → ((n : ℕ) → gives call answer ≡ Some n → given b n ≡ false)
     → Keeps b (after_call p b call answer) (gives call answer)
 keeps_call p b (calls.Listen host port backlog) (answers.Given n) g new =
-    let wide : Body = record b { listeners = b.listeners ++ record { port = port; backlog = backlog; is_open = true; queue = [] } ∷ [] } in
+    let wide : HostTcp = record b { listeners = b.listeners ++ record { port = port; backlog = backlog; is_open = true; queue = [] } ∷ [] } in
     let x = keeps_listener wide n (length b.listeners) (keeps_stay b wide g (λ i e at. (e, at, stays_not e)) (λ m. refl) (λ k. queue_push b.listeners (record { port = port; backlog = backlog; is_open = true; queue = [] }) k refl)) (new n refl) in
     record { sound = x.sound; stays = x.stays; given = x.given }
 keeps_call p b (calls.Connect host lport rport) (answers.Given n) g new =
