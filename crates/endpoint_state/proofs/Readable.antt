@@ -50,7 +50,7 @@ joined_is b place e r = by (is_syn_received e.state && acknowledges_syn e r)
     by false = refl
 
 pub took_at : (h : Header) (how : TakeChoice) (m r : Emission) (moment place : ℕ) (e : Endpoint) (b : HostTcp) (o : Option ℕ) → slice_get b.endpoints place ≡ Some e → r ≡ as_read h.version e m → joins_by e r ≡ o
-    → (let c : Body = record b { endpoints = changed b.endpoints place (λ x. endpoint_taken h x how r moment); listeners = option_map_or (λ l. modify b.listeners l (λ x. let y : Listener = record x { queue = x.queue ++ place ∷ [] } in y)) o b.listeners } in c)
+    → (let c : HostTcp = record b { endpoints = changed b.endpoints place (λ x. endpoint_taken h x how r moment); listeners = option_map_or (λ l. modify b.listeners l (λ x. let y : Listener = record x { queue = x.queue ++ place ∷ [] } in y)) o b.listeners } in c)
     ≡ forget_body (after_taking h b how m moment (taker_found b (Some (found.Endpoint place))))
 took_at h how m r moment place e b o there read joins =
     let queues = ap (λ (p : Option ℕ). option_map_or (λ l. modify b.listeners l (λ x. let y : Listener = record x { queue = x.queue ++ place ∷ [] } in y)) p b.listeners) (sym joins) ∙ joined_is b place e r in
@@ -66,9 +66,9 @@ took_joined h how m r moment place l e b new (Err x) there read joins is = tt
 pub took_alone : {E : Type 0} (h : Header) (how : TakeChoice) (m r : Emission) (moment place : ℕ) (e : Endpoint) (b inside : HostTcp) (es : List Endpoint) (result : Result (Unit {0}) E)
     → inside ≡ b → slice_get b.endpoints place ≡ Some e → r ≡ as_read h.version e m → joins_by e r ≡ None
     → OnOk result (es ≡ changed inside.endpoints place (λ x. endpoint_taken h x how r moment))
-    → OnOk result ((let c : Body = record inside { endpoints = es } in c) ≡ forget_body (after_taking h b how m moment (taker_found b (Some (found.Endpoint place)))))
+    → OnOk result ((let c : HostTcp = record inside { endpoints = es } in c) ≡ forget_body (after_taking h b how m moment (taker_found b (Some (found.Endpoint place)))))
 took_alone h how m r moment place e b inside es (Ok x) same there read joins is =
-    ap (λ (xs : List Endpoint). let c : Body = record inside { endpoints = xs } in c) is
-    ∙ (ap (λ (d : HostTcp). let c : Body = record d { endpoints = changed d.endpoints place (λ x. endpoint_taken h x how r moment) } in c) same
+    ap (λ (xs : List Endpoint). let c : HostTcp = record inside { endpoints = xs } in c) is
+    ∙ (ap (λ (d : HostTcp). let c : HostTcp = record d { endpoints = changed d.endpoints place (λ x. endpoint_taken h x how r moment) } in c) same
     ∙ took_at h how m r moment place e b None there read joins)
 took_alone h how m r moment place e b inside es (Err x) same there read joins is = tt

@@ -45,16 +45,16 @@ queue_at b l x at = ap (λ (o : Option Listener). option_map_or (λ y. y.queue) 
 -- the first child is accepted
 pub accepted_first : (b : HostTcp) (l n child : ℕ) (es : List Endpoint) (xs : List Listener) (ss : List (ℕ × Socket)) → slice_get (queue_of b l) 0 ≡ Some child
     → es ≡ changed b.endpoints child (λ e. record e { listener = None }) → xs ≡ modify b.listeners l without_first → ss ≡ insert_entry nat_eq b.sockets n (record { thing = EndpointAt child; live = true })
-    → (let a : Body = record { endpoints = es; listeners = xs; sockets = ss } in a) ≡ forget_body (accepted_from b l n (queue_of b l))
+    → (let a : HostTcp = record { endpoints = es; listeners = xs; sockets = ss } in a) ≡ forget_body (accepted_from b l n (queue_of b l))
 accepted_first b l n child es xs ss first e x s = by (queue_of b l) refl first
   where
-    by : (q : List ℕ) → queue_of b l ≡ q → slice_get q 0 ≡ Some child → (let a : Body = record { endpoints = es; listeners = xs; sockets = ss } in a) ≡ forget_body (accepted_from b l n q)
+    by : (q : List ℕ) → queue_of b l ≡ q → slice_get q 0 ≡ Some child → (let a : HostTcp = record { endpoints = es; listeners = xs; sockets = ss } in a) ≡ forget_body (accepted_from b l n q)
     by [] is first = absurd (none-some child first)
     by (c ∷ q) is first =
         let same : c ≡ child = same_Some c child first in
         let listeners : modify b.listeners l without_first ≡ modify b.listeners l (λ x. record x { queue = q }) =
         modify_alike without_first (λ x. record x { queue = q }) b.listeners l (λ x at. ap (λ (ns : List ℕ). let y : Listener = record x { queue = drop 1 ns } in y) (sym (queue_at b l x at) ∙ is)) in
-        subst (λ (k : ℕ). (let a : Body = record { endpoints = es; listeners = xs; sockets = ss } in a) ≡ forget_body (accepted_from b l n (k ∷ q))) (sym same)
+        subst (λ (k : ℕ). (let a : HostTcp = record { endpoints = es; listeners = xs; sockets = ss } in a) ≡ forget_body (accepted_from b l n (k ∷ q))) (sym same)
         (body_is es _ xs _ ss _ e (x ∙ listeners) s)
 
 -- an endpoint that is opened has nothing to discard

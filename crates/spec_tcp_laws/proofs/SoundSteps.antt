@@ -246,7 +246,7 @@ keeps_call p b (calls.Listen host port backlog) (answers.Given n) g new =
     record { sound = x.sound; stays = x.stays; given = x.given }
 keeps_call p b (calls.Connect host lport rport) (answers.Given n) g new =
     let e : Endpoint = new_endpoint lport rport None states.SynSent p in
-    let wide : Body = record b { endpoints = b.endpoints ++ e ∷ [] } in
+    let wide : HostTcp = record b { endpoints = b.endpoints ++ e ∷ [] } in
     let x = keeps_socket wide n (length b.endpoints) e (keeps_stay b wide g (stay_push b.endpoints e) (λ m. refl) (λ k. refl)) (new n refl) (get_push b.endpoints e) refl
     (λ m own. let y = g.named m (length b.endpoints) own in let within = slice_get_within b.endpoints (length b.endpoints) y.0 y.1 in omega arith) in
     record { sound = x.sound; stays = x.stays; given = x.given }

@@ -127,7 +127,7 @@ forgotten_there (x ∷ es) (suc i) e is = forgotten_there es i e is
 -- in a host's run, as far as it is kept
 pub named_left : (h : Header) (me : Host) (xs : List (Entry tcp_shape)) → HostRun (tcp h) me (start (tcp h)) xs → IsNamed (forget_body (pick (end (tcp h) me (start (tcp h)) xs).hosts me).body)
 named_left h me xs runs n i is =
-    let b : Body = (pick (end (tcp h) me (start (tcp h)) xs).hosts me).body in
+    let b : HostTcp = (pick (end (tcp h) me (start (tcp h)) xs).hosts me).body in
     let there = ((run_sound h me (start (tcp h)) xs (nothing_sound h) runs).sound me).named n i (live_owner b n i is) in
     forgotten_there b.endpoints i there.0 there.1
 

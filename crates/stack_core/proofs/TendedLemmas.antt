@@ -76,7 +76,7 @@ within (y ∷ ys) (suc i) x at = let less = within ys i x at in omega arith
 pub nothing_ready : (h : Header) (me : Host) (w : World tcp_shape) (looked : ℕ) (ks : List Deadline) → length (pick w.hosts me).body.endpoints ≤ looked → None ≡ slice_get ks 0 → AreQuiet looked ks (pick w.hosts me).body.endpoints → NothingToMake h me w
 nothing_ready h me w looked (k ∷ ks) all none are m e rst found past permitted = absurd (none-some k none)
 nothing_ready h me w looked [] all none are m e rst found past permitted =
-    let b : Body = (pick w.hosts me).body in
+    let b : HostTcp = (pick w.hosts me).body in
     let at = of_ports b m.lport m.rport e found in
     let inside : at.0 < length b.endpoints = within b.endpoints at.0 e at.1 in
     let low : at.0 < looked = omega arith in
