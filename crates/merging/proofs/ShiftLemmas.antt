@@ -47,11 +47,12 @@ step_shift v names h (At host d) told = deed_shift v names h host d told
 
 said_shifts : (v : Version) (names : Names) (xs : List TcpEntry) → AllTold v xs → TellShifts v (steps_said (all_renumbered names xs))
 said_shifts v names [] told = tt
-said_shifts v names (x ∷ xs) told = by x.item told.0
+said_shifts v names (x ∷ xs) told = by x.item told.0 (said_shifts v names xs told.1)
   where
-    by : (item : Item tcp_shape) → IsToldItem v item → TellShifts v (steps_said (with_renumbered names x.key item (all_renumbered names xs)))
-    by (Do step) one = (step_shift v names x.key.host step one, said_shifts v names xs told.1)
-    by (Bring f) one = said_shifts v names xs told.1
+    by : (item : Item tcp_shape) → IsToldItem v item → TellShifts v (steps_said (all_renumbered names xs))
+        → TellShifts v (steps_said (with_renumbered names x.key item (all_renumbered names xs)))
+    by (Do step) one more = (step_shift v names x.key.host step one, more)
+    by (Bring f) one more = more
 
 -- so do those of two hosts, merged
 pub both_shifts : (v w : Version) (first : ℕ) (zeros ones : List TcpEntry) (steps : List witness.Step) → w ≡ v → steps ≡ steps_said (both_renumbered first zeros ones)
