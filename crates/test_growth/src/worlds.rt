@@ -74,13 +74,13 @@ fn push_endpoint(alloc: Global, endpoint: &Endpoint, text: &mut String) -> Resul
         state,
         fault,
         window,
-        congestion,
+        control,
         timers,
         ..
     } = endpoint;
     let ends = format!(in alloc; " {lport} {rport} {iss:?} {irs:?} {state:?} {fault:?}")?;
     text.push_str(ends.as_str())?;
-    let rules = format!(in alloc; " {window:?} {congestion:?} {timers:?}")?;
+    let rules = format!(in alloc; " {window:?} {control:?} {timers:?}")?;
     text.push_str(rules.as_str())?;
     let (made, next) = (endpoint.snd_max(), endpoint.rcv_nxt());
     text.push_str(format!(in alloc; " {made} {next}")?.as_str())
