@@ -8,19 +8,24 @@
 //! - `windows`: how far new data may reach, and the first congestion window
 //! - `growth`: what acknowledgments do to the congestion window
 //! - `losses`: what timeouts and fast recovery do to it
+//! - `cubic`: what an acknowledgment and a loss do to it in CUBIC (RFC 9438)
 //! - `laws`: that the answers are the greatest values that the RFCs allow, and what follows
 //!
 //! The formulas stand in specs/ under the same names.
 #![tactic(auto)]
 
 mod congestion;
+mod cubic;
+mod cubic_laws;
 mod growth;
 mod laws;
 mod losses;
 mod windows;
 
 pub use congestion::Congestion;
+pub use cubic::{Cubic, Epoch, after_recovery, after_timeout, cubic_window, epoch_after, reduced};
 pub use growth::{counted_after, may_grow, on_duplicate};
+pub use cubic_laws::{cubic_is_greatest, curve_rises, estimate_is_gentle, plateau_time_is_exact};
 pub use laws::{
     counts_once, edges_are_exact, growth_is_gentle, growth_is_greatest, loss_halves,
     losses_are_greatest, recovery_is_greatest,
