@@ -57,7 +57,7 @@ parted : (a b d v : ℕ) → v ≤ max a (max b d) → (v ≤ a) ⊎ ((v ≤ b) 
 parted a b d v h =
     elim (leb_tells v a) [
       | inl first ↦ inl first.1
-      | inr no ↦ elim (leb_tells v b) [ inl second ↦ inr (inl second.1) | inr nor ↦ inr (inr (omega (arith, no.1, nor.1, h))) ]
+      | inr over ↦ elim (leb_tells v b) [ inl second ↦ inr (inl second.1) | inr beyond ↦ inr (inr (omega (arith, over.1, beyond.1, h))) ]
     ]
 
 joined : (a b d v : ℕ) → (v ≤ a) ⊎ ((v ≤ b) ⊎ (v ≤ d)) → v ≤ max a (max b d)

@@ -26,10 +26,10 @@ climb_zero : (smss t : ℕ) → t ≡ 0 → climb smss t ≡ 0
 climb_zero smss t e = rw e (omega arith)
 
 -- one bit less is left, and the number has it where it passes
-pub bit_kept : (holds : ℕ → Bool) (m n low new found : ℕ) → m ≡ n + 1 → new ≡ (if holds (low + 2 ^ n) then low + 2 ^ n else low) →
-    last_by_bits holds m low ≡ found → last_by_bits holds n new ≡ found
+pub bit_kept : (holds : ℕ → Bool) (m n low new found : ℕ) → m ≡ n + 1 → last_by_bits holds m low ≡ found →
+    new ≡ (if holds (low + 2 ^ n) then low + 2 ^ n else low) → last_by_bits holds n new ≡ found
 unfolding last_by_bits
-bit_kept holds m n low new found e is h = let s : m ≡ suc n = omega (arith, e) in ap (last_by_bits holds n) is ∙ (rw s at h)
+bit_kept holds m n low new found e h is = let s : m ≡ suc n = omega (arith, e) in ap (last_by_bits holds n) is ∙ (rw s at h)
 
 -- no bit is left
 pub no_bit : (holds : ℕ → Bool) (m low found : ℕ) → m ≡ 0 → last_by_bits holds m low ≡ found → low ≡ found
@@ -152,11 +152,11 @@ at_least k w a b x most (early lt is) = omega arith
 at_least k w a b x most (climbing ge soon is) = omega arith
 at_least k w a b x most (far ge long is) = omega arith
 
-near_begin : (k w c a b n x : ℕ) → w ≤ greatest_window → c ≤ w → b ≡ 0 → (k ≡ 0 → a ≡ 0) → a ≤ parts * (w - c) → parts * (w - c) < n →
-    At 0 k w a b x → (c ≤ x) × (parts * (x - c) + a < n + parts)
-near_begin k w c a b n x most le none zero_too reached passed (early lt is) = (omega arith, omega arith)
-near_begin k w c a b n x most le none zero_too reached passed (climbing ge soon is) = let z = zero_too (omega arith) in (omega arith, omega arith)
-near_begin k w c a b n x most le none zero_too reached passed (far ge long is) = (omega arith, omega arith)
+near_begin : (k w c a b d n x : ℕ) → w ≤ greatest_window → c ≤ w → b ≡ 0 → d ≡ a → (k ≡ 0 → d ≡ 0) → d ≤ parts * (w - c) → parts * (w - c) < n →
+    At 0 k w a b x → (c ≤ x) × (parts * (x - c) + d < n + parts)
+near_begin k w c a b d n x most le none same nothing reached passed (early lt is) = (omega arith, omega arith)
+near_begin k w c a b d n x most le none same nothing reached passed (climbing ge soon is) = let z = nothing (omega arith) in (omega arith, omega arith)
+near_begin k w c a b d n x most le none same nothing reached passed (far ge long is) = (omega arith, omega arith)
 
 begins : (state : Cubic) (c : Congestion) (moment : ℕ) → 1 ≤ c.smss → plateau_from state c ≤ greatest_window →
     (c.cwnd ≤ curve c.smss (epoch_from state c moment) 0)
@@ -166,10 +166,13 @@ begins state c moment some most =
     let w = plateau_from state c in
     let k = plateau_time c.smss (w - c.cwnd) in
     let exact = plateau_time_exact c.smss (w - c.cwnd) some (omega (arith, most)) in
-    let whole : k ≡ k - 0 = omega arith in
-    near_begin k w c.cwnd (climb c.smss k) (climb c.smss (0 - k)) (climb c.smss (k + 1)) (curve c.smss (epoch_from state c moment) 0)
-      most (omega arith) (climb_zero c.smss (0 - k) (omega arith)) (climb_zero c.smss k) exact.reached exact.passed
-      (rw whole (at_time c.smss (epoch_from state c moment) 0))
+    let same = ap (climb c.smss) (whole k) in
+    near_begin k w c.cwnd (climb c.smss (k - 0)) (climb c.smss (0 - k)) (climb c.smss k) (climb c.smss (k + 1)) (curve c.smss (epoch_from state c moment) 0)
+      most (omega arith) (climb_zero c.smss (0 - k) (omega arith)) same (climb_zero c.smss k) exact.reached exact.passed
+      (at_time c.smss (epoch_from state c moment) 0)
+  where
+    whole : (k : ℕ) → k ≡ k - 0
+    whole k = omega arith
 
 pub curve_rises : CurveRises
 curve_rises = record {

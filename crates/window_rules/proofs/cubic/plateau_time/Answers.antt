@@ -18,7 +18,7 @@ loop-turn-preserved c =
     let bit = bit_of turn c.loop-turn-test.true in
     let rest = bits_left turn c.loop-turn-test.true in
     let climbed = c.climb.ensures.value ∙ ap (λ b. climb smss (low + b)) bit in
-    let kept = λ is. bit_kept (λ t. nat_le (climb smss t) target) (32 - turn) left low new (plateau_time smss c.args.distance) (omega (arith, c.loop-turn-test.true)) is c.loop-turn.invariant.found in
+    let kept = bit_kept (λ t. nat_le (climb smss t) target) (32 - turn) left low new (plateau_time smss c.args.distance) (omega (arith, c.loop-turn-test.true)) c.loop-turn.invariant.found in
     elim c.if-climb-target.branch [
       | then-climb-target w ↦ record {
           found = kept (bit_taken c.climb.result (climb smss (low + 2 ^ left)) target low (2 ^ left) new climbed w.if-climb-target.true (w.time-is ∙ ap (λ b. low + b) bit));
