@@ -5,16 +5,14 @@ use Rattle.window_rules.specs.declared.congestion.Congestion.{Congestion}
 use Rattle.window_rules.specs.declared.cubic.Cubic.{Cubic}
 use Rattle.window_rules.specs.declared.cubic.Epoch.{Epoch}
 use Rattle.window_rules.specs.Windows.{start, greatest_window}
-use Rattle.window_rules.specs.Cubic.{last_by_bits, plateau_time, curve, friendlier, epoch_after, cubic_window, reduced, after_recovery, after_timeout}
+use Rattle.window_rules.specs.Cubic.{before_loss, last_by_bits, plateau_time, curve, friendlier, epoch_after, cubic_window, reduced}
+use Rattle.window_rules.specs.Cubic.{after_recovery, after_timeout}
 
 abbrev window : ℕ → Congestion
 window cwnd = record start { cwnd = cwnd; ssthresh = 7000; smss = 1000 }
 
-abbrev none_yet : Cubic
-none_yet = record { top = None; prior = None; epoch = None }
-
 abbrev lost : Cubic
-lost = after_recovery none_yet (window 10000) false
+lost = after_recovery before_loss (window 10000) false
 
 -- the epoch with this W_est
 abbrev climbing : ℕ → Epoch
@@ -73,6 +71,6 @@ at_least_two_segments = refl
 pub prior_stays_in_a_recovery : after_timeout lost (window 7000) true ≡ record { top = None; prior = Some 10000; epoch = None }
 prior_stays_in_a_recovery = refl
 
-pub plateau_after_a_timeout : (epoch_after (after_timeout none_yet (window 10000) false) (window 2000) 0 5).plateau ≡ 2000
+pub plateau_after_a_timeout : (epoch_after (after_timeout before_loss (window 10000) false) (window 2000) 0 5).plateau ≡ 2000
 unfolding last_by_bits
 plateau_after_a_timeout = refl

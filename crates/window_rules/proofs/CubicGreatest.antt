@@ -87,12 +87,13 @@ below_quotient : (a b x : ℕ) → 0 < b → (x ≤ div_ceil a b) ↔ (x * b < a
 below_quotient a b x some = by (div_ceil a b) (div_ceil_times a b some)
   where
     by : (q : ℕ) → (a ≤ q * b) × (q * b < a + b) → (x ≤ q) ↔ (x * b < a + b)
-    by q times =
-        ((λ h. let m = mul-le x b q b h (omega arith) in omega (arith, m, times.1)),
-         (λ h. elim (leb_tells x q) [
-           | inl le ↦ le.1
-           | inr lt ↦ let m = mul-le (q + 1) b x b (omega (arith, lt.1)) (omega arith) in absurd (omega (arith, m, times.0, h))
-         ]))
+    by q times = (
+      (λ h. let m = mul-le x b q b h (omega arith) in omega (arith, m, times.1)),
+      (λ h. elim (leb_tells x q) [
+        | inl le ↦ le.1
+        | inr lt ↦ let m = mul-le (q + 1) b x b (omega (arith, lt.1)) (omega arith) in absurd (omega (arith, m, times.0, h))
+      ]),
+    )
 
 quotient_at_most : (a b s : ℕ) → 0 < b → a ≤ s * b → div_ceil a b ≤ s
 quotient_at_most a b s some le =
@@ -127,10 +128,10 @@ estimate_up_to e c acked v h =
     elim (leb_tells (suc e.estimate) e.prior) [
       | inl under ↦ below under.1
           ((below_quotient (9 * (c.smss * acked)) (17 * max c.cwnd 1) (v - e.estimate) (omega arith)).0
-            (left_over v e.estimate (div_ceil (9 * (c.smss * acked)) (17 * max c.cwnd 1)) (rw under.0 at h)))
+          (left_over v e.estimate (div_ceil (9 * (c.smss * acked)) (17 * max c.cwnd 1)) (rw under.0 at h)))
       | inr over ↦ above (omega (arith, over.1))
           ((below_quotient (c.smss * acked) (max c.cwnd 1) (v - e.estimate) (omega arith)).0
-            (left_over v e.estimate (div_ceil (c.smss * acked) (max c.cwnd 1)) (rw over.0 at h)))
+          (left_over v e.estimate (div_ceil (c.smss * acked) (max c.cwnd 1)) (rw over.0 at h)))
     ]
 
 within_cap : (v n : ℕ) → v ≤ capped n → v ≤ greatest_window
@@ -155,11 +156,11 @@ reduced_up_to c flight v h =
 
 pub cubic_greatest : CubicIsGreatest
 cubic_greatest = record {
-    estimate = λ e c acked within v.
-        ((λ may. estimate_below e c acked v may.0 may.1), (λ h. (estimate_up_to e c acked v h, within_cap v (e.estimate + friendly_increment e c acked) h)));
-    window = λ c e moment srtt most within v. ((λ may. window_below c e moment srtt v may.0 may.1), window_up_to c e moment srtt v most within);
-    reduced = λ c flight v. ((λ may. reduced_below c flight v may.0 may.1), (λ h. (reduced_up_to c flight v h, omega (arith, h))));
-  }
+  estimate = λ e c acked v.
+      ((λ may. estimate_below e c acked v may.0 may.1), (λ h. (estimate_up_to e c acked v h, within_cap v (e.estimate + friendly_increment e c acked) h)));
+  window = λ c e moment srtt most within v. ((λ may. window_below c e moment srtt v may.0 may.1), window_up_to c e moment srtt v most within);
+  reduced = λ c flight v. ((λ may. reduced_below c flight v may.0 may.1), (λ h. (reduced_up_to c flight v h, omega (arith, h))));
+}
 
 increment_at_most : (e : Epoch) (c : Congestion) (acked : ℕ) → acked ≤ c.cwnd → friendly_increment e c acked ≤ c.smss
 increment_at_most e c acked le =
@@ -175,9 +176,9 @@ increment_at_most e c acked le =
 
 pub estimate_gentle : EstimateIsGentle
 estimate_gentle = record {
-    keeps = λ e c acked within. added e.estimate e.estimate (friendly_increment e c acked) within.estimate (omega arith);
-    segment = λ e c acked le. under_cap e.estimate (friendly_increment e c acked) c.smss (increment_at_most e c acked le);
-  }
+  keeps = λ e c acked within. added e.estimate e.estimate (friendly_increment e c acked) within.estimate (omega arith);
+  segment = λ e c acked le. under_cap e.estimate (friendly_increment e c acked) c.smss (increment_at_most e c acked le);
+}
   where
     under_cap : (e q s : ℕ) → q ≤ s → capped (e + q) ≤ e + s
     under_cap e q s h = omega arith

@@ -1,6 +1,7 @@
 -- CUBIC's K, found bit by bit, and its curve. Numbers: w the plateau, k its time, a and b what the curve climbs before and
 -- after it, in parts of a byte.
-use Rattle.std.proofs.Common.{◌≡◌, ℕ, zero, suc, ◌+◌, ◌-◌, ◌*◌, ◌/◌, ◌%◌, ◌^◌, ◌<◌, ◌≤◌, ◌↔◌, ◌⊎◌, Bool, true, false, if◌then◌else◌, nat_lt, nat_le, inl, inr, arith, min, max, refl, ap, sym, ◌∙◌}
+use Rattle.std.proofs.Common.{◌≡◌, ℕ, zero, suc, ◌+◌, ◌-◌, ◌*◌, ◌/◌, ◌%◌, ◌^◌, ◌<◌, ◌≤◌, Bool, true, false, if◌then◌else◌, nat_lt, nat_le, inl, inr, arith, refl}
+use Rattle.std.proofs.Common.{ap, ◌∙◌}
 use Rattle.std.specs.Int.{div_ceil}
 use Rattle.std.proofs.lemmas.Bool.{cases_Bool}
 use Rattle.std.proofs.lemmas.Bool.Decides.{nat_tests, leb_tells}
@@ -16,7 +17,8 @@ use Rattle.window_rules.specs.CubicLaws.{PlateauTimeIsExact, CurveRises, IsWithi
 -- within 2^36 microseconds it fits 126 bits
 pub climb_fits : (smss t : ℕ) → smss ≤ 65535 → t < 2 ^ 36 → climb smss t < 2 ^ 126
 climb_fits smss t most soon =
-    mul-lt (4 * smss * t * t) t (2 ^ 90) (2 ^ 36) (mul-lt (4 * smss * t) t (2 ^ 54) (2 ^ 36) (mul-lt (4 * smss) t (2 ^ 18) (2 ^ 36) (omega arith) soon) soon) soon
+    let one = mul-lt (4 * smss) t (2 ^ 18) (2 ^ 36) (omega arith) soon in
+    mul-lt (4 * smss * t * t) t (2 ^ 90) (2 ^ 36) (mul-lt (4 * smss * t) t (2 ^ 54) (2 ^ 36) one soon) soon
 
 climb_grows : (smss t u : ℕ) → t ≤ u → climb smss t ≤ climb smss u
 climb_grows smss t u le =
@@ -139,7 +141,8 @@ curve_later smss e t u within le =
     let k = e.plateau_time in
     let less = climb_grows smss (k - u) (k - t) (omega arith) in
     let more = climb_grows smss (t - k) (u - k) (omega arith) in
-    later t u k e.plateau (climb smss (k - t)) (climb smss (t - k)) (climb smss (k - u)) (climb smss (u - k)) (curve smss e t) (curve smss e u) within.plateau le less more (at_time smss e t) (at_time smss e u)
+    later t u k e.plateau (climb smss (k - t)) (climb smss (t - k)) (climb smss (k - u)) (climb smss (u - k)) (curve smss e t) (curve smss e u)
+    within.plateau le less more (at_time smss e t) (at_time smss e u)
 
 -- where it begins, and at its plateau
 at_most : (t k w a b x : ℕ) → w ≤ greatest_window → t ≤ k → b ≡ 0 → At t k w a b x → x ≤ w
@@ -161,31 +164,32 @@ near_begin k w c a b d n x most le none same nothing reached passed (far ge long
 begins : (state : Cubic) (c : Congestion) (moment : ℕ) → 1 ≤ c.smss → plateau_from state c ≤ greatest_window →
     (c.cwnd ≤ curve c.smss (epoch_from state c moment) 0)
     × (parts * (curve c.smss (epoch_from state c moment) 0 - c.cwnd) + climb c.smss ((epoch_from state c moment).plateau_time)
-      < climb c.smss ((epoch_from state c moment).plateau_time + 1) + parts)
+    < climb c.smss ((epoch_from state c moment).plateau_time + 1) + parts)
 begins state c moment some most =
     let w = plateau_from state c in
     let k = plateau_time c.smss (w - c.cwnd) in
     let exact = plateau_time_exact c.smss (w - c.cwnd) some (omega (arith, most)) in
     let same = ap (climb c.smss) (whole k) in
     near_begin k w c.cwnd (climb c.smss (k - 0)) (climb c.smss (0 - k)) (climb c.smss k) (climb c.smss (k + 1)) (curve c.smss (epoch_from state c moment) 0)
-      most (omega arith) (climb_zero c.smss (0 - k) (omega arith)) same (climb_zero c.smss k) exact.reached exact.passed
-      (at_time c.smss (epoch_from state c moment) 0)
+    most (omega arith) (climb_zero c.smss (0 - k) (omega arith)) same (climb_zero c.smss k) exact.reached exact.passed
+    (at_time c.smss (epoch_from state c moment) 0)
   where
     whole : (k : ℕ) → k ≡ k - 0
     whole k = omega arith
 
 pub curve_rises : CurveRises
 curve_rises = record {
-    rises = curve_later;
-    flat = λ smss e within.
-        let k = e.plateau_time in
-        let none = climb_zero smss (k - k) (omega arith) in
-        let most = at_most k k e.plateau (climb smss (k - k)) (climb smss (k - k)) (curve smss e k) within.plateau (omega arith) none (at_time smss e k) in
-        let least = at_least k e.plateau (climb smss (k - k)) (climb smss (k - k)) (curve smss e k) within.plateau (at_time smss e k) in
-        omega (arith, most, least);
-    low = λ state c moment some most. (begins state c moment some most).0;
-    high = λ smss e within.
-        let k = e.plateau_time in
-        at_most 0 k e.plateau (climb smss (k - 0)) (climb smss (0 - k)) (curve smss e 0) within.plateau (omega arith) (climb_zero smss (0 - k) (omega arith)) (at_time smss e 0);
-    near = λ state c moment some most. (begins state c moment some most).1;
-  }
+  rises = curve_later;
+  flat = λ smss e within.
+      let k = e.plateau_time in
+      let none = climb_zero smss (k - k) (omega arith) in
+      let most = at_most k k e.plateau (climb smss (k - k)) (climb smss (k - k)) (curve smss e k) within.plateau (omega arith) none (at_time smss e k) in
+      let least = at_least k e.plateau (climb smss (k - k)) (climb smss (k - k)) (curve smss e k) within.plateau (at_time smss e k) in
+      omega (arith, most, least);
+  low = λ state c moment some most. (begins state c moment some most).0;
+  high = λ smss e within.
+      let k = e.plateau_time in
+      let none = climb_zero smss (0 - k) (omega arith) in
+      at_most 0 k e.plateau (climb smss (k - 0)) (climb smss (0 - k)) (curve smss e 0) within.plateau (omega arith) none (at_time smss e 0);
+  near = λ state c moment some most. (begins state c moment some most).1;
+}

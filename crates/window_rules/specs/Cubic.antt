@@ -8,12 +8,12 @@ use Rattle.window_rules.specs.declared.cubic.Cubic.{Cubic}
 use Rattle.window_rules.specs.declared.cubic.Epoch.{Epoch}
 use Rattle.window_rules.specs.Windows.{capped, greatest_window}
 
--- a byte has so many parts, in which the curve is told
+-- a byte has so many parts, in which the curve is computed
 abbrev pub parts : ℕ
 parts = 10000000000000000000
 
--- how far the curve is from its plateau `t` microseconds before and after it, in parts of a byte: 0.4 segments at a
--- second (RFC 9438, 4.2)
+-- how far the curve is from its plateau `t` microseconds before and after it, in parts of a byte: at a second 0.4
+-- segments (RFC 9438, 4.2)
 abbrev pub climb : ℕ → ℕ → ℕ
 climb smss t = 4 * smss * t * t * t
 
@@ -22,6 +22,10 @@ climb smss t = 4 * smss * t * t * t
 unfoldable pub last_by_bits : (ℕ → Bool) → ℕ → ℕ → ℕ
 last_by_bits holds zero low = low
 last_by_bits holds (suc bits) low = last_by_bits holds bits (if holds (low + 2 ^ bits) then low + 2 ^ bits else low)
+
+-- before any loss
+abbrev pub before_loss : Cubic
+before_loss = record { top = None; prior = None; epoch = None }
 
 -- K: when a curve that begins so many bytes below its plateau reaches it, rounded down (RFC 9438, 4.2)
 abbrev pub plateau_time : ℕ → ℕ → ℕ
@@ -32,26 +36,28 @@ plateau_time smss distance = last_by_bits (λ t. nat_le (climb smss t) (parts * 
 abbrev pub curve : ℕ → Epoch → ℕ → ℕ
 curve smss e t =
     if nat_lt t e.plateau_time then e.plateau - climb smss (e.plateau_time - t) / parts
-    else (if nat_lt (t - e.plateau_time) (2 ^ 36) then capped (e.plateau + div_ceil (climb smss (t - e.plateau_time)) parts) else greatest_window)
+    else (if nat_lt (t - e.plateau_time) (2 ^ 36)
+    then capped (e.plateau + div_ceil (climb smss (t - e.plateau_time)) parts) else greatest_window)
 
--- W_max: the window before the loss, where cwnd is below it (RFC 9438, 4.2, 4.8 and 4.10)
+-- W_max: the window before the loss if cwnd is below it, else cwnd (RFC 9438, 4.2, 4.8 and 4.10)
 abbrev pub plateau_from : Cubic → Congestion → ℕ
 plateau_from state c = max (unwrap_or state.top c.cwnd) c.cwnd
 
 -- the epoch that begins at a moment (RFC 9438, 4.2, 4.3 and 4.8)
 abbrev pub epoch_from : Cubic → Congestion → ℕ → Epoch
 epoch_from state c moment = record {
-    begin = moment;
-    plateau = plateau_from state c;
-    plateau_time = plateau_time c.smss (plateau_from state c - c.cwnd);
-    estimate = c.cwnd;
-    prior = unwrap_or state.prior c.cwnd;
-  }
+  begin = moment;
+  plateau = plateau_from state c;
+  plateau_time = plateau_time c.smss (plateau_from state c - c.cwnd);
+  estimate = c.cwnd;
+  prior = unwrap_or state.prior c.cwnd;
+}
 
 -- how W_est grows: 9/17 of a segment for a window that is acknowledged, from cwnd_prior on a segment (RFC 9438, 4.3)
 abbrev pub friendly_increment : Epoch → Congestion → ℕ → ℕ
 friendly_increment e c acked =
-    if nat_lt e.estimate e.prior then div_ceil (9 * (c.smss * acked)) (17 * max c.cwnd 1) else div_ceil (c.smss * acked) (max c.cwnd 1)
+    if nat_lt e.estimate e.prior then div_ceil (9 * (c.smss * acked)) (17 * max c.cwnd 1)
+    else div_ceil (c.smss * acked) (max c.cwnd 1)
 
 -- the epoch once W_est has grown (RFC 9438, 4.3)
 abbrev pub friendlier : Epoch → Congestion → ℕ → Epoch
@@ -73,7 +79,7 @@ reduced c flight = capped (max (7 * max flight c.cwnd / 10) (2 * c.smss))
 abbrev pub prior_after : Cubic → Congestion → Bool → Option ℕ
 prior_after state c recovering = if recovering then state.prior else Some c.cwnd
 
--- where fast recovery begins: the next curve has its plateau at cwnd as it was (RFC 9438, 4.2 and 4.6)
+-- when fast recovery begins: the next curve has its plateau at cwnd as it was (RFC 9438, 4.2 and 4.6)
 abbrev pub after_recovery : Cubic → Congestion → Bool → Cubic
 after_recovery state c recovering = record { top = Some c.cwnd; prior = prior_after state c recovering; epoch = None }
 

@@ -15,25 +15,31 @@ pub record IsPlateauTime (smss distance k : ℕ) : Type 0 where
 
 -- K is that time
 abbrev pub PlateauTimeIsExact : Type 0
-PlateauTimeIsExact = (smss distance : ℕ) → 1 ≤ smss → distance ≤ greatest_window → IsPlateauTime smss distance (plateau_time smss distance)
+PlateauTimeIsExact =
+    (smss distance : ℕ) → 1 ≤ smss → distance ≤ greatest_window →
+    IsPlateauTime smss distance (plateau_time smss distance)
 
--- a window that is at most 0.4 segments t^3 above the plateau, t seconds after K or (below it) before, to the whole byte
--- above; any window from 2^36 microseconds after K on (RFC 9438, 4.2)
+-- a window that is at most 0.4 t^3 segments above the plateau t seconds after K, or as much below it before, to the
+-- whole byte above; any window from 2^36 microseconds after K on (RFC 9438, 4.2)
 pub data MayClimb (smss : ℕ) (e : Epoch) (t window : ℕ) : Type 0 where
   none : window ≡ 0 → MayClimb smss e t window
   before : t < e.plateau_time → window ≤ e.plateau →
       climb smss (e.plateau_time - t) < parts * (e.plateau - window) + parts → MayClimb smss e t window
-  after : e.plateau_time ≤ t → parts * (window - e.plateau) < climb smss (t - e.plateau_time) + parts → MayClimb smss e t window
+  after : e.plateau_time ≤ t →
+      parts * (window - e.plateau) < climb smss (t - e.plateau_time) + parts → MayClimb smss e t window
   late : 2 ^ 36 ≤ t - e.plateau_time → MayClimb smss e t window
 
 -- W_est after an acknowledgment: up to cwnd_prior 9/17 of a segment for each window, then a segment for each, to the
 -- whole byte above (RFC 9438, 4.3)
 pub data MayEstimate (e : Epoch) (c : Congestion) (acked window : ℕ) : Type 0 where
   below : e.estimate < e.prior →
-      (window - e.estimate) * (17 * max c.cwnd 1) < 9 * (c.smss * acked) + 17 * max c.cwnd 1 → MayEstimate e c acked window
-  above : e.prior ≤ e.estimate → (window - e.estimate) * max c.cwnd 1 < c.smss * acked + max c.cwnd 1 → MayEstimate e c acked window
+      (window - e.estimate) * (17 * max c.cwnd 1) < 9 * (c.smss * acked) + 17 * max c.cwnd 1 →
+      MayEstimate e c acked window
+  above : e.prior ≤ e.estimate →
+      (window - e.estimate) * max c.cwnd 1 < c.smss * acked + max c.cwnd 1 → MayEstimate e c acked window
 
--- a window in congestion avoidance: as it was, up to W_est, or up to the curve a round trip ahead (RFC 9438, 4.3 to 4.5)
+-- a window in congestion avoidance: as it was, up to W_est, or up to the curve a round trip ahead (RFC 9438, 4.3 to
+-- 4.5)
 pub data MayGrowCubic (c : Congestion) (e : Epoch) (moment srtt window : ℕ) : Type 0 where
   kept : window ≤ c.cwnd → MayGrowCubic c e moment srtt window
   friendly : window ≤ e.estimate → MayGrowCubic c e moment srtt window
@@ -52,7 +58,8 @@ pub record IsWithin (e : Epoch) : Type 0 where
 
 -- the greatest windows and thresholds that are allowed
 pub record CubicIsGreatest : Type 0 where
-  pub estimate : (e : Epoch) (c : Congestion) (acked : ℕ) → IsWithin e → IsGreatest (MayEstimate e c acked) ((friendlier e c acked).estimate)
+  pub estimate : (e : Epoch) (c : Congestion) (acked : ℕ) →
+      IsGreatest (MayEstimate e c acked) ((friendlier e c acked).estimate)
   pub window : (c : Congestion) (e : Epoch) (moment srtt : ℕ) → c.cwnd ≤ greatest_window → IsWithin e →
       IsGreatest (MayGrowCubic c e moment srtt) (cubic_window c e moment srtt)
   pub reduced : (c : Congestion) (flight : ℕ) → IsGreatest (MayReduce c flight) (reduced c flight)
@@ -69,10 +76,12 @@ pub record CurveRises : Type 0 where
   pub high : (smss : ℕ) (e : Epoch) → IsWithin e → curve smss e 0 ≤ e.plateau
   -- above cwnd by less than a byte and what it climbs in the microsecond in which it passes its plateau
   pub near : (state : Cubic) (c : Congestion) (moment : ℕ) → 1 ≤ c.smss → plateau_from state c ≤ greatest_window →
-      parts * (curve c.smss (epoch_from state c moment) 0 - c.cwnd) + climb c.smss ((epoch_from state c moment).plateau_time)
+      parts * (curve c.smss (epoch_from state c moment) 0 - c.cwnd)
+      + climb c.smss ((epoch_from state c moment).plateau_time)
       < climb c.smss ((epoch_from state c moment).plateau_time + 1) + parts
 
--- W_est never falls, and grows by at most a segment where at most a window is acknowledged
+-- W_est never falls, and grows by at most a segment if at most a window is acknowledged
 pub record EstimateIsGentle : Type 0 where
   pub keeps : (e : Epoch) (c : Congestion) (acked : ℕ) → IsWithin e → e.estimate ≤ (friendlier e c acked).estimate
-  pub segment : (e : Epoch) (c : Congestion) (acked : ℕ) → acked ≤ c.cwnd → (friendlier e c acked).estimate ≤ e.estimate + c.smss
+  pub segment : (e : Epoch) (c : Congestion) (acked : ℕ) → acked ≤ c.cwnd →
+      (friendlier e c acked).estimate ≤ e.estimate + c.smss

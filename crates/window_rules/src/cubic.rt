@@ -1,14 +1,16 @@
 //! The windows of CUBIC (RFC 9438) with C = 0.4 and beta = 0.7. Windows are bytes, times are microseconds.
 
-ghost use Rattle.std.specs.Prelude.{◌≡◌, ◌≤◌, ◌<◌, ◌^◌, ◌*◌, None};
+ghost use Rattle.std.specs.Prelude.{◌≡◌, ◌≤◌, ◌<◌, ◌^◌, ◌*◌};
 ghost use Rattle.window_rules.specs.Windows.{greatest_window, capped};
 ghost use Rattle.window_rules.specs.Cubic.{climb, plateau_time, curve, epoch_from, friendly_increment, friendlier};
-ghost use Rattle.window_rules.specs.Cubic.{epoch_after, cubic_window, reduced, prior_after, after_recovery, after_timeout};
+ghost use Rattle.window_rules.specs.Cubic.{before_loss, epoch_after, cubic_window, reduced, prior_after};
+ghost use Rattle.window_rules.specs.Cubic.{after_recovery, after_timeout};
 
 use crate::congestion::Congestion;
 use crate::windows::GREATEST_WINDOW;
 
-/// How many parts of a byte the curve is told in: 0.4 SMSS t^3 bytes of seconds are 4 SMSS t^3 parts of microseconds.
+/// How many parts a byte has, so that the curve is 4 SMSS t^3 parts from its plateau at t microseconds: 0.4 segments
+/// at a second.
 const PARTS: u128 = 10_000_000_000_000_000_000;
 
 /// What CUBIC remembers of an endpoint between its losses. Windows are bytes.
@@ -40,9 +42,7 @@ pub struct Epoch {
 impl Cubic {
     /// Before any loss.
     pub fn start() -> Cubic
-        ensures top { result.top ≡ None }
-        ensures prior { result.prior ≡ None }
-        ensures epoch { result.epoch ≡ None }
+        ensures { result ≡ before_loss }
     {
         Cubic {
             top: None,
@@ -52,8 +52,8 @@ impl Cubic {
     }
 }
 
-/// The epoch after an acknowledgment of `acked` new bytes in congestion avoidance at a moment in microseconds, with W_est
-/// grown; it begins then if there is none. SMSS is at most 65535 (RFC 9438, 4.2 and 4.3).
+/// The epoch after an acknowledgment of `acked` new bytes in congestion avoidance at a moment in microseconds, with
+/// W_est grown; it begins then if there is none. SMSS is at most 65535 (RFC 9438, 4.2 and 4.3).
 pub fn epoch_after(cubic: &Cubic, congestion: &Congestion, acked: u64, moment: u64) -> Epoch
     requires { congestion.now.smss ≤ 65535 }
     ensures { result ≡ epoch_after cubic.now congestion.now acked moment }
@@ -89,7 +89,7 @@ pub fn reduced(congestion: &Congestion, flight: u64) -> u64
     capped((7 * flight / 10).max(segments))
 }
 
-/// What CUBIC remembers where fast recovery begins; `recovering` means that an earlier recovery is still on (RFC 9438,
+/// What CUBIC remembers when fast recovery begins; `recovering` means that an earlier recovery is still on (RFC 9438,
 /// 4.2, 4.3 and 4.6).
 pub fn after_recovery(cubic: &Cubic, congestion: &Congestion, recovering: bool) -> Cubic
     ensures { result ≡ after_recovery cubic.now congestion.now recovering }

@@ -1,5 +1,5 @@
-//! What CUBIC's windows have to do with what RFC 9438 allows, for callers that prove more: each law is the contract of a
-//! call that does nothing.
+//! What CUBIC's windows have to do with what RFC 9438 allows, for callers that prove more: each law is the contract of
+//! a call that does nothing.
 
 ghost use Rattle.window_rules.specs.CubicLaws.{PlateauTimeIsExact, CubicIsGreatest, CurveRises, EstimateIsGentle};
 
@@ -13,12 +13,12 @@ pub fn cubic_is_greatest()
     ensures { CubicIsGreatest }
 {}
 
-/// The curve begins at cwnd, never falls, and is flat at its plateau (RFC 9438, 4.2).
+/// The curve begins at cwnd or just above, never falls, and is at its plateau after K (RFC 9438, 4.2).
 pub fn curve_rises()
     ensures { CurveRises }
 {}
 
-/// W_est never falls, and grows by at most a segment where at most a window is acknowledged (RFC 9438, 4.3).
+/// W_est never falls, and grows by at most a segment if at most a window is acknowledged (RFC 9438, 4.3).
 pub fn estimate_is_gentle()
     ensures { EstimateIsGentle }
 {}

@@ -1,5 +1,5 @@
 //! How much an endpoint may send: the window that its peer offers (RFC 9293, 3.8.6) and the congestion window
-//! (RFC 5681).
+//! (RFC 5681; RFC 9438).
 //!
 //! Each call answers the greatest value that a sender may choose; it may always choose less. All values are bytes,
 //! windows and thresholds are at most 4294967295.
@@ -9,7 +9,7 @@
 //! - `growth`: what acknowledgments do to the congestion window
 //! - `losses`: what timeouts and fast recovery do to it
 //! - `cubic`: what an acknowledgment and a loss do to it in CUBIC (RFC 9438)
-//! - `laws`: that the answers are the greatest values that the RFCs allow, and what follows
+//! - `laws` and `cubic_laws`: that the answers are the greatest values that the RFCs allow, and what follows
 //!
 //! The formulas stand in specs/ under the same names.
 #![tactic(auto)]
@@ -24,8 +24,8 @@ mod windows;
 
 pub use congestion::Congestion;
 pub use cubic::{Cubic, Epoch, after_recovery, after_timeout, cubic_window, epoch_after, reduced};
-pub use growth::{counted_after, may_grow, on_duplicate};
 pub use cubic_laws::{cubic_is_greatest, curve_rises, estimate_is_gentle, plateau_time_is_exact};
+pub use growth::{counted_after, may_grow, on_duplicate};
 pub use laws::{
     counts_once, edges_are_exact, growth_is_gentle, growth_is_greatest, loss_halves,
     losses_are_greatest, recovery_is_greatest,
