@@ -152,11 +152,11 @@ fn friendly_increment(epoch: &Epoch, congestion: &Congestion, acked: u64) -> u12
     ensures small { result < 2 ^ 101 }
 {
     let cwnd = congestion.cwnd.max(1) as u128;
-    let segments = congestion.smss as u128 * acked as u128;
+    let product = congestion.smss as u128 * acked as u128;
     if epoch.estimate < epoch.prior {
-        (9 * segments).div_ceil(17 * cwnd)
+        (9 * product).div_ceil(17 * cwnd)
     } else {
-        segments.div_ceil(cwnd)
+        product.div_ceil(cwnd)
     }
 }
 
