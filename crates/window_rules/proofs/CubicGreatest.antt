@@ -1,5 +1,5 @@
 -- CUBIC's greatest windows bound what is allowed, and all up to them is allowed.
-use Rattle.std.proofs.Common.{◌≡◌, ℕ, suc, ◌+◌, ◌-◌, ◌*◌, ◌/◌, ◌%◌, ◌^◌, ◌<◌, ◌≤◌, ◌↔◌, ◌⊎◌, false, true, if◌then◌else◌, nat_lt, inl, inr, arith, min, max}
+use Rattle.std.proofs.Common.{◌≡◌, ℕ, suc, ◌+◌, ◌-◌, ◌*◌, ◌/◌, ◌<◌, ◌≤◌, ◌↔◌, ◌⊎◌, false, true, nat_lt, inl, inr, arith, max}
 use Rattle.std.specs.Int.{div_ceil}
 use Rattle.std.proofs.lemmas.Bool.Decides.{nat_tests, leb_tells}
 use Rattle.std.proofs.lemmas.Nat.{mul-le}
@@ -8,10 +8,9 @@ use Rattle.window_rules.specs.declared.congestion.Congestion.{Congestion}
 use Rattle.window_rules.specs.declared.cubic.Epoch.{Epoch}
 use Rattle.window_rules.specs.Windows.{capped, greatest_window}
 use Rattle.window_rules.specs.Cubic.{parts, climb, curve, friendly_increment, friendlier, cubic_window, reduced}
-use Rattle.window_rules.specs.Laws.{IsGreatest}
 use Rattle.window_rules.specs.CubicLaws.{MayClimb, none, before, after, late, MayEstimate, below, above, MayGrowCubic, kept, friendly, climbing as on_curve}
 use Rattle.window_rules.specs.CubicLaws.{MayReduce, of_flight, of_window, segments, IsWithin, CubicIsGreatest, EstimateIsGentle}
-use Rattle.window_rules.proofs.CubicLemmas.{Stage, early, climbing, far, At, IsAt, at_time}
+use Rattle.window_rules.proofs.CubicLemmas.{early, climbing, far, At, IsAt, at_time}
 
 -- what may be climbed is at most the curve, and all up to the curve may
 low_enough : (w a v : ℕ) → v ≤ w → a < parts * (w - v) + parts → v ≤ w - a / parts

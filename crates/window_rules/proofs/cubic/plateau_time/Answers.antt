@@ -1,4 +1,4 @@
-use Rattle.std.proofs.Common.{◌≡◌, ◌+◌, ◌-◌, ◌*◌, ◌^◌, ◌%◌, nat_le, arith, ap, ◌∙◌}
+use Rattle.std.proofs.Common.{◌≡◌, ◌+◌, ◌-◌, ◌*◌, ◌^◌, nat_le, arith, ap, ◌∙◌}
 use Rattle.window_rules.specs.Cubic.{parts, climb, plateau_time}
 use Rattle.window_rules.proofs.CubicLemmas.{bit_kept, no_bit, bit_of, bits_left, bit_taken, bit_passed}
 use Rattle.window_rules.proofs.cubic.plateau_time.Goals as goal
