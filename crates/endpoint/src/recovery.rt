@@ -13,7 +13,7 @@ use crate::signals::{at_moment, recovery_signal};
 use case_forms::State;
 use spec_tcp::Endpoint;
 use verdict::Rule;
-use window_rules::GREATEST_WINDOW;
+use window_rules::{GREATEST_WINDOW, Reason};
 
 /// Whether fast recovery may begin at an endpoint, with this congestion window and slow start threshold (in bytes). An
 /// error is the first rule that is broken.
@@ -83,6 +83,6 @@ pub fn recover(endpoint: &mut Endpoint, cwnd: u32, ssthresh: u32, moment: u64)
     let control = endpoint
         .control
         .after(signal, at_moment(endpoint, moment), cwnd, ssthresh);
-    endpoint.recover = endpoint.snd_max();
+    endpoint.resend = endpoint.resend.after(Reason::Recovery, endpoint.snd_max());
     endpoint.control = control;
 }

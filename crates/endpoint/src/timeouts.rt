@@ -19,6 +19,7 @@ use case_forms::{Expired, Header, RtoChoice, Timer};
 use spec_tcp::{Endpoint, Fault};
 use timer_rules::{TimerFault, Timers};
 use verdict::Rule;
+use window_rules::Reason;
 
 /// Whether a timer may expire at an endpoint at this moment, in microseconds; the retransmission timer with what is
 /// chosen
@@ -158,7 +159,7 @@ fn expire_retransmission(endpoint: &mut Endpoint, growth: RtoChoice, moment: u64
     let control = endpoint
         .control
         .after(signal, at, growth.cwnd, growth.ssthresh);
-    endpoint.recover = endpoint.snd_max();
+    endpoint.resend = endpoint.resend.after(Reason::Timeout, endpoint.snd_max());
     endpoint.control = control;
     endpoint.timers.back_off();
     endpoint.timers.arm(Timer::Rto, moment);
@@ -171,7 +172,7 @@ fn expire_persist(endpoint: &mut Endpoint, moment: u64)
     requires { endpoint.old.unanswered_expiries + 1 < 2 ^ 32 }
     ensures { endpoint.new ≡ after_persist endpoint.old moment }
 {
-    endpoint.recover = endpoint.snd_max();
+    endpoint.resend = endpoint.resend.after(Reason::Probe, endpoint.snd_max());
     endpoint.probe_due = true;
     endpoint.timers.arm(Timer::Persist, moment);
     endpoint.unanswered_expiries += 1;

@@ -18,6 +18,7 @@ use Rattle.case_forms.specs.declared.calls.State.{State}
 use Rattle.streams.specs.Received as received
 use Rattle.window_rules.specs.Windows as windows
 use Rattle.window_rules.specs.Control.{began}
+use Rattle.window_rules.specs.Resend.{none_again}
 use Rattle.window_rules.specs.declared.control.Profile.{Profile}
 use Rattle.timer_rules.specs.Timers as timers
 
@@ -40,7 +41,7 @@ new_endpoint lport rport listener state profile = record {
   transmissions = [];
   window = record { snd_wnd = 0; snd_wl1 = 0; snd_wl2 = 0; rcv_adv = 0 };
   control = began profile;
-  recover = 0;
+  resend = none_again;
   probe_due = false;
   timers = timers.start;
   unanswered_expiries = 0;

@@ -4,6 +4,8 @@ use Rattle.case_forms.specs.States.{is_closed}
 use Rattle.verdict.specs.declared.rule.Rule.{Rule}
 use Rattle.verdict.specs.declared.rule.Rule.TheVariants as rules
 use Rattle.window_rules.specs.Control.{greatest, after, may_recover}
+use Rattle.window_rules.specs.Resend.{resend_after}
+use Rattle.window_rules.specs.declared.resend.Reason.TheVariants as reasons
 use Rattle.window_rules.specs.Windows.{greatest_window}
 use Rattle.spec_tcp.specs.Endpoints.{Endpoint, snd_max, is_up}
 use Rattle.spec_tcp.specs.Signals.{at_moment, recovery_signal}
@@ -29,5 +31,5 @@ recovery_rules e cwnd ssthresh moment =
 abbrev pub after_recovery : Endpoint → (cwnd ssthresh moment : ℕ) → Endpoint
 after_recovery e cwnd ssthresh moment = record e {
   control = after e.control (recovery_signal e ssthresh) (at_moment e moment) cwnd ssthresh;
-  recover = snd_max e;
+  resend = resend_after e.resend reasons.Recovery (snd_max e);
 }

@@ -13,6 +13,8 @@ use Rattle.verdict.specs.declared.rule.Rule.{Rule}
 use Rattle.verdict.specs.declared.rule.Rule.TheVariants as rules
 use Rattle.streams.specs.Sent.{end_of}
 use Rattle.window_rules.specs.Control.{greatest, after}
+use Rattle.window_rules.specs.Resend.{resend_after}
+use Rattle.window_rules.specs.declared.resend.Reason.TheVariants as reasons
 use Rattle.timer_rules.specs.Timers.{expired, is_armed, is_early}
 use Rattle.spec_tcp.specs.Endpoints.{Timeout, Endpoint, snd_max, is_up, flag_count}
 use Rattle.spec_tcp.specs.Signals.{at_moment, timeout_signal}
@@ -60,7 +62,7 @@ abbrev pub after_rto : Endpoint → RtoChoice → ℕ → Endpoint
 after_rto e growth moment = record e {
   control =
       after e.control (timeout_signal e) (at_moment e moment) growth.cwnd growth.ssthresh;
-  recover = snd_max e;
+  resend = resend_after e.resend reasons.Timeout (snd_max e);
   timers = expired e.timers Rto moment;
   unanswered_expiries = e.unanswered_expiries + 1;
   backoffs = e.backoffs + 1;
@@ -69,8 +71,12 @@ after_rto e growth moment = record e {
 
 -- a probe is due (RFC 9293, 3.8.6.1)
 abbrev pub after_persist : Endpoint → ℕ → Endpoint
-after_persist e moment =
-    record e { recover = snd_max e; probe_due = true; timers = expired e.timers Persist moment; unanswered_expiries = e.unanswered_expiries + 1 }
+after_persist e moment = record e {
+  resend = resend_after e.resend reasons.Probe (snd_max e);
+  probe_due = true;
+  timers = expired e.timers Persist moment;
+  unanswered_expiries = e.unanswered_expiries + 1;
+}
 
 abbrev pub after_expiry : Endpoint → Expired → ℕ → Endpoint
 after_expiry e (expireds.Rto growth) moment = after_rto e growth moment

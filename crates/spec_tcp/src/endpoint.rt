@@ -12,7 +12,7 @@ use seqno::Word;
 use std::alloc::Global;
 use streams::{ReceiveBuffer, SendBuffer, Transmissions};
 use timer_rules::Timers;
-use window_rules::{Control, Profile, scaled_window};
+use window_rules::{Control, Profile, Resend, scaled_window};
 
 /// An endpoint, by its host and its place in the order of creation there. A name is never given twice.
 #[derive(Clone, Copy, Debug, PartialEq, Eq)]
@@ -89,8 +89,8 @@ pub struct Endpoint {
     pub transmissions: Transmissions,
     pub window: SendWindow,
     pub control: Control,
-    /// Up to this position what was made may be made again.
-    pub recover: u64,
+    /// What of the positions that were made may be made again.
+    pub resend: Resend,
     /// A byte behind a window of 0 is to be made (RFC 9293, 3.8.6.1).
     pub probe_due: bool,
     pub timers: Timers,
@@ -142,7 +142,7 @@ impl Endpoint {
                 rcv_adv: 0,
             },
             control: Control::start(profile),
-            recover: 0,
+            resend: Resend::start(),
             probe_due: false,
             timers: Timers::start(),
             unanswered_expiries: 0,

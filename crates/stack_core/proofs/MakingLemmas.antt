@@ -22,13 +22,14 @@ use Rattle.seqno.specs.declared.word.Word.{Word}
 use Rattle.streams.specs.Sent.{end_of}
 use Rattle.window_rules.specs.Windows.{offered_edge}
 use Rattle.window_rules.specs.Control.{control_edge}
+use Rattle.window_rules.specs.Resend.{is_withheld}
 use Rattle.case_forms.specs.declared.steps.SegmentPlan.{SegmentPlan}
 use Rattle.spec_tcp.specs.declared.endpoint.Endpoint.{Endpoint}
 use Rattle.spec_tcp.specs.Endpoints.{snd_max, rcv_nxt, flag_count}
 use Rattle.spec_tcp.specs.Bodies.{last_from, has_ports, place_of, endpoint_of}
 use Rattle.case_forms.specs.States.{is_closed, is_syn_sent, is_syn_received}
 use Rattle.spec_tcp.specs.Makes.{making_rules}
-use Rattle.spec_tcp.specs.Makes.Payload.{making_length, is_bad_empty_place, old_end}
+use Rattle.spec_tcp.specs.Makes.Payload.{making_length, is_bad_empty_place}
 use Rattle.spec_tcp.specs.Makes.Kind.{may_not_send, may_carry, may_finish}
 use Rattle.stack_core.specs.declared.plans.SynOptions.{SynOptions}
 use Rattle.stack_core.specs.Makings.{syn_of, bytes_of, fin_of, IsMakeable, IsTried, NothingToMake, Refuses}
@@ -138,8 +139,8 @@ module _ (e : Endpoint) (pos len : ℕ) (ack fin : Bool) (window : ℕ) (iss : O
       let payload = neither (nat_lt 0 len && (pos == 0 || nat_lt (end_of e.stream.accepted) (pos + len))) (fin && not (e.stream.ended && pos + len == end_of e.stream.accepted)) t.1.1.1.0 in
       let bytes : 0 < len → (pos == 0 || nat_lt (end_of e.stream.accepted) (pos + len)) ≡ false = λ p. then_false (nat_lt 0 len) _ payload.0 (is_less 0 len p) in
       let finish : fin ≡ true → (e.stream.ended ≡ true) × ((pos + len == end_of e.stream.accepted) ≡ true) = λ p. both_true e.stream.ended _ (then_false fin _ payload.1 p) in
-      let place : ((nat_lt pos e.stream.snd_una || nat_lt (snd_max e) pos) || (nat_lt pos (snd_max e) && nat_lt e.recover (old_end e m))) ≡ false = subst (λ (b : Bool). (if b then is_bad_empty_place e m else ((nat_lt pos e.stream.snd_una || nat_lt (snd_max e) pos) || (nat_lt pos (snd_max e) && nat_lt e.recover (old_end e m)))) ≡ false) (is_zero (making_length m) some) t.1.1.1.1.1.0 in
-      let both = neither (nat_lt pos e.stream.snd_una || nat_lt (snd_max e) pos) (nat_lt pos (snd_max e) && nat_lt e.recover (old_end e m)) place in
+      let place : ((nat_lt pos e.stream.snd_una || nat_lt (snd_max e) pos) || is_withheld e.resend (snd_max e) pos (pos + making_length m)) ≡ false = subst (λ (b : Bool). (if b then is_bad_empty_place e m else ((nat_lt pos e.stream.snd_una || nat_lt (snd_max e) pos) || is_withheld e.resend (snd_max e) pos (pos + making_length m))) ≡ false) (is_zero (making_length m) some) t.1.1.1.1.1.0 in
+      let both = neither (nat_lt pos e.stream.snd_una || nat_lt (snd_max e) pos) is_withheld e.resend (snd_max e) pos (pos + making_length m) place in
       let low = neither (nat_lt pos e.stream.snd_una) (nat_lt (snd_max e) pos) both.0 in
       let fresh : 0 < len → snd_max e < pos + len → (nat_lt 0 len && nat_lt (snd_max e) (pos + len)) ≡ true = λ p q. rw (is_less 0 len p, is_less (snd_max e) (pos + len) q) refl in
       record {
@@ -261,7 +262,7 @@ iss_good true iss = refl
 iss_good false iss = refl
 
 pub syn_place : (e : Endpoint) (ack : Bool) → e.stream.snd_una ≡ 0 → snd_max e ≤ 0
-    → (if ack then false else ((nat_lt 0 e.stream.snd_una || nat_lt (snd_max e) 0) || (nat_lt 0 (snd_max e) && nat_lt e.recover (min 1 (snd_max e))))) ≡ false
+    → (if ack then false else ((nat_lt 0 e.stream.snd_una || nat_lt (snd_max e) 0) || (nat_lt 0 (snd_max e) && nat_lt e.resend.upto (min 1 (snd_max e))))) ≡ false
 syn_place e true snd_una max = refl
 syn_place e false snd_una max = rw (snd_una, not_above 0 (snd_max e) (omega arith), not_above (snd_max e) 0 max) refl
 
@@ -333,7 +334,7 @@ not_empty e m fin h past = by_test (making_length (flagged m false false fin) ==
     empty : (making_length (flagged m false false fin) == 0) ≡ true → 0 < making_length (flagged m false false fin)
     empty is =
         let t = none_all (making_rules e (flagged m false false fin)) h in
-        let place : (nat_lt (m.pos + 1) e.stream.snd_una || nat_lt (snd_max e) m.pos) ≡ false = subst (λ (b : Bool). (if b then is_bad_empty_place e (flagged m false false fin) else ((nat_lt m.pos e.stream.snd_una || nat_lt (snd_max e) m.pos) || (nat_lt m.pos (snd_max e) && nat_lt e.recover (old_end e (flagged m false false fin))))) ≡ false) is t.1.1.1.1.1.0 in
+        let place : (nat_lt (m.pos + 1) e.stream.snd_una || nat_lt (snd_max e) m.pos) ≡ false = subst (λ (b : Bool). (if b then is_bad_empty_place e (flagged m false false fin) else ((nat_lt m.pos e.stream.snd_una || nat_lt (snd_max e) m.pos) || is_withheld e.resend (snd_max e) m.pos (m.pos + making_length (flagged m false false fin)))) ≡ false) is t.1.1.1.1.1.0 in
         let low : m.pos ≤ snd_max e = at_most m.pos (snd_max e) (neither (nat_lt (m.pos + 1) e.stream.snd_una) (nat_lt (snd_max e) m.pos) place).1 in
         let zero_long : making_length (flagged m false false fin) ≡ 0 = is_same (making_length (flagged m false false fin)) 0 is in
         let past2 : snd_max e < m.pos + making_length (flagged m false false fin) = past in

@@ -116,7 +116,7 @@ fn retransmitted(
     if from == 0 {
         return Some(syn_of(endpoint, offer.opening, offer.at_syn));
     }
-    let end = end.min(endpoint.recover);
+    let end = end.min(endpoint.resend.upto);
     let bytes = bytes_from(endpoint, from, edge_of(endpoint).min(end), offer);
     let last = bytes.pos.saturating_add(u64::from(bytes.len));
     if last < end {

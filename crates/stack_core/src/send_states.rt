@@ -151,7 +151,7 @@ impl SendState {
             self.acknowledges = true;
         }
         if let Some(seen) = before.seen {
-            let partly = seen.fast && seen.snd_una < snd_una && snd_una < now.recover;
+            let partly = seen.fast && seen.snd_una < snd_una && snd_una < now.resend.upto;
             if before.place != Some(place) {
                 self.again = None;
             } else if (now.control.values.fast && !seen.fast) || partly {

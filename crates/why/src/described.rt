@@ -47,7 +47,7 @@ fn describe_stream(out: &mut Vec<u8>, endpoint: &Endpoint) -> Result<(), OutOfMe
                 ""
             }),
             Word(", may be made again up to "),
-            Number(endpoint.recover),
+            Number(endpoint.resend.upto),
         ],
     )?;
     say(

@@ -164,7 +164,7 @@ fn old_data(out: &mut Vec<u8>, endpoint: &Endpoint, plan: &SegmentPlan) -> Resul
             Piece::Word("; segments were made up to "),
             Piece::Number(made),
             Piece::Word(", and of that what ends at or below "),
-            Piece::Number(endpoint.recover),
+            Piece::Number(endpoint.resend.upto),
             Piece::Word(" may be made again: an expiry or fast recovery moves that"),
         ],
     )

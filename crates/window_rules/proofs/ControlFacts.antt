@@ -8,6 +8,8 @@ use Rattle.window_rules.specs.declared.control.At.{At}
 use Rattle.window_rules.specs.declared.control.Control.{Control}
 use Rattle.window_rules.specs.Windows.{greatest_window}
 use Rattle.window_rules.specs.Control.{began, greatest, after, control_edge, may_recover}
+use Rattle.window_rules.specs.declared.resend.Reason.TheVariants as reasons
+use Rattle.window_rules.specs.Resend.{none_again, resend_after, is_withheld}
 
 abbrev now : At
 now = record { moment = 5000; srtt = None }
@@ -119,3 +121,28 @@ timeout_of_the_syn = refl
 
 pub timeout_ends_recovery : after (recovering 8500 2500) (Timeout 5000 false false) now 1000 2500 ≡ sending 1000 2500 0
 timeout_ends_recovery = refl
+
+-- what may be made again: nothing at first, new positions always, and after a reason all that was made before it
+pub nothing_at_first : is_withheld none_again 4 1 3 ≡ true
+nothing_at_first = refl
+
+pub new_is_free : is_withheld none_again 4 4 6 ≡ false
+new_is_free = refl
+
+pub old_beside_new_is_not : is_withheld none_again 4 3 6 ≡ true
+old_beside_new_is_not = refl
+
+pub after_a_timeout : is_withheld (resend_after none_again reasons.Timeout 4) 4 1 4 ≡ false
+after_a_timeout = refl
+
+pub after_a_third_duplicate : is_withheld (resend_after none_again reasons.Recovery 4) 4 1 4 ≡ false
+after_a_third_duplicate = refl
+
+pub after_a_probe : is_withheld (resend_after none_again reasons.Probe 4) 4 1 4 ≡ false
+after_a_probe = refl
+
+pub after_an_opening : is_withheld (resend_after none_again reasons.WindowOpened 4) 4 1 4 ≡ false
+after_an_opening = refl
+
+pub not_what_was_made_since : is_withheld (resend_after none_again reasons.Timeout 4) 6 3 6 ≡ true
+not_what_was_made_since = refl

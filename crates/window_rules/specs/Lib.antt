@@ -5,4 +5,5 @@ pub mod Allowed
 pub mod Laws
 pub mod Control
 pub mod Counts
+pub mod Resend
 pub mod ControlLaws

@@ -2,6 +2,7 @@
 //! more: each law is the contract of a call that does nothing.
 
 ghost use Rattle.window_rules.specs.ControlLaws.{ControlCounts, ControlIsGreatest, ControlTakesChoice};
+ghost use Rattle.window_rules.specs.Resend.{ResendIsExact};
 ghost use Rattle.window_rules.specs.Laws.{EdgesAreExact, GrowthIsGreatest, LossesAreGreatest, RecoveryIsGreatest};
 ghost use Rattle.window_rules.specs.Laws.{GrowthIsGentle, CountsOnce, LossHalves};
 
@@ -53,4 +54,9 @@ pub fn control_takes_choice()
 /// What is counted is at most what was acknowledged, and at most the number of steps.
 pub fn control_counts()
     ensures { ControlCounts }
+{}
+
+/// Positions are withheld exactly if one of them was made and is not among those that may be made again.
+pub fn resend_is_exact()
+    ensures { ResendIsExact }
 {}

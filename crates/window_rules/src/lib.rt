@@ -9,6 +9,7 @@
 //! - `windows`: how far new data may reach, and the first congestion window
 //! - `growth`: what acknowledgments do to the congestion window
 //! - `losses`: what timeouts and fast recovery do to it
+//! - `resend`: which positions that were made may be made again
 //! - `laws`: that the answers are the greatest values that the RFCs allow, and what follows
 //!
 //! The formulas stand in specs/ under the same names.
@@ -19,6 +20,7 @@ mod control;
 mod growth;
 mod laws;
 mod losses;
+mod resend;
 mod windows;
 
 pub use congestion::Congestion;
@@ -27,8 +29,10 @@ pub use growth::{counted_after, may_grow, on_duplicate};
 pub use laws::{
     control_counts, control_is_greatest, control_takes_choice, counts_once, edges_are_exact,
     growth_is_gentle, growth_is_greatest, loss_halves, losses_are_greatest, recovery_is_greatest,
+    resend_is_exact,
 };
 pub use losses::{on_fast, on_timeout, recovery_window};
+pub use resend::{Reason, Resend};
 pub use windows::{
     GREATEST_WINDOW, congestion_edge, initial_window, initial_window_6928, offered_edge,
     scaled_window,

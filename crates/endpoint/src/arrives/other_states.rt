@@ -22,7 +22,7 @@ pub(crate) mod timers;
 pub(crate) mod window;
 
 use crate::arrives::other_states::ack::{
-    acknowledged, backoffs_taken, is_bad_ack_range, may_sample, recover_taken, snd_una_taken,
+    acknowledged, backoffs_taken, is_bad_ack_range, may_sample, resend_taken, snd_una_taken,
 };
 use crate::arrives::other_states::fin::finished;
 use crate::arrives::other_states::peer::is_from_peer;
@@ -95,7 +95,7 @@ pub(crate) fn taken(
     let state = acknowledged(endpoint, m);
     let window = window_taken(endpoint, m);
     let control = control_taken(endpoint, how, m, moment);
-    let recover = recover_taken(endpoint, m);
+    let resend = resend_taken(endpoint, m);
     let probe_due = probe_due_taken(endpoint, m);
     let timers = timers_before(header, endpoint, how, m, moment);
     let backoffs = backoffs_taken(endpoint, m);
@@ -105,7 +105,7 @@ pub(crate) fn taken(
     endpoint.stream.snd_una = snd_una;
     endpoint.window = window;
     endpoint.control = control;
-    endpoint.recover = recover;
+    endpoint.resend = resend;
     endpoint.probe_due = probe_due;
     endpoint.timers = state_timers(timers, old, state, moment);
     endpoint.unanswered_expiries = 0;

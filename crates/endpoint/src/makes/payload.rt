@@ -1,7 +1,7 @@
 //! The bytes of a segment, and where they begin.
 
 ghost use Rattle.spec_tcp.specs.Bounds.{greatest_position};
-ghost use Rattle.spec_tcp.specs.Makes.Payload.{making_length, has_new_bytes, is_bad_payload, old_end};
+ghost use Rattle.spec_tcp.specs.Makes.Payload.{making_length, has_new_bytes, is_bad_payload};
 ghost use Rattle.spec_tcp.specs.Makes.Payload.{is_bad_empty_place, is_bad_place};
 ghost use Rattle.std.specs.Prelude.{◌≡◌, ◌≤◌};
 
@@ -40,13 +40,6 @@ pub(crate) fn is_bad_payload(endpoint: &Endpoint, making: &SegmentPlan) -> bool
         || (making.flags.fin && !(endpoint.stream.ended && end == accepted))
 }
 
-fn old_end(endpoint: &Endpoint, making: &SegmentPlan) -> u64
-    requires { making.now.pos ≤ greatest_position }
-    ensures { result ≡ old_end endpoint.now making.now }
-{
-    (making.pos + making_length(making)).min(endpoint.snd_max())
-}
-
 fn is_bad_empty_place(endpoint: &Endpoint, making: &SegmentPlan) -> bool
     requires { making.now.pos ≤ greatest_position }
     ensures { result ≡ is_bad_empty_place endpoint.now making.now }
@@ -69,5 +62,8 @@ pub(crate) fn is_bad_place(endpoint: &Endpoint, making: &SegmentPlan) -> bool
     if making_length(making) == 0 {
         return is_bad_empty_place(endpoint, making);
     }
-    is_outside || making.pos < end && endpoint.recover < old_end(endpoint, making)
+    is_outside
+        || endpoint
+            .resend
+            .is_withheld(end, making.pos, making.pos + making_length(making))
 }

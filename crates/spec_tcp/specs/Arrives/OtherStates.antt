@@ -23,6 +23,8 @@ use Rattle.spec_tcp.specs.Arrives.OtherStates.Peer.{is_from_peer}
 use Rattle.spec_tcp.specs.Arrives.OtherStates.Sequence.{is_bad_number, is_acceptable}
 use Rattle.spec_tcp.specs.Arrives.OtherStates.Ack.{is_bad_ack_range, is_new_ack, may_sample}
 use Rattle.window_rules.specs.Control.{greatest, after}
+use Rattle.window_rules.specs.Resend.{resend_after}
+use Rattle.window_rules.specs.declared.resend.Reason.TheVariants as reasons
 use Rattle.spec_tcp.specs.Signals.{at_moment, signal_of}
 use Rattle.spec_tcp.specs.Arrives.OtherStates.Window.{is_unread, window_taken, opens_window}
 use Rattle.spec_tcp.specs.Arrives.OtherStates.Text.{stream_taken, state_taken}
@@ -58,7 +60,9 @@ taken h e how m moment = record e {
   stream = stream_taken e how m;
   window = window_taken e m;
   control = after e.control (signal_of e m) (at_moment e moment) how.cwnd e.control.values.ssthresh;
-  recover = if opens_window e m && is_some e.timers.persist_armed then snd_max e else e.recover;
+  resend =
+      if opens_window e m && is_some e.timers.persist_armed then resend_after e.resend reasons.WindowOpened (snd_max e)
+      else e.resend;
   probe_due = e.probe_due && not (opens_window e m);
   timers = timers_taken h e how m moment;
   unanswered_expiries = 0;

@@ -1,7 +1,8 @@
 -- The bytes of a segment that is made, and where they begin (RFC 9293, 3.8.1 and 3.10.2).
-use Rattle.std.specs.Prelude.{ℕ, ◌+◌, ◌==◌, nat_lt, min, Bool, false, not, ◌&&◌, ◌||◌, if◌then◌else◌}
+use Rattle.std.specs.Prelude.{ℕ, ◌+◌, ◌==◌, nat_lt, Bool, false, not, ◌&&◌, ◌||◌, if◌then◌else◌}
 use Rattle.case_forms.specs.declared.steps.SegmentPlan.{SegmentPlan}
 use Rattle.streams.specs.Sent.{end_of}
+use Rattle.window_rules.specs.Resend.{is_withheld}
 use Rattle.spec_tcp.specs.Endpoints.{Endpoint, snd_max, flag_count}
 
 -- the positions that it takes (RFC 9293, 3.3.1: SEG.LEN)
@@ -21,22 +22,17 @@ is_bad_payload e m =
     else (nat_lt 0 m.len && (m.pos == 0 || nat_lt (end_of e.stream.accepted) (m.pos + m.len)))
     || (m.flags.fin && not (e.stream.ended && m.pos + m.len == end_of e.stream.accepted))
 
--- where what was made before ends
-abbrev pub old_end : Endpoint → SegmentPlan → ℕ
-old_end e m = min (m.pos + making_length m) (snd_max e)
-
 -- an empty segment: from the position before the oldest that is not acknowledged up to the next (a keep-alive stands
 -- one below)
 abbrev pub is_bad_empty_place : Endpoint → SegmentPlan → Bool
 is_bad_empty_place e m = nat_lt (m.pos + 1) e.stream.snd_una || nat_lt (snd_max e) m.pos
 
--- other segments: from the oldest position that is not acknowledged, no gap behind what was made; and what was made
--- before is
--- made again only up to where recovery began
+-- other segments: from the oldest position that is not acknowledged, with no gap after what was made; and what was made
+-- before only if it may be made again
 abbrev pub is_bad_place : Endpoint → SegmentPlan → Bool
 is_bad_place e m =
     if m.flags.rst then nat_lt m.pos e.stream.snd_una || nat_lt (snd_max e) m.pos
     else if m.flags.syn && m.flags.ack then false
     else if making_length m == 0 then is_bad_empty_place e m
-    else nat_lt m.pos e.stream.snd_una || nat_lt (snd_max e) m.pos || nat_lt m.pos (snd_max e) && nat_lt e.recover
-    (old_end e m)
+    else nat_lt m.pos e.stream.snd_una || nat_lt (snd_max e) m.pos
+    || is_withheld e.resend (snd_max e) m.pos (m.pos + making_length m)

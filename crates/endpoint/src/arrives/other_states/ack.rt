@@ -8,10 +8,13 @@ ghost use Rattle.spec_tcp.specs.Arrives.OtherStates.Window.{opens_window};
 ghost use Rattle.spec_tcp.specs.Endpoints.{snd_max};
 ghost use Rattle.std.specs.Prelude.{◌≡◌, ◌||◌, not, ◌<◌, ◌+◌, ◌^◌, if◌then◌else◌, ◌&&◌, is_some};
 ghost use Rattle.streams.specs.Transmissions.{retransmitted};
+ghost use Rattle.window_rules.specs.Resend.{resend_after};
+ghost use Rattle.window_rules.specs.declared.resend.Reason.TheVariants.{WindowOpened};
 
 use crate::arrives::other_states::window::takes_window;
 use case_forms::{State, TakeChoice};
 use spec_tcp::{Arrived, Endpoint};
+use window_rules::{Reason, Resend};
 
 /// Whether the segment acknowledges nothing, or what was not made. In SYN-RECEIVED it has to acknowledge the SYN.
 pub(crate) fn is_bad_ack_range(endpoint: &Endpoint, m: &Arrived<'_>) -> bool
@@ -107,14 +110,17 @@ pub(crate) fn acknowledged(endpoint: &Endpoint, m: &Arrived<'_>) -> State
     }
 }
 
-/// Up to which position what was made may be made again: all of it, where a window above 0 ends the waiting for one.
-pub(crate) fn recover_taken(endpoint: &Endpoint, m: &Arrived<'_>) -> u64
-    ensures { result ≡ (if opens_window endpoint.now m.now && is_some endpoint.now.timers.persist_armed then snd_max endpoint.now else endpoint.now.recover) }
+/// What may be made again then: all that was made, if a window above 0 ends the waiting for one.
+pub(crate) fn resend_taken(endpoint: &Endpoint, m: &Arrived<'_>) -> Resend
+    ensures { result ≡ (if opens_window endpoint.now m.now && is_some endpoint.now.timers.persist_armed
+        then resend_after endpoint.now.resend WindowOpened (snd_max endpoint.now) else endpoint.now.resend) }
 {
     if opens_window(endpoint, m) && endpoint.timers.persist_armed.is_some() {
-        endpoint.snd_max()
+        endpoint
+            .resend
+            .after(Reason::WindowOpened, endpoint.snd_max())
     } else {
-        endpoint.recover
+        endpoint.resend
     }
 }
 
