@@ -140,7 +140,7 @@ module _ (e : Endpoint) (pos len : ℕ) (ack fin : Bool) (window : ℕ) (iss : O
       let bytes : 0 < len → (pos == 0 || nat_lt (end_of e.stream.accepted) (pos + len)) ≡ false = λ p. then_false (nat_lt 0 len) _ payload.0 (is_less 0 len p) in
       let finish : fin ≡ true → (e.stream.ended ≡ true) × ((pos + len == end_of e.stream.accepted) ≡ true) = λ p. both_true e.stream.ended _ (then_false fin _ payload.1 p) in
       let place : ((nat_lt pos e.stream.snd_una || nat_lt (snd_max e) pos) || is_withheld e.resend (snd_max e) pos (pos + making_length m)) ≡ false = subst (λ (b : Bool). (if b then is_bad_empty_place e m else ((nat_lt pos e.stream.snd_una || nat_lt (snd_max e) pos) || is_withheld e.resend (snd_max e) pos (pos + making_length m))) ≡ false) (is_zero (making_length m) some) t.1.1.1.1.1.0 in
-      let both = neither (nat_lt pos e.stream.snd_una || nat_lt (snd_max e) pos) is_withheld e.resend (snd_max e) pos (pos + making_length m) place in
+      let both = neither (nat_lt pos e.stream.snd_una || nat_lt (snd_max e) pos) (is_withheld e.resend (snd_max e) pos (pos + making_length m)) place in
       let low = neither (nat_lt pos e.stream.snd_una) (nat_lt (snd_max e) pos) both.0 in
       let fresh : 0 < len → snd_max e < pos + len → (nat_lt 0 len && nat_lt (snd_max e) (pos + len)) ≡ true = λ p q. rw (is_less 0 len p, is_less (snd_max e) (pos + len) q) refl in
       record {
@@ -262,7 +262,8 @@ iss_good true iss = refl
 iss_good false iss = refl
 
 pub syn_place : (e : Endpoint) (ack : Bool) → e.stream.snd_una ≡ 0 → snd_max e ≤ 0
-    → (if ack then false else ((nat_lt 0 e.stream.snd_una || nat_lt (snd_max e) 0) || (nat_lt 0 (snd_max e) && nat_lt e.resend.upto (min 1 (snd_max e))))) ≡ false
+    → (if ack then false else ((nat_lt 0 e.stream.snd_una || nat_lt (snd_max e) 0)
+    || (nat_lt 0 (snd_max e) && nat_lt e.resend.upto (min 1 (snd_max e))))) ≡ false
 syn_place e true snd_una max = refl
 syn_place e false snd_una max = rw (snd_una, not_above 0 (snd_max e) (omega arith), not_above (snd_max e) 0 max) refl
 

@@ -1,5 +1,5 @@
--- Which positions that were made may be made again: after a timeout, in fast recovery and once a window of 0 is over, all
--- that was made until then (RFC 6298, 5.4; RFC 5681, 3.2; RFC 9293, 3.8.6.1).
+-- Which positions that were made may be made again: after a timeout, in fast recovery, for a probe and once a window of
+-- 0 is over, all that was made until then (RFC 6298, 5.4; RFC 5681, 3.2; RFC 9293, 3.8.6.1).
 use Rattle.std.specs.Prelude.{◌≡◌, ℕ, nat_lt, ◌≤◌, ◌<◌, ◌↔◌, min, Bool, false, ◌&&◌}
 use Rattle.window_rules.specs.declared.resend.Resend.{Resend}
 use Rattle.window_rules.specs.declared.resend.Reason.{Reason}

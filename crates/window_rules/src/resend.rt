@@ -1,4 +1,4 @@
-//! Which positions that were made may be made again. A made position is never made again but after a reason.
+//! Which positions that were made may be made again: none, but after a reason.
 
 ghost use Rattle.std.specs.Prelude.{◌≡◌};
 ghost use Rattle.window_rules.specs.Resend.{is_withheld, none_again, resend_after};
@@ -42,8 +42,8 @@ impl Resend {
         }
     }
 
-    /// Whether one of the positions from `pos` to before `end` was made before, as so many are made, and may not be made
-    /// again.
+    /// Whether one of the positions from `pos` to before `end` was made before, as so many are made, and may not be
+    /// made again.
     pub fn is_withheld(&self, made: u64, pos: u64, end: u64) -> bool
         ensures { result ≡ is_withheld self.now made pos end }
     {
