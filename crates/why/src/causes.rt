@@ -42,7 +42,9 @@ fn of_order(rule: Rule) -> &'static str {
             "usually: two lines of one thread were recorded in another order than they happened",
         Rule::MomentFalls =>
             "usually: the witness was written by two threads with no common clock; sort its steps",
-        Rule::MomentOff => "usually: the header's skew is smaller than the clocks were off",
+        Rule::MomentOff =>
+            "usually: the header's skew is smaller than the clocks were off, or the step names the line beside the \
+            one that is meant (a line is missing before it)",
         Rule::Overdue => "usually: a step for a line was forgotten, or stands too late",
         _ => "usually: the witness ends too early",
     }
@@ -59,7 +61,8 @@ fn of_calls(rule: Rule) -> &'static str {
         Rule::Socket =>
             "usually: file descriptors were recorded as socket numbers; a number may be given once in a trace",
         _ =>
-            "usually: the effect stands too early or too late, or the stack answered what the specification doesn't allow there",
+            "usually: the effect stands too early or too late, what came in before it wasn't taken (T) or not kept, \
+            or the stack answered what the specification doesn't allow there",
     }
 }
 
@@ -72,11 +75,12 @@ fn of_making(rule: Rule) -> &'static str {
         Rule::Iss =>
             "usually: the first SYN of an endpoint lacks its number, or a later one repeats it",
         Rule::BytesDiffer =>
-            "usually: an offload rewrote the segment, or the made segment of another line is named",
+            "usually: an offload rewrote the segment, or the step names the made segment of another line",
         Rule::NotMade =>
             "usually: the numbers of made segments are off by one, or a line was recorded twice",
         Rule::PayloadRange =>
-            "usually: the effect of the send (or of shut or close) stands behind the segment that carries its bytes",
+            "usually: the effect of the send (or of shut or close) stands behind the segment that carries its bytes, \
+            or the call names another socket number",
         Rule::AckField =>
             "usually: the segment was made before the peer's SYN was taken, or after it",
         Rule::OldData =>

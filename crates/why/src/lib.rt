@@ -34,6 +34,8 @@ pub mod text;
 mod verdict_in_words;
 mod why_answers;
 mod why_calls;
+mod why_existing;
+mod why_field;
 mod why_inbox;
 mod why_making;
 mod why_numbers;

@@ -1,7 +1,8 @@
 //! A line of a text that can't be read, with a mark under its columns.
 
 use crate::parts::line_at;
-use crate::text::{Piece, add, say};
+use crate::text::{Piece, add, say, width};
+use crate::why_field::reason;
 use case_forms::OutOfMemory;
 use line_fields::{FaultKind, TextFault, push_end, push_word};
 use segment::SegFault;
@@ -11,14 +12,19 @@ const BEFORE: usize = 60;
 
 const SHOWN: usize = 110;
 
-/// Writes the line at fault, and a mark under the columns.
-pub(crate) fn mark(out: &mut Vec<u8>, text: &[u8], fault: &TextFault) -> Result<(), OutOfMemory> {
+/// Writes the line at fault, a mark under the columns, and what is wrong there.
+pub(crate) fn mark(
+    out: &mut Vec<u8>,
+    text: &[u8],
+    fault: &TextFault,
+    is_trace: bool,
+) -> Result<(), OutOfMemory> {
     let Some(line) = line_at(text, fault.span.line) else {
         return say(
             out,
             &[
                 Piece::Word("the text ends before this line: "),
-                Piece::Word(meaning(fault.kind)),
+                Piece::Word(missing(is_trace, fault.span.line)),
             ],
         );
     };
@@ -26,19 +32,40 @@ pub(crate) fn mark(out: &mut Vec<u8>, text: &[u8], fault: &TextFault) -> Result<
     let left = line.get(from..).unwrap_or(&[]);
     let shown = left.get(..SHOWN).unwrap_or(left);
     say(out, &[Piece::Word("  "), Piece::Raw(shown)])?;
-    add(out, &[Piece::Word("  ")])?;
-    for _ in from..fault.span.start {
-        push_word(out, " ")?;
-    }
     let stop = fault.span.stop.min(from.saturating_add(SHOWN));
-    for _ in fault.span.start..stop {
-        push_word(out, "^")?;
-    }
-    if stop <= fault.span.start {
-        push_word(out, "^")?;
+    add(out, &[Piece::Word("  ")])?;
+    push_columns(out, line.get(from..fault.span.start).unwrap_or(&[]), " ")?;
+    match line.get(fault.span.start..stop) {
+        Some(columns) if !columns.is_empty() => push_columns(out, columns, "^")?,
+        _ => push_word(out, "^")?,
     }
     push_end(out)?;
-    say(out, &[Piece::Word(meaning(fault.kind))])
+    let reason = match reason(line, fault, is_trace) {
+        Some(reason) => reason,
+        None => meaning(fault.kind),
+    };
+    say(out, &[Piece::Word(reason)])
+}
+
+// Writes a word for each column that bytes take where they are shown.
+fn push_columns(out: &mut Vec<u8>, bytes: &[u8], word: &str) -> Result<(), OutOfMemory> {
+    for byte in bytes {
+        for _ in 0..width(*byte) {
+            push_word(out, word)?;
+        }
+    }
+    Ok(())
+}
+
+// What a text lacks that ends before a line.
+fn missing(is_trace: bool, line: u64) -> &'static str {
+    if !is_trace {
+        return "the line `witness 1`, `witness 2` or `witness 3`, of the trace's version, which begins the witness";
+    }
+    if line == 1 {
+        return "it is empty; what made it may have failed";
+    }
+    meaning(FaultKind::Header)
 }
 
 fn meaning(kind: FaultKind) -> &'static str {

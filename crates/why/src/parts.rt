@@ -28,6 +28,15 @@ pub fn cut(text: &[u8]) -> Parts<'_> {
     }
 }
 
+/// How many lines a text has.
+pub fn lines_of(text: &[u8]) -> u64 {
+    let mut count: u64 = 0;
+    for _ in text.lines_with_terminator() {
+        count = count.saturating_add(1);
+    }
+    count
+}
+
 /// The line of this number, from 1, without its end. None: the text has no such line.
 pub fn line_at(text: &[u8], number: u64) -> Option<&[u8]> {
     let mut here: u64 = 1;

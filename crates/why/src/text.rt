@@ -1,7 +1,7 @@
 //! Lines of plain words, as bytes at the end of a `Vec`. Where memory runs out a part may have been written.
 
 use case_forms::{Host, OutOfMemory};
-use line_fields::{TextFault, push_end, push_number, push_space, push_word};
+use line_fields::{TextFault, push_end, push_hex, push_number, push_space, push_word};
 use std::alloc::Global;
 
 /// A part of a line.
@@ -47,13 +47,35 @@ fn push_piece(out: &mut Vec<u8>, piece: &Piece<'_>) -> Result<(), OutOfMemory> {
 fn push_raw(out: &mut Vec<u8>, bytes: &[u8]) -> Result<(), OutOfMemory> {
     match bytes.get(..SHOWN) {
         Some(first) => {
-            out.extend_from_slice(first)?;
+            push_escaped(out, first)?;
             push_word(out, " .. (")?;
             push_number(out, bytes.len() as u64)?;
             push_word(out, " bytes)")
         }
-        None => out.extend_from_slice(bytes),
+        None => push_escaped(out, bytes),
     }
+}
+
+// Writes bytes of a text; those that a terminal could take for more than a letter as `\x` and two digits.
+fn push_escaped(out: &mut Vec<u8>, bytes: &[u8]) -> Result<(), OutOfMemory> {
+    for byte in bytes {
+        if is_plain(*byte) {
+            out.push(*byte)?;
+        } else {
+            push_word(out, "\\x")?;
+            push_hex(out, &[*byte])?;
+        }
+    }
+    Ok(())
+}
+
+fn is_plain(byte: u8) -> bool {
+    matches!(byte, b' '..=b'~')
+}
+
+/// How many columns a byte of a text takes where it is shown.
+pub fn width(byte: u8) -> usize {
+    if is_plain(byte) { 1 } else { 4 }
 }
 
 /// The line that tells of a text's fault.

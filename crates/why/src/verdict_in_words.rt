@@ -2,7 +2,7 @@
 
 use crate::causes::cause;
 use crate::marks::mark;
-use crate::parts::{Parts, cut, line_at};
+use crate::parts::{Parts, cut, line_at, lines_of};
 use crate::scene::Scene;
 use crate::text::{Piece, fault_line, say};
 use crate::{why_calls, why_making, why_order, why_reset, why_taking, why_timers, why_wire};
@@ -29,16 +29,29 @@ pub fn explain(alloc: Global, text: &[u8]) -> Result<Said, OutOfMemory> {
         Ok(verdict) => explain_verdict(alloc, parts, &verdict),
         Err(CaseFault::Trace(fault)) => {
             let mut text = fault_line(alloc, "bad trace ", &fault)?;
-            mark(&mut text, parts.trace, &fault)?;
+            mark(&mut text, parts.trace, &fault, true)?;
             Ok(Said { text, status: 2 })
         }
         Err(CaseFault::Witness(fault)) => {
             let mut text = fault_line(alloc, "bad witness ", &fault)?;
-            mark(&mut text, parts.witness, &fault)?;
+            say_line(&mut text, parts, fault.span.line)?;
+            mark(&mut text, parts.witness, &fault, false)?;
             Ok(Said { text, status: 2 })
         }
         Err(CaseFault::Read | CaseFault::OutOfMemory) => Err(AllocError),
     }
+}
+
+// Which line of the case a line of its witness is.
+fn say_line(out: &mut Vec<u8>, parts: Parts<'_>, line: u64) -> Result<(), OutOfMemory> {
+    say(
+        out,
+        &[
+            Piece::Word("line "),
+            Piece::Number(lines_of(parts.trace).saturating_add(line)),
+            Piece::Word(" of the case:"),
+        ],
+    )
 }
 
 fn explain_verdict(
@@ -57,8 +70,9 @@ fn explain_verdict(
             rule,
         } => {
             quote(&mut text, parts, *witness_line, *trace_line)?;
-            explain_no(alloc, &mut text, parts, *witness_line, *rule)?;
-            say(&mut text, &[Piece::Word(cause(*rule))])?;
+            if !explain_no(alloc, &mut text, parts, *witness_line, *rule)? {
+                say(&mut text, &[Piece::Word(cause(*rule))])?;
+            }
             Ok(Said { text, status: 1 })
         }
     }
@@ -72,7 +86,15 @@ fn quote(
     trace_line: u64,
 ) -> Result<(), OutOfMemory> {
     if let Some(line) = line_at(parts.witness, witness_line) {
-        say(out, &[Piece::Word("the step: "), Piece::Raw(line)])?;
+        say(
+            out,
+            &[
+                Piece::Word("the step, line "),
+                Piece::Number(lines_of(parts.trace).saturating_add(witness_line)),
+                Piece::Word(" of the case: "),
+                Piece::Raw(line),
+            ],
+        )?;
     }
     if let Some(line) = line_at(parts.trace, trace_line) {
         say(
@@ -88,14 +110,14 @@ fn quote(
     Ok(())
 }
 
-// What is known at the step, and what the rule compares.
+// What is known at the step, and what the rule compares. The answer is whether the usual cause was told with it.
 fn explain_no(
     alloc: Global,
     out: &mut Vec<u8>,
     parts: Parts<'_>,
     witness_line: u64,
     rule: Rule,
-) -> Result<(), OutOfMemory> {
+) -> Result<bool, OutOfMemory> {
     let Ok(trace) = read_trace(alloc, parts.trace) else {
         return Err(AllocError);
     };
@@ -108,7 +130,11 @@ fn explain_no(
         _ => steps.len(),
     };
     let scene = Scene::before(alloc, &trace.header, trace.lines.as_slice(), steps, place)?;
-    explain_rule(alloc, out, &scene, rule)
+    explain_rule(alloc, out, &scene, rule)?;
+    match scene.step() {
+        Some(step) => why_wire::cause_of_difference(out, &scene, step, rule),
+        None => Ok(false),
+    }
 }
 
 // What the rule compares.

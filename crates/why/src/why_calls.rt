@@ -4,6 +4,7 @@ use crate::described::describe;
 use crate::scene::Scene;
 use crate::text::{Piece, add, say};
 use crate::why_answers::allowed;
+use crate::why_inbox::waiting_for;
 use crate::why_wire::first_difference;
 use crate::words::{push_call, push_told};
 use case_forms::{Answer, Call, Event, Host, Label, OutOfMemory};
@@ -38,7 +39,33 @@ pub(crate) fn why_effect(
     say(out, &[])?;
     add(out, &[Piece::Word("allowed there:")])?;
     allowed(alloc, out, &scene.world, call)?;
-    say(out, &[])
+    say(out, &[])?;
+    waiting_there(out, scene, call)
+}
+
+// What came in for the endpoint that a call means, and waits.
+fn waiting_there(out: &mut Vec<u8>, scene: &Scene<'_>, call: &Call) -> Result<(), OutOfMemory> {
+    let socket = match call {
+        Call::Await(socket)
+        | Call::Recv(socket, _)
+        | Call::Send(socket, _)
+        | Call::Status(socket) => *socket,
+        Call::Listen(_, _, _)
+        | Call::Connect(_, _, _)
+        | Call::Accept(_)
+        | Call::Shut(_)
+        | Call::Close(_)
+        | Call::Abort(_) => return Ok(()),
+    };
+    for host in [Host::Zero, Host::One] {
+        let body = scene.world.body(host);
+        if let Some(SocketTarget::EndpointAt(place)) = body.thing(socket) {
+            if let Some(endpoint) = body.endpoint_at(place) {
+                waiting_for(out, scene, host, endpoint)?;
+            }
+        }
+    }
+    Ok(())
 }
 
 // A socket number that is given a second time.

@@ -5,7 +5,8 @@ use crate::scene::Scene;
 use crate::text::{Piece, add, say};
 use crate::why_wire::no_endpoint;
 use crate::words::push_flags;
-use case_forms::{Event, Host, Label, OutOfMemory};
+use case_forms::{Event, Host, Label, Line, OutOfMemory};
+use endpoint_state::Endpoint;
 use spec_tcp::Emission;
 
 /// A segment that waits. In a half case it has no positions where nobody reads it: then its numbers are told.
@@ -26,7 +27,7 @@ pub(crate) fn describe_waiting(
         }
         None if scene.header.version.is_half() => {
             by_numbers(out, m)?;
-            no_endpoint(out, host, m.rport, m.lport)
+            no_endpoint(out, scene, host, m.rport, m.lport)
         }
         None => {
             by_positions(out, m, (m.pos, m.ack))?;
@@ -141,4 +142,58 @@ fn emptied_at(scene: &Scene<'_>, host: Host, line: u64) -> u64 {
         }
     }
     found
+}
+
+/// Which lines came in for an endpoint and wait untaken.
+pub(crate) fn waiting_for(
+    out: &mut Vec<u8>,
+    scene: &Scene<'_>,
+    host: Host,
+    endpoint: &Endpoint,
+) -> Result<(), OutOfMemory> {
+    for line in scene.lines {
+        if let Some(m) = waiting_of(scene, host, line) {
+            if m.rport == endpoint.lport && m.lport == endpoint.rport {
+                say_waiting(out, scene, endpoint, line, m)?;
+            }
+        }
+    }
+    Ok(())
+}
+
+// The segment of a line that waits at a host.
+fn waiting_of<'w>(scene: &'w Scene<'_>, host: Host, line: &Line) -> Option<&'w Emission> {
+    match &line.event {
+        Event::Came(at, _) if *at == host => scene.world.waiting(host, line.number),
+        _ => None,
+    }
+}
+
+fn say_waiting(
+    out: &mut Vec<u8>,
+    scene: &Scene<'_>,
+    endpoint: &Endpoint,
+    line: &Line,
+    m: &Emission,
+) -> Result<(), OutOfMemory> {
+    let pos = match scene.as_read(endpoint, m) {
+        Some(read) => read.pos(),
+        None => m.pos,
+    };
+    say(
+        out,
+        &[
+            Piece::Word("line "),
+            Piece::Number(line.number),
+            Piece::Word(" came in and no step took it (T): position "),
+            Piece::Number(pos),
+            Piece::Word(" on, "),
+            Piece::Number(m.payload.len() as u64),
+            Piece::Word(if m.flags.fin {
+                " bytes and a FIN"
+            } else {
+                " bytes"
+            }),
+        ],
+    )
 }

@@ -22,7 +22,7 @@ pub(crate) fn explain_rule(
     rule: Rule,
 ) -> Result<(), OutOfMemory> {
     match scene.endpoint(host, plan.lport, plan.rport) {
-        None => no_endpoint(out, host, plan.lport, plan.rport),
+        None => no_endpoint(out, scene, host, plan.lport, plan.rport),
         Some(endpoint) => {
             describe(out, host, endpoint)?;
             if matches!(rule, Rule::NoEndpoint | Rule::State) {

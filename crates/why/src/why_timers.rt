@@ -184,7 +184,7 @@ pub(crate) fn why_recovery(
     rule: Rule,
 ) -> Result<(), OutOfMemory> {
     let Some(endpoint) = scene.endpoint(host, recovery.lport, recovery.rport) else {
-        return no_endpoint(out, host, recovery.lport, recovery.rport);
+        return no_endpoint(out, scene, host, recovery.lport, recovery.rport);
     };
     describe(out, host, endpoint)?;
     match rule {

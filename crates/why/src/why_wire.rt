@@ -4,8 +4,9 @@ use crate::described::describe;
 use crate::numbers::other;
 use crate::scene::Scene;
 use crate::text::{Piece, say};
+use crate::why_existing::existing;
 use crate::{why_calls, why_timers};
-use case_forms::{Event, Extras, Flags, Host, Label, Line, NamedLine, OutOfMemory, Wire};
+use case_forms::{Event, Extras, Flags, Host, Label, Line, NamedLine, OutOfMemory, Step, Wire};
 use segment::{Flag, Segment};
 use spec_tcp::Emission;
 use verdict::Rule;
@@ -29,14 +30,15 @@ pub(crate) fn explain_rule(
                 describe(out, *host, endpoint)?;
                 why_timers::why_expiry(out, scene, endpoint, *timer, named.extras, (moment, rule))
             }
-            None => no_endpoint(out, *host, *lport, *rport),
+            None => no_endpoint(out, scene, *host, *lport, *rport),
         },
     }
 }
 
-/// A host has no endpoint of these ports.
+/// A host has no endpoint of these ports: which it has.
 pub(crate) fn no_endpoint(
     out: &mut Vec<u8>,
+    scene: &Scene<'_>,
     host: Host,
     lport: u16,
     rport: u16,
@@ -50,7 +52,8 @@ pub(crate) fn no_endpoint(
             Piece::Word(" and the peer's port "),
             Piece::Number(u64::from(rport)),
         ],
-    )
+    )?;
+    existing(out, scene, host)
 }
 
 fn first_extra(extras: Extras) -> u32 {
@@ -250,6 +253,58 @@ fn why_came(
             ),
         },
     }
+}
+
+/// What usually causes the bytes of a line to differ in nothing but what they acknowledge. The answer is whether that
+/// is so.
+pub(crate) fn cause_of_difference(
+    out: &mut Vec<u8>,
+    scene: &Scene<'_>,
+    step: &Step,
+    rule: Rule,
+) -> Result<bool, OutOfMemory> {
+    let Label::L(named) = &step.label else {
+        return Ok(false);
+    };
+    let Some(line) = scene.line(named.number) else {
+        return Ok(false);
+    };
+    let Event::Sent(host, wire) = &line.event else {
+        return Ok(false);
+    };
+    let Some(made) = scene.world.made(*host, first_extra(named.extras)) else {
+        return Ok(false);
+    };
+    let m = made.emission();
+    if rule != Rule::BytesDiffer || !is_acknowledging_otherwise(m, wire) {
+        return Ok(false);
+    }
+    say(
+        out,
+        &[Piece::Word(if is_beyond(m, wire) {
+            "usually: the host acknowledges what no step of it took: the capture lost the arrival, its step T is \
+            missing or comes later, or the stack acknowledges what it never received"
+        } else {
+            "usually: the host acknowledges less than it took: the segment was made before the arrival was taken, or \
+            the stack threw bytes or a FIN away that came (a step T with keep 0)"
+        })],
+    )?;
+    Ok(true)
+}
+
+// Whether a line differs from the made segment in its acknowledgment number alone.
+fn is_acknowledging_otherwise(m: &Emission, wire: &Wire) -> bool {
+    let seg = &wire.seg;
+    m.flags.ack
+        && seg.has(Flag::Ack)
+        && m.ack_seq != seg.ack
+        && m.seq == seg.seq
+        && m.payload.len() == seg.payload.len()
+}
+
+// Whether a line acknowledges more than the made segment.
+fn is_beyond(m: &Emission, wire: &Wire) -> bool {
+    wire.seg.ack.0.wrapping_sub(m.ack_seq.0) < 1 << 31
 }
 
 // What the line is that should have gone out at a host.
