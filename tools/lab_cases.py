@@ -16,7 +16,8 @@ USAGE = [
     [], ["Draw"], ["draw", "--from"], ["draw", "--from", "0"], ["draw", "--from", "+9"], ["draw", "--from", "09"],
     ["draw", "--from", "9", "--from", "9"], ["draw", "--to", "9", "--to", "9"], ["draw", "--from", "9", "--to"],
     ["draw", "--from", "9", "--to", "8"], ["draw", "--to", "8", "--from", "9"], ["draw", "--from", "99999999999999999999"],
-    ["draw", "9"], ["draw", "--from", "9", "--to", "9", "--to", "9"], ["find", "x"], ["show", "--from", "9"], ["explain", ""],
+    ["draw", "--from", "9", "--to", "9", "--to", "9"], ["find", "x", "y"], ["show", "--from", "9"], ["explain", "--budget", "1"],
+    ["find", "--budget", "-1"], ["find", "--hints"], ["remark", "--to", "9"], ["--help", "x"],
 ]
 RANGES = [
     (["--from", "9"], 9, None), (["--to", "12"], None, 12), (["--from", "9", "--to", "12"], 9, 12),
@@ -56,8 +57,11 @@ def lines_drawn(picture):
 
 def wrong_words(lab, case):
     for words in USAGE:
-        if run(lab, words, case) != (3, b"bad usage\n"):
+        done = subprocess.run([lab, *words], input=case, capture_output=True, timeout=120)
+        if (done.returncode, done.stdout) != (3, b"") or not done.stderr.startswith(b"bad usage\n"):
             yield f"{words}: no `bad usage`"
+    if run(lab, ["find", "no such file"], case) != (5, b""):
+        yield "a file that isn't there: no status 5"
     numbers = lines_drawn(run(lab, ["draw"], case)[1])
     for words, first, last in RANGES:
         wanted = [n for n in numbers if (first or 0) <= n <= (last or n)]

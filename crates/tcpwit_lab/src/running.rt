@@ -1,18 +1,23 @@
-//! What the program does with its words, its reader and its writer.
+//! What the program does with its words, its reader and its two writers.
 
 ghost use Rattle.std.specs.Prelude.{◌<◌, ◌^◌};
 ghost use Rattle.counted.specs.Counting.{failures_of};
 
+use crate::words::{Asked, Deed, asked_by};
 use counted::{Counted, ReadFault};
-use drawing::{Range, draw, show};
-use line_fields::{FaultKind, TextFault};
-use std::alloc::Global;
+use drawing::{draw, show};
+use line_fields::{FaultKind, TextFault, push_end, push_word};
+use remarks::{RemarkFault, remarks_on};
+use std::alloc::{AllocError, Global};
+use std::fs;
 use std::io::{BufRead, Write};
 use why::{explain, fault_line};
 use witness_search::find;
 
 // Done.
 const DONE: u8 = 0;
+// The verdict is no, or there are remarks.
+const SAID: u8 = 1;
 // The text is refused.
 const REFUSED: u8 = 2;
 // The words ask for nothing that the program does.
@@ -22,115 +27,152 @@ const MEMORY: u8 = 4;
 // A read or a write failed.
 const DEVICE: u8 = 5;
 
-/// Does what the words behind the program's name ask for, and answers the status: 0 where it is done, 2 where the text
-/// is
-/// refused, 3 where the words are none of the program's, 4 where memory ran out, and 5 where a read or a write failed.
-pub(crate) fn run<R: BufRead, W: Write>(
-    alloc: Global,
+const VERSION: &str = "tcpwit_lab 1.0\n";
+
+const BAD_USAGE: &str = "bad usage\ntcpwit_lab --help tells the words\n";
+
+const HELP: &str = "tcpwit_lab WORD [OPTIONS] [FILE]
+
+Each word reads the file, or standard input where none is named, and writes to standard output.
+
+  find      a trace: finds a witness, and prints the case
+  explain   a case: the verdict of `tcpwit check`, and after a no or a fault what it rests on
+  remark    a case: what is lawful and yet worth a look
+  show      a case, or a trace alone: one event a line, the witness's steps between the lines
+  draw      a case, or a trace alone: a picture, as SVG
+              --from N, --to M  the first and the last line that is drawn
+
+  --help, --version
+
+Status: 0 done; 1 the verdict is no, or there are remarks; 2 the text is refused; 3 other words;
+4 memory ran out; 5 a read or a write failed. What is refused is reported on standard error.
+";
+
+/// Does what the words after the program's name ask for, and answers the status.
+pub(crate) fn run<R: BufRead, W: Write, E: Write>(
+    rt: &HostRuntime,
     words: &[&str],
     r: &mut Counted<R>,
     w: &mut Counted<W>,
+    e: &mut Counted<E>,
 ) -> u8
-    requires { (failures_of r.old < 2 ^ 50) × (failures_of w.old < 2 ^ 50) }
+    requires { (failures_of r.old < 2 ^ 50) × (failures_of w.old < 2 ^ 50) × (failures_of e.old < 2 ^ 50) }
 {
-    let Some(asked) = asked_by(words) else {
-        return say(w, b"bad usage\n", USAGE);
-    };
-    let mut text = Vec::new(alloc);
-    match r.append_all(&mut text) {
-        Ok(()) => write_answer(alloc, asked, text.as_slice(), w),
-        Err(ReadFault::Read) => say(w, b"bad device\n", DEVICE),
-        Err(ReadFault::OutOfMemory) => say(w, b"bad memory\n", MEMORY),
+    match asked_by(words) {
+        None => say(e, BAD_USAGE.as_bytes(), USAGE),
+        Some(Asked::Help) => say(w, HELP.as_bytes(), DONE),
+        Some(Asked::Version) => say(w, VERSION.as_bytes(), DONE),
+        Some(Asked::Do { deed, file }) => match read(rt, file, r) {
+            Ok(text) => write_answer(rt.alloc(), deed, text.as_slice(), w, e),
+            Err(fault) => refuse_input(rt.alloc(), file, fault, e),
+        },
     }
 }
 
-// What the words ask for.
-#[derive(Clone, Copy)]
-enum Asked {
-    Find,
-    Explain,
-    Show,
-    Draw(Range),
-}
-
-// What the words ask for. None: nothing that the program does.
-fn asked_by(words: &[&str]) -> Option<Asked> {
-    match words {
-        [word, options @ ..] if *word == "draw" => Some(Asked::Draw(range_of(options)?)),
-        [word] => match *word {
-            "find" => Some(Asked::Find),
-            "explain" => Some(Asked::Explain),
-            "show" => Some(Asked::Show),
-            _ => None,
+// The text of a file, or of standard input.
+fn read<R: BufRead>(
+    rt: &HostRuntime,
+    file: Option<&str>,
+    r: &mut Counted<R>,
+) -> Result<Vec<u8>, ReadFault>
+    requires { failures_of r.old < 2 ^ 50 }
+{
+    match file {
+        Some(name) => match fs::read(rt, name) {
+            Ok(text) => Ok(text),
+            Err(_) => Err(ReadFault::Read),
         },
-        _ => None,
+        None => {
+            let mut text = Vec::new(rt.alloc());
+            r.append_all(&mut text)?;
+            Ok(text)
+        }
     }
 }
 
-// The lines that `--from N`, `--to M` or both ask for, in either order. None: other words, an option twice, a number
-// that is
-// badly written, or M below N.
-fn range_of(options: &[&str]) -> Option<Range> {
-    let range = match options {
-        [] => Range {
-            from: None,
-            to: None,
+// Tells that the input can't be read, and answers the status.
+fn refuse_input<E: Write>(
+    alloc: Global,
+    file: Option<&str>,
+    fault: ReadFault,
+    e: &mut Counted<E>,
+) -> u8 {
+    match fault {
+        ReadFault::OutOfMemory => say(e, b"bad memory\n", MEMORY),
+        ReadFault::Read => match unread(alloc, file.unwrap_or("standard input")) {
+            Ok(line) => say(e, line.as_slice(), DEVICE),
+            Err(AllocError) => say(e, b"bad device\n", DEVICE),
         },
-        [name, value] if *name == "--from" => Range {
-            from: Some(line_number(value)?),
-            to: None,
-        },
-        [name, value] if *name == "--to" => Range {
-            from: None,
-            to: Some(line_number(value)?),
-        },
-        [name, from, other, to] if *name == "--from" && *other == "--to" => Range {
-            from: Some(line_number(from)?),
-            to: Some(line_number(to)?),
-        },
-        [name, to, other, from] if *name == "--to" && *other == "--from" => Range {
-            from: Some(line_number(from)?),
-            to: Some(line_number(to)?),
-        },
-        _ => return None,
-    };
-    match (range.from, range.to) {
-        (Some(from), Some(to)) if to < from => None,
-        _ => Some(range),
     }
 }
 
-// A number in digits alone, without a leading zero.
-fn line_number(value: &str) -> Option<u64> {
-    if value.starts_with("+") || value.starts_with("0") {
-        return None;
-    }
-    value.parse::<u64>().ok()
+// The line that tells that a file can't be read.
+fn unread(alloc: Global, name: &str) -> Result<Vec<u8>, AllocError> {
+    let mut line = Vec::new(alloc);
+    push_word(&mut line, "bad device: ")?;
+    push_word(&mut line, name)?;
+    push_word(&mut line, " can't be read")?;
+    push_end(&mut line)?;
+    Ok(line)
 }
 
 // Does what is asked for with a text.
-fn write_answer<W: Write>(alloc: Global, asked: Asked, text: &[u8], w: &mut Counted<W>) -> u8 {
-    match asked {
-        Asked::Find => tell(alloc, find(alloc, text), w),
-        Asked::Show => tell(alloc, show(alloc, text), w),
-        Asked::Draw(range) => tell(alloc, draw(alloc, text, range), w),
-        Asked::Explain => match explain(alloc, text) {
+fn write_answer<W: Write, E: Write>(
+    alloc: Global,
+    deed: Deed,
+    text: &[u8],
+    w: &mut Counted<W>,
+    e: &mut Counted<E>,
+) -> u8 {
+    match deed {
+        Deed::Find => tell(alloc, find(alloc, text), w, e),
+        Deed::Show => tell(alloc, show(alloc, text), w, e),
+        Deed::Draw(range) => tell(alloc, draw(alloc, text, range), w, e),
+        Deed::Explain => match explain(alloc, text) {
             Ok(said) => say(w, said.text.as_slice(), said.status),
-            Err(_) => say(w, b"bad memory\n", MEMORY),
+            Err(_) => say(e, b"bad memory\n", MEMORY),
         },
+        Deed::Remark => answer_remark(alloc, text, w, e),
     }
 }
 
-// Writes a case, or the fault of its trace.
-fn tell<W: Write>(alloc: Global, case: Result<Vec<u8>, TextFault>, w: &mut Counted<W>) -> u8 {
-    match case {
+fn answer_remark<W: Write, E: Write>(
+    alloc: Global,
+    text: &[u8],
+    w: &mut Counted<W>,
+    e: &mut Counted<E>,
+) -> u8 {
+    match remarks_on(alloc, text) {
+        Ok(remarked) => {
+            let status = if remarked.is_any { SAID } else { DONE };
+            say(w, remarked.text.as_slice(), status)
+        }
+        Err(RemarkFault::Trace(fault)) => refuse(alloc, "bad trace ", &fault, e),
+        Err(RemarkFault::Witness(fault)) => refuse(alloc, "bad witness ", &fault, e),
+        Err(RemarkFault::OutOfMemory) => say(e, b"bad memory\n", MEMORY),
+    }
+}
+
+// Writes a text, or the fault of its trace.
+fn tell<W: Write, E: Write>(
+    alloc: Global,
+    told: Result<Vec<u8>, TextFault>,
+    w: &mut Counted<W>,
+    e: &mut Counted<E>,
+) -> u8 {
+    match told {
         Ok(text) => say(w, text.as_slice(), DONE),
-        Err(fault) => match fault.kind {
-            FaultKind::OutOfMemory => say(w, b"bad memory\n", MEMORY),
-            _ => match fault_line(alloc, "bad trace ", &fault) {
-                Ok(line) => say(w, line.as_slice(), REFUSED),
-                Err(_) => say(w, b"bad memory\n", MEMORY),
-            },
+        Err(fault) => refuse(alloc, "bad trace ", &fault, e),
+    }
+}
+
+// Tells the fault of a text.
+fn refuse<E: Write>(alloc: Global, refusal: &str, fault: &TextFault, e: &mut Counted<E>) -> u8 {
+    match fault.kind {
+        FaultKind::OutOfMemory => say(e, b"bad memory\n", MEMORY),
+        _ => match fault_line(alloc, refusal, fault) {
+            Ok(line) => say(e, line.as_slice(), REFUSED),
+            Err(_) => say(e, b"bad memory\n", MEMORY),
         },
     }
 }

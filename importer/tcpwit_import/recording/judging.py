@@ -34,10 +34,9 @@ def judge(tcpwit, lab, trace, folder):
     """The verdict's line and status. A no is explained on standard error."""
     case = os.path.join(folder, "run.case")
     with open(trace, "rb") as source, open(case, "wb") as target:
-        found = subprocess.run([lab, "find"], stdin=source, stdout=target, check=False)
+        found = subprocess.run([lab, "find"], stdin=source, stdout=target, stderr=subprocess.PIPE, check=False)
     if found.returncode:
-        with open(case, encoding="utf-8", errors="replace") as file:
-            said = file.readline().strip()
+        said = found.stderr.decode(errors="replace").strip()
         raise Problem(f"{lab} find: {said or 'status ' + str(found.returncode)}", f"see {trace}")
     checked = piped([tcpwit, "check"], case)
     verdict = checked.stdout.decode(errors="replace").strip()
