@@ -6,13 +6,13 @@ ghost use Rattle.counted.specs.Counting.{failures_of};
 use crate::words::{Asked, Deed, asked_by};
 use counted::{Counted, ReadFault};
 use drawing::{draw, show};
-use line_fields::{FaultKind, TextFault, push_end, push_word};
+use line_fields::{FaultKind, TextFault, push_end, push_number, push_word};
 use remarks::{RemarkFault, remarks_on};
 use std::alloc::{AllocError, Global};
 use std::fs;
 use std::io::{BufRead, Write};
 use why::{explain, fault_line};
-use witness_search::find;
+use witness_search::{FindFault, Found, Wanted, find_wanted};
 
 // Done.
 const DONE: u8 = 0;
@@ -36,6 +36,8 @@ const HELP: &str = "tcpwit_lab WORD [OPTIONS] [FILE]
 Each word reads the file, or standard input where none is named, and writes to standard output.
 
   find      a trace: finds a witness, and prints the case
+              --budget N    how many steps may be spent on going back (5000000)
+              --hints FILE  what to choose at lines
   explain   a case: the verdict of `tcpwit check`, and after a no or a fault what it rests on
   remark    a case: what is lawful and yet worth a look
   show      a case, or a trace alone: one event a line, the witness's steps between the lines
@@ -63,7 +65,7 @@ pub(crate) fn run<R: BufRead, W: Write, E: Write>(
         Some(Asked::Help) => say(w, HELP.as_bytes(), DONE),
         Some(Asked::Version) => say(w, VERSION.as_bytes(), DONE),
         Some(Asked::Do { deed, file }) => match read(rt, file, r) {
-            Ok(text) => write_answer(rt.alloc(), deed, text.as_slice(), w, e),
+            Ok(text) => write_answer(rt, deed, text.as_slice(), w, e),
             Err(fault) => refuse_input(rt.alloc(), file, fault, e),
         },
     }
@@ -118,14 +120,15 @@ fn unread(alloc: Global, name: &str) -> Result<Vec<u8>, AllocError> {
 
 // Does what is asked for with a text.
 fn write_answer<W: Write, E: Write>(
-    alloc: Global,
-    deed: Deed,
+    rt: &HostRuntime,
+    deed: Deed<'_>,
     text: &[u8],
     w: &mut Counted<W>,
     e: &mut Counted<E>,
 ) -> u8 {
+    let alloc = rt.alloc();
     match deed {
-        Deed::Find => tell(alloc, find(alloc, text), w, e),
+        Deed::Find { budget, hints } => answer_find(rt, text, budget, hints, w, e),
         Deed::Show => tell(alloc, show(alloc, text), w, e),
         Deed::Draw(range) => tell(alloc, draw(alloc, text, range), w, e),
         Deed::Explain => match explain(alloc, text) {
@@ -151,6 +154,73 @@ fn answer_remark<W: Write, E: Write>(
         Err(RemarkFault::Witness(fault)) => refuse(alloc, "bad witness ", &fault, e),
         Err(RemarkFault::OutOfMemory) => say(e, b"bad memory\n", MEMORY),
     }
+}
+
+// Finds a case and prints it. Where lines were left or the search went back, that is said on standard error.
+fn answer_find<W: Write, E: Write>(
+    rt: &HostRuntime,
+    text: &[u8],
+    budget: u64,
+    hints: Option<&str>,
+    w: &mut Counted<W>,
+    e: &mut Counted<E>,
+) -> u8 {
+    let alloc = rt.alloc();
+    let hinted = match hints {
+        Some(name) => match fs::read(rt, name) {
+            Ok(hinted) => hinted,
+            Err(_) => return refuse_input(alloc, hints, ReadFault::Read, e),
+        },
+        None => Vec::new(alloc),
+    };
+    let wanted = Wanted {
+        hints: hinted.as_slice(),
+        budget,
+    };
+    match find_wanted(alloc, text, wanted) {
+        Ok(found) => {
+            if let Ok(line) = how_far(alloc, &found) {
+                say(e, line.as_slice(), DONE);
+            }
+            say(w, found.case.as_slice(), DONE)
+        }
+        Err(FindFault::Trace(fault)) => refuse(alloc, "bad trace ", &fault, e),
+        Err(FindFault::Hint(number)) => match bad_hint(alloc, number) {
+            Ok(line) => say(e, line.as_slice(), REFUSED),
+            Err(AllocError) => say(e, b"bad memory\n", MEMORY),
+        },
+    }
+}
+
+fn bad_hint(alloc: Global, number: u64) -> Result<Vec<u8>, AllocError> {
+    let mut line = Vec::new(alloc);
+    push_word(&mut line, "bad hint, line ")?;
+    push_number(&mut line, number)?;
+    push_end(&mut line)?;
+    Ok(line)
+}
+
+// How far a search came; nothing where it went over the lines once and explained all.
+fn how_far(alloc: Global, found: &Found) -> Result<Vec<u8>, AllocError> {
+    let mut line = Vec::new(alloc);
+    match found.stopped_at {
+        None if found.tries == 0 => return Ok(line),
+        None => push_word(&mut line, "all lines are explained")?,
+        Some(number) => {
+            push_word(&mut line, "no step was found for line ")?;
+            push_number(&mut line, number)?;
+            push_word(
+                &mut line,
+                " of the trace; the lines before it are explained",
+            )?;
+        }
+    }
+    push_word(&mut line, "; other choices tried: ")?;
+    push_number(&mut line, found.tries)?;
+    push_word(&mut line, ", steps: ")?;
+    push_number(&mut line, found.cost)?;
+    push_end(&mut line)?;
+    Ok(line)
 }
 
 // Writes a text, or the fault of its trace.

@@ -1,11 +1,17 @@
 //! What the words after the program's name ask for.
 
 use drawing::Range;
+use witness_search::BUDGET;
 
 /// What is done with a text.
 #[derive(Clone, Copy)]
-pub(crate) enum Deed {
-    Find,
+pub(crate) enum Deed<'a> {
+    Find {
+        /// How many steps may be spent on going back.
+        budget: u64,
+        /// The name of a file of hints.
+        hints: Option<&'a str>,
+    },
     Explain,
     Show,
     Draw(Range),
@@ -19,7 +25,7 @@ pub(crate) enum Asked<'a> {
     Version,
     /// Something is done with the text of a file, or of standard input.
     Do {
-        deed: Deed,
+        deed: Deed<'a>,
         file: Option<&'a str>,
     },
 }
@@ -29,6 +35,8 @@ pub(crate) enum Asked<'a> {
 struct Options<'a> {
     from: Option<u64>,
     to: Option<u64>,
+    budget: Option<u64>,
+    hints: Option<&'a str>,
     file: Option<&'a str>,
 }
 
@@ -48,14 +56,18 @@ pub(crate) fn asked_by<'a>(words: &[&'a str]) -> Option<Asked<'a>> {
     }
 }
 
-fn deed_of(word: &str, options: Options<'_>) -> Option<Deed> {
+fn deed_of<'a>(word: &str, options: Options<'a>) -> Option<Deed<'a>> {
     let has_range = options.from.is_some() || options.to.is_some();
+    let has_search = options.budget.is_some() || options.hints.is_some();
     match word {
-        "draw" => Some(Deed::Draw(range_of(options)?)),
-        "find" if !has_range => Some(Deed::Find),
-        "explain" if !has_range => Some(Deed::Explain),
-        "show" if !has_range => Some(Deed::Show),
-        "remark" if !has_range => Some(Deed::Remark),
+        "find" if !has_range => Some(Deed::Find {
+            budget: options.budget.unwrap_or(BUDGET),
+            hints: options.hints,
+        }),
+        "draw" if !has_search => Some(Deed::Draw(range_of(options)?)),
+        "explain" if !has_range && !has_search => Some(Deed::Explain),
+        "show" if !has_range && !has_search => Some(Deed::Show),
+        "remark" if !has_range && !has_search => Some(Deed::Remark),
         _ => None,
     }
 }
@@ -74,6 +86,8 @@ fn options_of<'a>(words: &[&'a str]) -> Option<Options<'a>> {
     let mut options = Options {
         from: None,
         to: None,
+        budget: None,
+        hints: None,
         file: None,
     };
     let mut left = words;
@@ -95,7 +109,7 @@ fn options_of<'a>(words: &[&'a str]) -> Option<Options<'a>> {
 }
 
 // The options with one more.
-fn with_option<'a>(options: Options<'a>, name: &str, value: &str) -> Option<Options<'a>> {
+fn with_option<'a>(options: Options<'a>, name: &str, value: &'a str) -> Option<Options<'a>> {
     match name {
         "--from" if options.from.is_none() => Some(Options {
             from: Some(line_number(value)?),
@@ -105,13 +119,29 @@ fn with_option<'a>(options: Options<'a>, name: &str, value: &str) -> Option<Opti
             to: Some(line_number(value)?),
             ..options
         }),
+        "--budget" if options.budget.is_none() => Some(Options {
+            budget: Some(count(value)?),
+            ..options
+        }),
+        "--hints" if options.hints.is_none() => Some(Options {
+            hints: Some(value),
+            ..options
+        }),
         _ => None,
     }
 }
 
 // A number in digits alone, without a leading zero; not 0.
 fn line_number(value: &str) -> Option<u64> {
-    if value.starts_with("0") || value.starts_with("+") {
+    if value.starts_with("0") {
+        return None;
+    }
+    count(value)
+}
+
+// A number in digits alone.
+fn count(value: &str) -> Option<u64> {
+    if value.starts_with("+") {
         return None;
     }
     value.parse::<u64>().ok()

@@ -1,8 +1,9 @@
 //! A line that comes in is taken at once, or answered by a reset where one follows, or dropped.
 
 use crate::ahead::connection_key;
-use crate::calls::{endpoint_at, listener_at};
+use crate::calls::listener_at;
 use crate::chains::ConnectionKey;
+use crate::choices::Fate;
 use crate::expiring::saturated;
 use crate::search::Search;
 use crate::sending::{place_of, plan_of};
@@ -13,9 +14,6 @@ use segment::Flag;
 use seqno::number;
 use spec_tcp::{Arrived, Emission};
 use verdict::Rule;
-
-// How many lines with the same bytes are tried for a copy, where those before are too old.
-const SENDINGS: usize = 16;
 
 fn other(host: Host) -> Host {
     match host {
@@ -56,6 +54,14 @@ fn greatest(world: &World, host: Host, m: &Emission) -> u32 {
         saturated(greatest_at_syn(initial, endpoint, &m))
     } else {
         saturated(greatest_window(initial, endpoint, &m))
+    }
+}
+
+// The congestion window of the endpoint that a segment finds.
+fn window_before(world: &World, host: Host, m: &Emission) -> u32 {
+    match endpoint_found(world, host, m) {
+        Some(endpoint) => endpoint.congestion.cwnd,
+        None => 0,
     }
 }
 
@@ -125,45 +131,54 @@ struct Earlier<'t> {
 impl<'t> Search<'t> {
     /// A line shows a segment that comes in.
     pub(crate) fn come_in(&mut self, host: Host, wire: &'t Wire) -> Result<(), StepFault> {
-        let line = self.number;
-        if self.world.header().version.is_half() {
-            self.push_line_step(Extras::Bare)?;
-            self.hear_in_world(host, wire)?;
-            return self.resolve_arrival(host, line);
-        }
-        let copied = self.copied(host, wire)?;
-        self.push_line_step(Extras::One(saturated(copied)))?;
-        self.arrive_in_world(host, copied, wire)?;
-        self.copies.pass(other(host), wire.bytes.as_slice());
-        self.resolve_arrival(host, line)
-    }
-
-    // The line that an arrival copies: of those with its bytes the first that has no copy yet, and is not too old.
-    fn copied(&mut self, host: Host, wire: &'t Wire) -> Result<u64, StepFault> {
-        let bytes = wire.bytes.as_slice();
-        for _ in 0..SENDINGS {
-            let Some(line) = self.copies.first(other(host), bytes) else {
-                return Ok(0);
-            };
-            match self.world.admits_arrival(host, self.moment, line, wire) {
-                Err(Rule::Lifetime) => {
-                    if !self.copies.pass(other(host), bytes) {
-                        return Ok(line);
-                    }
-                }
-                _ => return Ok(line),
-            }
-        }
-        Ok(self.copies.first(other(host), bytes).unwrap_or(0))
-    }
-
-    // What came in is taken, answered or dropped.
-    fn resolve_arrival(&mut self, host: Host, line: u64) -> Result<(), StepFault> {
-        let keep = self.make_earlier(host, line)?;
-        if self.try_taking(host, line, keep)? {
+        self.leave_time_wait(host, wire)?;
+        let line = self.bring_in(host, wire)?;
+        let place = self.place;
+        if self.choices.waits(place) {
+            self.waiting.insert(place, line)?;
             return Ok(());
         }
-        if self.leaves_time_wait(host, line)? && self.try_taking(host, line, keep)? {
+        self.resolve_arrival(host, line, place)
+    }
+
+    // What comes in with a line waits at its host. The answer is the line's number.
+    fn bring_in(&mut self, host: Host, wire: &'t Wire) -> Result<u64, StepFault> {
+        if self.world.header().version.is_half() {
+            let line = self.push_line_step(Extras::Bare)?;
+            self.hear_in_world(host, line, wire)?;
+            return Ok(line);
+        }
+        let copied = self.copied(host, wire);
+        let line = self.push_line_step(Extras::One(saturated(copied)))?;
+        self.arrive_in_world(host, line, copied, wire)?;
+        self.copies.pass(other(host), wire.bytes.as_slice(), copied);
+        Ok(line)
+    }
+
+    // The line that an arrival copies: of those with its bytes the first that has no copy yet and is not older than
+    // flights are;
+    // else the last. 0: there is none.
+    fn copied(&mut self, host: Host, wire: &'t Wire) -> u64 {
+        let bytes = wire.bytes.as_slice();
+        let longest = self.longest_flight.min(self.world.header().msl);
+        let since = self.moment.saturating_sub(longest);
+        let open = self.copies.open_since(other(host), bytes, since);
+        open.or(self.copies.last(other(host), bytes)).unwrap_or(0)
+    }
+
+    /// What came in with the line at a place is taken, answered or dropped.
+    pub(crate) fn resolve_arrival(
+        &mut self,
+        host: Host,
+        line: u64,
+        place: usize,
+    ) -> Result<(), StepFault> {
+        let fate = self.choices.fate(place);
+        if fate == Some(Fate::Dropped) {
+            return self.drop_arrival(host, line);
+        }
+        let keep = self.make_earlier(host, line)? && fate != Some(Fate::NotKept);
+        if self.try_taking(host, line, keep, fate)? {
             return Ok(());
         }
         if self.try_answer(host, line)? {
@@ -173,8 +188,14 @@ impl<'t> Search<'t> {
     }
 
     // Takes what came in, where that may be.
-    fn try_taking(&mut self, host: Host, line: u64, keep: bool) -> Result<bool, StepFault> {
-        let Some(choice) = self.choice(host, line, keep) else {
+    fn try_taking(
+        &mut self,
+        host: Host,
+        line: u64,
+        keep: bool,
+        fate: Option<Fate>,
+    ) -> Result<bool, StepFault> {
+        let Some(choice) = self.choice(host, line, keep, fate) else {
             return Ok(false);
         };
         let Some(m) = self.world.waiting(host, line) else {
@@ -190,12 +211,17 @@ impl<'t> Search<'t> {
     }
 
     // The greatest choice with which a segment may be taken.
-    fn choice(&self, host: Host, line: u64, keep: bool) -> Option<TakeChoice> {
+    fn choice(&self, host: Host, line: u64, keep: bool, fate: Option<Fate>) -> Option<TakeChoice> {
         let m = self.world.waiting(host, line)?;
+        let greatest = greatest(&self.world, host, m);
         let mut choice = TakeChoice {
-            cwnd: greatest(&self.world, host, m),
+            cwnd: if fate == Some(Fate::NotGrown) {
+                window_before(&self.world, host, m).min(greatest)
+            } else {
+                greatest
+            },
             keep,
-            sample: true,
+            sample: fate != Some(Fate::Unmeasured),
         };
         match self.world.admits_taking(host, self.moment, line, choice) {
             Ok(()) => return Some(choice),
@@ -218,29 +244,30 @@ impl<'t> Search<'t> {
             Some(endpoint) => endpoint.listener,
             None => None,
         };
-        self.wake(endpoint_at(host, place))?;
+        self.wake_ends(host, ports)?;
         match listener {
             Some(listener) => self.wake(listener_at(host, listener)),
             None => Ok(()),
         }
     }
 
-    // A SYN finds an endpoint in TIME-WAIT whose wait is over.
-    fn leaves_time_wait(&mut self, host: Host, line: u64) -> Result<bool, StepFault> {
-        let Some(m) = self.world.waiting(host, line) else {
-            return Ok(false);
-        };
-        let ports = Ports {
-            lport: m.rport,
-            rport: m.lport,
-        };
-        let Some(endpoint) = endpoint_found(&self.world, host, m) else {
-            return Ok(false);
-        };
-        if !(m.flags.syn && endpoint.state.is_time_wait()) {
-            return Ok(false);
+    // Before a SYN comes in that finds an endpoint in TIME-WAIT whose wait is over, the wait ends.
+    fn leave_time_wait(&mut self, host: Host, wire: &Wire) -> Result<(), StepFault> {
+        let seg = &wire.seg;
+        if !seg.has(Flag::Syn) || seg.has(Flag::Ack) || seg.has(Flag::Rst) {
+            return Ok(());
         }
-        self.add_expiry(host, ports, Timer::Msl2)
+        let ports = Ports {
+            lport: seg.dst,
+            rport: seg.src,
+        };
+        match self.world.body(host).endpoint_of(ports.lport, ports.rport) {
+            Some(endpoint) if endpoint.state.is_time_wait() => {
+                self.add_expiry(host, ports, Timer::Msl2)?;
+            }
+            _ => {}
+        }
+        Ok(())
     }
 
     // Answers what came in by a reset, where the next reset that goes out at its ports is that one.
@@ -259,8 +286,8 @@ impl<'t> Search<'t> {
         }
     }
 
-    // The segment that goes out with the line at a place.
-    fn sent_at(&self, place: usize) -> Option<&'t Wire> {
+    /// The segment that goes out with the line at a place.
+    pub(crate) fn sent_at(&self, place: usize) -> Option<&'t Wire> {
         match &self.lines.get(place)?.event {
             Event::Sent(_, wire) => Some(wire),
             _ => None,
@@ -321,5 +348,27 @@ impl<'t> Search<'t> {
             Err(StepFault::Broken(_)) => Ok(false),
             Err(StepFault::OutOfMemory) => Err(StepFault::OutOfMemory),
         }
+    }
+
+    /// What goes out with the line at a place is made now, where it may be and wasn't.
+    pub(crate) fn make_early(&mut self, place: usize) -> Result<(), StepFault> {
+        let lines = self.lines;
+        let Some(line) = lines.get(place) else {
+            return Ok(());
+        };
+        let Event::Sent(host, wire) = &line.event else {
+            return Ok(());
+        };
+        if place < self.next || self.made.contains_key(&place) {
+            return Ok(());
+        }
+        let earlier = Earlier {
+            key: connection_key(*host, wire.seg.src, wire.seg.dst),
+            place,
+            wire,
+            needed: false,
+        };
+        self.try_making(*host, earlier)?;
+        Ok(())
     }
 }

@@ -1,6 +1,8 @@
 //! Calls: each has its effect as soon as the machine permits the answer that its end tells.
 
-use crate::search::Search;
+use crate::ahead::connection_key;
+use crate::chains::ConnectionKey;
+use crate::search::{Connection, Search};
 use case_forms::{Answer, Call, Event, Extras, Host, Label, OutOfMemory, Ports, State, Timer};
 use endpoint_state::{StepFault, World};
 use indexmap::IndexMap;
@@ -90,6 +92,8 @@ pub(crate) struct Calls {
     ended: Waiting,
     /// The calls that are open at the end of the trace.
     unended: Waiting,
+    /// For an endpoint, the call that would open it.
+    opens: IndexMap<ConnectionKey, Pending>,
 }
 
 impl Calls {
@@ -98,6 +102,7 @@ impl Calls {
             open: IndexMap::new(alloc),
             ended: Waiting::new(alloc),
             unended: Waiting::new(alloc),
+            opens: IndexMap::new(alloc),
         }
     }
 
@@ -159,6 +164,14 @@ fn ports_of(world: &World, thread: u32) -> Option<(Host, Ports)> {
     ports_at(world, Host::Zero, socket).or(ports_at(world, Host::One, socket))
 }
 
+// The connection that a thread's open call means. None: a listener, or nothing.
+fn connection_of(world: &World, thread: u32) -> Option<Connection> {
+    match ports_of(world, thread)? {
+        (Host::Zero, ports) => Some((ports.lport, ports.rport)),
+        (Host::One, ports) => Some((ports.rport, ports.lport)),
+    }
+}
+
 fn ports_at(world: &World, host: Host, socket: u32) -> Option<(Host, Ports)> {
     let SocketTarget::EndpointAt(place) = world.body(host).thing(socket)? else {
         return None;
@@ -195,20 +208,85 @@ impl Search<'_> {
     ) -> Result<(), StepFault> {
         self.push_line_step(Extras::Bare)?;
         self.begin_in_world(thread, call)?;
+        self.calls.open.insert(thread, place)?;
+        if let Some(connection) = connection_of(&self.world, thread) {
+            self.meant.insert(place, connection)?;
+        }
+        if self.choices.waits(place) {
+            return Ok(());
+        }
+        self.try_first(place, thread, call)
+    }
+
+    /// A call has its effect where that may be; else it waits.
+    pub(crate) fn try_first(
+        &mut self,
+        place: usize,
+        thread: u32,
+        call: &Call,
+    ) -> Result<(), StepFault> {
         let pending = Pending {
             thread,
             begin: place,
             end: self.ahead.end_of(place),
         };
-        self.calls.open.insert(thread, place)?;
         let meant = meant_by(&self.world, call);
         if self.has_effect(pending)? {
             return self.wake_after(meant, call);
+        }
+        if let Call::Connect(host, lport, rport) = call {
+            let ports = Ports {
+                lport: *lport,
+                rport: *rport,
+            };
+            return self.wait_for_ports(pending, *host, ports);
         }
         if let Some(meant) = meant {
             self.calls.put(meant, pending)?;
         }
         Ok(())
+    }
+
+    /// A call that waited for another line is tried, if it had no effect yet.
+    pub(crate) fn try_late(
+        &mut self,
+        place: usize,
+        thread: u32,
+        call: &Call,
+    ) -> Result<(), StepFault> {
+        match self.calls.open.get(&thread) {
+            Some(begin) if *begin == place => self.try_first(place, thread, call),
+            _ => Ok(()),
+        }
+    }
+
+    // A call opens an endpoint whose ports are in use: the wait of the old one is over, or the call waits.
+    fn wait_for_ports(
+        &mut self,
+        pending: Pending,
+        host: Host,
+        ports: Ports,
+    ) -> Result<(), StepFault> {
+        self.calls
+            .opens
+            .insert(connection_key(host, ports.lport, ports.rport), pending)?;
+        if self.add_expiry(host, ports, Timer::Msl2)? {
+            self.open_again(host, ports)?;
+        }
+        Ok(())
+    }
+
+    /// A call that waits for the ports of an endpoint is tried. The answer is whether it had its effect.
+    pub(crate) fn open_again(&mut self, host: Host, ports: Ports) -> Result<bool, StepFault> {
+        let key = connection_key(host, ports.lport, ports.rport);
+        let Some(pending) = self.calls.opens.get(&key).copied() else {
+            return Ok(false);
+        };
+        if !self.calls.is_open(pending) || !self.has_effect(pending)? {
+            return Ok(false);
+        }
+        self.calls.opens.swap_remove(&key);
+        Ok(true)
     }
 
     // What ends or closes something lets others go on that wait for it.

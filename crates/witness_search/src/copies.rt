@@ -5,13 +5,21 @@ use indexmap::IndexMap;
 use std::alloc::Global;
 use std::borrow::CowSlice;
 
-// The lines with the same bytes, by their numbers in the trace that is written.
+/// A line that went out, by its number in the trace that is written.
+#[derive(Clone, Copy, PartialEq, Eq)]
+pub(crate) struct Sending {
+    pub line: u64,
+    /// When it went out.
+    pub moment: u64,
+}
+
+// The lines with the same bytes.
 #[derive(Clone, Copy)]
 struct Sendings {
-    /// The first of those that have no copy yet.
-    open: Option<u64>,
+    /// The first of those that have no copy yet and are not too old for one.
+    open: Option<Sending>,
     /// The last of all.
-    last: u64,
+    last: Sending,
 }
 
 // What went out at a host.
@@ -19,7 +27,7 @@ struct Sendings {
 struct Sent<'t> {
     by_bytes: IndexMap<CowSlice<'t, u8>, Sendings>,
     /// For a line, the next one with the same bytes.
-    next: IndexMap<u64, u64>,
+    next: IndexMap<u64, Sending>,
 }
 
 impl<'t> Sent<'t> {
@@ -35,27 +43,55 @@ impl<'t> Sent<'t> {
     }
 
     // These bytes went out with a line.
-    fn add(&mut self, bytes: &'t [u8], line: u64) -> Result<(), OutOfMemory> {
-        let mut open = Some(line);
+    fn add(&mut self, bytes: &'t [u8], sending: Sending) -> Result<(), OutOfMemory> {
+        let mut open = Some(sending);
         if let Some(known) = self.get(bytes) {
-            self.next.insert(known.last, line)?;
+            self.next.insert(known.last.line, sending)?;
             open = known.open.or(open);
         }
-        let sendings = Sendings { open, last: line };
+        let sendings = Sendings {
+            open,
+            last: sending,
+        };
         self.by_bytes.insert(CowSlice::Borrowed(bytes), sendings)?;
         Ok(())
     }
 
-    // The first line with these bytes that has no copy has one now. The answer is whether there was one.
-    fn pass(&mut self, bytes: &'t [u8]) -> bool {
-        let Some(first) = self.get(bytes).and_then(|known| known.open) else {
-            return false;
-        };
-        let open = self.next.swap_remove(&first);
+    fn set_open(&mut self, bytes: &'t [u8], open: Option<Sending>) {
         if let Some(known) = self.by_bytes.get_mut(&CowSlice::Borrowed(bytes)) {
             known.open = open;
         }
-        true
+    }
+
+    // The first line with these bytes that is open and went out at or after a moment. Those before it are open no more.
+    fn open_since(&mut self, bytes: &'t [u8], since: u64) -> Option<Sending> {
+        let mut open = self.get(bytes)?.open;
+        for _ in 0..=self.next.len() {
+            match open {
+                Some(sending) if sending.moment < since => {
+                    open = self.next.swap_remove(&sending.line);
+                }
+                _ => break,
+            }
+        }
+        self.set_open(bytes, open);
+        open
+    }
+
+    // A line has a copy now.
+    fn pass(&mut self, bytes: &'t [u8], line: u64) {
+        match self.get(bytes) {
+            Some(
+                Sendings {
+                    open: Some(first),
+                    ..
+                },
+            ) if first.line == line => {
+                let open = self.next.swap_remove(&line);
+                self.set_open(bytes, open);
+            }
+            _ => {}
+        }
     }
 }
 
@@ -94,20 +130,23 @@ impl<'t> Copies<'t> {
         &mut self,
         host: Host,
         bytes: &'t [u8],
-        line: u64,
+        sending: Sending,
     ) -> Result<(), OutOfMemory> {
-        self.of_mut(host).add(bytes, line)
+        self.of_mut(host).add(bytes, sending)
     }
 
-    /// The first line with these bytes of a host that has no copy yet; where each has one, the last. None: no such
-    /// line.
-    pub(crate) fn first(&self, host: Host, bytes: &'t [u8]) -> Option<u64> {
-        let sendings = self.of(host).get(bytes)?;
-        Some(sendings.open.unwrap_or(sendings.last))
+    /// The first line with these bytes of a host that has no copy yet and went out at or after a moment.
+    pub(crate) fn open_since(&mut self, host: Host, bytes: &'t [u8], since: u64) -> Option<u64> {
+        Some(self.of_mut(host).open_since(bytes, since)?.line)
     }
 
-    /// The first line with these bytes of a host that has no copy yet has one now. The answer is whether there was one.
-    pub(crate) fn pass(&mut self, host: Host, bytes: &'t [u8]) -> bool {
-        self.of_mut(host).pass(bytes)
+    /// The last line with these bytes of a host. None: no such line.
+    pub(crate) fn last(&self, host: Host, bytes: &'t [u8]) -> Option<u64> {
+        Some(self.of(host).get(bytes)?.last.line)
+    }
+
+    /// A line with these bytes of a host has a copy now.
+    pub(crate) fn pass(&mut self, host: Host, bytes: &'t [u8], line: u64) {
+        self.of_mut(host).pass(bytes, line)
     }
 }

@@ -43,10 +43,19 @@ impl Search<'_> {
         Ok(())
     }
 
-    /// Writes down that the next line of the trace is taken, with these extra numbers.
-    pub(crate) fn push_line_step(&mut self, extras: Extras) -> Result<(), StepFault> {
+    /// Writes down that the line that is looked at is taken, with these extra numbers. The answer is its number.
+    pub(crate) fn push_line_step(&mut self, extras: Extras) -> Result<u64, StepFault> {
+        let number = self.note_number(extras)?;
+        self.next = self.place.saturating_add(1);
+        Ok(number)
+    }
+
+    // Writes down that the line of the next number is taken, with these extra numbers. The answer is its number.
+    fn note_number(&mut self, extras: Extras) -> Result<u64, StepFault> {
         let number = self.number;
-        self.push_step(Label::L(NamedLine { number, extras }))
+        self.push_step(Label::L(NamedLine { number, extras }))?;
+        self.number = number.saturating_add(1);
+        Ok(number)
     }
 
     /// A thread's open call has its effect, with this answer.
@@ -111,7 +120,8 @@ impl Search<'_> {
     ) -> Result<(), StepFault> {
         has_room(&self.world)?;
         self.world.expire(host, ports, expired, self.moment)?;
-        self.push_line_step(extras_of(expired))
+        self.note_number(extras_of(expired))?;
+        Ok(())
     }
 }
 

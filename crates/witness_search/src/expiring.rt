@@ -44,7 +44,10 @@ impl Search<'_> {
                 Err(StepFault::Broken(rule))
             }
             Err(StepFault::OutOfMemory) => Err(StepFault::OutOfMemory),
-            Ok(()) => self.wake_ends(host, ports),
+            Ok(()) => {
+                self.next = self.place.saturating_add(1);
+                self.wake_ends(host, ports)
+            }
         }
     }
 
@@ -63,12 +66,14 @@ impl Search<'_> {
         }
     }
 
-    /// Calls on the endpoint of these ports are tried.
+    /// Calls on the endpoint of these ports are tried, and one that would open it again.
     pub(crate) fn wake_ends(&mut self, host: Host, ports: Ports) -> Result<(), StepFault> {
         match self.world.body(host).place_of(ports.lport, ports.rport) {
-            Some(place) => self.wake(endpoint_at(host, place)),
-            None => Ok(()),
+            Some(place) => self.wake(endpoint_at(host, place))?,
+            None => {}
         }
+        self.open_again(host, ports)?;
+        Ok(())
     }
 
     /// Adds a line that tells of an expiry, where it may be now. The answer is whether it was added.
@@ -84,9 +89,8 @@ impl Search<'_> {
             Err(StepFault::Broken(_)) => return Ok(false),
             Err(StepFault::OutOfMemory) => return Err(StepFault::OutOfMemory),
         }
-        self.number = self.number.saturating_add(1);
         self.added.push(Added {
-            before: self.place,
+            before: self.next,
             moment: self.moment,
             host,
             ports,

@@ -6,13 +6,17 @@
 //! `World`.
 //!
 //! - `finding`: the text of a trace becomes the text of a case
+//! - `going_back`: where a line can't be explained, the lines are gone over again with other choices; `candidates`:
+//!   which there are
+//! - `choices`: what is chosen otherwise than usually; `hints`: the same as a text; `later`: the lines at which it is
+//!   done
 //! - `search`: one pass over the lines, each with the steps that belong to it
 //! - `deeds`: one step of the world, written down where it was done
 //! - `ahead`: what later lines tell of earlier ones: ends of calls, segments that go out
 //! - `chains`: places that stand behind one another, for each endpoint
-//! - `copies`: the lines that went out and have no copy yet
+//! - `copies`: the lines that went out and have no copy yet; `flights`: how long segments fly
 //! - `calls`: a call has its effect as soon as the machine permits the answer that its end tells
-//! - `sending`: a line that goes out is made at its moment
+//! - `sending`: a line that goes out is made at its moment; `unseen`: segments that no line shows
 //! - `arriving`: a line that comes in is taken at once, or answered by a reset, or dropped
 //! - `expiring`: expiries that the trace tells, and lines that are added for those that it doesn't
 #![tactic(auto)]
@@ -20,12 +24,19 @@
 mod ahead;
 mod arriving;
 mod calls;
+mod candidates;
 mod chains;
+mod choices;
 mod copies;
 mod deeds;
 mod expiring;
 mod finding;
+mod flights;
+mod going_back;
+mod hints;
+mod later;
 mod search;
 mod sending;
+mod unseen;
 
-pub use finding::find;
+pub use finding::{BUDGET, FindFault, Found, Wanted, find, find_wanted};

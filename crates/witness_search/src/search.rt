@@ -2,13 +2,15 @@
 
 use crate::ahead::LaterLines;
 use crate::calls::Calls;
+use crate::chains::ConnectionKey;
+use crate::choices::Choices;
 use crate::copies::Copies;
 use crate::deeds::has_room;
 use case_forms::{Answer, Call, Event, Header, Host, Line, OutOfMemory, Ports, Steps, Timer, Wire};
 use endpoint_state::{StepFault, World};
 use indexmap::IndexMap;
+use seqno::Word;
 use std::alloc::Global;
-use std::mem::replace;
 
 /// A line that is added: a timer expires.
 #[derive(Clone, Copy)]
@@ -21,22 +23,49 @@ pub(crate) struct Added {
     pub timer: Timer,
 }
 
+/// The ports of a connection, host 0's first.
+pub(crate) type Connection = (u16, u16);
+
+/// For the place at which a call begins, the connection that it means.
+pub(crate) type Connections = IndexMap<usize, Connection>;
+
+/// A trace for which a witness is looked for.
+#[derive(Clone, Copy)]
+pub(crate) struct Sought<'t> {
+    pub alloc: Global,
+    pub header: &'t Header,
+    pub lines: &'t [Line],
+    /// For how long a sending may have flown, in microseconds, where a later one has the same bytes.
+    pub longest_flight: u64,
+}
+
 /// A search on its way.
 #[derive(Drop)]
 pub(crate) struct Search<'t> {
     pub alloc: Global,
     pub world: World,
     pub lines: &'t [Line],
+    /// What is chosen at lines where the usual way isn't taken.
+    pub choices: &'t Choices,
+    /// For how long a sending may have flown, in microseconds, where a later one has the same bytes.
+    pub longest_flight: u64,
     pub ahead: LaterLines,
     pub copies: Copies<'t>,
     pub calls: Calls,
     /// For the place of a line that goes out, the number of its segment, where it was made before.
     pub made: IndexMap<usize, u32>,
+    /// For the place of an arrival that waits, the number of its line.
+    pub waiting: IndexMap<usize, u64>,
+    pub meant: Connections,
+    /// For each endpoint, the number of its last SYN.
+    pub syns: IndexMap<ConnectionKey, Word>,
     pub steps: Steps,
     pub added: Vec<Added>,
     /// The place of the line that is looked at, from 0.
     pub place: usize,
-    /// Its number in the trace that is written.
+    /// The place of the first line that isn't taken.
+    pub next: usize,
+    /// The number in the trace that is written of the next line that is taken.
     pub number: u64,
     /// Its moment, in microseconds.
     pub moment: u64,
@@ -44,33 +73,34 @@ pub(crate) struct Search<'t> {
 
 impl<'t> Search<'t> {
     /// A search before the first line.
-    pub(crate) fn new(
-        alloc: Global,
-        header: &Header,
-        lines: &'t [Line],
-    ) -> Result<Search<'t>, OutOfMemory> {
+    pub(crate) fn new(sought: Sought<'t>, choices: &'t Choices) -> Result<Search<'t>, OutOfMemory> {
+        let Sought {
+            alloc,
+            header,
+            lines,
+            longest_flight,
+        } = sought;
         let ahead = LaterLines::of(alloc, lines)?;
         Ok(Search {
             alloc,
             world: World::start(alloc, header),
             lines,
+            choices,
+            longest_flight,
             ahead,
             copies: Copies::new(alloc),
             calls: Calls::new(alloc),
             made: IndexMap::new(alloc),
+            waiting: IndexMap::new(alloc),
+            meant: IndexMap::new(alloc),
+            syns: IndexMap::new(alloc),
             steps: Steps::new(alloc),
             added: Vec::new(alloc),
             place: 0,
+            next: 0,
             number: header.first_event_line(),
             moment: 0,
         })
-    }
-
-    /// What was found, which the search has no more: the lines that are added, and the steps.
-    pub(crate) fn found(&mut self) -> (Vec<Added>, Steps) {
-        let added = replace(&mut self.added, Vec::new(self.alloc));
-        let steps = replace(&mut self.steps, Steps::new(self.alloc));
-        (added, steps)
     }
 
     /// Goes over all lines. An error is the rule that the last step breaks, or that memory ran out.
@@ -79,8 +109,9 @@ impl<'t> Search<'t> {
         for (place, line) in lines.iter().enumerate() {
             self.place = place;
             self.moment = line.moment;
+            self.prepare(place)?;
             self.read(place, line)?;
-            self.number = self.number.saturating_add(1);
+            self.go_on(place)?;
         }
         Ok(())
     }
@@ -121,28 +152,34 @@ impl<'t> Search<'t> {
     pub(crate) fn send_in_world(
         &mut self,
         host: Host,
+        line: u64,
         made: u32,
         wire: &Wire,
     ) -> Result<(), StepFault> {
         has_room(&self.world)?;
-        self.world.send(host, self.number, made, wire, self.moment)
+        self.world.send(host, line, made, wire, self.moment)
     }
 
     /// A segment of the host that is not recorded comes in with the line.
-    pub(crate) fn hear_in_world(&mut self, host: Host, wire: &Wire) -> Result<(), StepFault> {
+    pub(crate) fn hear_in_world(
+        &mut self,
+        host: Host,
+        line: u64,
+        wire: &Wire,
+    ) -> Result<(), StepFault> {
         has_room(&self.world)?;
-        self.world.hear(host, self.number, wire, self.moment)
+        self.world.hear(host, line, wire, self.moment)
     }
 
     /// A copy of another line comes in with the line.
     pub(crate) fn arrive_in_world(
         &mut self,
         host: Host,
+        line: u64,
         copied: u64,
         wire: &Wire,
     ) -> Result<(), StepFault> {
         has_room(&self.world)?;
-        self.world
-            .arrive(host, self.number, copied, wire, self.moment)
+        self.world.arrive(host, line, copied, wire, self.moment)
     }
 }

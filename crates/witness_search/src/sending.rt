@@ -2,6 +2,8 @@
 
 use crate::ahead::connection_key;
 use crate::calls::endpoint_at;
+use crate::choices::Unseen;
+use crate::copies::Sending;
 use crate::search::Search;
 use case_forms::{Extras, Flags, Host, Label, Ports, SegmentPlan, Timer, Wire};
 use endpoint_state::{Endpoint, StepFault, World};
@@ -72,10 +74,14 @@ impl<'t> Search<'t> {
             Some(made) => made,
             None => self.make_shown(host, wire)?,
         };
-        self.push_line_step(Extras::One(made))?;
-        self.send_in_world(host, made, wire)?;
-        let line = self.number;
-        self.copies.send(host, wire.bytes.as_slice(), line)?;
+        let line = self.push_line_step(Extras::One(made))?;
+        self.send_in_world(host, line, made, wire)?;
+        let moment = self.moment;
+        self.copies
+            .send(host, wire.bytes.as_slice(), Sending { line, moment })?;
+        if wire.seg.has(Flag::Syn) {
+            self.syns.insert(key, wire.seg.seq)?;
+        }
         Ok(())
     }
 
@@ -125,15 +131,50 @@ impl<'t> Search<'t> {
             rport: plan.rport,
         };
         match rule {
+            Rule::OldData if self.is_gap_before(host, plan) => {
+                self.make_unseen(host, ports, Unseen::One, plan.pos)
+            }
             Rule::OldData => self.send_again(host, ports),
             Rule::Offered => self.add_expiry(host, ports, Timer::Persist),
+            Rule::State | Rule::NoEndpoint if plan.flags.syn && !plan.flags.ack => {
+                self.reopen(host, ports)
+            }
             Rule::PayloadRange | Rule::State | Rule::NoEndpoint => self.suppose_at(host, ports),
             _ => Ok(false),
         }
     }
 
+    // Whether what is to be made stands behind positions that weren't made: they were, and no line shows it.
+    fn is_gap_before(&self, host: Host, plan: SegmentPlan) -> bool {
+        match self.world.body(host).endpoint_of(plan.lport, plan.rport) {
+            Some(endpoint) => endpoint.snd_max() < plan.pos,
+            None => false,
+        }
+    }
+
+    // A SYN goes out: the wait of an older endpoint is over, or a call opened it again.
+    fn reopen(&mut self, host: Host, ports: Ports) -> Result<bool, StepFault> {
+        let is_over = self.add_expiry(host, ports, Timer::Msl2)?;
+        let is_opened = self.open_again(host, ports)?;
+        if is_over || is_opened {
+            return Ok(true);
+        }
+        self.suppose_at(host, ports)
+    }
+
+    // Whether the peer's window is 0.
+    fn is_window_closed(&self, host: Host, ports: Ports) -> bool {
+        match self.world.body(host).endpoint_of(ports.lport, ports.rport) {
+            Some(endpoint) => endpoint.window.snd_wnd == 0,
+            None => false,
+        }
+    }
+
     // What lets old data go out again.
     fn send_again(&mut self, host: Host, ports: Ports) -> Result<bool, StepFault> {
+        if self.is_window_closed(host, ports) && self.add_expiry(host, ports, Timer::Persist)? {
+            return Ok(true);
+        }
         if self.try_recovery(host, ports)? {
             return Ok(true);
         }
