@@ -3,6 +3,7 @@
 ghost use Rattle.std.specs.Prelude.{◌<◌, ◌^◌};
 ghost use Rattle.counted.specs.Counting.{failures_of};
 
+use case_json::{JsonFault, write_json};
 use counted::{Counted, ReadFault};
 use drawing::{Range, draw, show};
 use line_fields::{FaultKind, TextFault};
@@ -51,6 +52,7 @@ enum Asked {
     Explain,
     Show,
     Draw(Range),
+    Json,
 }
 
 // What the words ask for. None: nothing that the program does.
@@ -61,6 +63,7 @@ fn asked_by(words: &[&str]) -> Option<Asked> {
             "find" => Some(Asked::Find),
             "explain" => Some(Asked::Explain),
             "show" => Some(Asked::Show),
+            "json" => Some(Asked::Json),
             _ => None,
         },
         _ => None,
@@ -114,6 +117,12 @@ fn write_answer<W: Write>(alloc: Global, asked: Asked, text: &[u8], w: &mut Coun
         Asked::Find => tell(alloc, find(alloc, text), w),
         Asked::Show => tell(alloc, show(alloc, text), w),
         Asked::Draw(range) => tell(alloc, draw(alloc, text, range), w),
+        Asked::Json => match write_json(alloc, text, w) {
+            Ok(()) => DONE,
+            Err(JsonFault::Trace(fault)) => tell(alloc, Err(fault), w),
+            Err(JsonFault::OutOfMemory) => say(w, b"bad memory\n", MEMORY),
+            Err(JsonFault::Write) => DEVICE,
+        },
         Asked::Explain => match explain(alloc, text) {
             Ok(said) => say(w, said.text.as_slice(), said.status),
             Err(_) => say(w, b"bad memory\n", MEMORY),

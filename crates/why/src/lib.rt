@@ -11,6 +11,8 @@
 //!   positions;
 //!   `parts`: the two texts of a case, and their lines. The crate `drawing` uses these four
 //!
+//! - `do_line`, `do_hidden`: a step that is done in a world. The crate `case_json` uses these and the modules above
+//!
 //! Private modules:
 //!
 //! - `verdict_in_words`: the verdict's line, and what it rests on
@@ -44,5 +46,6 @@ mod why_timers;
 mod why_wire;
 pub mod words;
 
+pub use scene::{do_hidden, do_line};
 pub use text::fault_line;
 pub use verdict_in_words::{Said, explain};

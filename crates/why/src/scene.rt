@@ -4,7 +4,7 @@ ghost use Rattle.std.specs.Prelude.{◌<◌, IsTrue, OnOk};
 ghost use Rattle.case_forms.specs.Witnesses.{IsWithinLimits};
 ghost use Rattle.spec_tcp.specs.Bounds.{most_steps};
 
-use case_forms::{Flags, Header, Host, Label, Line, NamedLine, OutOfMemory, SegmentPlan, Step};
+use case_forms::{Extras, Flags, Header, Host, Label, Line, NamedLine, OutOfMemory, SegmentPlan, Step};
 use endpoint_state::{Endpoint, StepFault, World};
 use indexmap::IndexMap;
 use spec_step::{apply_hidden, apply_line};
@@ -80,12 +80,8 @@ impl<'t> Scene<'t> {
         let Some(line) = self.line(named.number) else {
             return Ok(());
         };
-        let Some(taken) = line.copy()?.taken(named.extras) else {
-            return Ok(());
-        };
         self.taken.insert(named.number, at)?;
-        has_room(&self.world)?;
-        apply_line(&mut self.world, moment, &taken)
+        do_line(&mut self.world, moment, line.copy()?, named.extras)
     }
 
     /// The line of this number. None: the trace has no such event line.
@@ -157,7 +153,23 @@ fn is_within_limits(label: &Label<NamedLine>) -> bool
     }
 }
 
-fn do_hidden(world: &mut World, moment: u64, label: &Label<NamedLine>) -> Result<(), StepFault> {
+/// Does a step that takes a line, if the line has so many extra numbers; no witness that `check` reads has too many
+/// steps.
+pub fn do_line(
+    world: &mut World,
+    moment: u64,
+    line: Line,
+    extras: Extras,
+) -> Result<(), StepFault> {
+    let Some(taken) = line.taken(extras) else {
+        return Ok(());
+    };
+    has_room(world)?;
+    apply_line(world, moment, &taken)
+}
+
+/// Does a step that takes no line, if its positions are within limits.
+pub fn do_hidden(world: &mut World, moment: u64, label: &Label<NamedLine>) -> Result<(), StepFault> {
     has_room(world)?;
     if !is_within_limits(label) {
         return Ok(());
