@@ -387,7 +387,7 @@ impl<'t> Replay<'t> {
 
     /// The number of the segment that is made next.
     pub(crate) fn next_made(&self) -> u32 {
-        self.world.count()
+        self.world.count().saturating_add(1)
     }
 
     /// The object of the step that ran last.
