@@ -23,7 +23,7 @@
       const around = model.around(app.step), line = step.label.line === undefined ? null : model.line(step.label.line);
       const go = (title, to, id) => html("button", { id, click: () => app.selectStep(to), disabled: to === null || to < 0 || to >= model.steps.length }, title);
       const same = (by) => { let at = app.step + by; while (model.steps[at] && !isSame(model.steps[at], step)) at += by; return at; };
-      panel.replaceChildren(
+      const parts = [
         html("div", { class: "bar" }, go("⟨ k", app.step - 1, "step-back"), go("j ⟩", app.step + 1, "step-on"), go("K same endpoint", same(-1)), go("J same endpoint", same(1)),
           html("span", { id: "step-number", class: "dim" }, `step ${step.step + 1} of ${model.steps.length}, line ${step.line} of the witness`)),
         html("h3", { id: "step-words" }, step.words),
@@ -33,7 +33,9 @@
         step.checks.length ? html("h3", {}, "Values that its rules compare") : null,
         step.checks.length ? Tcpwit.checksTable(step.checks, "step-checks") : null,
         around ? html("h3", { id: "step-endpoint" }, `Endpoint ${around.endpoint.number} of host ${around.endpoint.host}, ${around.endpoint.lport} to ${around.endpoint.rport}`) : null,
-        around ? fields(around) : html("p", { class: "dim" }, "It touches no endpoint."));
+        around ? fields(around) : html("p", { class: "dim" }, "It touches no endpoint."),
+      ];
+      panel.replaceChildren(...parts.filter((part) => part));
     },
   };
 

@@ -96,9 +96,10 @@
 
     heads() {
       const name = (host) => `host ${host}${this.model.header.half && host === 1 ? " (not recorded)" : ""}`;
-      const threads = [0, 1].flatMap((host) => this.columns[host].map((thread) => svg("text", { class: "when mid", x: this.columnOf(thread, host) + COLUMN / 2, y: 20 }, `${thread}`)));
-      by("ladder-heads").replaceChildren(svg("svg", { width: this.width, height: 24 },
-        svg("text", { class: "when", x: 6, y: 16 }, "line  seconds  since"), [0, 1].map((host) => svg("text", { class: "mid", x: this.life[host], y: 12, "font-weight": 700 }, name(host))), threads));
+      const threads = [0, 1].flatMap((host) => this.columns[host].map((thread) => svg("text", { class: "when mid", x: this.columnOf(thread, host) + COLUMN / 2, y: 27 }, `${thread}`)));
+      by("ladder-heads").replaceChildren(svg("svg", { width: this.width, height: 32 },
+        svg("text", { class: "when", x: 6, y: 27 }, "line  seconds  since"),
+        this.columns.map((threads, host) => threads.length ? svg("text", { class: `when ${host === 0 ? "left" : ""}`, x: host === 0 ? this.columnOf(threads[threads.length - 1], 0) - 4 : this.columnOf(threads[threads.length - 1], 1) + COLUMN + 4, y: 27 }, threads.length === 1 ? "thread" : "threads") : null), [0, 1].map((host) => svg("text", { class: "mid", x: this.life[host], y: 12, "font-weight": 700 }, name(host))), threads));
     }
 
     draw() {
@@ -116,6 +117,7 @@
       const items = new Set();
       for (let at = Math.floor(first / BUCKET); at <= Math.floor(last / BUCKET); at += 1) for (const item of this.buckets[at] || []) items.add(item);
       for (const item of items) if (item.top <= last && item.bottom >= first) this.item(item, arrows, labels);
+      this.hidden(labels, first, last);
       this.refusal(labels, first, last);
       this.canvas.replaceChildren(svg("g", {}, back), svg("g", {}, arrows), svg("g", {}, labels));
       this.canvas.dataset.first = first;
@@ -164,7 +166,13 @@
       if (this.height < 12 && this.mode === "lines") return;
       const end = came || kind === "heard" ? this.note(fate) : fate === "lost" ? " (lost)" : "";
       const at = kind === "heard" ? from + 6 * (to > from ? 1 : -1) : from + 8 * side;
-      labels.push(svg("text", { class: `label ${side === 1 ? "" : "left"}`, x: at, y: y1 - 2, style: `fill:${color}`, ...listen }, this.words(line) + end));
+      this.label(labels, at, y1 - 2, this.words(line) + end, { class: side === 1 ? "" : "left", style: `fill:${color}`, ...listen });
+    }
+
+    // A label that no line strikes through.
+    label(labels, x, y, words, attributes) {
+      const width = 5.9 * words.length + 4, isLeft = attributes.class.includes("left");
+      labels.push(svg("rect", { class: "plate", x: isLeft ? x - width + 2 : x - 2, y: y - 10, width, height: 12 }), svg("text", { ...attributes, class: `label ${attributes.class}`, x, y }, words));
     }
 
     note(fate) {
@@ -196,7 +204,7 @@
 
     timer({ line, top }, labels) {
       const x = this.life[line.host] + (line.host === 0 ? -14 : 14);
-      labels.push(svg("text", { class: `label timer ${line.host === 0 ? "left" : ""}`, x, y: this.y(top), "data-timer": line.timer.name, click: () => this.app.selectLine(line.line) }, `⏱ ${line.timer.name} expires`));
+      this.label(labels, x, this.y(top), `timer ${line.timer.name} expires`, { class: `timer ${line.host === 0 ? "left" : ""}`, "data-timer": line.timer.name, click: () => this.app.selectLine(line.line) });
     }
 
     call({ call, top, bottom }, arrows, labels) {
@@ -205,22 +213,22 @@
       const text = `thread ${call.thread}: ${call.begin.text}\n${answer}${call.effect >= 0 ? `\nhas its effect in step ${call.effect}` : ""}`;
       const listen = { mousemove: (event) => Tcpwit.hover(event, text), mouseleave: (event) => Tcpwit.hover(event, ""), click: () => this.app.selectLine(call.begin.line), style: "cursor:pointer" };
       arrows.push(svg("rect", { class: "call", x: x + 2, width: COLUMN - 4, y: y1 - 4, height: y2 - y1 + 4, rx: 2, "data-call": call.begin.line, ...listen }));
-      const effect = this.effectRow(call);
+      const effect = call.effect < 0 ? null : this.rowOfStep(call.effect);
       if (effect !== null) arrows.push(svg("circle", { class: "effect", cx: x + COLUMN / 2, cy: this.y(effect) - 2, r: 3, "data-effect": call.effect, ...listen }));
       if (this.height < 12 && this.mode === "lines") return;
       const edge = host === 0 ? this.life[0] - 12 - COLUMN * this.columns[0].length : this.life[1] + 12 + COLUMN * this.columns[1].length;
-      const label = (y, words) => labels.push(svg("text", { class: `label ${host === 0 ? "left" : ""}`, x: edge, y, ...listen }, words));
+      const label = (y, words) => this.label(labels, edge, y, words, { class: host === 0 ? "left" : "", ...listen });
       label(y1, this.short(call.call));
       if (call.end && bottom !== top) label(this.y(bottom), `= ${answer}`);
     }
 
-    // The row behind which a call has its effect.
-    effectRow(call) {
-      for (let at = call.effect; at >= 0; at -= 1) {
+    // The row behind which a step stands: that of the last line that was taken up to it.
+    rowOfStep(step) {
+      for (let at = step; at >= 0; at -= 1) {
         const { label } = this.model.steps[at];
         if (label.kind === "L" && this.rowOf.has(label.line)) return this.rowOf.get(label.line);
       }
-      return null;
+      return 0;
     }
 
     short(call) {
@@ -232,15 +240,21 @@
 
     answer(answer) { return answer.name === "data" ? `data, ${answer.bytes} B` : [answer.name, answer.number, answer.state].filter((word) => word !== undefined).join(" "); }
 
+    // The hidden step that is chosen, behind the row of the last line that was taken.
+    hidden(labels, first, last) {
+      const step = this.model.steps[this.app.step];
+      if (!step || step.label.kind === "L" || step.refused || !this.rows.length) return;
+      const row = this.rowOfStep(this.app.step);
+      if (row < first || row > last) return;
+      const y = this.y(row) + 4;
+      labels.push(svg("line", { class: "chosen", x1: GUTTER, x2: this.width, y1: y, y2: y }), svg("text", { class: "label mid", id: "chosen-mark", x: (GUTTER + this.width) / 2, y: y + 10 }, step.words));
+    }
+
     // The refused step, behind the row of the last line that was taken.
     refusal(labels, first, last) {
       const { verdict, refused, steps } = this.model;
       if (verdict.answer !== "no") return;
-      let row = verdict.witness_line ? 0 : this.rowOf.get(verdict.trace_line) ?? 0;
-      for (let at = refused; at >= 0; at -= 1) {
-        const { label } = steps[at];
-        if (label.kind === "L" && this.rowOf.has(label.line)) { row = this.rowOf.get(label.line); break; }
-      }
+      const row = verdict.witness_line ? this.rowOfStep(refused) : this.rowOf.get(verdict.trace_line) ?? 0;
       if (row < first || row > last) return;
       const y = this.y(row) + 4;
       const words = refused < 0 ? `no step takes line ${verdict.trace_line}` : steps[refused].words;
@@ -248,8 +262,9 @@
     }
 
     reveal() {
-      const row = this.rowOf?.get(this.app.line);
-      if (row !== undefined) {
+      const hidden = this.model.steps[this.app.step], isHidden = hidden && hidden.label.kind !== "L";
+      const row = isHidden ? this.rowOfStep(this.app.step) : this.rowOf?.get(this.app.line);
+      if (row !== undefined && this.rows.length) {
         const y = this.y(row), view = this.scroll.clientHeight;
         if (y < this.scroll.scrollTop + 20 || y > this.scroll.scrollTop + view - 20) this.scroll.scrollTop = Math.max(0, y - view / 3);
       }

@@ -126,7 +126,7 @@ Tcpwit.Model = class {
   takeLine(step, at) {
     const line = this.line(step.label.line);
     if (!line || !(step.done || step.refused)) return;
-    this.stepOfLine.set(line.line, at);
+    if (!this.stepOfLine.has(line.line)) this.stepOfLine.set(line.line, at);
     if (!step.done) return;
     if (line.kind === "begin") this.byThread.get(line.thread).open = this.callOfLine.get(line.line);
     if (line.kind === "came") {

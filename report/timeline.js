@@ -3,7 +3,7 @@
 
 (() => {
   const { html, svg } = Tcpwit;
-  const LEFT = 150, ROW = 22, MOST = 60;
+  const LEFT = 150, ROW = 22, MOST = 60, MANY = 500;
   const COLORS = { "SYN-SENT": "--c6", "SYN-RECEIVED": "--c1", "ESTABLISHED": "--c2", "FIN-WAIT-1": "--c3", "FIN-WAIT-2": "--c4", "CLOSE-WAIT": "--c5", "CLOSING": "--c3", "LAST-ACK": "--c4", "TIME-WAIT": "--c7", "CLOSED": "--rule" };
 
   Tcpwit.timeline = {
@@ -39,7 +39,7 @@
       for (const one of endpoint.expiries) {
         if (Math.abs(x(one.moment) - left) < 1) continue;
         left = x(one.moment);
-        drawing.append(svg("text", { class: "mid", x: left, y: y + 13, style: "fill:var(--bad)", "data-expiry": one.timer, cursor: "pointer", click: () => app.selectStep(one.step) }, "⏱"));
+        drawing.append(svg("path", { d: `M${left - 4} ${y - 2}h8l-4 8z`, style: "fill:var(--bad)", "data-expiry": one.timer, cursor: "pointer", click: () => app.selectStep(one.step) }, svg("title", {}, `${one.timer} expires`)));
       }
     },
     calls(drawing, app, thread, y, x, end) {
@@ -48,7 +48,7 @@
       for (const call of app.model.calls) {
         if (call.thread !== thread.thread || (app.filter !== null && call.connection !== app.filter)) continue;
         const from = x(call.begin.moment), to = x(call.end?.moment ?? end);
-        if (Math.round(from) === column && to - from < 1) continue;
+        if (app.model.calls.length > MANY && Math.round(from) === column && to - from < 1) continue;
         column = Math.round(from);
         drawing.append(svg("rect", { class: "call", x: from, width: Math.max(2, to - from), y, height: 12, "data-call": call.begin.line, cursor: "pointer", click: () => app.selectLine(call.begin.line) }, svg("title", {}, call.begin.words)));
       }
