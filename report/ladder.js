@@ -159,8 +159,9 @@
       const to = kind === "heard" ? this.life[1 - host] : came ? this.life[1 - host] : fate === "lost" ? middle : (this.life[1 - host] + 2 * middle) / 3;
       const y1 = this.y(top), y2 = this.y(bottom), side = host === 0 ? 1 : -1;
       const listen = this.listeners(line, came);
+      if (fate === "lost") labels.push(svg("path", { class: "lost", d: `M${to - 4} ${y2 - 4}l8 8m0 -8l-8 8` }));
       arrows.push(svg("line", { class: `arrow ${fate}`, stroke: color, x1: from, y1, x2: to, y2, "data-sent": line.line, "data-came": came?.line, "data-fate": fate, "data-connection": line.connection }),
-        fate === "lost" ? svg("text", { class: "mid lost", x: to, y: y2 + 4, style: "fill:var(--bad)" }, "✕") : svg("path", { d: `M${to} ${y2}l${-8 * side} -4v8z`, fill: color }));
+        fate === "lost" ? null : svg("path", { d: `M${to} ${y2}l${-8 * side} -4v8z`, fill: color }));
       if (fate === "reset") arrows.push(svg("text", { class: "mid", x: to - 16 * side, y: y2 - 4, style: "fill:var(--warn)" }, "R"));
       arrows.push(svg("line", { class: "hit", x1: from, y1, x2: to, y2, ...listen }));
       if (this.height < 12 && this.mode === "lines") return;
@@ -255,7 +256,7 @@
       const { verdict, refused, steps } = this.model;
       if (verdict.answer !== "no") return;
       const row = verdict.witness_line ? this.rowOfStep(refused) : this.rowOf.get(verdict.trace_line) ?? 0;
-      if (row < first || row > last) return;
+      if (this.rows.length && (row < first || row > last)) return;
       const y = this.y(row) + 4;
       const words = refused < 0 ? `no step takes line ${verdict.trace_line}` : steps[refused].words;
       labels.push(svg("line", { class: "refused", x1: GUTTER, x2: this.width, y1: y, y2: y }), svg("text", { class: "label refused-text mid", x: (GUTTER + this.width) / 2, y: y + 12, id: "refused-mark" }, `refused (${verdict.rule}): ${words}`));

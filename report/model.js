@@ -109,7 +109,6 @@ Tcpwit.Model = class {
   }
 
   readStep(step, at) {
-    step.at_place = at;
     const label = step.label;
     if (step.refused) this.refused = at;
     if (label.kind === "L") this.takeLine(step, at);
@@ -162,12 +161,12 @@ Tcpwit.Model = class {
     if (!endpoint || !line) return;
     for (const [from, to] of Tcpwit.sackBlocks(line.segment?.options)) {
       const place = (number) => (number - (endpoint.now.iss ?? 0)) >>> 0;
-      endpoint.sacks.push({ moment: step.moment, from: place(from), to: place(to), step: step.at_place });
+      endpoint.sacks.push({ moment: step.moment, from: place(from), to: place(to), step: step.step });
     }
     if (step.label.sample) {
       const acknowledged = endpoint.now.snd_una - 1;
       const made = endpoint.made.findLast((segment) => segment.from <= acknowledged && acknowledged < segment.to);
-      if (made) endpoint.samples.push({ moment: step.moment, time: step.moment - made.moment, step: step.at_place });
+      if (made) endpoint.samples.push({ moment: step.moment, time: step.moment - made.moment, step: step.step });
     }
   }
 

@@ -71,8 +71,8 @@
       const from = at * WIDTH, side = (pieces) => pieces ? bytesAt(pieces, from, WIDTH) : [];
       const left = side(this.now.accepted), right = side(this.now.delivered);
       const cell = (pairs, other, isSent) => pairs.map((pair, i) => html("span", { class: other[i] !== undefined && other[i] !== pair ? "differs" : isSent && from + i < (this.got ?? 0) ? "read" : !isSent ? "read" : null }, pair, i + 1 < WIDTH ? " " : ""));
-      const pad = (pairs) => "   ".repeat(WIDTH - pairs.length) + (pairs.length ? "" : "");
-      return html("div", { "data-from": from }, `${String(from + 1).padStart(8)}  `, cell(left, right, true), pad(left), ` ${left.map(letter).join("").padEnd(WIDTH)} │ `, cell(right, left, false), pad(right), ` ${right.map(letter).join("")}`);
+      const pad = (pairs) => "   ".repeat(WIDTH - pairs.length);
+      return html("div", { "data-from": from }, `${String(from + 1).padStart(7)} `, cell(left, right, true), pad(left), ` ${left.map(letter).join("").padEnd(WIDTH)}│`, cell(right, left, false), pad(right), ` ${right.map(letter).join("")}`);
     },
   };
 })();

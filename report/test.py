@@ -1,11 +1,13 @@
 #!/usr/bin/python3
 """Tests the document of `tcpwit_lab json` and the page that shows it, in Debian's chromium.
 
-    report/test.py [--screens FOLDER]
+    report/test.py [--screens FOLDER] [CASE ..]
 
 What each panel has to show is computed here from the document, and what the document has to say from the case and from
-`crates/test_cases/data/expected.txt`. TCPWIT_LAB names the program, else it is `tcpwit_lab` at the top. With --screens a picture of each panel is kept.
+`crates/test_cases/data/expected.txt`. TCPWIT_LAB names the program, else it is `tcpwit_lab` at the top. With --screens a picture of each panel is kept, and with names
+of cases these alone are shown.
 """
+import argparse
 import glob
 import json
 import os
@@ -28,8 +30,11 @@ DATA = f"{TOP}/crates/test_cases/data"
 LAB = os.environ.get("TCPWIT_LAB", f"{TOP}/tcpwit_lab")
 KERNEL = ["linux-scaled-two-close-together", "linux-half-lost-syn", "linux-hello"]
 ROUNDS = 2500
-FIRST_LINE = {1: 7, 2: 8, 3: 9}
-SCREENS = sys.argv[2] if sys.argv[1:2] == ["--screens"] else None
+words = argparse.ArgumentParser()
+words.add_argument("--screens")
+words.add_argument("cases", nargs="*")
+ASKED = words.parse_args()
+SCREENS = ASKED.screens
 PANELS = ["Step", "Sequence", "Windows", "Round trips", "States and calls", "Streams", "Texts"]
 
 failures = []
@@ -584,7 +589,7 @@ def check_long(page, folder):
     """20,000 lines: little memory, few elements, and quick steps."""
     path, json_file = f"{folder}/long.case", f"{folder}/long.json"
     with open(path, "wb") as out:
-        subprocess.run([f"{TOP}/bench/bulk_transfer.py", str(ROUNDS)], stdout=out, check=True)
+        subprocess.run([sys.executable, f"{TOP}/bench/bulk_transfer.py", str(ROUNDS)], stdout=out, check=True)
     before = resource.getrusage(resource.RUSAGE_CHILDREN).ru_maxrss
     with open(path, "rb") as case, open(json_file, "wb") as out:
         began = time.time()
@@ -665,6 +670,8 @@ def main():
         page = Page(folder)
         try:
             for name, (json_file, document) in documents.items():
+                if ASKED.cases and name not in ASKED.cases:
+                    continue
                 show(page, name, json_file, document)
                 if name == "recorded_fast_recovery":
                     check_keys(page, document)
@@ -678,7 +685,8 @@ def main():
                     page.run("Tcpwit.app.showPanel(0)")
                     page.picture("page")
             check_dropped(page, documents["handshake"][0])
-            check_long(page, folder)
+            if not ASKED.cases or "long" in ASKED.cases:
+                check_long(page, folder)
         finally:
             page.driver.quit()
     equal(len(rules), 39, "rules with a no")
