@@ -159,21 +159,25 @@
       const to = kind === "heard" ? this.life[1 - host] : came ? this.life[1 - host] : fate === "lost" ? middle : (this.life[1 - host] + 2 * middle) / 3;
       const y1 = this.y(top), y2 = this.y(bottom), side = host === 0 ? 1 : -1;
       const listen = this.listeners(line, came);
-      if (fate === "lost") labels.push(svg("path", { class: "lost", d: `M${to - 4} ${y2 - 4}l8 8m0 -8l-8 8` }));
       arrows.push(svg("line", { class: `arrow ${fate}`, stroke: color, x1: from, y1, x2: to, y2, "data-sent": line.line, "data-came": came?.line, "data-fate": fate, "data-connection": line.connection }),
         fate === "lost" ? null : svg("path", { d: `M${to} ${y2}l${-8 * side} -4v8z`, fill: color }));
       if (fate === "reset") arrows.push(svg("text", { class: "mid", x: to - 16 * side, y: y2 - 4, style: "fill:var(--warn)" }, "R"));
       arrows.push(svg("line", { class: "hit", x1: from, y1, x2: to, y2, ...listen }));
+      if (fate === "lost") this.cross(labels, to, y2 + 3);
       if (this.height < 12 && this.mode === "lines") return;
       const end = came || kind === "heard" ? this.note(fate) : fate === "lost" ? " (lost)" : "";
       const at = kind === "heard" ? from + 6 * (to > from ? 1 : -1) : from + 8 * side;
       this.label(labels, at, y1 - 2, this.words(line) + end, { class: side === 1 ? "" : "left", style: `fill:${color}`, ...listen });
     }
 
+    // What is lost ends in a cross.
+    cross(labels, x, y) { labels.push(svg("path", { class: "lost", d: `M${x - 4} ${y - 4}l8 8m0 -8l-8 8` })); }
+
     // A label that no line strikes through.
     label(labels, x, y, words, attributes) {
       const width = 5.9 * words.length + 4, isLeft = attributes.class.includes("left");
-      labels.push(svg("rect", { class: "plate", x: isLeft ? x - width + 2 : x - 2, y: y - 10, width, height: 12 }), svg("text", { ...attributes, class: `label ${attributes.class}`, x, y }, words));
+      labels.unshift(svg("rect", { class: "plate", x: isLeft ? x - width + 2 : x - 2, y: y - 10, width, height: 12 }));
+      labels.push(svg("text", { ...attributes, class: `label ${attributes.class}`, x, y }, words));
     }
 
     note(fate) {
