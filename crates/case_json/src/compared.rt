@@ -116,11 +116,7 @@ fn payload(
 }
 
 // Where it begins, and how far what was made may be made again.
-fn place(
-    out: &mut Vec<Check>,
-    endpoint: &Endpoint,
-    plan: &SegmentPlan,
-) -> Result<(), OutOfMemory> {
+fn place(out: &mut Vec<Check>, endpoint: &Endpoint, plan: &SegmentPlan) -> Result<(), OutOfMemory> {
     if plan.flags.syn && plan.flags.ack && !plan.flags.rst {
         return Ok(());
     }
@@ -182,21 +178,11 @@ pub(crate) fn at_taking(
         acknowledgment(out, endpoint, &read)?;
         greatest_window(header.initial, endpoint, &read)
     };
-    at_most(
-        out,
-        Rule::Growth,
-        "cwnd",
-        u64::from(choice.cwnd),
-        greatest,
-    )
+    at_most(out, Rule::Growth, "cwnd", u64::from(choice.cwnd), greatest)
 }
 
 // Its first position or else its last in the receive window. At a window of 0 it begins at the next position.
-fn sequence(
-    out: &mut Vec<Check>,
-    endpoint: &Endpoint,
-    m: &Arrived<'_>,
-) -> Result<(), OutOfMemory> {
+fn sequence(out: &mut Vec<Check>, endpoint: &Endpoint, m: &Arrived<'_>) -> Result<(), OutOfMemory> {
     if m.flags().syn || m.is_reset_reply() {
         return Ok(());
     }
@@ -253,7 +239,13 @@ pub(crate) fn at_expiry(
         at_most(out, Rule::Growth, "ssthresh", u64::from(ssthresh), highest)?;
     }
     match timer {
-        Timer::Rto => early(out, endpoint.timers.rto_armed, endpoint.timers.rto, header, moment),
+        Timer::Rto => early(
+            out,
+            endpoint.timers.rto_armed,
+            endpoint.timers.rto,
+            header,
+            moment,
+        ),
         Timer::Persist => early(
             out,
             endpoint.timers.persist_armed,
@@ -323,11 +315,5 @@ pub(crate) fn at_recovery(
         u64::from(recovery.ssthresh),
         highest,
     )?;
-    at_most(
-        out,
-        Rule::Recovery,
-        "cwnd",
-        u64::from(recovery.cwnd),
-        most,
-    )
+    at_most(out, Rule::Recovery, "cwnd", u64::from(recovery.cwnd), most)
 }

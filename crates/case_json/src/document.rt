@@ -106,7 +106,9 @@ fn write_verdict<W: Write>(
     write_judged(sink, &verdict, &said)?;
     Ok(match verdict {
         Verdict::No {
-            witness_line, rule, ..
+            witness_line,
+            rule,
+            ..
         } => Some((witness_line, rule)),
         Verdict::Yes { .. } => None,
     })
@@ -283,10 +285,7 @@ fn write_step<W: Write>(
 }
 
 // Writes the endpoints as the last step left them, and the connections.
-fn write_ends<W: Write>(
-    sink: &mut Sink<'_, W>,
-    replay: &mut Replay<'_>,
-) -> Result<(), JsonFault> {
+fn write_ends<W: Write>(sink: &mut Sink<'_, W>, replay: &mut Replay<'_>) -> Result<(), JsonFault> {
     sink.begin_list("endpoints")?;
     write_endpoints(sink, replay, Host::Zero)?;
     write_endpoints(sink, replay, Host::One)?;

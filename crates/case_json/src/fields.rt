@@ -207,11 +207,7 @@ fn timers(endpoint: &Endpoint) -> [Cell; 9] {
 pub(crate) fn edge_offered(endpoint: &Endpoint) -> Option<u64> {
     let snd_una = endpoint.stream.snd_una;
     if snd_una < POSITIONS {
-        Some(offered_edge(
-            snd_una,
-            endpoint.window.snd_wnd,
-            endpoint.probe_due,
-        ))
+        Some(offered_edge(snd_una, endpoint.window.snd_wnd, endpoint.probe_due))
     } else {
         None
     }

@@ -1,6 +1,6 @@
 //! What a step says, and what calls and answers say.
 
-use crate::lines::{host_number, hex_field};
+use crate::lines::{hex_field, host_number};
 use crate::records::{AnswerRecord, CallRecord, LabelRecord, PlanRecord};
 use case_forms::{
     Answer, Call, Event, Extras, Flags, Host, Label, Line, NamedLine, Recovery, SegmentPlan,

@@ -1,7 +1,7 @@
 //! A case as one JSON document: its lines, each step with the endpoint before and after it, and its verdict.
 //!
-//! Nobody has to trust what is written here. Of each function it is proved that it is safe and returns, and no more. The
-//! document's schema is `docs/json-schema.json`.
+//! Nobody has to trust what is written here. Of each function it is proved that it is safe and returns, and no more.
+//! The schema of the document is `docs/json-schema.json`.
 //!
 //! - `write_json`: writes the document in pieces; `JsonFault`: why there is none
 //!

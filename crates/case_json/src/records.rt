@@ -238,7 +238,7 @@ pub(crate) struct FinalRecord {
     pub lport: u16,
     pub rport: u16,
     pub state: &'static str,
-    /// The greatest position that sends accepted, that was made, that was acknowledged, and that is expected of the peer.
+    /// The positions behind what sends accepted, made and acknowledged, and the next that is expected of the peer.
     pub accepted: u64,
     pub made: u64,
     pub acknowledged: u64,

@@ -4,7 +4,9 @@ ghost use Rattle.std.specs.Prelude.{◌<◌, IsTrue, OnOk};
 ghost use Rattle.case_forms.specs.Witnesses.{IsWithinLimits};
 ghost use Rattle.spec_tcp.specs.Bounds.{most_steps};
 
-use case_forms::{Extras, Flags, Header, Host, Label, Line, NamedLine, OutOfMemory, SegmentPlan, Step};
+use case_forms::{
+    Extras, Flags, Header, Host, Label, Line, NamedLine, OutOfMemory, SegmentPlan, Step,
+};
 use endpoint_state::{Endpoint, StepFault, World};
 use indexmap::IndexMap;
 use spec_step::{apply_hidden, apply_line};
@@ -169,7 +171,11 @@ pub fn do_line(
 }
 
 /// Does a step that takes no line, if its positions are within limits.
-pub fn do_hidden(world: &mut World, moment: u64, label: &Label<NamedLine>) -> Result<(), StepFault> {
+pub fn do_hidden(
+    world: &mut World,
+    moment: u64,
+    label: &Label<NamedLine>,
+) -> Result<(), StepFault> {
     has_room(world)?;
     if !is_within_limits(label) {
         return Ok(());
