@@ -1,0 +1,171 @@
+//! The text of a case that is being written.
+
+use case_forms::OutOfMemory;
+use line_fields::{push_end, push_number, push_space, push_word};
+use std::alloc::Global;
+
+/// A field of a line, or several that stand in one word.
+#[derive(Clone, Copy)]
+pub enum Word<'a> {
+    Text(&'a str),
+    Number(u64),
+    Digits(&'a [u8]),
+}
+
+/// A trace and its witness, line by line.
+#[derive(Drop)]
+pub struct CaseText {
+    pub trace: Vec<u8>,
+    pub witness: Vec<u8>,
+    /// The moment of the last line, in microseconds.
+    moment: u64,
+    /// The digits of that moment, or nothing before they are needed.
+    stamp: Vec<u8>,
+    /// The number of the last line of the trace.
+    lines: u64,
+    /// How many segments were made.
+    made: u64,
+}
+
+// Writes words, with a space between two of them.
+fn push_words(out: &mut Vec<u8>, words: &[Word]) -> Result<(), OutOfMemory> {
+    for word in words {
+        push_space(out)?;
+        match word {
+            Word::Text(text) => push_word(out, text)?,
+            Word::Number(number) => push_number(out, *number)?,
+            Word::Digits(digits) => out.extend_from_slice(digits)?,
+        }
+    }
+    push_end(out)
+}
+
+impl CaseText {
+    /// No text.
+    pub fn new(alloc: Global) -> CaseText {
+        CaseText {
+            trace: Vec::new(alloc),
+            witness: Vec::new(alloc),
+            moment: 0,
+            stamp: Vec::new(alloc),
+            lines: 0,
+            made: 0,
+        }
+    }
+
+    /// The header of a new case of version 2, in which lines may wait for so many microseconds.
+    pub fn begin(&mut self, skew: u64) -> Result<(), OutOfMemory> {
+        self.trace.clear();
+        self.witness.clear();
+        push_word(&mut self.trace, "trace 2\nskew ")?;
+        push_number(&mut self.trace, skew)?;
+        push_word(
+            &mut self.trace,
+            "\nmsl 60000000\ngrain 4000\nminrto 200000\nextra 1\ninitial 6928\n",
+        )?;
+        push_word(&mut self.witness, "witness 2\n")?;
+        self.moment = 1_000_000;
+        self.stamp.clear();
+        self.lines = 7;
+        self.made = 0;
+        Ok(())
+    }
+
+    /// So many microseconds pass.
+    pub fn pass(&mut self, micros: u64) {
+        self.moment = self.moment.wrapping_add(micros);
+        self.stamp.clear();
+    }
+
+    // Writes the digits of the moment, if they are needed.
+    fn stamp(&mut self) -> Result<(), OutOfMemory> {
+        if self.stamp.is_empty() {
+            push_number(&mut self.stamp, self.moment)?;
+        }
+        Ok(())
+    }
+
+    // Writes the moment, with a space after it, into the trace.
+    fn begin_line(&mut self) -> Result<(), OutOfMemory> {
+        self.stamp()?;
+        self.trace.extend_from_slice(self.stamp.as_slice())?;
+        push_space(&mut self.trace)
+    }
+
+    /// An event line, which no step takes yet. The answer is its number.
+    pub fn line(&mut self, thread: u64, words: &[Word]) -> Result<u64, OutOfMemory> {
+        self.begin_line()?;
+        push_number(&mut self.trace, thread)?;
+        push_words(&mut self.trace, words)?;
+        self.lines = self.lines.wrapping_add(1);
+        Ok(self.lines)
+    }
+
+    /// A step at the moment of the last line.
+    pub fn step(&mut self, words: &[Word]) -> Result<(), OutOfMemory> {
+        self.stamp()?;
+        self.witness.extend_from_slice(self.stamp.as_slice())?;
+        push_words(&mut self.witness, words)
+    }
+
+    /// The step that takes the line of this number, at the moment of the last line, with these extra numbers.
+    pub fn take_line(&mut self, number: u64, extras: &[u64]) -> Result<(), OutOfMemory> {
+        self.stamp()?;
+        self.witness.extend_from_slice(self.stamp.as_slice())?;
+        push_word(&mut self.witness, " L ")?;
+        push_number(&mut self.witness, number)?;
+        for extra in extras {
+            push_space(&mut self.witness)?;
+            push_number(&mut self.witness, *extra)?;
+        }
+        push_end(&mut self.witness)
+    }
+
+    /// A microsecond passes, and an event line is written with its step, which has these extra numbers. The answer is
+    /// its number.
+    pub fn event(
+        &mut self,
+        thread: u64,
+        words: &[Word],
+        extras: &[u64],
+    ) -> Result<u64, OutOfMemory> {
+        self.pass(1);
+        let number = self.line(thread, words)?;
+        self.take_line(number, extras)?;
+        Ok(number)
+    }
+
+    /// A call that has its effect at once. The first word of the call is `B`, and that of its answer is left out.
+    pub fn call(&mut self, thread: u64, call: &[Word], answer: &[Word]) -> Result<(), OutOfMemory> {
+        self.event(thread, call, &[])?;
+        self.effect(thread, answer)?;
+        self.pass(1);
+        self.begin_line()?;
+        push_number(&mut self.trace, thread)?;
+        push_word(&mut self.trace, " E")?;
+        push_words(&mut self.trace, answer)?;
+        self.lines = self.lines.wrapping_add(1);
+        self.take_line(self.lines, &[])
+    }
+
+    /// The open call of a thread has its effect, with this answer.
+    pub fn effect(&mut self, thread: u64, answer: &[Word]) -> Result<(), OutOfMemory> {
+        self.stamp()?;
+        self.witness.extend_from_slice(self.stamp.as_slice())?;
+        push_word(&mut self.witness, " D ")?;
+        push_number(&mut self.witness, thread)?;
+        push_words(&mut self.witness, answer)
+    }
+
+    /// One more segment is made. The answer is its number.
+    pub fn count_made(&mut self) -> u64 {
+        self.made = self.made.wrapping_add(1);
+        self.made
+    }
+
+    /// The whole case as one text, the trace first.
+    pub fn joined(&mut self) -> Result<&[u8], OutOfMemory> {
+        self.trace.extend_from_slice(self.witness.as_slice())?;
+        Ok(self.trace.as_slice())
+    }
+}
