@@ -1,11 +1,15 @@
 -- The value of a digit in hex, and of two.
-use Rattle.std.proofs.Common.{◌≡◌, ℕ, ◌+◌, ◌*◌, ◌%◌, ◌<◌, ◌≤◌, true, nat_eq, nat_le, List, length, take, drop, None, Some, Result, Ok, Err, refl, ap, ◌∙◌, unwrap_or, slice_index_or, slice_index, slice_set, arith}
+use Rattle.std.proofs.Common.{◌≡◌, ℕ, zero, suc, ◌+◌, ◌-◌, ◌*◌, ◌%◌, ◌<◌, ◌≤◌, true, nat_eq, nat_le, List, length, take, drop, get_or, None, Some, Result, Ok, Err, refl, sym, ap, ap₂, ◌∙◌, unwrap_or, slice_index_or, slice_index, slice_set, inl, inr, arith}
 use Rattle.std.specs.Result.{result_ok}
-use Rattle.std.proofs.lemmas.Bool.{agree_below_at, eqb-true, leb-true}
+use Rattle.std.proofs.lemmas.Bool.{agree_below_at, cases_lt, eqb-true, leb-true}
+use Rattle.std.proofs.lemmas.List.{set-get_or}
+use Rattle.std.proofs.lemmas.Simd.{get_or-chunk, get_or-put_chunk_below, get_or-put_chunk_at}
+use lib.Lanes.{chunk, put_chunk}
 use Rattle.hex.specs.Hex.{decode_of, decode_pairs, hex_digit_value, pair_value}
 use Rattle.hex.proofs.HexLemmas.{decode_of-even}
-use Rattle.hex.proofs.Pairs.{prepend, decode_step, decode_err, decode_done}
+use Rattle.hex.proofs.Pairs.{prepend, decode_start, decode_step, decode_err, decode_done}
 use Rattle.hex.specs.declared.error.FromHexError.{FromHexError}
+use Rattle.line_fields.specs.Pairs.{AreSpelled}
 use Rattle.line_fields.specs.declared.digits.TheConstants.{DIGITS}
 
 -- the table has the value of each digit
@@ -44,3 +48,33 @@ pub all_written : (text bytes : List ℕ) (i : ℕ) → length text ≡ 2 * leng
     → decode_pairs 0 text ≡ prepend (take i bytes) (decode_pairs (2 * i) (drop (2 * i) text)) → result_ok (decode_of text) ≡ Some bytes
 all_written text bytes i twice all so_far =
     ap result_ok (decode_of-even text (even text bytes twice) ∙ decode_done text bytes i all (omega arith) so_far)
+
+-- the bytes so far, where each is what its pair spells
+pub spelled_so_far : (text bytes : List ℕ) (count : ℕ) → length text ≡ 2 * length bytes → count ≤ length bytes → AreSpelled text bytes count
+    → decode_pairs 0 text ≡ prepend (take count bytes) (decode_pairs (2 * count) (drop (2 * count) text))
+spelled_so_far text bytes zero twice le spelled = decode_start text bytes
+spelled_so_far text bytes (suc n) twice le spelled =
+    let before = spelled_so_far text bytes n twice (omega arith) (λ k i lt. spelled k i (omega arith)) in
+    let more = one_written text bytes n (slice_index bytes n) twice (omega arith) (spelled n (2 * n) (omega arith)) before in
+    let same : slice_set bytes n (slice_index bytes n) ≡ bytes = set-get_or bytes n 0 in
+    let next : n + 1 ≡ suc n = omega arith in
+    rw (same, next) at more
+
+-- a block is written
+pub block_spelled : (text bytes block : List ℕ) (written start : ℕ) → start ≤ written → start + 16 ≤ length bytes → length block ≡ 16
+    → AreSpelled text bytes written → AreSpelled (chunk (2 * start) 32 text) block 16
+    → AreSpelled text (put_chunk start bytes block) (start + 16)
+block_spelled text bytes block written start le room long before new k i lt = elim (cases_lt k start) [
+  | inl below ↦ ap Some (get_or-put_chunk_below start bytes block k 0 below) ∙ before k i (omega arith)
+  | inr from ↦
+      let j = k - start in
+      let at : start + j ≡ k = omega arith in
+      let byte = get_or-put_chunk_at start bytes block j 0 (omega arith) (omega arith) in
+      let high = get_or-chunk (2 * start) 32 text (2 * j) 0 (omega arith) in
+      let low = get_or-chunk (2 * start) 32 text (2 * j + 1) 0 (omega arith) in
+      let high_at : 2 * start + 2 * j ≡ 2 * k = omega arith in
+      let low_at : 2 * start + (2 * j + 1) ≡ 2 * k + 1 = omega arith in
+      ap (λ m. Some (get_or (put_chunk start bytes block) m 0)) (sym at)
+      ∙ ap Some byte ∙ new j i (omega arith)
+      ∙ ap₂ (λ h l. result_ok (pair_value h l i)) (high ∙ ap (λ m. get_or text m 0) high_at) (low ∙ ap (λ m. get_or text m 0) low_at)
+]

@@ -12,6 +12,7 @@ pub mod FieldFaults
 pub mod HexLaw
 pub mod HostLaw
 pub mod Joined
+pub mod Lanes
 pub mod LeftLemmas
 pub mod LineRests
 pub mod Loop

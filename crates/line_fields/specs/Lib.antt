@@ -11,6 +11,7 @@ pub mod Rows
 pub mod Left
 pub mod Spelling
 pub mod HexFields
+pub mod Pairs
 pub mod States
 pub mod Timers
 pub mod Answers

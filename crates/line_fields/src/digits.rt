@@ -7,6 +7,7 @@ ghost use Rattle.std.specs.Fmt.{decimal};
 ghost use Rattle.std.specs.Result.{result_ok};
 ghost use Rattle.hex.specs.Hex.{decode_of, hex_digit_value, pair_value};
 
+use crate::blocks::write_blocks;
 use case_forms::OutOfMemory;
 use std::alloc::Global;
 
@@ -70,7 +71,8 @@ fn write_bytes(text: &[u8], bytes: &mut [u8]) -> bool
     ensures { MatchBool result (result_ok (decode_of text.now) ≡ Some bytes.new) (result_ok (decode_of text.now)
         ≡ None) }
 {
-    for i in 0..bytes.len() {
+    // Byte by byte goes a short text, and a block with a byte that is no digit, up to that byte.
+    for i in write_blocks(text, bytes)..bytes.len() {
         let Some(byte) = byte_of(text[2 * i], text[2 * i + 1]) else {
             return false;
         };

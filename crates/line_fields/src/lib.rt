@@ -17,6 +17,7 @@
 #![tactic(auto)]
 
 mod answers;
+mod blocks;
 mod digits;
 mod fault;
 mod fields;

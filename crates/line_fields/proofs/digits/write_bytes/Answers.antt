@@ -1,6 +1,11 @@
 use Rattle.std.proofs.Common.{◌*◌, arith}
-use Rattle.line_fields.proofs.DigitLemmas.{all_written, none_written, one_written}
+use Rattle.line_fields.proofs.DigitLemmas.{all_written, none_written, one_written, spelled_so_far}
 use Rattle.line_fields.proofs.digits.write_bytes.Goals as goal
+
+pub loop-i-init : goal.loop-i-init
+loop-i-init c =
+    let blocks = c.write_blocks-i in
+    spelled_so_far c.args.text.now blocks.new.bytes blocks.result (omega arith) blocks.ensures.most blocks.ensures.spelled
 
 pub returns-in_default : goal.returns-in_default
 returns-in_default c =
