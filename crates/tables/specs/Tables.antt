@@ -32,9 +32,9 @@ is_above top number = option_map_or (λ greatest. ltb greatest number) top true
 abbrev pub number_at : List (ℕ × ℕ) → ℕ → ℕ
 number_at risen i = (slice_index_or risen i (0, 0)).0
 
--- the numbers don't fall
+-- the numbers rise
 abbrev pub IsRising : List (ℕ × ℕ) → Type 0
-IsRising risen = (i j : ℕ) → i ≤ j → j < length risen → number_at risen i ≤ number_at risen j
+IsRising risen = (i j : ℕ) → i < j → j < length risen → number_at risen i < number_at risen j
 
 -- so many in front are below a number
 abbrev pub AreBelow : List (ℕ × ℕ) → (count number : ℕ) → Type 0

@@ -1,20 +1,53 @@
 //! Numbers that rise, with the places of their entries, and how one is found among them.
 //!
-//! Numbers are often given one after the other: then a number's place is how far above the first one it lies, and is
-//! looked at first. Most other look-ups are of numbers that came last. So the search steps back from the end, each step
-//! twice as wide as the one before, and then halves what lies between its last two steps: it takes the logarithm of how
-//! far from the end the number stands.
+//! Most look-ups are of the last number, which is looked at first: one above it is not there. Of the others most were
+//! given one after the other: then a number's place is how far above the first one it lies. Any other number is searched
+//! back from the end, each step twice as wide as the one before, and then what lies between the last two steps is
+//! halved: this takes the logarithm of how far from the end the number stands.
 
 ghost use Rattle.std.specs.Prelude.{◌≡◌, ◌≤◌, length, nat_eq, IfSome};
 ghost use Rattle.std.specs.Map.{lookup};
 ghost use Rattle.tables.specs.Tables.{AreBelow, AreNotBelow, IsRising};
 
 /// The place that stands beside a number, if it is among them.
+#[inline(always)]
 pub(crate) fn place_among(risen: &[(u64, usize)], number: u64) -> Option<usize>
     requires { IsRising risen.now }
     ensures { result ≡ lookup (nat_eq number) risen.now }
 {
-    let first = count_below(risen, number);
+    let last = risen.len().checked_sub(1)?;
+    if risen[last].0 == number {
+        return Some(risen[last].1);
+    }
+    if risen[last].0 < number {
+        return None;
+    }
+    match place_in_turn(risen, number) {
+        Some(place) => Some(place),
+        None => place_searched(risen, number),
+    }
+}
+
+// The same of a number that is among them, where those up to it were given one after the other.
+#[inline(always)]
+fn place_in_turn(risen: &[(u64, usize)], number: u64) -> Option<usize>
+    requires { IsRising risen.now }
+    ensures { IfSome result (λ place. Some place ≡ lookup (nat_eq number) risen.now) }
+{
+    let (first, _) = risen.first()?;
+    let count = number.checked_sub(*first)? as usize;
+    if count < risen.len() && risen[count].0 == number {
+        return Some(risen[count].1);
+    }
+    None
+}
+
+// The same of any number.
+fn place_searched(risen: &[(u64, usize)], number: u64) -> Option<usize>
+    requires { IsRising risen.now }
+    ensures { result ≡ lookup (nat_eq number) risen.now }
+{
+    let first = count_from_end(risen, number);
     if first < risen.len() && risen[first].0 == number {
         return Some(risen[first].1);
     }
@@ -22,36 +55,6 @@ pub(crate) fn place_among(risen: &[(u64, usize)], number: u64) -> Option<usize>
 }
 
 // How many are below a number: they stand in front.
-fn count_below(risen: &[(u64, usize)], number: u64) -> usize
-    requires { IsRising risen.now }
-    ensures bound { result ≤ length risen.now }
-    ensures below { AreBelow risen.now result number }
-    ensures from { AreNotBelow risen.now result number }
-{
-    match count_in_turn(risen, number) {
-        Some(count) => count,
-        None => count_from_end(risen, number),
-    }
-}
-
-// The same of a number that is among them, where those up to it were given one after the other.
-fn count_in_turn(risen: &[(u64, usize)], number: u64) -> Option<usize>
-    requires { IsRising risen.now }
-    ensures { IfSome result (λ count. (count ≤ length risen.now) × AreBelow risen.now count number
-        × AreNotBelow risen.now count number) }
-{
-    let (first, _) = risen.first()?;
-    let count = number.checked_sub(*first)? as usize;
-    if count >= risen.len() || risen[count].0 != number {
-        return None;
-    }
-    if count > 0 && risen[count - 1].0 == number {
-        return None;
-    }
-    Some(count)
-}
-
-// The same of any number.
 fn count_from_end(risen: &[(u64, usize)], number: u64) -> usize
     requires { IsRising risen.now }
     ensures bound { result ≤ length risen.now }
