@@ -1,8 +1,8 @@
 -- The fields that are left of a line: the first one and those after it.
-use Rattle.std.proofs.Common.{◌≡◌, ℕ, ◌+◌, ◌<◌, ◌≤◌, Bool, eqb, List, [], ◌∷◌, length, get_or, take, drop, Option, Some, None, refl, sym, ap, ◌∙◌, arith, inl, inr}
+use Rattle.std.proofs.Common.{◌≡◌, ℕ, ◌+◌, ◌<◌, ◌≤◌, Bool, eqb, List, [], ◌∷◌, length, get_or, take, drop, Option, Some, None, refl, sym, ap, ◌∙◌, arith, inl, inr, eq-eqb}
 use Rattle.std.specs.Prelude.{unwrap_or, nat_lt, not, IsTrue}
 use Rattle.std.specs.List.{slice_split, position_or_len}
-use Rattle.std.proofs.lemmas.Bool.{cases_lt, le-leb, lt-leb, ltb-true, lt-ltb, false_from_ne_true}
+use Rattle.std.proofs.lemmas.Bool.{eqb-true, cases_lt, le-leb, lt-leb, ltb-true, lt-ltb, false_from_ne_true}
 use Rattle.std.proofs.lemmas.List.{length-drop, length-take, drop-drop, take_all}
 use Rattle.std.proofs.lemmas.List.Splits.{slice_split_first, slice_split_none}
 use Rattle.std.proofs.lemmas.List.Sums.{position_or_len_is, prefix_len-le-length, fails_before_first}
@@ -52,11 +52,19 @@ words_left-next line at text k le e =
           ∙ ap (λ (ws : List Word). record { text = take k (drop at text); line = line; start = at; stop = at + k } ∷ ws) (sym (words_left-past line (at + k + 1) text (omega arith)))
     ]
 
--- what a search for a space finds is the first field
-pub next_is : (line at : ℕ) (text rest field : List ℕ) (r : Option ℕ) (k : ℕ) → at ≤ length text → rest ≡ drop at text → IsFirstByte (is_byte 32) rest r → k ≡ unwrap_or r (length rest) → field ≡ take k rest
+-- a field ends at the first space
+pub ends_at : (bytes : List ℕ) (k : ℕ) → k ≤ length bytes → ((i : ℕ) → i < k → get_or bytes i 0 ≡ 32 → ⊥) → (k < length bytes → get_or bytes k 0 ≡ 32) → position_or_len is_space bytes ≡ k
+ends_at bytes k le before here =
+    position_or_len_is is_space bytes k 0 le (λ i lt. false_from_ne_true (is_space (get_or bytes i 0)) (λ yes. before i lt (eqb-true _ _ yes))) (λ lt. eq-eqb _ _ (here lt))
+
+pub ends_within : (bytes : List ℕ) → position_or_len is_space bytes ≤ length bytes
+ends_within bytes = let short = prefix_len-le-length (λ (b : ℕ). not (is_space b)) bytes in omega arith
+
+-- what stands up to the first space is the first field
+pub next_is : (line at : ℕ) (text rest field : List ℕ) (k : ℕ) → at ≤ length text → rest ≡ drop at text → k ≡ position_or_len is_space rest → field ≡ take k rest
     → words_left line at text ≡ record { text = field; line = line; start = at; stop = at + k } ∷ words_left line (at + k + 1) text
-next_is line at text rest field r k le e found k-is field-is =
-    let place : position_or_len is_space (drop at text) ≡ k = ap (position_or_len is_space) (sym e) ∙ place_is rest r found ∙ sym k-is in
+next_is line at text rest field k le e k-is field-is =
+    let place : position_or_len is_space (drop at text) ≡ k = ap (position_or_len is_space) (sym e) ∙ sym k-is in
     let same : take k (drop at text) ≡ field = ap (take k) (sym e) ∙ sym field-is in
     words_left-next line at text k le place ∙ ap (λ (f : List ℕ). record { text = f; line = line; start = at; stop = at + k } ∷ words_left line (at + k + 1) text) same
 

@@ -1,18 +1,18 @@
 -- Decimal numbers without sign and leading zeros.
-use Rattle.std.proofs.Common.{◌≡◌, ◌≢◌, ℕ, zero, suc, ◌+◌, ◌-◌, ◌*◌, ◌^◌, ◌<◌, ◌≤◌, Bool, true, false, eqb, nat_eq, List, length, get_or, take, Ok, Err, refl, sym, ap, subst, ◌∙◌, arith}
+use Rattle.std.proofs.Common.{◌≡◌, ◌≢◌, ℕ, zero, suc, ◌+◌, ◌-◌, ◌*◌, ◌^◌, ◌<◌, ◌≤◌, Bool, true, false, eqb, nat_eq, List, length, get_or, take, Ok, Err, refl, sym, ap, subst, ◌∙◌, arith, inl, inr}
 use Rattle.std.specs.Char.{digit_value}
 use Rattle.std.specs.Fmt.{decimal}
 use Rattle.std.specs.Int.{IsInRange}
 use Rattle.std.specs.Str.{bytes_eq}
 use Rattle.std.specs.Str.Parse.{AllDigits, digits_value}
-use Rattle.std.proofs.lemmas.Bool.{eqb-true, eqb-false, le-leb, leb-true, and_parts, false_from_ne_true}
+use Rattle.std.proofs.lemmas.Bool.{eqb-true, eqb-false, cases_lt, le-leb, leb-true, and_parts, false_from_ne_true}
 use Rattle.std.proofs.lemmas.Bool.Decides.{nat_tests}
-use Rattle.std.proofs.lemmas.List.{take_all}
+use Rattle.std.proofs.lemmas.List.{take_all, length-take, get_or-take}
 use Rattle.std.proofs.lemmas.Slice.Eq.{bytes_eq-Decides}
 use Rattle.std.proofs.lemmas.Int.Digits.{digits_value_more}
 use Rattle.std.proofs.Math.Dec.{eqb-suc-zero}
 use Rattle.std.proofs.lemmas.Fmt.{decimal-digits_value, digits_value-decimal, digits_decimal, decimal_nonempty, first_decimal, decimal_digit}
-use Rattle.std.proofs.lemmas.Str.Parse.{IsNumeralModel, numerals_by_value, tells_digits, tells_by_index, digits_value-take-le}
+use Rattle.std.proofs.lemmas.Str.Parse.{IsNumeralModel, numerals_by_value, tells_digits, tells_by_index, digits_value-take-le, digits_value_short}
 use Rattle.line_fields.specs.declared.fault.FaultKind.TheVariants.{Number}
 use Rattle.line_fields.specs.Word.{Word}
 use Rattle.line_fields.specs.Reading.{number_value, is_number, fault_at}
@@ -75,6 +75,23 @@ one_read text count value a lt low high = record {
     by_case : (i : ℕ) → i < count + 1 → (b : Bool) → nat_eq i count ≡ b → IsInRange 48 57 (get_or text i 0)
     by_case i below true same = subst (λ (k : ℕ). IsInRange 48 57 (get_or text k 0)) (sym (eqb-true _ _ same)) (low, high)
     by_case i below false other = a.digits i (let differs = eqb-false i count other in omega (arith, differs))
+
+-- what is read so far has so many digits at most
+pub read_below : (text : List ℕ) (count value k : ℕ) → AreRead text count value → count ≤ length text → count ≤ k → value < 10 ^ k
+read_below text count value k a within le =
+    let len = length-take count text in
+    let digits : AreDigits (take count text) = λ i lt. rw (get_or-take count text i 0 (omega arith)) (a.digits i (omega arith)) in
+    rw a.shown (digits_value_short one_by_one (take count text) k digits (omega arith))
+
+-- the digits that stand in front spell their value
+pub front_read : (text : List ℕ) (count value : ℕ) → AreRead text count value → count ≤ length text → 0 < count → (1 < count → get_or text 0 0 ≢ 48)
+    → value < 2 ^ 64 → take count text ≡ decimal value
+front_read text count value a within some plain fits =
+    let len = length-take count text in
+    let first = get_or-take count text 0 0 some in
+    let digits : AreDigits (take count text) = λ i lt. rw (get_or-take count text i 0 (omega arith)) (a.digits i (omega arith)) in
+    let no_zero : get_or (take count text) 0 0 ≡ 48 → length (take count text) ≡ 1 = λ e. elim (cases_lt 1 count) [ inl more ↦ absurd (plain more (sym first ∙ e)) | inr le ↦ omega arith ] in
+    sym (ap decimal a.shown ∙ decimal-digits_value one_by_one (take count text) digits (omega arith) no_zero (subst (λ (n : ℕ). n < 2 ^ 64) a.shown fits))
 
 -- all of them
 pub all_read : (text : List ℕ) (count value : ℕ) → AreRead text count value → length text ≤ count → 0 < length text → (get_or text 0 0 ≡ 48 → length text ≡ 1)

@@ -5,6 +5,7 @@ pub mod AnswerLaw
 pub mod Choices
 pub mod Clean
 pub mod Columns
+pub mod FirstField
 pub mod Decimals
 pub mod DigitLemmas
 pub mod Endings

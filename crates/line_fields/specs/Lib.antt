@@ -2,6 +2,7 @@ pub mod Faults
 pub mod Word
 pub mod WordView
 pub mod Reading
+pub mod FirstField
 pub mod Reader
 pub mod Choice
 pub mod Hosts

@@ -8,6 +8,7 @@
 //!
 //! - `fault`: why a text can't be read, and where
 //! - `digits`: numbers in decimal and bytes in hex, digit by digit
+//! - `first_field`: where the first field of a text ends, and the number that it spells
 //! - `fields`: the cursor, and the numbers, hosts and bytes that it reads
 //! - `lines`: a line's end and its limits, and lines that have to stand as they are
 //! - `reading`: the next line of a text, of which one line is kept in memory
@@ -21,6 +22,7 @@ mod blocks;
 mod digits;
 mod fault;
 mod fields;
+mod first_field;
 mod lines;
 mod printing;
 mod reading;
