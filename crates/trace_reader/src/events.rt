@@ -104,11 +104,7 @@ pub fn event_line(
 {
     let mut fields = checked_fields(number, raw)?;
     let stop = fields.stop();
-    let word = fields.next()?;
-    let moment = word.number(0, GREATEST_MOMENT)?;
-    if moment < before {
-        return Err(word.fault(FaultKind::MomentFalls));
-    }
+    let moment = fields.rising(before, GREATEST_MOMENT)?;
     let thread = fields.number32()?;
     let event = event(alloc, version, &mut fields)?;
     fields.end()?;

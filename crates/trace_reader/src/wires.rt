@@ -14,7 +14,7 @@ use std::alloc::Global;
 pub(crate) fn wire(alloc: Global, fields: &mut Fields) -> Result<Wire, TextFault>
     ensures { Gives (λ wire. (wire, fields.new)) result (wire_field fields.old) }
 {
-    let token = fields.next()?;
+    let token = fields.next_long()?;
     let bytes = token.hex(alloc)?;
     match decode(alloc, bytes.as_slice()) {
         Ok(seg) => Ok(Wire { bytes, seg }),
