@@ -8,7 +8,8 @@ use Rattle.checker.specs.declared.case.CaseFault.{CaseFault}
 use Rattle.checker.specs.declared.case.CaseFault.TheVariants as faults
 use Rattle.std.specs.List.{enumerate_from}
 use Rattle.std.proofs.lemmas.List.Elements.{All-append, All-cons, All-nil}
-use Rattle.std.specs.Prelude.{true, Bool}
+use Rattle.std.specs.Prelude.{true, Bool, nat_le}
+use Rattle.std.specs.Option.{option_map_or}
 use Rattle.interval_order.specs.Orders.{Order, with_line}
 use Rattle.interval_order.specs.Later.{with_lines}
 use Rattle.interval_order.proofs.LaterLemmas.{enumerate_append}
@@ -108,6 +109,11 @@ step_more o m line (Some next) step one follows =
           (λ k d lt. let held = step.1 k d lt in omega (arith, held, later))
           (All-cons (λ (e : ℕ × Line). e.1.moment ≤ next.moment) (o.next, line) [] later (All-nil (λ (e : ℕ × Line). e.1.moment ≤ next.moment))),
     )
+
+-- what is reached is there
+pub line_reached : (ahead : Option Line) (moment : ℕ) → option_map_or (λ line. nat_le line.moment moment) ahead false ≡ true → (line : Line) × (ahead ≡ Some line)
+line_reached None moment is = absurd cc
+line_reached (Some line) moment is = (line, refl)
 
 -- ---- a line that is named before it is reached
 

@@ -1,6 +1,7 @@
 //! A trace that is read one line ahead, so that it is known when the next line is reached.
 
-ghost use Rattle.std.specs.Prelude.{◌≡◌, ◌≢◌, ◌<◌, List, Err, IfOk, IfErr, IfSome, None, nat_le, true, false};
+ghost use Rattle.std.specs.Prelude.{◌≡◌, ◌≢◌, ◌<◌, List, Err, IfOk, IfErr, IfSome, IsSome, OnOk, None, nat_le, true};
+ghost use Rattle.std.specs.Prelude.{false};
 ghost use Rattle.std.specs.Option.{option_map, option_map_or};
 ghost use Rattle.case_forms.specs.declared.trace.Line.{Line};
 ghost use Rattle.case_forms.specs.Traces.{first_event_line};
@@ -10,15 +11,16 @@ ghost use Rattle.trace_reader.specs.EventLines.{behind};
 ghost use Rattle.trace_reader.specs.TraceLeft.{place_of, fault_of, reader_failures, IsBegun, lines_left};
 ghost use Rattle.trace_reader.specs.TraceLeft.{Begins, StandsAt};
 ghost use Rattle.checker.specs.Ahead.{source_ahead, line_ahead, left_ahead, trace_ahead, IsUnread, IsAhead, Skips};
-ghost use Rattle.checker.specs.Ahead.{IsAll, TraceFails, Follows, lines_after};
+ghost use Rattle.interval_order.specs.Orders.{with_line};
+ghost use Rattle.checker.specs.Ahead.{IsAll, IsInStep, TraceFails, Follows, lines_after};
 
 use crate::case::{CaseFault, trace_fault};
 use case_forms::{Header, Line};
 use counted::Counted;
+use interval_order::Window;
 use line_fields::SourceFault;
 use std::alloc::Global;
 use std::io::BufRead;
-use std::mem::replace;
 use trace_reader::TraceReader;
 
 /// A trace, and its next line.
@@ -82,7 +84,7 @@ impl<A: BufRead> Ahead<A> {
     {
         match self.reader.header() {
             Ok(header) => {
-                self.line = next_line(&mut self.reader)?;
+                read_next(&mut self.reader, &mut self.line)?;
                 Ok(header)
             }
             Err(SourceFault::Text(fault)) => Err(trace_fault(fault)),
@@ -107,8 +109,32 @@ impl<A: BufRead> Ahead<A> {
         if self.line.is_none() {
             return Ok(None);
         }
-        let next = next_line(&mut self.reader)?;
-        Ok(replace(&mut self.line, next))
+        let item = self.line.take();
+        read_next(&mut self.reader, &mut self.line)?;
+        Ok(item)
+    }
+
+    /// Offers the line that was read ahead; the one after it is read.
+    #[inline(always)]
+    pub(crate) fn offer_to(&mut self, window: &mut Window) -> Result<(), CaseFault>
+        requires ahead { IsAhead self.old }
+        requires step { IsInStep window.old (line_ahead self.old) }
+        requires some { IsSome (line_ahead self.old) }
+        ensures ahead { OnOk result (IsAhead self.new) }
+        ensures offered { OnOk result (IfSome (line_ahead self.old) (λ line. window.new
+            ≡ with_line window.old line)) }
+        ensures next { OnOk result (Yields (left_ahead A.remaining self.old) (left_ahead A.remaining self.new)
+            (line_ahead self.old)) }
+        ensures follows { OnOk result (IfSome (line_ahead self.old) (λ line. IfSome (line_ahead self.new)
+            (Follows line))) }
+        ensures fault { IfErr result (λ e. TraceFails e (left_ahead A.remaining self.old)) }
+        ensures read { result ≡ Err CaseFault.Read
+            → failures_of (source_ahead self.new) ≡ one_more (failures_of (source_ahead self.old)) }
+        ensures same { result ≢ Err CaseFault.Read
+            → failures_of (source_ahead self.new) ≡ failures_of (source_ahead self.old) }
+    {
+        window.offer_from(&mut self.line)?;
+        read_next(&mut self.reader, &mut self.line)
     }
 
     // Passes the line that was read ahead. False if there is none.
@@ -143,22 +169,26 @@ impl<A: BufRead> Ahead<A> {
     }
 }
 
-// The next event line of a trace whose header was read.
+// The next event line of a trace whose header was read becomes the item.
 #[inline(always)]
-fn next_line<A: BufRead>(reader: &mut TraceReader<A>) -> Result<Option<Line>, CaseFault>
+fn read_next<A: BufRead>(
+    reader: &mut TraceReader<A>,
+    item: &mut Option<Line>,
+) -> Result<(), CaseFault>
     requires working { fault_of reader.old ≡ None }
     requires begun { IsBegun reader.old }
-    ensures next { IfOk result (Yields (lines_left A.remaining reader.old) (lines_left A.remaining reader.new)) }
-    ensures place { IfOk result (λ item. IfSome item (λ line. StandsAt (place_of reader.old) line ×
+    ensures next { OnOk result
+        (Yields (lines_left A.remaining reader.old) (lines_left A.remaining reader.new) item.new) }
+    ensures place { OnOk result (IfSome item.new (λ line. StandsAt (place_of reader.old) line ×
         (place_of reader.new ≡ behind (place_of reader.old) line))) }
-    ensures working { IfOk result (λ item. fault_of reader.new ≡ None) }
+    ensures working { OnOk result (fault_of reader.new ≡ None) }
     ensures begun { IsBegun reader.new }
     ensures fault { IfErr result (λ e. TraceFails e (lines_left A.remaining reader.old)) }
     ensures read { result ≡ Err CaseFault.Read → reader_failures reader.new ≡ one_more (reader_failures reader.old) }
     ensures same { result ≢ Err CaseFault.Read → reader_failures reader.new ≡ reader_failures reader.old }
 {
-    match reader.next() {
-        Ok(item) => Ok(item),
+    match reader.next_into(item) {
+        Ok(()) => Ok(()),
         Err(SourceFault::Text(fault)) => Err(trace_fault(fault)),
         Err(SourceFault::Read) => Err(CaseFault::Read),
     }

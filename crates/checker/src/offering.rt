@@ -39,9 +39,7 @@ pub(crate) fn offer_reached<A: BufRead>(
         → failures_of (source_ahead lines.new) ≡ failures_of (source_ahead lines.old) }
 {
     while lines.is_reached(moment) {
-        if let Some(line) = lines.next()? {
-            window.offer(line)?;
-        }
+        lines.offer_to(window)?;
     }
     Ok(())
 }

@@ -88,11 +88,29 @@ impl Window {
         ensures ok { OnOk result (self.new ≡ with_line self.old line) }
         ensures err { OnErr result (self.new ≡ self.old) }
     {
-        let number = line.number;
-        let thread = line.thread;
-        let previous = latest_with_room(&mut self.latest, thread)?;
-        self.waiting.push(Waiting { line, previous })?;
-        remember_last_line(&mut self.latest, thread, number);
+        let mut item = Some(line);
+        self.offer_from(&mut item)
+    }
+
+    /// The same with a line that is taken from the item, if one is there: so it is not handed on. What the item is then
+    /// is not said.
+    pub fn offer_from(&mut self, item: &mut Option<Line>) -> Result<(), OutOfMemory>
+        requires number { IfSome item.old (λ line. line.number ≡ self.old.next) }
+        requires room { IfSome item.old (λ line. self.old.next + 1 < 2 ^ 64) }
+        requires moment { IfSome item.old (λ line. All (λ e. e.1.moment ≤ line.moment) self.old.held) }
+        ensures ok { OnOk result (IfSome item.old (λ line. self.new ≡ with_line self.old line)) }
+        ensures err { OnErr result (self.new ≡ self.old) }
+    {
+        let previous = match item {
+            Some(line) => latest_with_room(&mut self.latest, line.thread)?,
+            None => return Ok(()),
+        };
+        if let Some(line) = item.take() {
+            let number = line.number;
+            let thread = line.thread;
+            self.waiting.push(Waiting { line, previous })?;
+            remember_last_line(&mut self.latest, thread, number);
+        }
         Ok(())
     }
 

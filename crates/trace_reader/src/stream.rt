@@ -1,6 +1,6 @@
 //! The reader of a trace whose lines are read as they are requested.
 
-ghost use Rattle.std.specs.Prelude.{◌≡◌, ◌≢◌, IfOk, IfSome, Some, None, Err};
+ghost use Rattle.std.specs.Prelude.{◌≡◌, ◌≢◌, IfOk, OnOk, IfSome, Some, None, Err};
 ghost use Rattle.counted.specs.Counting.{one_more};
 ghost use Rattle.line_fields.specs.declared.fault.TextFault.{TextFault};
 ghost use Rattle.line_fields.specs.declared.fault.SourceFault.{SourceFault};
@@ -127,20 +127,47 @@ impl<A: BufRead> TraceReader<A> {
             → reader_failures self.new ≡ one_more (reader_failures self.old) }
         ensures same { result ≢ Err SourceFault.Read → reader_failures self.new ≡ reader_failures self.old }
     {
+        let mut item = None;
+        self.next_into(&mut item)?;
+        Ok(item)
+    }
+
+    /// The next event line becomes the item, or none at the end of the text; after a fault the item may be anything.
+    /// The header is read before. So a line is not handed on from call to call.
+    #[inline(always)]
+    pub fn next_into(&mut self, item: &mut Option<Line>) -> Result<(), SourceFault>
+        requires { IsBegun self.old }
+        ensures next { fault_of self.old ≡ None → OnOk result
+            (Yields (lines_left A.remaining self.old) (lines_left A.remaining self.new) item.new) }
+        ensures place { OnOk result (IfSome item.new (λ line. StandsAt (place_of self.old) line
+            × (place_of self.new ≡ behind (place_of self.old) line))) }
+        ensures fault { (e : TextFault) → fault_of self.old ≡ None → result ≡ Err (SourceFault.Text e)
+            → FailsLeft e (lines_left A.remaining self.old) }
+        ensures again { (f : SourceFault) → fault_of self.old ≡ Some f → result ≡ Err f }
+        ensures stays { (f : SourceFault) → fault_of self.old ≡ Some f → self.new ≡ self.old }
+        ensures kept { (f : SourceFault) → result ≡ Err f → fault_of self.new ≡ Some f }
+        ensures open { OnOk result (fault_of self.new ≡ None) }
+        ensures begun { IsBegun self.new }
+        ensures version { version_of self.new ≡ version_of self.old }
+        ensures read { fault_of self.old ≡ None → result ≡ Err SourceFault.Read
+            → reader_failures self.new ≡ one_more (reader_failures self.old) }
+        ensures same { result ≢ Err SourceFault.Read → reader_failures self.new ≡ reader_failures self.old }
+    {
         if let Some(fault) = self.fault {
             return Err(fault);
         }
-        let read = self.read();
+        let read = self.read_into(item);
         self.keep_fault(read)
     }
 
-    // The next event line, if no fault was met.
+    // The next event line becomes the item, if no fault was met.
     #[inline(always)]
-    fn read(&mut self) -> Result<Option<Line>, SourceFault>
-        ensures next { IfOk result (Yields (lines_left A.remaining self.old) (lines_left A.remaining self.new)) }
-        ensures place { IfOk result (λ item. IfSome item (λ line. StandsAt (place_of self.old) line
+    fn read_into(&mut self, item: &mut Option<Line>) -> Result<(), SourceFault>
+        ensures next { OnOk result
+            (Yields (lines_left A.remaining self.old) (lines_left A.remaining self.new) item.new) }
+        ensures place { OnOk result (IfSome item.new (λ line. StandsAt (place_of self.old) line
             × (place_of self.new ≡ behind (place_of self.old) line))) }
-        ensures end { result ≡ Ok None → place_of self.new ≡ place_of self.old }
+        ensures end { OnOk result (item.new ≡ None → place_of self.new ≡ place_of self.old) }
         ensures fault { (e : TextFault) → result ≡ Err (SourceFault.Text e)
             → FailsLeft e (lines_left A.remaining self.old) }
         ensures open { fault_of self.new ≡ fault_of self.old }
@@ -149,7 +176,8 @@ impl<A: BufRead> TraceReader<A> {
         ensures same { result ≢ Err SourceFault.Read → reader_failures self.new ≡ reader_failures self.old }
     {
         if !next_line(&mut self.source, self.number, &mut self.line)? {
-            return Ok(None);
+            *item = None;
+            return Ok(());
         }
         let line = event_line(
             self.alloc,
@@ -160,6 +188,7 @@ impl<A: BufRead> TraceReader<A> {
         )?;
         self.before = line.moment;
         self.number += 1;
-        Ok(Some(line))
+        *item = Some(line);
+        Ok(())
     }
 }

@@ -6,7 +6,7 @@ use Rattle.line_fields.specs.declared.fault.SourceFault.TheVariants.{Text}
 use Rattle.line_fields.specs.Left.{FailsLeft}
 use Rattle.trace_reader.specs.TraceLeft.{lines_left}
 use Rattle.trace_reader.proofs.StreamLaw.{next_fails, line_fails, line_read, all_read, stands}
-use Rattle.trace_reader.proofs.stream.TraceReader.read.Goals as goal
+use Rattle.trace_reader.proofs.stream.TraceReader.read_into.Goals as goal
 
 pub returns-in_err-next_line-clause-fault : goal.returns-in_err-next_line-clause-fault
 returns-in_err-next_line-clause-fault g c = λ e is.
