@@ -53,7 +53,8 @@ words_left-next line at text k le e =
     ]
 
 -- a field ends at the first space
-pub ends_at : (bytes : List ℕ) (k : ℕ) → k ≤ length bytes → ((i : ℕ) → i < k → get_or bytes i 0 ≡ 32 → ⊥) → (k < length bytes → get_or bytes k 0 ≡ 32) → position_or_len is_space bytes ≡ k
+pub ends_at : (bytes : List ℕ) (k : ℕ) → k ≤ length bytes → ((i : ℕ) → i < k → get_or bytes i 0 ≡ 32 → ⊥) → (k < length bytes → get_or bytes k 0 ≡ 32)
+    → position_or_len is_space bytes ≡ k
 ends_at bytes k le before here =
     position_or_len_is is_space bytes k 0 le (λ i lt. false_from_ne_true (is_space (get_or bytes i 0)) (λ yes. before i lt (eqb-true _ _ yes))) (λ lt. eq-eqb _ _ (here lt))
 
