@@ -1,5 +1,6 @@
 -- A trace that is read one line ahead.
-use Rattle.std.proofs.Common.{◌≡◌, ◌≤◌, ◌+◌, ℕ, List, [], ◌∷◌, ◌++◌, Option, None, Some, IfSome, Result, Ok, Err, refl, sym, ap, subst, ◌∙◌, arith, append_assoc, length, length-append}
+use Rattle.std.proofs.Common.{◌≡◌, ◌≤◌, ◌+◌, ℕ, List, [], ◌∷◌, ◌++◌, Option, None, Some, IfSome, Result, Ok, Err, refl, sym, ap, subst, ◌∙◌, arith}
+use Rattle.std.proofs.Common.{append_assoc, length, length-append}
 use Rattle.case_forms.specs.declared.trace.Line.{Line}
 use Rattle.line_fields.specs.declared.fault.TextFault.{TextFault}
 use Rattle.line_fields.specs.Reading.{◌>>=◌}
@@ -111,7 +112,8 @@ step_more o m line (Some next) step one follows =
     )
 
 -- what is reached is there
-pub line_reached : (ahead : Option Line) (moment : ℕ) → option_map_or (λ line. nat_le line.moment moment) ahead false ≡ true → (line : Line) × (ahead ≡ Some line)
+pub line_reached : (ahead : Option Line) (moment : ℕ) → option_map_or (λ line. nat_le line.moment moment) ahead false ≡ true
+    → (line : Line) × (ahead ≡ Some line)
 line_reached None moment is = absurd cc
 line_reached (Some line) moment is = (line, refl)
 

@@ -1,5 +1,6 @@
 -- The fields that are left of a line: the first one and those after it.
-use Rattle.std.proofs.Common.{◌≡◌, ℕ, ◌+◌, ◌<◌, ◌≤◌, Bool, eqb, List, [], ◌∷◌, length, get_or, take, drop, Option, Some, None, refl, sym, ap, ◌∙◌, arith, inl, inr, eq-eqb}
+use Rattle.std.proofs.Common.{◌≡◌, ℕ, ◌+◌, ◌<◌, ◌≤◌, Bool, eqb, List, [], ◌∷◌, length, get_or, take, drop, Option, Some, None, refl, sym, ap, ◌∙◌}
+use Rattle.std.proofs.Common.{arith, inl, inr, eq-eqb}
 use Rattle.std.specs.Prelude.{unwrap_or, nat_lt, not, IsTrue}
 use Rattle.std.specs.List.{slice_split, position_or_len}
 use Rattle.std.proofs.lemmas.Bool.{eqb-true, cases_lt, le-leb, lt-leb, ltb-true, lt-ltb, false_from_ne_true}
@@ -62,7 +63,8 @@ pub ends_within : (bytes : List ℕ) → position_or_len is_space bytes ≤ leng
 ends_within bytes = let short = prefix_len-le-length (λ (b : ℕ). not (is_space b)) bytes in omega arith
 
 -- what stands up to the first space is the first field
-pub next_is : (line at : ℕ) (text rest field : List ℕ) (k : ℕ) → at ≤ length text → rest ≡ drop at text → k ≡ position_or_len is_space rest → field ≡ take k rest
+pub next_is : (line at : ℕ) (text rest field : List ℕ) (k : ℕ) → at ≤ length text → rest ≡ drop at text
+    → k ≡ position_or_len is_space rest → field ≡ take k rest
     → words_left line at text ≡ record { text = field; line = line; start = at; stop = at + k } ∷ words_left line (at + k + 1) text
 next_is line at text rest field k le e k-is field-is =
     let place : position_or_len is_space (drop at text) ≡ k = ap (position_or_len is_space) (sym e) ∙ sym k-is in

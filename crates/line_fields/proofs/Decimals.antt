@@ -1,5 +1,6 @@
 -- Decimal numbers without sign and leading zeros.
-use Rattle.std.proofs.Common.{◌≡◌, ◌≢◌, ℕ, zero, suc, ◌+◌, ◌-◌, ◌*◌, ◌^◌, ◌<◌, ◌≤◌, Bool, true, false, eqb, nat_eq, List, length, get_or, take, Ok, Err, refl, sym, ap, subst, ◌∙◌, arith, inl, inr}
+use Rattle.std.proofs.Common.{◌≡◌, ◌≢◌, ℕ, zero, suc, ◌+◌, ◌-◌, ◌*◌, ◌^◌, ◌<◌, ◌≤◌, Bool, true, false, eqb, nat_eq, List, length, get_or, take, Ok}
+use Rattle.std.proofs.Common.{Err, refl, sym, ap, subst, ◌∙◌, arith, inl, inr}
 use Rattle.std.specs.Char.{digit_value}
 use Rattle.std.specs.Fmt.{decimal}
 use Rattle.std.specs.Int.{IsInRange}
@@ -90,7 +91,8 @@ front_read text count value a within some plain fits =
     let len = length-take count text in
     let first = get_or-take count text 0 0 some in
     let digits : AreDigits (take count text) = λ i lt. rw (get_or-take count text i 0 (omega arith)) (a.digits i (omega arith)) in
-    let no_zero : get_or (take count text) 0 0 ≡ 48 → length (take count text) ≡ 1 = λ e. elim (cases_lt 1 count) [ inl more ↦ absurd (plain more (sym first ∙ e)) | inr le ↦ omega arith ] in
+    let no_zero : get_or (take count text) 0 0 ≡ 48 → length (take count text) ≡ 1 =
+      λ e. elim (cases_lt 1 count) [ inl more ↦ absurd (plain more (sym first ∙ e)) | inr le ↦ omega arith ] in
     sym (ap decimal a.shown ∙ decimal-digits_value one_by_one (take count text) digits (omega arith) no_zero (subst (λ (n : ℕ). n < 2 ^ 64) a.shown fits))
 
 -- all of them

@@ -1,5 +1,7 @@
 -- The operations on vectors of digits, lane by lane.
-use Rattle.std.proofs.Common.{◌≡◌, ℕ, zero, suc, ◌+◌, ◌-◌, ◌*◌, ◌%◌, ◌^◌, ◌<◌, Bool, true, false, cond, ◌||◌, ltb, leb, nat_eq, eqb, List, [], ◌∷◌, ◌++◌, map, length, get_or, replicate, bit_and, unwrap_or, Option, Some, None, Ok, refl, sym, ap, ap₂, ◌∙◌, T, Fits, w8, arith}
+use Rattle.std.proofs.Common.{◌≡◌, ℕ, zero, suc, ◌+◌, ◌-◌, ◌*◌, ◌%◌, ◌^◌, ◌<◌, Bool, true, false, cond, ◌||◌, ltb, leb, nat_eq, eqb, List, [], ◌∷◌}
+use Rattle.std.proofs.Common.{◌++◌, map, length, get_or, replicate, bit_and, unwrap_or, Option, Some, None, Ok, refl, sym, ap, ap₂, ◌∙◌, T, Fits, w8}
+use Rattle.std.proofs.Common.{arith}
 use Rattle.std.specs.Result.{result_ok}
 use Rattle.std.proofs.lemmas.Bool.{agree_below, agree_below_at, eqb-true, leb-true, leb-false, ltb-true, ltb-false}
 use Rattle.std.proofs.lemmas.List.{get_or-map}

@@ -12,8 +12,8 @@ const SHORT: usize = 16;
 // How many digits of a number are read without a test of its size.
 const MAX_DIGITS: usize = 19;
 
-/// The length of the first field of a text, which ends at a space or at the text's end. The end of a long field is found
-/// sooner if the caller says that it is long.
+/// The length of the first field of a text, which ends at a space or at the text's end. The end of a long field is
+/// found sooner if the caller says that it is long.
 #[inline(always)]
 pub(crate) fn field_len(text: &[u8], is_long: bool) -> usize
     ensures { result ≡ field_len text.now }

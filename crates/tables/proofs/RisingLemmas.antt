@@ -1,5 +1,6 @@
 -- What is found among numbers that rise.
-use Rattle.std.proofs.Common.{◌≡◌, ◌≢◌, ◌+◌, ◌≤◌, ◌<◌, ℕ, zero, suc, Bool, true, false, List, [], ◌∷◌, ◌++◌, length, get_or, None, Some, refl, sym, ap, subst, arith, nat_lt}
+use Rattle.std.proofs.Common.{◌≡◌, ◌≢◌, ◌+◌, ◌≤◌, ◌<◌, ℕ, zero, suc, Bool, true, false, List, [], ◌∷◌, ◌++◌, length, get_or, None, Some, refl, sym}
+use Rattle.std.proofs.Common.{ap, subst, arith, nat_lt}
 use Rattle.std.proofs.lemmas.Bool.Decides.{nat_tests}
 use Rattle.std.proofs.lemmas.List.{get_or_append_left}
 use Rattle.std.proofs.Math.Seq.{get_or-append_seam}
@@ -37,7 +38,8 @@ found_first (x ∷ xs) (suc i) n within below is =
 
 -- so a number is found at the place where it stands
 pub found_at : (xs : List (ℕ × ℕ)) (i n : ℕ) → IsRising xs → i < length xs → number_at xs i ≡ n → Some (get_or xs i (0, 0)).1 ≡ lookup (nat_eq n) xs
-found_at xs i n rising within is = found_first xs i n within (λ k low inside. let rise : number_at xs k < number_at xs i = rising k i low within in omega (arith, rise, is)) is
+found_at xs i n rising within is =
+    found_first xs i n within (λ k low inside. let rise : number_at xs k < number_at xs i = rising k i low within in omega (arith, rise, is)) is
 
 -- and where none is that number nothing is found
 found_none : (xs : List (ℕ × ℕ)) (n : ℕ) → ((i : ℕ) → i < length xs → nat_eq n (number_at xs i) ≡ false) → None ≡ lookup (nat_eq n) xs

@@ -1,9 +1,9 @@
 //! Numbers that rise, with the places of their entries, and how one is found among them.
 //!
 //! Most look-ups are of the last number, which is looked at first: one above it is not there. Of the others most were
-//! given one after the other: then a number's place is how far above the first one it lies. Any other number is searched
-//! back from the end, each step twice as wide as the one before, and then what lies between the last two steps is
-//! halved: this takes the logarithm of how far from the end the number stands.
+//! given one after the other: then a number's place is how far above the first one it lies. Any other number is
+//! searched back from the end, each step twice as wide as the one before, and then what lies between the last two steps
+//! is halved: this takes the logarithm of how far from the end the number stands.
 
 ghost use Rattle.std.specs.Prelude.{◌≡◌, ◌≤◌, length, nat_eq, IfSome};
 ghost use Rattle.std.specs.Map.{lookup};

@@ -17,7 +17,8 @@ returns-in_err-next_line-clause-fault g c = λ e is.
     next_fails c.args.self.now.version _ _ e (c.next_line.ensures.fault e (c.in_err-next_line.was ∙ ap (λ (f : SourceFault). Err f) same))
 
 pub returns-then-not-branch-clause-next : goal.returns-then-not-branch-clause-next
-returns-then-not-branch-clause-next g c = all_read c.args.self.now.version _ _ _ (c.next_line.ensures.none (c.in_ok-next_line.was ∙ ap (λ b. Ok b) c.if-not-branch.true))
+returns-then-not-branch-clause-next g c =
+    all_read c.args.self.now.version _ _ _ (c.next_line.ensures.none (c.in_ok-next_line.was ∙ ap (λ b. Ok b) c.if-not-branch.true))
 
 pub returns-in_err-line-clause-fault : goal.returns-in_err-line-clause-fault
 returns-in_err-line-clause-fault g c = λ e is.
