@@ -4,6 +4,8 @@ use Rattle.std.specs.Option.{option_map, option_map_or}
 use Rattle.case_forms.specs.declared.trace.Header.{Header}
 use Rattle.case_forms.specs.declared.trace.Line.{Line}
 use Rattle.case_forms.specs.declared.named_line.NamedLine.{NamedLine}
+use Rattle.case_forms.specs.declared.taken_line.TakenLine.{TakenLine}
+use Rattle.case_forms.specs.TakenLines.{taken_of}
 use Rattle.case_forms.specs.declared.steps.Label.{Label}
 use Rattle.case_forms.specs.declared.steps.Label.TheVariants.{L, D, M, T, K, R, F}
 use Rattle.case_forms.specs.declared.steps.Step.{Step}
@@ -13,16 +15,17 @@ use Rattle.case_forms.specs.Traces.{line_at}
 use Rattle.verdict.specs.declared.rule.Rule.{Rule}
 use Rattle.verdict.specs.declared.rule.Rule.TheVariants as rules
 use Rattle.verdict.specs.Rules.{first_broken}
-use Rattle.verdict.proofs.RuleLemmas.{first_broken-append_some}
+use Rattle.verdict.proofs.RuleLemmas.{first_broken-append_none, first_broken-append_some}
 use Rattle.interval_order.specs.Orders.{Order, taking, is_placed, order_of, held_line, is_offered}
 use Rattle.interval_order.specs.OrderRules.{order_rules}
 use Rattle.interval_order.proofs.OrderLemmas.{held_is}
 use Rattle.spec_network.specs.Hosts.{World, Stamped}
 use Rattle.spec_tcp.specs.Machine.{tcp_shape}
-use Rattle.spec_tcp.specs.Steps.{label_step}
+use Rattle.spec_tcp.specs.Steps.{label_step, line_step}
 use Rattle.spec_tcp.specs.Forgetting.{forget}
 use Rattle.spec_tcp_laws.proofs.ForgetWorlds.{step_rules-forget, after-forgets, makes_permitted}
 use Rattle.endpoint_state.specs.Worlds.{Progress, after}
+use Rattle.spec_step.specs.Asked.{broken_by}
 use Rattle.checker.specs.Seen.{moves, move_of, act_of}
 use Rattle.checker.specs.Verdicts.{act_rules, act_after, broken}
 use Rattle.checker.specs.Kept.{held_act, kept_broken}
@@ -125,3 +128,14 @@ pub refused_line : (header : Header) (o : Order) (w : World tcp_shape) (s : Step
 refused_line header o w s named rule is broken =
     subst (λ (label : Label NamedLine). Some rule ≡ kept_broken header o w (record s { label = label })) (sym is)
     (sym (first_broken-append_some (order_rules o (taking s.moment named.number (extras_count named.extras))) (option_map_or (act_rules header w) (held_act o (record s { label = L named })) []) rule (sym broken)))
+
+-- where it breaks none, what its line breaks in the machine is the least
+pub placed_line : (p : Progress) (o : Order) (s : Step) (named : NamedLine) (line : Line) (taken : TakenLine) → s.label ≡ L named
+    → None ≡ first_broken (order_rules o (taking s.moment named.number (extras_count named.extras))) → held_line o named.number ≡ Some line → Some taken ≡ taken_of named.extras line
+    → broken_by p s.moment (line_step taken) ≡ kept_broken p.header o p.world s
+placed_line p o s named line taken is none found takes =
+    subst (λ (label : Label NamedLine). broken_by p s.moment (line_step taken) ≡ kept_broken p.header o p.world (record s { label = label })) (sym is)
+    (acts ∙ sym (first_broken-append_none (order_rules o (taking s.moment named.number (extras_count named.extras))) (option_map_or (act_rules p.header p.world) (held_act o (record s { label = L named })) []) (sym none)))
+  where
+    acts : broken_by p s.moment (line_step taken) ≡ first_broken (option_map_or (act_rules p.header p.world) (held_act o (record s { label = L named })) [])
+    acts = rw (found, sym takes) refl

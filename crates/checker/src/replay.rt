@@ -31,7 +31,7 @@ use crate::laws::{explained_follows, receives_begin_sends};
 use case_forms::{Header, Label, Line, NamedLine, OutOfMemory, Step, TakenLine, Trace, Witness};
 use endpoint_state::World;
 use interval_order::Window;
-use spec_step::{StepFault, apply_hidden, apply_line};
+use spec_step::{StepFault, apply_hidden, apply_line_owned};
 use std::alloc::{AllocError, Global};
 use verdict::{Rule, Verdict};
 
@@ -157,7 +157,7 @@ pub(crate) fn replay(
     match &step.label {
         Label::L(named) => match window.place(named.number, named.extras.count(), step.moment) {
             Ok(line) => match line.taken(named.extras) {
-                Some(taken) => take_line(world, step.moment, &taken),
+                Some(taken) => take_line(world, step.moment, taken),
                 None => unreachable!(),
             },
             Err(rule) => Ok(Some(rule)),
@@ -172,12 +172,12 @@ pub(crate) fn replay(
 }
 
 // Takes a line in the machine, or says which of its rules is broken.
-fn take_line(world: &mut World, moment: u64, line: &TakenLine) -> Result<Option<Rule>, OutOfMemory>
+fn take_line(world: &mut World, moment: u64, line: TakenLine) -> Result<Option<Rule>, OutOfMemory>
     requires { world.old.steps < most_steps }
-    ensures rule { IfOk result (λ r. r ≡ broken_by world.old moment (line_step line.now)) }
-    ensures after { IfOk result (λ r. IfNone r (world.new ≡ after world.old moment (line_step line.now))) }
+    ensures rule { IfOk result (λ r. r ≡ broken_by world.old moment (line_step line)) }
+    ensures after { IfOk result (λ r. IfNone r (world.new ≡ after world.old moment (line_step line))) }
 {
-    match apply_line(world, moment, line) {
+    match apply_line_owned(world, moment, line) {
         Ok(()) => Ok(None),
         Err(StepFault::Broken(rule)) => Ok(Some(rule)),
         Err(StepFault::OutOfMemory) => Err(AllocError),

@@ -80,7 +80,58 @@ pub fn sent(moment: u64, wire: &Wire, m: &Emission) -> Result<Emission, OutOfMem
     ensures sent { IfOk result (λ x. x ≡ sent moment wire.now m.now) }
     ensures small { IsSmallEmission m.now → IfOk result IsSmallEmission }
 {
-    Ok(Emission {
+    let payload = m.payload.copy()?;
+    let bytes = wire.bytes.copy()?;
+    let told = (wire.seg.mss, wire.seg.scale);
+    Ok(with_bytes(m, payload, bytes, told, moment))
+}
+
+/// As `sent`, of a wire that is given away and has the payload of the made segment: its parts are kept, and nothing is
+/// copied.
+pub fn sent_owned(moment: u64, wire: Wire, m: &Emission) -> Emission
+    requires { wire.seg.payload ≡ m.now.payload }
+    ensures sent { result ≡ sent moment wire m.now }
+    ensures small { IsSmallEmission m.now → IsSmallEmission result }
+{
+    let Wire { bytes, seg } = wire;
+    with_bytes(m, seg.payload, bytes, (seg.mss, seg.scale), moment)
+}
+
+/// An equal segment, of a wire that is given away and has its bytes: they are kept, and so is the payload if the
+/// segment has the same. An error: memory ran out.
+pub fn copy_owned(wire: Wire, m: &Emission) -> Result<Emission, OutOfMemory>
+    requires { wire.bytes ≡ m.now.bytes }
+    ensures { IfOk result (λ x. x ≡ m.now) }
+{
+    let Wire { bytes, seg } = wire;
+    let payload = same_or_copy(seg.payload, &m.payload)?;
+    Ok(with_bytes(m, payload, bytes, (m.mss, m.scale), m.moment))
+}
+
+// These bytes if they are the wanted ones, else a copy of those.
+fn same_or_copy(bytes: Bytes, wanted: &Bytes) -> Result<Bytes, OutOfMemory>
+    ensures { IfOk result (λ kept. kept ≡ wanted.now) }
+{
+    if bytes == *wanted {
+        Ok(bytes)
+    } else {
+        wanted.copy()
+    }
+}
+
+// A segment with this payload, on the wire at a moment in microseconds: with its bytes, and the MSS and the shift that
+// they tell.
+#[inline(always)]
+fn with_bytes(
+    m: &Emission,
+    payload: Bytes,
+    bytes: Bytes,
+    told: (Option<u16>, Option<u8>),
+    moment: u64,
+) -> Emission
+    ensures { result ≡ record m.now { payload = payload; bytes = bytes; mss = told.0; scale = told.1; moment = moment } }
+{
+    Emission {
         sender: m.sender,
         peer_at_send: m.peer_at_send,
         lport: m.lport,
@@ -91,15 +142,15 @@ pub fn sent(moment: u64, wire: &Wire, m: &Emission) -> Result<Emission, OutOfMem
         ack_seq: m.ack_seq,
         flags: m.flags,
         window: m.window,
-        payload: m.payload.copy()?,
+        payload,
         shift: m.shift,
         scaled: m.scaled,
         is_reset_reply: m.is_reset_reply,
-        bytes: wire.bytes.copy()?,
-        mss: wire.seg.mss,
-        scale: wire.seg.scale,
+        bytes,
+        mss: told.0,
+        scale: told.1,
         moment,
-    })
+    }
 }
 
 /// What is heard of a host that is not recorded, at a moment in microseconds: a segment as its bytes tell it. An error:

@@ -28,7 +28,7 @@ ghost use Rattle.endpoint_state.specs.Kinds.{recovering_rules, taking_rules};
 use crate::arriving::{Arrival, admitted_arrival, consume_arrival, waiting};
 use crate::fault::StepFault;
 use crate::host_tcp::HostTcp;
-use crate::made::{Made, admitted_sending, send};
+use crate::made::{Made, admitted_sending, send, send_owned};
 use case_forms::{
     Answer, Call, Expired, Header, Host, Ports, Recovery, SegmentPlan, TakeChoice, Wire,
 };
@@ -109,6 +109,31 @@ pub(crate) fn send_made(
     ensures err { OnErr result (host.new ≡ host.old) }
 {
     send(
+        header,
+        &mut host.made,
+        &mut host.wire,
+        line,
+        number,
+        wire,
+        moment,
+    )
+}
+
+/// As `send_made`, of a wire that is given away.
+pub(crate) fn send_made_owned(
+    header: &Header,
+    host: &mut HostState,
+    line: u64,
+    number: u32,
+    wire: Wire,
+    moment: u64,
+) -> Result<(), StepFault>
+    ensures fault { fault_rule result ≡ first_broken
+        (sending_rules (out_rules header.now) host.old.made number wire) }
+    ensures ok { OnOk result (host.new ≡ sent_one moment line number wire host.old) }
+    ensures err { OnErr result (host.new ≡ host.old) }
+{
+    send_owned(
         header,
         &mut host.made,
         &mut host.wire,
@@ -327,6 +352,7 @@ impl HostState {
         ensures rule { result_err result ≡ first_broken
             (arrival_rules (in_rules header.now moment) self.now.wire copied wire.now) }
         ensures found { IfOk result (λ m. lookup (nat_eq copied) self.now.wire ≡ Some m.now) }
+        ensures bytes { IfOk result (λ m. wire.now.bytes ≡ m.now.bytes) }
     {
         admitted_arrival(header, moment, &self.wire, copied, wire)
     }

@@ -26,7 +26,7 @@ use crate::threads::{Turn, admits_begin, admits_end, begin, finish, pending_call
 use case_forms::{
     Answer, Call, Expired, Header, Host, Ports, Recovery, SegmentPlan, TakeChoice, Wire,
 };
-use endpoint::heard;
+use endpoint::{copy_owned, heard};
 use segment::OutOfMemory;
 use spec_tcp::Emission;
 use std::alloc::Global;
@@ -350,6 +350,33 @@ impl World {
         Ok(())
     }
 
+    /// As `send`, of a wire that is given away: it is taken apart, and not copied.
+    pub fn send_owned(
+        &mut self,
+        host: Host,
+        line: u64,
+        number: u32,
+        wire: Wire,
+        moment: u64,
+    ) -> Result<(), StepFault>
+        requires { self.old.steps < most_steps }
+        ensures fault { fault_rule result ≡ first_broken
+            (step_rules (tcp self.old.header) moment self.old.world (At host (Sends line number wire))) }
+        ensures ok { OnOk result (self.new ≡ after self.old moment (At host (Sends line number wire))) }
+        ensures err { OnErr result (self.new ≡ self.old) }
+    {
+        host::send_made_owned(
+            &self.header,
+            self.hosts.side(host),
+            line,
+            number,
+            wire,
+            moment,
+        )?;
+        self.steps += 1;
+        Ok(())
+    }
+
     /// A copy of the other host's line `copied` comes in with this line, at a moment in microseconds, and waits in the
     /// inbox. An error is the first rule that is broken, or that memory ran out; the world is then as it was.
     pub fn arrive(
@@ -371,6 +398,31 @@ impl World {
             .far(host)
             .admitted_arrival(&self.header, moment, copied, wire)?
             .copy()?;
+        host::arrive(self.alloc, self.hosts.side(host), line, copy)?;
+        self.steps += 1;
+        Ok(())
+    }
+
+    /// As `arrive`, of a wire that is given away: it is taken apart, and not copied.
+    pub fn arrive_owned(
+        &mut self,
+        host: Host,
+        line: u64,
+        copied: u64,
+        wire: Wire,
+        moment: u64,
+    ) -> Result<(), StepFault>
+        requires { self.old.steps < most_steps }
+        ensures fault { fault_rule result ≡ first_broken
+            (step_rules (tcp self.old.header) moment self.old.world (At host (Gets line copied wire))) }
+        ensures ok { OnOk result (self.new ≡ after self.old moment (At host (Gets line copied wire))) }
+        ensures err { OnErr result (self.new ≡ self.old) }
+    {
+        let m = self
+            .hosts
+            .far(host)
+            .admitted_arrival(&self.header, moment, copied, &wire)?;
+        let copy = copy_owned(wire, m)?;
         host::arrive(self.alloc, self.hosts.side(host), line, copy)?;
         self.steps += 1;
         Ok(())

@@ -17,7 +17,7 @@ mod wires;
 
 pub use endpoint_state::StepFault;
 pub use hidden::apply_hidden;
-pub use line::apply_line;
+pub use line::{apply_line, apply_line_owned};
 pub use spec_tcp::Emission;
 pub use step::{Label, admits, apply};
 pub use wires::{bring, sent};

@@ -51,6 +51,45 @@ pub fn apply_line(world: &mut World, moment: u64, line: &TakenLine) -> Result<()
     }
 }
 
+/// As `apply_line`, of a line that is given away: its segment is taken apart, and not copied.
+#[tactic(auto, using(crate::proofs::FaultLemmas::admitted, crate::proofs::FaultLemmas::broken, crate::proofs::FaultLemmas::memory))]
+pub fn apply_line_owned(world: &mut World, moment: u64, line: TakenLine) -> Result<(), StepFault>
+    requires { world.old.steps < most_steps }
+    ensures ok { OnOk result (world.new ≡ after world.old moment (line_step line)) }
+    ensures admitted { OnOk result (broken_by world.old moment (line_step line) ≡ None) }
+    ensures broken { IfErr result (λ fault. IfBroken fault (λ rule. broken_by world.old moment (line_step line)
+        ≡ Some rule)) }
+    ensures memory { result ≡ Err StepFault.OutOfMemory → broken_by world.old moment (line_step line) ≡ None }
+    ensures err { OnErr result (world.new ≡ world.old) }
+{
+    match line {
+        TakenLine::CallBegin { thread, call, .. } => world.begin(thread, &call),
+        TakenLine::CallEnd { thread, answer, .. } => world.finish(thread, &answer),
+        TakenLine::Sent {
+            line,
+            host,
+            made,
+            wire,
+        } => world.send_owned(host, line, made, wire, moment),
+        TakenLine::Came {
+            line,
+            host,
+            copied,
+            wire,
+        } => world.arrive_owned(host, line, copied, wire, moment),
+        TakenLine::Heard { line, host, wire } => world.hear(host, line, &wire, moment),
+        TakenLine::Expired {
+            host,
+            ports,
+            expired,
+            ..
+        } => {
+            world.expire(host, ports, expired, moment)?;
+            Ok(())
+        }
+    }
+}
+
 /// The least rule that a step breaks which takes a line.
 pub(crate) fn admits_line(world: &World, moment: u64, line: &TakenLine) -> Result<(), Rule>
     ensures { result_err result ≡ broken_by world.now moment (line_step line.now) }
