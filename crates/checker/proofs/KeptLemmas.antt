@@ -131,11 +131,13 @@ refused_line header o w s named rule is broken =
 
 -- where it breaks none, what its line breaks in the machine is the least
 pub placed_line : (p : Progress) (o : Order) (s : Step) (named : NamedLine) (line : Line) (taken : TakenLine) → s.label ≡ L named
-    → None ≡ first_broken (order_rules o (taking s.moment named.number (extras_count named.extras))) → held_line o named.number ≡ Some line → Some taken ≡ taken_of named.extras line
+    → None ≡ first_broken (order_rules o (taking s.moment named.number (extras_count named.extras)))
+    → held_line o named.number ≡ Some line → Some taken ≡ taken_of named.extras line
     → broken_by p s.moment (line_step taken) ≡ kept_broken p.header o p.world s
 placed_line p o s named line taken is none found takes =
     subst (λ (label : Label NamedLine). broken_by p s.moment (line_step taken) ≡ kept_broken p.header o p.world (record s { label = label })) (sym is)
-    (acts ∙ sym (first_broken-append_none (order_rules o (taking s.moment named.number (extras_count named.extras))) (option_map_or (act_rules p.header p.world) (held_act o (record s { label = L named })) []) (sym none)))
+    (acts ∙ sym (first_broken-append_none (order_rules o (taking s.moment named.number (extras_count named.extras)))
+      (option_map_or (act_rules p.header p.world) (held_act o (record s { label = L named })) []) (sym none)))
   where
     acts : broken_by p s.moment (line_step taken) ≡ first_broken (option_map_or (act_rules p.header p.world) (held_act o (record s { label = L named })) [])
     acts = rw (found, sym takes) refl
