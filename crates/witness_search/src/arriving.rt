@@ -114,30 +114,41 @@ impl<'t> Search<'t> {
             self.hear_in_world(host, wire)?;
             return self.resolve_arrival(host, line);
         }
-        let copied = self.copied(host, wire)?;
+        let place = self.copies.place(host.other(), wire.bytes.as_slice());
+        let copied = self.copied(host, wire, place)?;
         self.push_line_step(Extras::One(saturated(copied)))?;
         self.arrive_in_world(host, copied, wire)?;
-        self.copies.pass(host.other(), wire.bytes.as_slice());
+        if let Some(place) = place {
+            self.copies.pass(host.other(), place);
+        }
         self.resolve_arrival(host, line)
     }
 
-    // The line that an arrival copies: of those with its bytes the first that has no copy yet, and is not too old.
-    fn copied(&mut self, host: Host, wire: &'t Wire) -> Result<u64, StepFault> {
-        let bytes = wire.bytes.as_slice();
+    // The line that an arrival copies: of those with its bytes, which stand at this place, the first that has no copy
+    // yet, and is not too old.
+    fn copied(
+        &mut self,
+        host: Host,
+        wire: &'t Wire,
+        place: Option<usize>,
+    ) -> Result<u64, StepFault> {
+        let Some(place) = place else {
+            return Ok(0);
+        };
         for _ in 0..SENDINGS {
-            let Some(line) = self.copies.first(host.other(), bytes) else {
+            let Some(line) = self.copies.first(host.other(), place) else {
                 return Ok(0);
             };
             match self.world.admits_arrival(host, self.moment, line, wire) {
                 Err(Rule::Lifetime) => {
-                    if !self.copies.pass(host.other(), bytes) {
+                    if !self.copies.pass(host.other(), place) {
                         return Ok(line);
                     }
                 }
                 _ => return Ok(line),
             }
         }
-        Ok(self.copies.first(host.other(), bytes).unwrap_or(0))
+        Ok(self.copies.first(host.other(), place).unwrap_or(0))
     }
 
     // What came in is taken, answered or dropped.

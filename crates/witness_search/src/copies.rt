@@ -14,10 +14,12 @@ struct Sendings {
     last: u64,
 }
 
-// What went out at a host.
+// What went out at a host. The bytes of a segment are hashed once as it goes out, and once as it comes in.
 #[derive(Drop)]
 struct Sent<'t> {
-    by_bytes: IndexMap<CowSlice<'t, u8>, Sendings>,
+    /// Where the lines with these bytes stand among all.
+    places: IndexMap<CowSlice<'t, u8>, usize>,
+    all: Vec<Sendings>,
     /// For a line, the next one with the same bytes.
     next: IndexMap<u64, u64>,
 }
@@ -25,36 +27,47 @@ struct Sent<'t> {
 impl<'t> Sent<'t> {
     fn new(alloc: Global) -> Sent<'t> {
         Sent {
-            by_bytes: IndexMap::new(alloc),
+            places: IndexMap::new(alloc),
+            all: Vec::new(alloc),
             next: IndexMap::new(alloc),
         }
     }
 
-    fn get(&self, bytes: &'t [u8]) -> Option<Sendings> {
-        self.by_bytes.get(&CowSlice::Borrowed(bytes)).copied()
-    }
-
     // These bytes went out with a line.
     fn add(&mut self, bytes: &'t [u8], line: u64) -> Result<(), OutOfMemory> {
-        let mut open = Some(line);
-        if let Some(known) = self.get(bytes) {
-            self.next.insert(known.last, line)?;
-            open = known.open.or(open);
+        let fresh = self.all.len();
+        match self.places.insert(CowSlice::Borrowed(bytes), fresh)? {
+            None => {
+                let open = Some(line);
+                self.all.push(Sendings { open, last: line })?;
+            }
+            Some(place) => {
+                self.places.insert(CowSlice::Borrowed(bytes), place)?;
+                self.add_again(place, line)?;
+            }
         }
-        let sendings = Sendings { open, last: line };
-        self.by_bytes.insert(CowSlice::Borrowed(bytes), sendings)?;
         Ok(())
     }
 
-    // The first line with these bytes that has no copy has one now. The answer is whether there was one.
-    fn pass(&mut self, bytes: &'t [u8]) -> bool {
-        let Some(first) = self.get(bytes).and_then(|known| known.open) else {
+    // The bytes of this place went out once more, with a line.
+    fn add_again(&mut self, place: usize, line: u64) -> Result<(), OutOfMemory> {
+        if let Some(known) = self.all.get_mut(place) {
+            self.next.insert(known.last, line)?;
+            known.open = known.open.or(Some(line));
+            known.last = line;
+        }
+        Ok(())
+    }
+
+    // The first line of this place that has no copy has one now. The answer is whether there was one.
+    fn pass(&mut self, place: usize) -> bool {
+        let Some(known) = self.all.get_mut(place) else {
             return false;
         };
-        let open = self.next.swap_remove(&first);
-        if let Some(known) = self.by_bytes.get_mut(&CowSlice::Borrowed(bytes)) {
-            known.open = open;
-        }
+        let Some(first) = known.open else {
+            return false;
+        };
+        known.open = self.next.swap_remove(&first);
         true
     }
 }
@@ -99,15 +112,20 @@ impl<'t> Copies<'t> {
         self.of_mut(host).add(bytes, line)
     }
 
-    /// The first line with these bytes of a host that has no copy yet; where each has one, the last. None: no such
-    /// line.
-    pub(crate) fn first(&self, host: Host, bytes: &'t [u8]) -> Option<u64> {
-        let sendings = self.of(host).get(bytes)?;
+    /// The place of the lines with these bytes of a host. None: no such line.
+    pub(crate) fn place(&self, host: Host, bytes: &'t [u8]) -> Option<usize> {
+        let places = &self.of(host).places;
+        places.get(&CowSlice::Borrowed(bytes)).copied()
+    }
+
+    /// The first line of this place that has no copy yet; if each has one, the last.
+    pub(crate) fn first(&self, host: Host, place: usize) -> Option<u64> {
+        let sendings = self.of(host).all.get(place)?;
         Some(sendings.open.unwrap_or(sendings.last))
     }
 
-    /// The first line with these bytes of a host that has no copy yet has one now. The answer is whether there was one.
-    pub(crate) fn pass(&mut self, host: Host, bytes: &'t [u8]) -> bool {
-        self.of_mut(host).pass(bytes)
+    /// The first line of this place that has no copy yet has one now. The answer is whether there was one.
+    pub(crate) fn pass(&mut self, host: Host, place: usize) -> bool {
+        self.of_mut(host).pass(place)
     }
 }
