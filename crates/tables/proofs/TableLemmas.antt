@@ -7,7 +7,7 @@ use Rattle.std.specs.Option.{option_map, option_map_or, option_flatten, option_o
 use Rattle.std.specs.Ordering.{nat_cmp}
 use Rattle.std.specs.BTreeMap.{is_at}
 use Rattle.indexmap.specs.IndexMap.{insert_entry}
-use Rattle.tables.specs.Tables.{changed_at, is_above, led_in, place_of, place_in, IsPlaced}
+use Rattle.tables.specs.Tables.{changed_at, is_above, led_in, place_of, place_in, AreApart, IsPlaced}
 use Rattle.tables.proofs.RisingLemmas.{rising_more, below_more}
 
 equal : (k n : ℕ) → nat_eq k n ≡ true → k ≡ n
@@ -105,6 +105,34 @@ module _ {V : Type 0} where
           rw (is, other) (ap (option_map (λ (place : ℕ). suc place)) (rw is at rest))
       by false is apart rest = rw is (ap (λ (o : Option ℕ). if nat_eq n x.0 then Some 0 else option_map (λ place. suc place) o) (rw is at rest))
 
+  -- what stands at a place stands where its number is led to
+  pub own_place : (es : List (ℕ × V)) (p k : ℕ) (e : ℕ × V) → AreApart es → p < length es → e ≡ get_or es p e → e.0 ≡ k → place_of es k ≡ Some p
+  own_place [] p k e apart low is key = absurd (omega arith)
+  own_place (x ∷ es) zero k e apart low is key =
+      let own : nat_eq k x.0 ≡ true = let same : x.0 ≡ k = ap (λ (y : ℕ × V). y.0) (sym is) ∙ key in grind (arith, nat_tests, same) in
+      rw own refl
+  own_place (x ∷ es) (suc q) k e apart low is key = by (nat_eq k x.0) refl (own_place es q k e apart.1 (omega arith) is key)
+    where
+      by : (b : Bool) → nat_eq k x.0 ≡ b → place_of es k ≡ Some q → place_of (x ∷ es) k ≡ Some (suc q)
+      by true at rest =
+          let none : place_of es k ≡ None = subst (λ (n : ℕ). place_of es n ≡ None) (sym (equal k x.0 at)) apart.0 in
+          absurd cc
+      by false at rest = rw (at, rest) refl
+
+  -- an entry that takes a value stays the only one of its number
+  pub apart_set : (es : List (ℕ × V)) (k p : ℕ) (v : V) → AreApart es → place_of es k ≡ Some p → AreApart (slice_set es p (k, v))
+  apart_set [] k p v apart at = absurd cc
+  apart_set (x ∷ es) k zero v apart at = (subst (λ (n : ℕ). place_of es n ≡ None) (sym (equal k x.0 (first x es k at))) apart.0, apart.1)
+  apart_set (x ∷ es) k (suc q) v apart at =
+      let rest = (later x es k q at).1 in (sym (place_set es k q v rest x.0) ∙ apart.0, apart_set es k q v apart.1 rest)
+
+  -- and so does a new one, if there was none
+  pub apart_push : (es : List (ℕ × V)) (k : ℕ) (v : V) → AreApart es → place_of es k ≡ None → AreApart (es ++ (k, v) ∷ [])
+  apart_push [] k v apart at = (refl, tt)
+  apart_push (x ∷ es) k v apart at =
+      let rest = nowhere x es k at in
+      (sym (place_push es k v rest.1 x.0) ∙ rw rest.0 apart.0, apart_push es k v apart.1 rest.1)
+
 -- what stands at a number's place is changed there
 pub change_is : {V : Type 0} (f : V → V) (es : List (ℕ × V)) (k p : ℕ) (e : ℕ × V) (v : V) → place_of es k ≡ Some p → e ≡ get_or es p e → v ≡ f e.1
     → slice_set es p (e.0, v) ≡ changed_at f es k
@@ -199,6 +227,7 @@ module _ {V : Type 0} (top : Option ℕ) (risen : List (ℕ × ℕ)) (others : L
     rises = are.rises;
     below = are.below;
     new = λ n above. sym (place_set es k p v at n) ∙ are.new n above;
+    apart = apart_set es k p v are.apart at;
   }
 
   -- an entry of a number that is above all goes last
@@ -208,6 +237,7 @@ module _ {V : Type 0} (top : Option ℕ) (risen : List (ℕ × ℕ)) (others : L
     rises = rising_more risen (k, length es) are.rises (are.below k above);
     below = λ n is. below_more risen (k, length es) n (are.below n (above_later top k n above (higher n is))) (higher n is);
     new = λ n is. sym (place_push es k v absent n) ∙ rw (smaller_apart n (higher n is)) (are.new n (above_later top k n above (higher n is)));
+    apart = apart_push es k v are.apart absent;
   }
     where
       absent : place_of es k ≡ None
@@ -228,4 +258,5 @@ module _ {V : Type 0} (top : Option ℕ) (risen : List (ℕ × ℕ)) (others : L
     rises = are.rises;
     below = are.below;
     new = λ n above. sym (place_push es k v absent n) ∙ rw (above_apart top k n low above) (are.new n above);
+    apart = apart_push es k v are.apart absent;
   }

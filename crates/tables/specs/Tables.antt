@@ -24,6 +24,11 @@ abbrev pub place_of : {V : Type 0} → List (ℕ × V) → ℕ → Option ℕ
 place_of [] number = None
 place_of (e ∷ es) number = if nat_eq number e.0 then Some 0 else option_map (λ place. suc place) (place_of es number)
 
+-- no number has two entries
+abbrev pub AreApart : {V : Type 0} → List (ℕ × V) → Type 0
+AreApart [] = Unit {0}
+AreApart (e ∷ es) = (place_of es e.0 ≡ None) × AreApart es
+
 -- whether a number is above the greatest so far
 abbrev pub is_above : Option ℕ → ℕ → Bool
 is_above top number = option_map_or (λ greatest. ltb greatest number) top true
@@ -52,12 +57,13 @@ led_in others number = option_flatten (lookup (is_at (nat_cmp number)) others)
 abbrev pub place_in : List (ℕ × ℕ) → List (ℕ × Option ℕ) → ℕ → Option ℕ
 place_in risen others number = option_or (lookup (nat_eq number) risen) (led_in others number)
 
--- each number is led to its entry; those that rise do, and no number above the greatest has an entry
+-- each number is led to its entry, of which it has one; those that rise do, and no number above the greatest has one
 pub record IsPlaced {V : Type 0} (top : Option ℕ) (risen : List (ℕ × ℕ)) (others : List (ℕ × Option ℕ)) (entries : List (ℕ × V)) : Type 0 where
   pub leads : (number : ℕ) → place_in risen others number ≡ place_of entries number
   pub rises : IsRising risen
   pub below : (number : ℕ) → is_above top number ≡ true → AreBelow risen (length risen) number
   pub new : (number : ℕ) → is_above top number ≡ true → place_of entries number ≡ None
+  pub apart : AreApart entries
 
 -- an entry of the number, if there is one, fits with no more memory: one more entry fits, and one more number that
 -- rises, or the number has its place in the map

@@ -1,14 +1,14 @@
 //! A table by numbers, whose entries stay in the order in which they were added.
 
 ghost use Rattle.std.specs.Prelude.{◌≡◌, ◌≢◌, ◌<◌, ℕ, [], true, false, is_some, length, nat_eq, OnOk, OnErr, None};
-ghost use Rattle.std.specs.Prelude.{Some, IsSome};
+ghost use Rattle.std.specs.Prelude.{Some, IsSome, IfSome};
 ghost use Rattle.std.specs.Map.{lookup};
 ghost use Rattle.std.specs.Option.{option_copied};
 ghost use Rattle.std.specs.Ordering.{nat_cmp};
 ghost use Rattle.std.specs.BTreeMap.{get};
 ghost use Rattle.std.specs.Vec.{vec_capacity};
 ghost use Rattle.indexmap.specs.IndexMap.{insert_entry};
-ghost use Rattle.tables.specs.Tables.{changed_at, is_above, led_in, place_in, IsRising};
+ghost use Rattle.tables.specs.Tables.{changed_at, is_above, led_in, place_in, place_of, AreApart, IsRising};
 
 use crate::rising::place_among;
 use std::alloc::{AllocError, Global};
@@ -61,7 +61,7 @@ impl<V: Drop> Table<V> {
     pub fn get(&self, number: u64) -> Option<&V>
         ensures { option_copied result ≡ lookup (nat_eq number) self.now.entries }
     {
-        match place_in(&self.risen, &self.others, number) {
+        match place_of(&self.entries, &self.risen, &self.others, number) {
             Some(place) => Some(&self.entries[place].1),
             None => None,
         }
@@ -111,7 +111,7 @@ impl<V: Drop> Table<V> {
             self.ready = None;
             return Ok(());
         }
-        if let Some(place) = place_in(&self.risen, &self.others, number) {
+        if let Some(place) = place_of(&self.entries, &self.risen, &self.others, number) {
             self.ready = None;
             self.entries[place] = (number, value);
             return Ok(());
@@ -139,7 +139,7 @@ impl<V: Drop + Mark> Table<V> {
     pub fn mark(&mut self, number: u64)
         ensures { self.new.entries ≡ changed_at V.marked self.old.entries number }
     {
-        if let Some(place) = place_in(&self.risen, &self.others, number) {
+        if let Some(place) = place_of(&self.entries, &self.risen, &self.others, number) {
             self.ready = None;
             self.entries[place].1.mark();
         }
@@ -153,6 +153,43 @@ fn is_above(top: Option<u64>, number: u64) -> bool
         Some(top) => top < number,
         None => true,
     }
+}
+
+// Where the entry of a number stands. It is searched only if it is not found at once.
+#[inline(always)]
+fn place_of<V>(
+    entries: &Vec<(u64, V)>,
+    risen: &Vec<(u64, usize)>,
+    others: &BTreeMap<u64, Option<usize>>,
+    number: u64,
+) -> Option<usize>
+    requires apart { AreApart entries.now.items }
+    requires rising { IsRising risen.now.items }
+    requires leads { place_in risen.now.items others.now.entries number ≡ place_of entries.now.items number }
+    ensures { result ≡ place_of entries.now.items number }
+{
+    match place_at_once(entries.as_slice(), number) {
+        Some(place) => Some(place),
+        None => place_in(risen, others, number),
+    }
+}
+
+// The same, if it is the last entry, or stands as far from the first one as its number lies above the first one's, as
+// it does if all numbers up to it were given one after the other. No other list is read.
+#[inline(always)]
+fn place_at_once<V>(entries: &[(u64, V)], number: u64) -> Option<usize>
+    requires { AreApart entries.now }
+    ensures { IfSome result (λ place. place_of entries.now number ≡ Some place) }
+{
+    let last = entries.len().checked_sub(1)?;
+    if entries[last].0 == number {
+        return Some(last);
+    }
+    let place = number.checked_sub(entries[0].0)? as usize;
+    if place < last && entries[place].0 == number {
+        return Some(place);
+    }
+    None
 }
 
 // A number that is above all has no place in either.

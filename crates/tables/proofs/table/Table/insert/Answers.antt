@@ -43,35 +43,35 @@ returns-then-is_above-clause-ok g c =
     ∙ ap (λ (t : Table g.row.V.Denot). insert_entry nat_eq t.entries c.args.number c.args.value) c.self.view_is
 
 pub index_mut-requires : goal.index_mut-requires
-index_mut-requires g c = let low = within c.self.inside.entries.items c.args.number c.in-Some.place (sym (c.self.invariant.0.leads c.args.number) ∙ sym c.in-Some.ensures) in let ok = c.self.inside.entries.ok in omega arith
+index_mut-requires g c = let low = within c.self.inside.entries.items c.args.number c.in-Some.place (sym c.in-Some.ensures) in let ok = c.self.inside.entries.ok in omega arith
 
 pub invariant_of-self-in-Some : goal.invariant_of-self-in-Some
 invariant_of-self-in-Some g c = (
   placed_set c.self.inside.top c.self.inside.risen.items c.self.inside.others.entries c.self.inside.entries.items c.self.invariant.0 c.args.number c.in-Some.place c.args.value
-      (sym (c.self.invariant.0.leads c.args.number) ∙ sym c.in-Some.ensures),
+      (sym c.in-Some.ensures),
   tt,
 )
 
 pub returns-in-Some-clause-ok : goal.returns-in-Some-clause-ok
 returns-in-Some-clause-ok g c =
-    set_is c.self.inside.entries.items c.args.number c.in-Some.place c.args.value (sym (c.self.invariant.0.leads c.args.number) ∙ sym c.in-Some.ensures)
+    set_is c.self.inside.entries.items c.args.number c.in-Some.place c.args.value (sym c.in-Some.ensures)
     ∙ ap (λ (t : Table g.row.V.Denot). insert_entry nat_eq t.entries c.args.number c.args.value) c.self.view_is
 
 pub returns-in_err-reserve-2-clause-absent : goal.returns-in_err-reserve-2-clause-absent
 returns-in_err-reserve-2-clause-absent g c =
     on_err c.from_residual-in_err-reserve-2.result (ap (λ (t : Table g.row.V.Denot). lookup (nat_eq c.args.number) t.entries) (sym c.self.view_is)
-    ∙ none_found c.self.inside.entries.items c.args.number (sym (c.self.invariant.0.leads c.args.number) ∙ sym c.in_default.ensures))
+    ∙ none_found c.self.inside.entries.items c.args.number (sym c.in_default.ensures))
 
 pub returns-in_err-insert-clause-absent : goal.returns-in_err-insert-clause-absent
 returns-in_err-insert-clause-absent g c =
     on_err c.from_residual-in_err-insert.result (ap (λ (t : Table g.row.V.Denot). lookup (nat_eq c.args.number) t.entries) (sym c.self.view_is)
-    ∙ none_found c.self.inside.entries.items c.args.number (sym (c.self.invariant.0.leads c.args.number) ∙ sym c.in_default.ensures))
+    ∙ none_found c.self.inside.entries.items c.args.number (sym c.in_default.ensures))
 
 pub invariant_of-self-2 : goal.invariant_of-self-2
 invariant_of-self-2 g c = (
   subst (λ (es : List (ℕ × g.row.V.Denot)). IsPlaced c.self.inside.top c.self.inside.risen.items c.insert.new.self.entries es) (sym items)
       (placed_other c.self.inside.top c.self.inside.risen.items c.self.inside.others.entries c.self.inside.entries.items c.self.invariant.0 c.insert.new.self.entries c.args.number c.args.value
-      (sym c.is_above.ensures ∙ c.if-is_above.false) (sym (c.self.invariant.0.leads c.args.number) ∙ sym c.in_default.ensures)
+      (sym c.is_above.ensures ∙ c.if-is_above.false) (sym c.in_default.ensures)
       (λ q. subst (λ (n : ℕ). lookup (is_at (nat_cmp q)) c.insert.new.self.entries ≡ cond (is_at (nat_cmp c.args.number) q) (Some (Some n)) (lookup (is_at (nat_cmp q)) c.self.inside.others.entries))
       count (c.in_ok-insert.ensures.updates.0 q))),
   tt,
@@ -86,5 +86,5 @@ invariant_of-self-2 g c = (
 pub returns-clause-ok : goal.returns-clause-ok
 returns-clause-ok g c =
     c.push_reserved-2.ensures.items ∙ ap (λ (es : List (ℕ × g.row.V.Denot)). es ++ (c.args.number, c.args.value) ∷ []) c.reserve-2.ensures.items
-    ∙ push_is c.self.inside.entries.items c.args.number c.args.value (sym (c.self.invariant.0.leads c.args.number) ∙ sym c.in_default.ensures)
+    ∙ push_is c.self.inside.entries.items c.args.number c.args.value (sym c.in_default.ensures)
     ∙ ap (λ (t : Table g.row.V.Denot). insert_entry nat_eq t.entries c.args.number c.args.value) c.self.view_is

@@ -6,7 +6,7 @@ use Rattle.tables.proofs.TableLemmas.{within, none_found, placed_set, keyed, cha
 use Rattle.tables.proofs.table.Table.mark.Goals as goal
 
 pub index_mut-requires : goal.index_mut-requires
-index_mut-requires g c = let low = within c.self.inside.entries.items c.args.number c.in-Some.place (sym (c.self.invariant.0.leads c.args.number) ∙ sym c.in-Some.ensures) in let ok = c.self.inside.entries.ok in omega arith
+index_mut-requires g c = let low = within c.self.inside.entries.items c.args.number c.in-Some.place (sym c.in-Some.ensures) in let ok = c.self.inside.entries.ok in omega arith
 
 pub invariant_of-self : goal.invariant_of-self
 invariant_of-self g c = (
@@ -17,14 +17,14 @@ invariant_of-self g c = (
 )
   where
     at : place_of c.self.inside.entries.items c.args.number ≡ Some c.in-Some.place
-    at = sym (c.self.invariant.0.leads c.args.number) ∙ sym c.in-Some.ensures
+    at = sym c.in-Some.ensures
 
 pub returns-in-Some : goal.returns-in-Some
 returns-in-Some g c =
-    change_is g.V.Mark.marked c.self.inside.entries.items c.args.number c.in-Some.place c.index_mut.result.now c.mark.new.self (sym (c.self.invariant.0.leads c.args.number) ∙ sym c.in-Some.ensures) c.index_mut.ensures.value c.mark.ensures
+    change_is g.V.Mark.marked c.self.inside.entries.items c.args.number c.in-Some.place c.index_mut.result.now c.mark.new.self (sym c.in-Some.ensures) c.index_mut.ensures.value c.mark.ensures
     ∙ ap (λ (t : Table g.row.V.Denot). changed_at g.V.Mark.marked t.entries c.args.number) c.self.view_is
 
 pub returns-in_default : goal.returns-in_default
 returns-in_default g c = no_change g.V.Mark.marked c.args.self.now.entries c.args.number
     (ap (λ (t : Table g.row.V.Denot). lookup (nat_eq c.args.number) t.entries) (sym c.self.view_is)
-    ∙ none_found c.self.inside.entries.items c.args.number (sym (c.self.invariant.0.leads c.args.number) ∙ sym c.in_default.ensures))
+    ∙ none_found c.self.inside.entries.items c.args.number (sym c.in_default.ensures))
