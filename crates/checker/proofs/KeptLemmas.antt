@@ -137,7 +137,7 @@ pub placed_line : (p : Progress) (o : Order) (s : Step) (named : NamedLine) (lin
 placed_line p o s named line taken is none found takes =
     subst (λ (label : Label NamedLine). broken_by p s.moment (line_step taken) ≡ kept_broken p.header o p.world (record s { label = label })) (sym is)
     (acts ∙ sym (first_broken-append_none (order_rules o (taking s.moment named.number (extras_count named.extras)))
-      (option_map_or (act_rules p.header p.world) (held_act o (record s { label = L named })) []) (sym none)))
+    (option_map_or (act_rules p.header p.world) (held_act o (record s { label = L named })) []) (sym none)))
   where
     acts : broken_by p s.moment (line_step taken) ≡ first_broken (option_map_or (act_rules p.header p.world) (held_act o (record s { label = L named })) [])
     acts = rw (found, sym takes) refl

@@ -129,8 +129,13 @@ fn with_bytes(
     told: (Option<u16>, Option<u8>),
     moment: u64,
 ) -> Emission
-    ensures { result ≡ record m.now { payload = payload; bytes = bytes; mss = told.0; scale = told.1;
-        moment = moment } }
+    ensures { result ≡ record m.now {
+      payload = payload;
+      bytes = bytes;
+      mss = told.0;
+      scale = told.1;
+      moment = moment;
+    } }
 {
     Emission {
         sender: m.sender,

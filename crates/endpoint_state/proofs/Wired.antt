@@ -44,7 +44,7 @@ same_hosts hosts One x same = rw same refl
 -- where a host stays as it was, so does the invariant
 pub unchanged_kept : (hosts : Hosts_) (threads : Threads_) (count steps : ℕ) (host : Host) (lent x : Host_) → lent ≡ pick hosts host → x ≡ lent
     → IsKeptWorld steps (record { hosts = hosts; threads = threads; count = count })
-     → IsKeptWorld steps (record { hosts = with_host hosts host x; threads = threads; count = count })
+    → IsKeptWorld steps (record { hosts = with_host hosts host x; threads = threads; count = count })
 unchanged_kept hosts threads count steps host lent x value same kept =
     subst (λ (a : Hosts_). IsKeptWorld steps (record { hosts = a; threads = threads; count = count })) (sym (same_hosts hosts host x (same ∙ value))) kept
 
@@ -55,7 +55,7 @@ module _ (h : Header) (hosts : Hosts_) (threads : Threads_) (count steps moment 
   sent_next p line number w lent x are is value ok =
       done_at p h hosts (with_host hosts host x) threads count count steps moment host (Sends line number w) is
       (ap (λ (y : Host_). with_host hosts host y) (ok ∙ ap (λ (y : Host_). sent_one moment line number w y) value)
-         ∙ sent_hosts h moment (count + 1) line number w hosts host are) refl
+      ∙ sent_hosts h moment (count + 1) line number w hosts host are) refl
 
   -- and its invariant
   pub sent_kept : (line number : ℕ) (w : Wire) (lent x : Host_) → AreReady hosts → lent ≡ pick hosts host → x ≡ sent_one moment line number w lent
@@ -68,7 +68,7 @@ module _ (h : Header) (hosts : Hosts_) (threads : Threads_) (count steps moment 
 
   -- the case after a copy came in
   pub came_next : (p : Progress) (line copied : ℕ) (w : Wire) (m : Emission) (far lent x : Host_) → AreReady hosts
-       → shown h hosts threads count steps ≡ p → far ≡ pick hosts (other host)
+      → shown h hosts threads count steps ≡ p → far ≡ pick hosts (other host)
       → lookup (nat_eq copied) far.wire ≡ Some m → lent ≡ pick hosts host → x ≡ record lent { inbox = insert_entry nat_eq lent.inbox line (Some m) }
       → shown h (with_host hosts host x) threads count (steps + 1) ≡ after p moment (At host (Gets line copied w))
   came_next p line copied w m far lent x are is far_is found value ok =
@@ -80,7 +80,7 @@ module _ (h : Header) (hosts : Hosts_) (threads : Threads_) (count steps moment 
   pub came_kept : (line copied : ℕ) (w : Wire) (m : Emission) (far lent x : Host_) → AreReady hosts → far ≡ pick hosts (other host)
       → lookup (nat_eq copied) far.wire ≡ Some m → lent ≡ pick hosts host → x ≡ record lent { inbox = insert_entry nat_eq lent.inbox line (Some m) }
       → None ≡ first_broken (arrival_rules (in_rules h moment) far.wire copied w)
-       → IsKeptWorld steps (record { hosts = hosts; threads = threads; count = count })
+      → IsKeptWorld steps (record { hosts = hosts; threads = threads; count = count })
       → IsKeptWorld (steps + 1) (record { hosts = with_host hosts host x; threads = threads; count = count })
   came_kept line copied w m far lent x are far_is found value ok rule kept =
       kept_next (shown h hosts threads count steps) (shown h (with_host hosts host x) threads count (steps + 1)) moment (At host (Gets line copied w))

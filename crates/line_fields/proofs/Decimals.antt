@@ -92,7 +92,7 @@ front_read text count value a within some plain fits =
     let first = get_or-take count text 0 0 some in
     let digits : AreDigits (take count text) = λ i lt. rw (get_or-take count text i 0 (omega arith)) (a.digits i (omega arith)) in
     let no_zero : get_or (take count text) 0 0 ≡ 48 → length (take count text) ≡ 1 =
-      λ e. elim (cases_lt 1 count) [ inl more ↦ absurd (plain more (sym first ∙ e)) | inr le ↦ omega arith ] in
+    λ e. elim (cases_lt 1 count) [ inl more ↦ absurd (plain more (sym first ∙ e)) | inr le ↦ omega arith ] in
     sym (ap decimal a.shown ∙ decimal-digits_value one_by_one (take count text) digits (omega arith) no_zero (subst (λ (n : ℕ). n < 2 ^ 64) a.shown fits))
 
 -- all of them

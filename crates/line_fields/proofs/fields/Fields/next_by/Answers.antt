@@ -12,5 +12,5 @@ pub returns : goal.returns
 returns c =
     let f = c.self.inside in
     rw (← c.self.view_is) (ap (first_of _ f.line (length f.text.now)) (next_is f.line f.at f.text.now
-      c.split_at.result.1.now c.split_at-2.result.0.now c.field_len-len.result (omega arith)
-      c.split_at.ensures.back c.field_len-len.ensures c.split_at-2.ensures.front))
+    c.split_at.result.1.now c.split_at-2.result.0.now c.field_len-len.result (omega arith)
+    c.split_at.ensures.back c.field_len-len.ensures c.split_at-2.ensures.front))
