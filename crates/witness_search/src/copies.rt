@@ -3,23 +3,49 @@
 use case_forms::{Host, OutOfMemory};
 use indexmap::IndexMap;
 use std::alloc::Global;
-use std::borrow::CowSlice;
+
+// By what a digest is multiplied with each word.
+const MULTIPLIER: u64 = 0x517c_c1b7_2722_0a95;
+
+// A digest of bytes, eight of them at a time: FxHash.
+fn digest(bytes: &[u8]) -> u64 {
+    let mut state = bytes.len() as u64;
+    let mut rest = bytes;
+    for _ in 0..bytes.len() / 8 {
+        if let Some((word, more)) = rest.split_first_chunk::<8>() {
+            state = mixed(state, u64::from_le_bytes(*word));
+            rest = more;
+        }
+    }
+    for byte in rest {
+        state = mixed(state, u64::from(*byte));
+    }
+    state
+}
+
+fn mixed(state: u64, word: u64) -> u64 {
+    (state.rotate_left(5) ^ word).wrapping_mul(MULTIPLIER)
+}
 
 // The lines with the same bytes, by their numbers in the trace that is written.
 #[derive(Clone, Copy)]
-struct Sendings {
+struct Sendings<'t> {
+    bytes: &'t [u8],
     /// The first of those that have no copy yet.
     open: Option<u64>,
     /// The last of all.
     last: u64,
+    /// The place of other bytes that have the same digest.
+    other: Option<usize>,
 }
 
-// What went out at a host. The bytes of a segment are hashed once as it goes out, and once as it comes in.
+// What went out at a host. The bytes of a segment are read once for their digest as it goes out, and once as it comes
+// in.
 #[derive(Drop)]
 struct Sent<'t> {
-    /// Where the lines with these bytes stand among all.
-    places: IndexMap<CowSlice<'t, u8>, usize>,
-    all: Vec<Sendings>,
+    all: Vec<Sendings<'t>>,
+    /// For a digest, a place among all.
+    places: IndexMap<u64, usize>,
     /// For a line, the next one with the same bytes.
     next: IndexMap<u64, u64>,
 }
@@ -27,25 +53,45 @@ struct Sent<'t> {
 impl<'t> Sent<'t> {
     fn new(alloc: Global) -> Sent<'t> {
         Sent {
-            places: IndexMap::new(alloc),
             all: Vec::new(alloc),
+            places: IndexMap::new(alloc),
             next: IndexMap::new(alloc),
         }
     }
 
+    // The place of these bytes, among that of a digest and those that follow it.
+    fn among(&self, first: Option<usize>, bytes: &[u8]) -> Option<usize> {
+        let mut at = first;
+        for _ in 0..self.all.len() {
+            let known = self.all.get(at?)?;
+            if known.bytes == bytes {
+                return at;
+            }
+            at = known.other;
+        }
+        None
+    }
+
+    fn place(&self, bytes: &[u8]) -> Option<usize> {
+        let first = self.places.get(&digest(bytes)).copied();
+        self.among(first, bytes)
+    }
+
     // These bytes went out with a line.
     fn add(&mut self, bytes: &'t [u8], line: u64) -> Result<(), OutOfMemory> {
-        let fresh = self.all.len();
-        match self.places.insert(CowSlice::Borrowed(bytes), fresh)? {
-            None => {
-                let open = Some(line);
-                self.all.push(Sendings { open, last: line })?;
-            }
-            Some(place) => {
-                self.places.insert(CowSlice::Borrowed(bytes), place)?;
-                self.add_again(place, line)?;
-            }
+        let digest = digest(bytes);
+        let other = self.places.get(&digest).copied();
+        if let Some(place) = self.among(other, bytes) {
+            return self.add_again(place, line);
         }
+        self.places.insert(digest, self.all.len())?;
+        let open = Some(line);
+        self.all.push(Sendings {
+            bytes,
+            open,
+            last: line,
+            other,
+        })?;
         Ok(())
     }
 
@@ -113,9 +159,8 @@ impl<'t> Copies<'t> {
     }
 
     /// The place of the lines with these bytes of a host. None: no such line.
-    pub(crate) fn place(&self, host: Host, bytes: &'t [u8]) -> Option<usize> {
-        let places = &self.of(host).places;
-        places.get(&CowSlice::Borrowed(bytes)).copied()
+    pub(crate) fn place(&self, host: Host, bytes: &[u8]) -> Option<usize> {
+        self.of(host).place(bytes)
     }
 
     /// The first line of this place that has no copy yet; if each has one, the last.
