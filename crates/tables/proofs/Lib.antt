@@ -1,3 +1,4 @@
+pub mod HintLemmas
 pub mod QueueLemmas
 pub mod RisingLemmas
 pub mod TableLemmas

@@ -1,5 +1,5 @@
 -- What is found among numbers that rise.
-use Rattle.std.proofs.Common.{◌≡◌, ◌≢◌, ◌+◌, ◌≤◌, ◌<◌, ℕ, zero, suc, Bool, true, false, List, [], ◌∷◌, ◌++◌, length, get_or, None, Some, refl, sym}
+use Rattle.std.proofs.Common.{◌≡◌, ◌≢◌, ◌≤◌, ◌<◌, ℕ, zero, suc, Bool, true, false, List, [], ◌∷◌, ◌++◌, length, get_or, None, Some, refl, sym}
 use Rattle.std.proofs.Common.{ap, subst, arith, nat_lt}
 use Rattle.std.proofs.lemmas.Bool.Decides.{nat_tests}
 use Rattle.std.proofs.lemmas.List.{get_or_append_left}
@@ -45,20 +45,6 @@ found_at xs i n rising within is =
 found_none : (xs : List (ℕ × ℕ)) (n : ℕ) → ((i : ℕ) → i < length xs → nat_eq n (number_at xs i) ≡ false) → None ≡ lookup (nat_eq n) xs
 found_none [] n apart = refl
 found_none (x ∷ xs) n apart = rw (apart 0 (omega arith)) (found_none xs n (λ i within. apart (suc i) (omega arith)))
-
--- none is found that is above the last
-pub none_above : (xs : List (ℕ × ℕ)) (i n : ℕ) → IsRising xs → i + 1 ≡ length xs → number_at xs i < n → None ≡ lookup (nat_eq n) xs
-none_above xs i n rising last above = found_none xs n (λ k within. by k within (nat_lt k i) refl)
-  where
-    by : (k : ℕ) → k < length xs → (b : Bool) → nat_lt k i ≡ b → nat_eq n (number_at xs k) ≡ false
-    by k within true is =
-        let before : k < i = grind (arith, nat_tests, is) in
-        let rise : number_at xs k < number_at xs i = rising k i before (omega arith) in
-        smaller n (number_at xs k) (omega (arith, rise, above))
-    by k within false is =
-        let behind : i ≤ k = grind (arith, nat_tests, is) in
-        let same : k ≡ i = omega arith in
-        smaller n (number_at xs k) (subst (λ (j : ℕ). number_at xs j < n) (sym same) above)
 
 pub not_found : (xs : List (ℕ × ℕ)) (i n : ℕ) → IsRising xs → AreBelow xs i n → AreNotBelow xs i n → (i < length xs → number_at xs i ≢ n) → None ≡ lookup (nat_eq n) xs
 not_found xs i n rising below from other = found_none xs n (λ k within. by k within (nat_lt k i) refl)

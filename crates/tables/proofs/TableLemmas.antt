@@ -10,7 +10,7 @@ use Rattle.indexmap.specs.IndexMap.{insert_entry}
 use Rattle.tables.specs.Tables.{changed_at, is_above, led_in, place_of, place_in, AreApart, IsPlaced}
 use Rattle.tables.proofs.RisingLemmas.{rising_more, below_more}
 
-equal : (k n : ℕ) → nat_eq k n ≡ true → k ≡ n
+pub equal : (k n : ℕ) → nat_eq k n ≡ true → k ≡ n
 equal k n is = grind (arith, nat_tests, is)
 
 swapped : (k n : ℕ) → nat_eq n k ≡ nat_eq k n
@@ -24,7 +24,7 @@ module _ {V : Type 0} (x : ℕ × V) (es : List (ℕ × V)) (k : ℕ) where
   step : (b : Bool) → nat_eq k x.0 ≡ b → place_of (x ∷ es) k ≡ (if b then Some 0 else option_map (λ place. suc place) (place_of es k))
   step b is = ap (λ (t : Bool). if t then Some 0 else option_map (λ place. suc place) (place_of es k)) is
 
-  first : place_of (x ∷ es) k ≡ Some 0 → nat_eq k x.0 ≡ true
+  pub first : place_of (x ∷ es) k ≡ Some 0 → nat_eq k x.0 ≡ true
   first at = by (nat_eq k x.0) refl (place_of es k) refl
     where
       by : (b : Bool) → nat_eq k x.0 ≡ b → (o : Option ℕ) → place_of es k ≡ o → nat_eq k x.0 ≡ true
@@ -32,7 +32,7 @@ module _ {V : Type 0} (x : ℕ × V) (es : List (ℕ × V)) (k : ℕ) where
       by false is None rest = let none : place_of (x ∷ es) k ≡ None = rw (is, rest) refl in absurd cc
       by false is (Some q) rest = let some : place_of (x ∷ es) k ≡ Some (suc q) = rw (is, rest) refl in absurd cc
 
-  later : (q : ℕ) → place_of (x ∷ es) k ≡ Some (suc q) → (nat_eq k x.0 ≡ false) × (place_of es k ≡ Some q)
+  pub later : (q : ℕ) → place_of (x ∷ es) k ≡ Some (suc q) → (nat_eq k x.0 ≡ false) × (place_of es k ≡ Some q)
   later q at = by (nat_eq k x.0) refl (place_of es k) refl
     where
       by : (b : Bool) → nat_eq k x.0 ≡ b → (o : Option ℕ) → place_of es k ≡ o → (nat_eq k x.0 ≡ false) × (place_of es k ≡ Some q)

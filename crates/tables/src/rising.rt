@@ -1,49 +1,14 @@
 //! Numbers that rise, with the places of their entries, and how one is found among them.
 //!
-//! Most look-ups are of the last number, which is looked at first: one above it is not there. Of the others most were
-//! given one after the other: then a number's place is how far above the first one it lies. Any other number is
-//! searched back from the end, each step twice as wide as the one before, and then what lies between the last two steps
-//! is halved: this takes the logarithm of how far from the end the number stands.
+//! A number is searched back from the end, each step twice as wide as the one before, and then what lies between the
+//! last two steps is halved: this takes the logarithm of how far from the end the number stands.
 
-ghost use Rattle.std.specs.Prelude.{◌≡◌, ◌≤◌, length, nat_eq, IfSome};
+ghost use Rattle.std.specs.Prelude.{◌≡◌, ◌≤◌, length, nat_eq};
 ghost use Rattle.std.specs.Map.{lookup};
 ghost use Rattle.tables.specs.Tables.{AreBelow, AreNotBelow, IsRising};
 
 /// The place that stands beside a number, if it is among them.
-#[inline(always)]
 pub(crate) fn place_among(risen: &[(u64, usize)], number: u64) -> Option<usize>
-    requires { IsRising risen.now }
-    ensures { result ≡ lookup (nat_eq number) risen.now }
-{
-    let last = risen.len().checked_sub(1)?;
-    if risen[last].0 == number {
-        return Some(risen[last].1);
-    }
-    if risen[last].0 < number {
-        return None;
-    }
-    match place_in_turn(risen, number) {
-        Some(place) => Some(place),
-        None => place_searched(risen, number),
-    }
-}
-
-// The same of a number that is among them, where those up to it were given one after the other.
-#[inline(always)]
-fn place_in_turn(risen: &[(u64, usize)], number: u64) -> Option<usize>
-    requires { IsRising risen.now }
-    ensures { IfSome result (λ place. Some place ≡ lookup (nat_eq number) risen.now) }
-{
-    let (first, _) = risen.first()?;
-    let count = number.checked_sub(*first)? as usize;
-    if count < risen.len() && risen[count].0 == number {
-        return Some(risen[count].1);
-    }
-    None
-}
-
-// The same of any number.
-fn place_searched(risen: &[(u64, usize)], number: u64) -> Option<usize>
     requires { IsRising risen.now }
     ensures { result ≡ lookup (nat_eq number) risen.now }
 {

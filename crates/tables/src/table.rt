@@ -8,8 +8,10 @@ ghost use Rattle.std.specs.Ordering.{nat_cmp};
 ghost use Rattle.std.specs.BTreeMap.{get};
 ghost use Rattle.std.specs.Vec.{vec_capacity};
 ghost use Rattle.indexmap.specs.IndexMap.{insert_entry};
-ghost use Rattle.tables.specs.Tables.{changed_at, is_above, led_in, place_in, place_of, AreApart, IsRising};
+ghost use Rattle.tables.specs.Hints.{AreHinted};
+ghost use Rattle.tables.specs.Tables.{changed_at, is_above, led_in, place_in, place_of, AreApart, IsPlaced, IsRising};
 
+use crate::hints::{NO_PLACE, add_hint, hint_of};
 use crate::rising::place_among;
 use std::alloc::{AllocError, Global};
 use std::collections::BTreeMap;
@@ -19,27 +21,38 @@ use std::marker::Model;
 #[derive(Drop)]
 pub struct Table<V> {
     entries: Vec<(u64, V)>,
+    /// Where the entries stand.
+    index: Index,
+    /// The number for which room was made last.
+    ready: Option<u64>,
+}
+
+/// Where the entry of each number stands.
+#[derive(Drop)]
+struct Index {
+    /// Where the entry of a number may stand; none where no number needed a hint so far.
+    hints: Vec<u32>,
     /// The greatest number that was above all before it.
     top: Option<u64>,
     /// The numbers that were above all before them, which rise, with the places of their entries.
     risen: Vec<(u64, usize)>,
     /// Where the entry of each other number stands, or none where a number has its room but no entry yet.
     others: BTreeMap<u64, Option<usize>>,
-    /// The number for which room was made last.
-    ready: Option<u64>,
 }
 
 impl<V> Model for Table<V> {
     ghost use Rattle.std.specs.Prelude.{◌<◌, length};
     ghost use Rattle.std.specs.Vec.{vec_capacity};
+    ghost use Rattle.tables.specs.Hints.{AreHinted};
     ghost use Rattle.tables.specs.Tables.{Table, IsPlaced, IsReady};
 
     ghost Value = { Table V };
 
     ghost view = { λ t. record { entries = t.entries.items; ready = t.ready } };
 
-    ghost invariant = { λ t. IsPlaced t.top t.risen.items t.others.entries t.entries.items
-        × IsReady t.top (length t.entries.items < vec_capacity t.entries) (length t.risen.items < vec_capacity t.risen) t.others.entries t.ready };
+    ghost invariant = { λ t. IsPlaced t.index.top t.index.risen.items t.index.others.entries t.entries.items
+        × AreHinted t.index.hints.items t.entries.items
+        × IsReady t.index.top (length t.entries.items < vec_capacity t.entries) (length t.index.risen.items < vec_capacity t.index.risen) t.index.others.entries t.ready };
 }
 
 impl<V: Drop> Table<V> {
@@ -49,9 +62,12 @@ impl<V: Drop> Table<V> {
     {
         Table {
             entries: Vec::new(alloc),
-            top: None,
-            risen: Vec::new(alloc),
-            others: BTreeMap::new(alloc),
+            index: Index {
+                hints: Vec::new(alloc),
+                top: None,
+                risen: Vec::new(alloc),
+                others: BTreeMap::new(alloc),
+            },
             ready: None,
         }
     }
@@ -61,7 +77,7 @@ impl<V: Drop> Table<V> {
     pub fn get(&self, number: u64) -> Option<&V>
         ensures { option_copied result ≡ lookup (nat_eq number) self.now.entries }
     {
-        match place_of(&self.entries, &self.risen, &self.others, number) {
+        match place_of(&self.entries, &self.index, number) {
             Some(place) => Some(&self.entries[place].1),
             None => None,
         }
@@ -88,7 +104,12 @@ impl<V: Drop> Table<V> {
     {
         self.ready = None;
         self.entries.reserve(1)?;
-        make_room(self.top, &mut self.risen, &mut self.others, number)?;
+        make_room(
+            self.index.top,
+            &mut self.index.risen,
+            &mut self.index.others,
+            number,
+        )?;
         self.ready = Some(number);
         Ok(())
     }
@@ -103,21 +124,23 @@ impl<V: Drop> Table<V> {
         ensures room { OnErr result (self.old.ready ≢ Some number) }
     {
         let place = self.entries.len();
-        if is_above(self.top, number) {
+        if is_above(self.index.top, number) {
             self.entries.reserve(1)?;
-            self.risen.push((number, place))?;
+            self.index.risen.push((number, place))?;
+            add_hint(&mut self.index.hints, self.entries.as_slice(), number);
             self.entries.push_reserved((number, value));
-            self.top = Some(number);
+            self.index.top = Some(number);
             self.ready = None;
             return Ok(());
         }
-        if let Some(place) = place_of(&self.entries, &self.risen, &self.others, number) {
+        if let Some(place) = place_of(&self.entries, &self.index, number) {
             self.ready = None;
             self.entries[place] = (number, value);
             return Ok(());
         }
         self.entries.reserve(1)?;
-        self.others.insert(number, Some(place))?;
+        self.index.others.insert(number, Some(place))?;
+        add_hint(&mut self.index.hints, self.entries.as_slice(), number);
         self.entries.push_reserved((number, value));
         self.ready = None;
         Ok(())
@@ -139,7 +162,7 @@ impl<V: Drop + Mark> Table<V> {
     pub fn mark(&mut self, number: u64)
         ensures { self.new.entries ≡ changed_at V.marked self.old.entries number }
     {
-        if let Some(place) = place_of(&self.entries, &self.risen, &self.others, number) {
+        if let Some(place) = place_of(&self.entries, &self.index, number) {
             self.ready = None;
             self.entries[place].1.mark();
         }
@@ -155,22 +178,16 @@ fn is_above(top: Option<u64>, number: u64) -> bool
     }
 }
 
-// Where the entry of a number stands. It is searched only if it is not found at once.
+// Where the entry of a number stands.
 #[inline(always)]
-fn place_of<V>(
-    entries: &Vec<(u64, V)>,
-    risen: &Vec<(u64, usize)>,
-    others: &BTreeMap<u64, Option<usize>>,
-    number: u64,
-) -> Option<usize>
-    requires apart { AreApart entries.now.items }
-    requires rising { IsRising risen.now.items }
-    requires leads { place_in risen.now.items others.now.entries number ≡ place_of entries.now.items number }
+fn place_of<V>(entries: &Vec<(u64, V)>, index: &Index, number: u64) -> Option<usize>
+    requires placed { IsPlaced index.now.top index.now.risen.items index.now.others.entries entries.now.items }
+    requires hinted { AreHinted index.now.hints.items entries.now.items }
     ensures { result ≡ place_of entries.now.items number }
 {
     match place_at_once(entries.as_slice(), number) {
         Some(place) => Some(place),
-        None => place_in(risen, others, number),
+        None => place_hinted(entries, index, number),
     }
 }
 
@@ -190,6 +207,29 @@ fn place_at_once<V>(entries: &[(u64, V)], number: u64) -> Option<usize>
         return Some(place);
     }
     None
+}
+
+// Where the entry of any number stands. A number above all has none, and no number has one whose hint says so. A hint
+// that leads to an entry of another number says nothing: then it is searched.
+#[inline(never)]
+fn place_hinted<V>(entries: &Vec<(u64, V)>, index: &Index, number: u64) -> Option<usize>
+    requires placed { IsPlaced index.now.top index.now.risen.items index.now.others.entries entries.now.items }
+    requires hinted { AreHinted index.now.hints.items entries.now.items }
+    ensures { result ≡ place_of entries.now.items number }
+{
+    if is_above(index.top, number) {
+        return None;
+    }
+    if let Some(hint) = hint_of(&index.hints, number) {
+        let place = hint as usize;
+        if place < entries.len() && entries[place].0 == number {
+            return Some(place);
+        }
+        if hint == NO_PLACE {
+            return None;
+        }
+    }
+    place_in(&index.risen, &index.others, number)
 }
 
 // A number that is above all has no place in either.

@@ -1,7 +1,9 @@
 use Rattle.std.proofs.Common.{◌≡◌, ℕ, Some, sym, ap, subst, arith, ◌∙◌}
 use Rattle.std.specs.Prelude.{nat_eq, slice_set}
 use Rattle.std.specs.Map.{lookup}
+use Rattle.tables.specs.Hints.{AreHinted}
 use Rattle.tables.specs.Tables.{Table, changed_at, place_of, IsPlaced}
+use Rattle.tables.proofs.HintLemmas.{hinted_set}
 use Rattle.tables.proofs.TableLemmas.{within, none_found, placed_set, keyed, change_is, no_change}
 use Rattle.tables.proofs.table.Table.mark.Goals as goal
 
@@ -10,9 +12,12 @@ index_mut-requires g c = let low = within c.self.inside.entries.items c.args.num
 
 pub invariant_of-self : goal.invariant_of-self
 invariant_of-self g c = (
-  subst (λ (k : ℕ). IsPlaced c.self.inside.top c.self.inside.risen.items c.self.inside.others.entries (slice_set c.self.inside.entries.items c.in-Some.place (k, c.mark.new.self)))
+  subst (λ (k : ℕ). IsPlaced c.self.inside.index.top c.self.inside.index.risen.items c.self.inside.index.others.entries (slice_set c.self.inside.entries.items c.in-Some.place (k, c.mark.new.self)))
       (sym (keyed c.self.inside.entries.items c.args.number c.in-Some.place c.index_mut.result.now at c.index_mut.ensures.value))
-      (placed_set c.self.inside.top c.self.inside.risen.items c.self.inside.others.entries c.self.inside.entries.items c.self.invariant.0 c.args.number c.in-Some.place c.mark.new.self at),
+      (placed_set c.self.inside.index.top c.self.inside.index.risen.items c.self.inside.index.others.entries c.self.inside.entries.items c.self.invariant.0 c.args.number c.in-Some.place c.mark.new.self at),
+  subst (λ (k : ℕ). AreHinted c.self.inside.index.hints.items (slice_set c.self.inside.entries.items c.in-Some.place (k, c.mark.new.self)))
+      (sym (keyed c.self.inside.entries.items c.args.number c.in-Some.place c.index_mut.result.now at c.index_mut.ensures.value))
+      (hinted_set c.self.inside.index.hints.items c.self.inside.entries.items c.args.number c.in-Some.place c.mark.new.self c.self.invariant.1 at),
   tt,
 )
   where

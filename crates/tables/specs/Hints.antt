@@ -1,0 +1,20 @@
+-- Hints: slots that say where the entries of numbers may stand, and of which numbers there is none.
+use Rattle.std.specs.Prelude.{◌≢◌, ℕ, ◌-◌, List, length, Some, slice_get}
+use Rattle.std.specs.Int.RustNames.{bit_and}
+use Rattle.std.specs.List.{All}
+
+-- what stands in a slot that is empty
+abbrev pub no_place : ℕ
+no_place = 4294967295
+
+-- the slot of a number, of so many
+abbrev pub slot : (count number : ℕ) → ℕ
+slot count number = bit_and number (count - 1)
+
+-- the slot of a number isn't empty; where there are no slots, none is
+abbrev pub IsHinted : List ℕ → ℕ → Type 0
+IsHinted hints number = slice_get hints (slot (length hints) number) ≢ Some no_place
+
+-- no entry's slot is empty
+abbrev pub AreHinted : {V : Type 0} → List ℕ → List (ℕ × V) → Type 0
+AreHinted hints entries = All (λ e. IsHinted hints e.0) entries
