@@ -10,6 +10,7 @@ pub mod Decimals
 pub mod DigitLemmas
 pub mod Endings
 pub mod FieldFaults
+pub mod HexFieldLemmas
 pub mod HexLaw
 pub mod HostLaw
 pub mod Joined

@@ -16,6 +16,13 @@ or_bad e (Err bad) = Err e
 unfoldable pub hex_value : Word → Result (List ℕ) TextFault
 hex_value w = if length w.text == 0 then Err (fault_at Field w) else or_bad (fault_at Hex w) (decode_of w.text)
 
+-- the next field, and the bytes that it spells
+unfoldable pub hex_word : Rest → Result ((Word × List ℕ) × Rest) TextFault
+hex_word r = do
+  w ← next_field r
+  bytes ← hex_value w.0
+  Ok ((w.0, bytes), w.1)
+
 -- no more bytes than this, else Hex
 abbrev pub at_most : ℕ → Word → List ℕ → Result (List ℕ) TextFault
 at_most most w bytes = if nat_lt most (length bytes) then Err (fault_at Hex w) else Ok bytes

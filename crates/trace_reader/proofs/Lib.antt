@@ -12,3 +12,4 @@ pub mod TextFaults
 pub mod ShortLines
 pub mod PrintableLaw
 pub mod HeaderFaults
+pub mod WireLemmas

@@ -10,12 +10,11 @@ use std::alloc::Global;
 
 /// The next field, which is a segment in hex. Bad digits are Hex; bytes that are no segment are Segment, with the
 /// reason.
-#[tactic(auto, unfolding(crate::specs::Wires::wire_field, crate::specs::Wires::wire_value))]
+#[tactic(auto, using(crate::proofs::WireLemmas::wire_field_is))]
 pub(crate) fn wire(alloc: Global, fields: &mut Fields) -> Result<Wire, TextFault>
     ensures { Gives (λ wire. (wire, fields.new)) result (wire_field fields.old) }
 {
-    let token = fields.next_long()?;
-    let bytes = token.hex(alloc)?;
+    let (token, bytes) = fields.next_hex(alloc)?;
     match decode(alloc, bytes.as_slice()) {
         Ok(seg) => Ok(Wire { bytes, seg }),
         Err(SegFault::OutOfMemory) => Err(TextFault::out_of_memory()),
