@@ -58,7 +58,7 @@ pub record AreRead (text : List ℕ) (count value : ℕ) : Type 0 where
 pub none_read : (text : List ℕ) → AreRead text 0 0
 none_read text = record { digits = λ i lt. absurd (omega (lt, arith)); shown = refl }
 
-digit_is : (byte : ℕ) → 48 ≤ byte → byte ≤ 57 → digit_value byte ≡ byte - 48
+pub digit_is : (byte : ℕ) → 48 ≤ byte → byte ≤ 57 → digit_value byte ≡ byte - 48
 digit_is byte low high = grind (arith, nat_tests)
 
 -- one digit more

@@ -19,6 +19,7 @@ pub mod LeftLemmas
 pub mod LineRests
 pub mod Loop
 pub mod Names
+pub mod NumberLanes
 pub mod Readers
 pub mod ReadsLemmas
 pub mod RowLemmas

@@ -1,16 +1,27 @@
 //! The first field of a text: where it ends, and the number that it spells.
 
-ghost use Rattle.std.specs.Prelude.{◌≡◌, ◌<◌, take};
+ghost use Rattle.std.specs.Prelude.{◌≡◌, ◌<◌, ◌≤◌, ℕ, length, slice_index, take};
 ghost use Rattle.std.specs.Fmt.{decimal};
+ghost use Rattle.std.specs.Int.{IsInRange};
+ghost use Rattle.std.specs.Str.Parse.{digits_value};
 ghost use Rattle.line_fields.specs.FirstField.{field_len};
 
 use memchr::memchr;
+use std::simd::prelude::*;
 
 // How many bytes of a field are looked at one by one, before its end is searched.
 const SHORT: usize = 16;
 
 // How many digits of a number are read without a test of its size.
 const MAX_DIGITS: usize = 19;
+
+// How many bytes are read at once where a number may begin.
+const BLOCK: usize = 8;
+
+// The weights of digits: the eight that begin `n` places before the first zero are those of `n` digits.
+const WEIGHTS: [u32; 16] = [
+    10_000_000, 1_000_000, 100_000, 10_000, 1000, 100, 10, 1, 0, 0, 0, 0, 0, 0, 0, 0,
+];
 
 /// The length of the first field of a text, which ends at a space or at the text's end. The end of a long field is
 /// found sooner if the caller says that it is long.
@@ -42,7 +53,45 @@ fn long_field_len(text: &[u8]) -> usize
 
 /// The number that the first field of a text spells, and the count of its digits. The count is 0 if the field spells no
 /// number, or has more than 19 digits.
+#[inline(never)]
 pub(crate) fn plain_number(text: &[u8]) -> (u64, usize)
+    ensures place { 0 < result.1 → field_len text.now ≡ result.1 }
+    ensures value { 0 < result.1 → take result.1 text.now ≡ decimal result.0 }
+{
+    if text.len() < BLOCK || text[0] == b'0' {
+        return any_number(text);
+    }
+    let (value, count) = front_number(text);
+    if count == BLOCK {
+        return any_number(text);
+    }
+    if text[count] != b' ' {
+        return (0, 0);
+    }
+    (u64::from(value), count)
+}
+
+// The number that the digits in front of a text spell, and their count, which is 8 if they are 8 or more.
+#[inline(always)]
+fn front_number(text: &[u8]) -> (u32, usize)
+    requires { 8 ≤ length text.now }
+    ensures most { result.1 ≤ 8 }
+    ensures digits { result.1 < 8 → (k : ℕ) → k < result.1 → IsInRange 48 57 (slice_index text.now k) }
+    ensures value { result.1 < 8 → result.0 ≡ digits_value 10 (take result.1 text.now) }
+{
+    let values = u8x8::from_slice(text) - u8x8::splat(b'0');
+    let others = values.simd_gt(u8x8::splat(9)).to_bitmask();
+    if others == 0 {
+        return (0, BLOCK);
+    }
+    let count = others.trailing_zeros() as usize;
+    let weighted = values.cast::<u32>() * u32x8::from_slice(&WEIGHTS[BLOCK - count..]);
+    (weighted.reduce_sum(), count)
+}
+
+// The same as `plain_number`, digit by digit.
+#[inline(never)]
+fn any_number(text: &[u8]) -> (u64, usize)
     ensures place { 0 < result.1 → field_len text.now ≡ result.1 }
     ensures value { 0 < result.1 → take result.1 text.now ≡ decimal result.0 }
 {

@@ -1,6 +1,6 @@
 use Rattle.std.proofs.Common.{◌-◌, ◌≤◌}
 use Rattle.line_fields.proofs.Decimals.{AreRead}
-use Rattle.line_fields.proofs.first_field.plain_number.Given as goal
+use Rattle.line_fields.proofs.first_field.any_number.Given as goal
 
 -- the digits so far
 abbrev pub invariant-loop-count : goal.invariant-loop-count
