@@ -20,6 +20,7 @@ pub mod LineRests
 pub mod Loop
 pub mod Names
 pub mod NumberLanes
+pub mod PrintLanes
 pub mod Readers
 pub mod ReadsLemmas
 pub mod RowLemmas

@@ -9,6 +9,7 @@
 //! - `fault`: why a text can't be read, and where
 //! - `digits`: numbers in decimal and bytes in hex, digit by digit
 //! - `first_field`: where the first field of a text ends, and the number that it spells
+//! - `hex_digits`: bytes as digits in hex
 //! - `fields`: the cursor, and the numbers, hosts and bytes that it reads
 //! - `lines`: a line's end and its limits, and lines that have to stand as they are
 //! - `reading`: the next line of a text, of which one line is kept in memory
@@ -23,6 +24,7 @@ mod digits;
 mod fault;
 mod fields;
 mod first_field;
+mod hex_digits;
 mod lines;
 mod printing;
 mod reading;

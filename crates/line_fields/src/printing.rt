@@ -7,6 +7,7 @@ ghost use Rattle.hex.specs.Hex.{encode_lower};
 ghost use Rattle.line_fields.specs.Spelling.{printed_behind};
 ghost use Rattle.line_fields.specs.Answers.{answer_pieces};
 
+use crate::hex_digits::write_digits;
 use crate::states::state_name;
 use case_forms::{Answer, Host, OutOfMemory};
 use itoa::Buffer;
@@ -45,8 +46,12 @@ pub fn push_host(out: &mut Vec<u8>, host: Host) -> Result<(), OutOfMemory>
 pub fn push_hex(out: &mut Vec<u8>, bytes: &[u8]) -> Result<(), OutOfMemory>
     ensures { OnOk result (out.new.items ≡ out.old.items ++ encode_lower bytes.now) }
 {
-    let digits = hex::encode(*out.allocator(), bytes)?;
-    out.extend_from_slice(digits.as_bytes())
+    let len = out.len();
+    out.reserve(2 * bytes.len())?;
+    out.resize(len + 2 * bytes.len(), 0)?;
+    let (_before, digits) = out.as_mut_slice().split_at_mut(len);
+    write_digits(bytes, digits);
+    Ok(())
 }
 
 // The number of a host.
