@@ -9,7 +9,8 @@
 //! - `Witness`, `Step`, `Label`: what a witness says; `SegmentPlan`, `TakeChoice`, `NamedLine`: what labels hold
 //! - `read_witness`: a whole text; `TextFault`, `FaultKind`, `Span`: the first fault, and where it stands
 //! - `StepReader`: a text whose steps are read as they are requested; `SourceFault`: a fault, or a read that failed
-//! - `print_witness`: the text of a witness, which is read again as the same witness
+//! - `print_witness`: the text of a witness, which is read again as the same witness; `push_witness`: the same, at the
+//!   end of a `Vec`
 //!
 //! A text is bytes. Its first line is `witness 1`, `witness 2` or `witness 3`, by its version, and each further line is
 //! a step: a moment in microseconds and a label, one of `L`, `D`, `M`, `T`, `K`, `R` and `F` with its fields. What a
@@ -47,6 +48,8 @@ pub use counted::Counted;
 pub use first_line::begins_witness;
 pub use laws::{step_faults, witness_faults};
 pub use line_fields::{FaultKind, SourceFault, TextFault};
-pub use printing::{label_bytes, print_law, print_witness, printable_law, step_in_memory};
+pub use printing::{
+    label_bytes, print_law, print_witness, printable_law, push_witness, step_in_memory,
+};
 pub use reading::{read_step, read_witness, read_witness_for};
 pub use stream::StepReader;

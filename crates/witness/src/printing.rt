@@ -151,13 +151,22 @@ pub fn print_witness(alloc: Global, witness: &Witness) -> Result<Vec<u8>, OutOfM
     ensures memory { IfOk result (λ bytes. AllByRecursion IsInMemory witness.now.steps) }
 {
     let mut out = Vec::new(alloc);
-    push_word(&mut out, first_text(witness.version))?;
-    push_end(&mut out)?;
+    push_witness(&mut out, witness)?;
+    Ok(out)
+}
+
+/// Writes the text of a witness. If memory runs out a part may have been written.
+pub fn push_witness(out: &mut Vec<u8>, witness: &Witness) -> Result<(), OutOfMemory>
+    ensures text { OnOk result (out.new.items ≡ out.old.items ++ witness_text witness.now) }
+    ensures memory { OnOk result (AllByRecursion IsInMemory witness.now.steps) }
+{
+    push_word(out, first_text(witness.version))?;
+    push_end(out)?;
     for step in witness.steps.as_slice() {
-        push_step(&mut out, step)?;
+        push_step(out, step)?;
         step_in_memory(step);
     }
-    Ok(out)
+    Ok(())
 }
 
 /// A witness of the same version that says what some text says, wherever its spans are, is printed as a text that

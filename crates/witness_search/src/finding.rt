@@ -2,12 +2,15 @@
 
 use crate::search::{Added, Search};
 use bstr::ByteSlice;
-use case_forms::{Line, OutOfMemory, Trace, Witness};
+use case_forms::{Answer, Label, Line, OutOfMemory, Trace, Witness};
 use endpoint_state::StepFault;
 use line_fields::{TextFault, push_end, push_host, push_number, push_space, push_word, timer_name};
 use std::alloc::{AllocError, Global};
 use trace_reader::read_trace;
-use witness::print_witness;
+use witness::push_witness;
+
+// About how many bytes the line of a step has, without bytes in hex.
+const USUAL_STEP: usize = 40;
 
 /// The text of a case: the trace, in which lines are added for expiries that it doesn't tell and that were needed, and
 /// a witness. Where a line's step is not permitted in the world that was reached, the witness ends with that step, so
@@ -16,11 +19,27 @@ use witness::print_witness;
 pub fn find(alloc: Global, text: &[u8]) -> Result<Vec<u8>, TextFault> {
     let trace = read_trace(alloc, text)?;
     let (added, witness) = search(alloc, &trace)?;
-    let thread = unused_thread(trace.lines.as_slice());
-    let mut case = trace_text(alloc, text, &trace, added.as_slice(), thread)?;
-    let steps = print_witness(alloc, &witness)?;
-    case.extend_from_slice(steps.as_slice())?;
+    let len = text.len().saturating_add(usual_len(&witness));
+    let mut case = Vec::with_capacity(alloc, len)?;
+    push_trace(&mut case, text, &trace, added.as_slice())?;
+    push_witness(&mut case, &witness)?;
     Ok(case)
+}
+
+// About how many bytes the text of a witness has: room for them is made at once.
+fn usual_len(witness: &Witness) -> usize {
+    let mut len: usize = 0;
+    for step in witness.steps.as_slice() {
+        let digits = match &step.label {
+            Label::D {
+                answer: Answer::Bytes(bytes),
+                ..
+            } => bytes.len().saturating_mul(2),
+            _ => 0,
+        };
+        len = len.saturating_add(digits).saturating_add(USUAL_STEP);
+    }
+    len
 }
 
 // The lines that are added, and the witness.
@@ -49,24 +68,29 @@ fn unused_thread(lines: &[Line]) -> u32 {
     greatest.saturating_add(1)
 }
 
-// The text of the trace, with the lines that are added.
-fn trace_text(
-    alloc: Global,
+// Writes the text of the trace, with the lines that are added. What stands after the last of them is not cut into lines.
+fn push_trace(
+    out: &mut Vec<u8>,
     text: &[u8],
     trace: &Trace,
     added: &[Added],
-    thread: u32,
-) -> Result<Vec<u8>, OutOfMemory> {
+) -> Result<(), OutOfMemory> {
+    let thread = unused_thread(trace.lines.as_slice());
     let first = trace.header.first_event_line();
-    let mut out = Vec::new(alloc);
     let mut left = added;
     let mut number: u64 = 1;
+    let mut rest = text;
     for raw in text.lines_with_terminator() {
-        left = push_before(&mut out, left, first, number, thread)?;
+        left = push_before(out, left, first, number, thread)?;
+        if left.is_empty() {
+            break;
+        }
         out.extend_from_slice(raw)?;
+        let (_line, behind) = rest.split_at(raw.len().min(rest.len()));
+        rest = behind;
         number = number.saturating_add(1);
     }
-    Ok(out)
+    out.extend_from_slice(rest)
 }
 
 // Writes the lines that are added before the line of this number, and answers those that are left. The event lines
