@@ -1,8 +1,7 @@
 -- Lists whose front gave way to one value, and pieces of lists.
-use Rattle.std.proofs.Common.{◌≡◌, ℕ, zero, suc, ◌+◌, ◌-◌, ◌≤◌, List, [], ◌∷◌, ◌++◌, length, take, drop, replicate, min, refl, sym, ap, ◌∙◌, arith, append_assoc, inl, inr}
+use Rattle.std.proofs.Common.{◌≡◌, ℕ, zero, suc, ◌+◌, ◌-◌, ◌≤◌, List, [], ◌∷◌, ◌++◌, length, take, drop, replicate, min, refl, ap, arith, append_assoc}
 use Rattle.std.specs.Prelude.{slice_get}
-use Rattle.std.proofs.lemmas.List.{replicate-append-replicate, take_all}
-use Rattle.std.proofs.lemmas.Bool.{cases_lt}
+use Rattle.std.proofs.lemmas.List.{replicate-append-replicate}
 use Rattle.streams.specs.Lists.{covered}
 
 pub length-covered : {X : Type 0} (y : X) (n : ℕ) (xs : List X) → length (covered y n xs) ≡ length xs
@@ -51,13 +50,6 @@ covered-gone {X} y gone n count xs e =
     let both = replicate-append-replicate {A = X} gone count y in
     let assoc = append_assoc (replicate gone y) (replicate count y) (drop count xs) in
     rw (far, cut, ← e, ← both) assoc
-
--- no more is taken than there is
-pub take_cut : {X : Type 0} (n m : ℕ) (xs : List X) → length xs ≤ m → take (min n m) xs ≡ take n xs
-take_cut {X} n m xs h = elim (cases_lt m n) [
-  | inl lt ↦ (let same : min n m ≡ m = omega arith in rw same (take_all m xs h ∙ sym (take_all n xs (omega arith))))
-  | inr ge ↦ (let same : min n m ≡ n = omega arith in rw same refl)
-]
 
 -- a piece of what stands behind a value so many times: some of these, and the rest
 pub piece_parts : {X : Type 0} (y : X) (gone start count : ℕ) (xs : List X) (ones : ℕ) → ones ≡ min (gone - start) count

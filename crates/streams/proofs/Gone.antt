@@ -9,7 +9,7 @@ use Rattle.streams.specs.Cells.{body, front, is_fin, leading, put, put_all}
 use Rattle.streams.specs.Forgetting.{fade}
 use Rattle.streams.specs.Views.{gone_cells}
 use Rattle.streams.proofs.ReadLemmas.{front_none}
-use Rattle.streams.proofs.Writes.{front_from, leading_front, length_body, length_put_all}
+use Rattle.streams.proofs.Writes.{length_body, length_put_all}
 
 -- what was discarded stands in front
 pub replicated : (n : ℕ) (xs : List (Option Cell)) → length (front (replicate n (Some (Byte 0)) ++ xs)) ≡ n + length (front xs)
@@ -81,9 +81,6 @@ pub deliver_count : (gone n : ℕ) (xs : List (Option Cell)) → (gone ≡ 0 →
 deliver_count zero n [] empty h = omega arith
 deliver_count zero n (x ∷ xs) empty h = let no = empty refl in absurd (omega arith)
 deliver_count (suc d) n xs empty h = omega arith
-
-pub deliver_ready : (n ready : ℕ) (xs : List (Option Cell)) → n ≤ length (leading xs) → ready ≡ length (front xs) → ready - n ≡ length (front (drop n xs))
-deliver_ready n ready xs h e = let most = leading_front xs in let l : n ≤ length (front xs) = omega arith in let split = front_from xs n l in omega arith
 
 pub keep_long : (gone position bound : ℕ) (xs : List (Option Cell)) (bytes : List ℕ) (fin : Bool) → gone ≤ position → gone + length xs < bound → position + length bytes + 1 < bound → gone + length (put_all xs (position - gone) (body bytes fin)) < bound
 keep_long gone position bound xs bytes fin h k l =

@@ -6,9 +6,11 @@ pub mod Fades
 pub mod Writes
 pub mod Gone
 pub mod Keeping
-pub mod Waiting
 pub mod RunLemmas
 pub mod MarkLemmas
 pub mod MadeLemmas
 pub mod ReadLemmas
 pub mod Thens
+pub mod Marked
+pub mod Shown
+pub mod Overs

@@ -1,5 +1,5 @@
 -- Bytes that were taken, and what stands behind them.
-use Rattle.std.proofs.Common.{◌≡◌, ℕ, zero, suc, ◌+◌, ◌-◌, ◌<◌, ◌≤◌, Bool, true, false, ◌&&◌, List, [], ◌∷◌, ◌++◌, length, take, drop, get_or, min, Option, Some, refl, sym, ap, ◌∙◌, arith, append_assoc}
+use Rattle.std.proofs.Common.{◌≡◌, ℕ, zero, suc, ◌+◌, ◌-◌, ◌<◌, Bool, true, false, List, [], ◌∷◌, ◌++◌, length, take, drop, get_or, min, Option, Some, refl, sym, ap, ◌∙◌, arith, append_assoc}
 use Rattle.std.specs.Prelude.{nat_eq, slice_get}
 use Rattle.std.specs.Cmp.Lexicographic.{pointwise}
 use Rattle.std.proofs.lemmas.Bool.{le-leb}
@@ -10,7 +10,6 @@ use Rattle.streams.specs.declared.cell.Cell.TheVariants.{Byte, Fin}
 use Rattle.streams.specs.Cells.{body, front, is_fin, leading, put, put_all}
 use Rattle.streams.specs.Received.{body_kept, has_end, starts}
 use Rattle.streams.specs.Views.{bytes_then, fin_alone}
-use Rattle.streams.proofs.Covers.{take_cut}
 use Rattle.streams.proofs.Keeping.{same_order}
 use Rattle.streams.proofs.ReadLemmas.{front_none}
 use Rattle.streams.proofs.Writes.{length_front, put-end}
@@ -27,11 +26,7 @@ pub leading_then : (b : List ℕ) (xs : List (Option Cell)) → leading (bytes_t
 leading_then [] xs = refl
 leading_then (v ∷ b) xs = ap (λ (ys : List ℕ). v ∷ ys) (leading_then b xs)
 
-pub leading_long : (b : List ℕ) (xs : List (Option Cell)) → length (leading (bytes_then b xs)) ≡ length b + length (leading xs)
-leading_long [] xs = omega arith
-leading_long (v ∷ b) xs = let more = leading_long b xs in omega arith
-
-then_then : (b c : List ℕ) (xs : List (Option Cell)) → bytes_then (b ++ c) xs ≡ bytes_then b (bytes_then c xs)
+pub then_then : (b c : List ℕ) (xs : List (Option Cell)) → bytes_then (b ++ c) xs ≡ bytes_then b (bytes_then c xs)
 then_then [] c xs = refl
 then_then (v ∷ b) c xs = ap (λ (ys : List (Option Cell)). Some (Byte v) ∷ ys) (then_then b c xs)
 
@@ -119,32 +114,7 @@ drop_then (v ∷ b) xs zero n h = let none : n ≡ 0 = omega arith in rw none re
 drop_then (v ∷ b) xs (suc count) zero h = absurd (omega arith)
 drop_then (v ∷ b) xs (suc count) (suc n) h = let less : suc count - suc n ≡ count - n = omega arith in rw less (drop_then b xs count n (omega arith))
 
--- what is read in front, of the bytes first
-take_both : (b l : List ℕ) (most n : ℕ) → n ≡ min most (length b) → take most (b ++ l) ≡ take n b ++ take (most - n) l
-take_both [] l most n h = let none : n ≡ 0 = omega arith in let all : most - 0 ≡ most = omega arith in rw (none, all) refl
-take_both (v ∷ b) l zero n h = let none : n ≡ 0 = omega arith in rw none refl
-take_both (v ∷ b) l (suc most) zero h = absurd (omega arith)
-take_both (v ∷ b) l (suc most) (suc n) h = let less : suc most - suc n ≡ most - n = omega arith in rw less (ap (λ (ys : List ℕ). v ∷ ys) (take_both b l most n (omega arith)))
-
-pub read_then : (b : List ℕ) (xs : List (Option Cell)) (most n ready : ℕ) → n ≡ min most (length b) → length (leading xs) ≤ ready
-    → take n b ++ take (min (most - n) ready) (leading xs) ≡ take most (leading (bytes_then b xs))
-read_then b xs most n ready h l = rw (take_cut (most - n) ready (leading xs) l, leading_then b xs) (sym (take_both b (leading xs) most n h))
-
 -- whether bytes begin with others
-both_and : (a b c : Bool) → (a && (b && c)) ≡ ((a && b) && c)
-both_and true b c = refl
-both_and false b c = refl
-
-starts_both : (bytes b l : List ℕ) (n : ℕ) → n ≡ min (length bytes) (length b) → starts bytes (b ++ l) ≡ (starts (take n bytes) b && starts (drop n bytes) l)
-starts_both [] b l n h = let none : n ≡ 0 = omega arith in rw none refl
-starts_both (x ∷ bytes) [] l n h = let none : n ≡ 0 = omega arith in rw none refl
-starts_both (x ∷ bytes) (y ∷ b) l zero h = absurd (omega arith)
-starts_both (x ∷ bytes) (y ∷ b) l (suc n) h = rw (starts_both bytes b l n (omega arith)) (both_and _ (starts (take n bytes) b) (starts (drop n bytes) l))
-
-pub starts_then : (bytes b : List ℕ) (xs : List (Option Cell)) (n : ℕ) (first rest all : List ℕ) → n ≡ min (length bytes) (length all) → first ≡ take n bytes → rest ≡ drop n bytes → all ≡ b
-    → (starts first all && starts rest (leading xs)) ≡ starts bytes (leading (bytes_then b xs))
-starts_then bytes b xs n first rest all h f r a = let long = ap length a in rw (f, r, a, leading_then b xs) (sym (starts_both bytes b (leading xs) n (omega arith)))
-
 pub begins_is : (bytes all : List ℕ) → pointwise nat_eq bytes (take (length bytes) all) ≡ starts bytes all
 begins_is [] all = refl
 begins_is (x ∷ bytes) [] = refl

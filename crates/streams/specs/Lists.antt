@@ -1,5 +1,5 @@
 -- Changing elements of a list, and what two lists have in common.
-use Rattle.std.specs.Prelude.{◌≡◌, ℕ, zero, suc, List, [], ◌∷◌, ◌++◌, Some, slice_get}
+use Rattle.std.specs.Prelude.{◌≡◌, ℕ, zero, suc, ◌+◌, List, [], ◌∷◌, ◌++◌, length, take, drop, Some, slice_get}
 
 -- the element at this place becomes what the function makes of it; where there is none, nothing changes
 abbrev pub modify : {X : Type 0} → List X → ℕ → (X → X) → List X
@@ -20,3 +20,7 @@ abbrev pub covered : {X : Type 0} → X → ℕ → List X → List X
 covered y zero xs = xs
 covered y (suc count) [] = []
 covered y (suc count) (x ∷ xs) = y ∷ covered y count xs
+
+-- the elements from this place on give way to these, one by one
+abbrev pub over : {X : Type 0} → ℕ → List X → List X → List X
+over place xs ys = take place xs ++ (ys ++ drop (place + length ys) xs)

@@ -1,5 +1,6 @@
 -- What the buffers show of what they discarded: something fixed at each position.
-use Rattle.std.specs.Prelude.{ℕ, zero, suc, Bool, true, false, List, [], ◌∷◌, ◌++◌, Option, Some, replicate}
+use Rattle.std.specs.Prelude.{ℕ, zero, suc, ◌==◌, Bool, true, false, if◌then◌else◌, List, [], ◌∷◌, ◌++◌, Option, None}
+use Rattle.std.specs.Prelude.{Some, replicate}
 use Rattle.streams.specs.declared.cell.Cell.{Cell}
 use Rattle.streams.specs.declared.cell.Cell.TheVariants.{Syn, Byte, Fin}
 use Rattle.streams.specs.declared.transmission.Transmission.{Transmission}
@@ -20,6 +21,24 @@ bytes_then (value ∷ bytes) rest = Some (Byte value) ∷ bytes_then bytes rest
 abbrev pub fin_alone : Bool → List (Option Cell)
 fin_alone true = Some Fin ∷ []
 fin_alone false = []
+
+-- bytes at places of which some were taken, those whose mark is 1
+abbrev pub marked_bytes : (marks values : List ℕ) → List (Option Cell)
+marked_bytes [] values = []
+marked_bytes (mark ∷ marks) [] = []
+marked_bytes (mark ∷ marks) (value ∷ values) =
+    (if mark == 1 then Some (Byte value) else None) ∷ marked_bytes marks values
+
+-- how many ones stand in front
+abbrev pub ones : List ℕ → ℕ
+ones [] = 0
+ones (mark ∷ marks) = if mark == 1 then suc (ones marks) else 0
+
+-- how many places a FIN takes in front of the first gap: one where there is a FIN and no gap
+abbrev pub ends : Bool → List ℕ → ℕ
+ends true [] = 1
+ends true (mark ∷ marks) = 0
+ends false marks = 0
 
 -- runs, position by position
 abbrev pub expand : List Run → List Transmission

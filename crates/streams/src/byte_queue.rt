@@ -1,6 +1,7 @@
 //! Bytes that join at the end and leave in front, in one piece of memory.
 
-ghost use Rattle.std.specs.Prelude.{◌≡◌, ◌≤◌, ◌<◌, ◌^◌, ◌++◌, [], length, drop, OnOk, OnErr};
+ghost use Rattle.std.specs.Prelude.{◌≡◌, ◌+◌, ◌≤◌, ◌<◌, ◌^◌, ◌++◌, [], length, drop, replicate, set, OnOk, OnErr};
+ghost use Rattle.streams.specs.Lists.{over};
 
 use std::alloc::{AllocError, Global};
 use std::marker::Model;
@@ -59,6 +60,32 @@ impl ByteQueue {
         self.bytes.extend_from_slice(bytes)
     }
 
+    /// Writes the byte at this place.
+    pub(crate) fn set(&mut self, place: usize, byte: u8)
+        requires { place < length self.old }
+        ensures { self.new ≡ set self.old place byte }
+    {
+        self.bytes[self.gone + place] = byte;
+    }
+
+    /// Writes these bytes from this place on.
+    pub(crate) fn overwrite(&mut self, place: usize, bytes: &[u8])
+        requires { place + length bytes.now ≤ length self.old }
+        ensures { self.new ≡ over place self.old bytes.now }
+    {
+        let start = self.gone + place;
+        self.bytes[start..start + bytes.len()].copy_from_slice(bytes);
+    }
+
+    /// Writes this byte at so many places from this one on.
+    pub(crate) fn overfill(&mut self, place: usize, count: usize, byte: u8)
+        requires { place + count ≤ length self.old }
+        ensures { self.new ≡ over place self.old (replicate count byte) }
+    {
+        let start = self.gone + place;
+        self.bytes[start..start + count].fill(byte);
+    }
+
     /// The first so many bytes leave. What is there is moved to the beginning once no more bytes are there than left,
     /// so at most one byte is moved for each that leaves.
     pub(crate) fn drop_front(&mut self, count: usize)
@@ -75,4 +102,24 @@ impl ByteQueue {
         self.bytes.truncate(left);
         self.gone = 0;
     }
+}
+
+/// So many zeros join at the end of both, or of none.
+pub(crate) fn grow_both(
+    first: &mut ByteQueue,
+    second: &mut ByteQueue,
+    count: usize,
+) -> Result<(), AllocError>
+    requires { count < 2 ^ 63 }
+    ensures first { OnOk result (first.new ≡ first.old ++ replicate count 0) }
+    ensures second { OnOk result (second.new ≡ second.old ++ replicate count 0) }
+    ensures small { length first.new < 2 ^ 63 }
+    ensures first_err { OnErr result (first.new ≡ first.old) }
+    ensures second_err { OnErr result (second.new ≡ second.old) }
+{
+    first.bytes.reserve(count)?;
+    let end = second.bytes.len() + count;
+    second.bytes.resize(end, 0)?;
+    let end = first.bytes.len() + count;
+    first.bytes.resize(end, 0)
 }

@@ -1,42 +1,45 @@
-//! What was taken and waits, from one place on: bytes in one piece of memory, and after them a cell for each place.
+//! What was taken and waits, from one place on: a byte for each place in one piece of memory, and from the first gap on
+//! a mark for each place that was taken.
 
-ghost use Rattle.std.specs.Prelude.{◌≡◌, ◌+◌, ◌-◌, ◌≤◌, ◌<◌, ◌^◌, ◌++◌, [], nat_lt, OnOk, OnErr, IfOk, length, take};
+ghost use Rattle.std.specs.Prelude.{◌≡◌, ◌+◌, ◌-◌, ◌≤◌, ◌<◌, ◌^◌, [], nat_lt, OnOk, OnErr, IfOk, length, take};
 ghost use Rattle.std.specs.Prelude.{drop, slice_get};
-ghost use Rattle.streams.specs.Views.{fin_alone};
 ghost use Rattle.streams.specs.Cells.{front, is_fin, leading, put_all};
 ghost use Rattle.streams.specs.Received.{body_kept, starts};
 
 use super::byte_queue::ByteQueue;
-use super::cell::Cell;
-use super::front::drop_front;
-use super::leading::{byte_at, copy_leading, starts_with};
-use super::placing::{advanced, is_fin, place};
+use super::placing::{end_kept, ends, ones, part_kept, place};
 use std::alloc::{AllocError, Global};
-use std::collections::VecDeque;
 use std::marker::Model;
 
-/// Cells by place. What comes in order while there is no cell after the bytes joins the bytes.
+/// Cells by place. The bytes in front of the first gap are read, compared and dropped as one piece, and what comes in
+/// order while there is no gap joins them by one copy.
 #[derive(Drop)]
 pub(crate) struct CellQueue {
-    bytes: ByteQueue,
-    /// What was taken after the bytes, a cell for each place up to the furthest that was taken; a missing one has
-    /// `None`.
-    rest: VecDeque<Option<Cell>>,
-    /// How many of `rest` stand in front of the first gap.
+    /// A byte for each place up to the furthest that was taken; where none was, it says nothing.
+    values: ByteQueue,
+    /// How many of them stand in front of the first gap.
     ready: usize,
+    /// For each of the others 1 if a byte was taken there, and something else if none was.
+    marks: ByteQueue,
+    /// Whether a FIN was taken. It stands after the last byte, since nothing is taken after it, and it is not taken
+    /// below a byte.
+    fin: bool,
+    /// How many places stand in front of the first gap: the bytes, and the FIN if no gap stands before it.
+    front: usize,
 }
 
 impl Model for CellQueue {
-    ghost use Rattle.std.specs.Prelude.{◌≡◌, length, List, Option};
+    ghost use Rattle.std.specs.Prelude.{◌≡◌, ◌+◌, ◌++◌, length, take, drop, List, Option};
     ghost use Rattle.streams.specs.declared.cell.Cell.{Cell};
-    ghost use Rattle.streams.specs.Cells.{front};
-    ghost use Rattle.streams.specs.Views.{bytes_then};
+    ghost use Rattle.streams.specs.Views.{bytes_then, ends, fin_alone, marked_bytes, ones};
 
     ghost Value = { List (Option Cell) };
 
-    ghost view = { λ q. bytes_then q.bytes q.rest.items };
+    ghost view = { λ q. bytes_then (take q.ready q.values)
+        (marked_bytes q.marks (drop q.ready q.values) ++ fin_alone q.fin) };
 
-    ghost invariant = { λ q. q.ready ≡ length (front q.rest.items) };
+    ghost invariant = { λ q. (length q.values ≡ q.ready + length q.marks) × (ones q.marks ≡ 0)
+        × (q.front ≡ q.ready + ends q.fin q.marks) };
 }
 
 impl CellQueue {
@@ -45,9 +48,11 @@ impl CellQueue {
         ensures { result ≡ [] }
     {
         CellQueue {
-            bytes: ByteQueue::new(alloc),
-            rest: VecDeque::new(alloc),
+            values: ByteQueue::new(alloc),
             ready: 0,
+            marks: ByteQueue::new(alloc),
+            fin: false,
+            front: 0,
         }
     }
 
@@ -56,46 +61,36 @@ impl CellQueue {
         ensures value { result ≡ length (front self.now) }
         ensures small { result ≤ length self.now }
     {
-        self.bytes.len() + self.ready
+        self.front
     }
 
     /// Whether the last place in front of the first gap has a FIN.
     pub(crate) fn is_ended(&self) -> bool
         ensures { result ≡ is_fin (slice_get self.now (length (front self.now) - 1)) }
     {
-        if self.ready == 0 {
-            return false;
-        }
-        is_fin(self.rest[self.ready - 1])
+        self.front > self.ready
     }
 
     /// Whether a byte stands in front.
     pub(crate) fn has_leading(&self) -> bool
         ensures { result ≡ nat_lt 0 (length (leading self.now)) }
     {
-        self.bytes.len() > 0 || byte_at(&self.rest, 0).is_some()
+        self.ready > 0
     }
 
     /// Whether the bytes in front begin with these. Takes no memory.
     pub(crate) fn starts_with(&self, bytes: &[u8]) -> bool
         ensures { result ≡ starts bytes.now (leading self.now) }
     {
-        let front = self.bytes.as_slice();
-        let (of_front, of_rest) = bytes.split_at(bytes.len().min(front.len()));
-        begins(front, of_front) && starts_with(&self.rest, of_rest)
+        begins(&self.values.as_slice()[..self.ready], bytes)
     }
 
     /// A copy of the bytes in front, of `most` or as many as there are.
     pub(crate) fn read(&self, alloc: Global, most: usize) -> Result<Vec<u8>, AllocError>
         ensures { IfOk result (λ bytes. bytes.items ≡ take most (leading self.now)) }
     {
-        let front = self.bytes.as_slice();
-        let of_front = most.min(front.len());
-        let of_rest = (most - of_front).min(self.ready);
-        let mut bytes = Vec::with_capacity(alloc, of_front + of_rest)?;
-        bytes.extend_from_slice(&front[..of_front])?;
-        copy_leading(&self.rest, of_rest, &mut bytes);
-        Ok(bytes)
+        let count = most.min(self.ready);
+        Vec::from_slice(alloc, &self.values.as_slice()[..count])
     }
 
     /// Takes these bytes from this place on, which is not in front of the first gap, and a FIN after them if there is
@@ -107,16 +102,26 @@ impl CellQueue {
         ensures ok { OnOk result (self.new ≡ put_all self.old at (body_kept self.old at bytes.now fin)) }
         ensures err { OnErr result (self.new ≡ self.old) }
     {
-        let at = at - self.bytes.len();
-        if at == 0 && self.rest.is_empty() {
-            append(&mut self.bytes, &mut self.rest, bytes, fin)?;
-            self.ready = self.rest.len();
+        let at = at - self.ready;
+        if at == 0 && self.marks.len() == 0 {
+            self.values.append(bytes)?;
+            self.ready += bytes.len();
+            self.fin = fin;
+            self.front = self.ready + ends(fin, &self.marks);
             return Ok(());
         }
-        let end = at + bytes.len() + 1;
-        self.rest.reserve(end.saturating_sub(self.rest.len()))?;
-        place(&mut self.rest, at, bytes, fin);
-        self.ready = advanced(&self.rest, self.ready);
+        let known = self.marks.len();
+        let bytes = part_kept(known, self.fin, at, bytes);
+        let end = end_kept(known, self.fin, at, bytes, fin);
+        if bytes.is_empty() && !end {
+            return Ok(());
+        }
+        place(&mut self.values, &mut self.marks, self.ready, at, bytes)?;
+        let count = ones(&self.marks);
+        self.marks.drop_front(count);
+        self.ready += count;
+        self.fin = self.fin || end;
+        self.front = self.ready + ends(self.fin, &self.marks);
         Ok(())
     }
 
@@ -125,32 +130,10 @@ impl CellQueue {
         requires { count ≤ length (leading self.old) }
         ensures { self.new ≡ drop count self.old }
     {
-        let of_bytes = count.min(self.bytes.len());
-        self.bytes.drop_front(of_bytes);
-        drop_front(&mut self.rest, count - of_bytes);
-        self.ready -= count - of_bytes;
+        self.values.drop_front(count);
+        self.ready -= count;
+        self.front -= count;
     }
-}
-
-// These bytes join the others, and a FIN stands after them if there is one, if no cell did.
-fn append(
-    bytes: &mut ByteQueue,
-    rest: &mut VecDeque<Option<Cell>>,
-    more: &[u8],
-    fin: bool,
-) -> Result<(), AllocError>
-    requires { rest.old.items ≡ [] }
-    ensures bytes { OnOk result (bytes.new ≡ bytes.old ++ more.now) }
-    ensures rest { OnOk result (rest.new.items ≡ fin_alone fin) }
-    ensures bytes_err { OnErr result (bytes.new ≡ bytes.old) }
-    ensures rest_err { OnErr result (rest.new.items ≡ rest.old.items) }
-{
-    rest.reserve(fin as usize)?;
-    bytes.append(more)?;
-    if fin {
-        rest.push_back_reserved(Some(Cell::Fin));
-    }
-    Ok(())
 }
 
 // Whether the first begins with the second.

@@ -6,11 +6,9 @@
 //!
 //! - `byte_queue`: bytes that join at the end and leave in front
 //! - `cell`: what stands at one position
-//! - `receive`: what was taken of the peer, until it is delivered; `cell_queue` holds it, `placing` writes cells, and
-//!   `leading` reads
-//!   the bytes in front
+//! - `receive`: what was taken of the peer, until it is delivered; `cell_queue` holds it, and `placing` writes bytes by
+//!   place
 //! - `send`: what sends accepted, until it is acknowledged
-//! - `front`: drops what stands in front of a queue
 //! - `transmission`, `transmissions`: when a position was made, and whether it was made again; `runs` keeps the first by
 //!   segments, `marks`
 //!   the second by ranges
@@ -25,9 +23,7 @@
 mod byte_queue;
 mod cell;
 mod cell_queue;
-mod front;
 mod laws;
-mod leading;
 mod marks;
 mod placing;
 mod receive;

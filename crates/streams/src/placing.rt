@@ -1,125 +1,146 @@
-//! Writing cells into a queue of them, by place.
+//! Writing bytes by place, and a mark for each place that has one.
 
-ghost use Rattle.std.specs.Prelude.{◌≡◌, ◌+◌, ◌≤◌, ◌<◌, Some, length};
-ghost use Rattle.std.specs.VecDeque.{deque_capacity};
-ghost use Rattle.streams.specs.Cells.{body, cells_of, front, is_fin, put, put_all};
-ghost use Rattle.streams.specs.Received.{body_kept, end_kept, has_end, part_kept};
+ghost use Rattle.std.specs.Prelude.{◌≡◌, ◌+◌, ◌-◌, ◌<◌, ◌≤◌, ◌^◌, ◌∷◌, [], ◌++◌, ◌&&◌, ◌==◌, if◌then◌else◌, false, not};
+ghost use Rattle.std.specs.Prelude.{None, OnOk, OnErr, drop, length, nat_le, replicate, take};
+ghost use Rattle.std.specs.List.{list_any};
+ghost use Rattle.streams.specs.Cells.{cells_of, put_all};
+ghost use Rattle.streams.specs.Views.{ends, marked_bytes, ones};
 
-use super::cell::Cell;
-use std::collections::VecDeque;
+use super::byte_queue::{ByteQueue, grow_both};
+use std::alloc::AllocError;
 
-/// Whether this place has a FIN.
-pub(crate) fn is_fin(place: Option<Cell>) -> bool
-    ensures { result ≡ is_fin (Some place) }
+/// Of these bytes, from this place on, those in front of a FIN that was taken after so many places.
+pub(crate) fn part_kept<'a>(known: usize, ended: bool, at: usize, bytes: &'a [u8]) -> &'a [u8]
+    ensures { result.now ≡ (if ended then take (known - at) bytes.now else bytes.now) }
 {
-    matches!(place, Some(Cell::Fin))
-}
-
-// Whether the last cell is a FIN.
-fn has_end(cells: &VecDeque<Option<Cell>>) -> bool
-    ensures { result ≡ has_end cells.now.items }
-{
-    if cells.is_empty() {
-        return false;
-    }
-    is_fin(cells[cells.len() - 1])
-}
-
-// Of these bytes, from this place on, those in front of a FIN that was taken.
-fn part_kept<'a>(cells: &VecDeque<Option<Cell>>, at: usize, bytes: &'a [u8]) -> &'a [u8]
-    ensures { result.now ≡ part_kept cells.now.items at bytes.now }
-{
-    if !has_end(cells) {
+    if !ended {
         return bytes;
     }
-    let most = (cells.len() - 1).saturating_sub(at);
+    let most = known.saturating_sub(at);
     &bytes[..most.min(bytes.len())]
 }
 
-// Whether a FIN after these bytes is kept.
-fn end_kept(cells: &VecDeque<Option<Cell>>, at: usize, bytes: &[u8], fin: bool) -> bool
-    requires { at + length bytes.now < deque_capacity cells.now }
-    ensures { result ≡ end_kept cells.now.items at bytes.now fin }
+/// Whether a FIN after these bytes is kept, where so many places are known.
+pub(crate) fn end_kept(known: usize, ended: bool, at: usize, bytes: &[u8], fin: bool) -> bool
+    requires { at + length bytes.now < 2 ^ 63 }
+    ensures { result ≡ (fin && not ended && nat_le known (at + length bytes.now)) }
 {
-    fin && !has_end(cells) && cells.len() <= at + bytes.len()
+    fin && !ended && known <= at + bytes.len()
 }
 
-// Writes one cell, if there is room; places before it that have none yet stay missing.
-fn write_cell(cells: &mut VecDeque<Option<Cell>>, at: usize, cell: Cell)
-    requires { at < deque_capacity cells.old }
-    ensures items { cells.new.items ≡ put cells.old.items at cell }
-    ensures capacity { deque_capacity cells.new ≡ deque_capacity cells.old }
+// Writes one byte and its mark, if the place has none yet. The first `ready` values have no marks.
+fn write_byte(values: &mut ByteQueue, marks: &mut ByteQueue, ready: usize, at: usize, byte: u8)
+    requires place { at < length marks.old }
+    requires same { length values.old ≡ ready + length marks.old }
+    requires small { length values.old < 2 ^ 63 }
+    ensures cells { marked_bytes marks.new (drop ready values.new)
+        ≡ put_all (marked_bytes marks.old (drop ready values.old)) at (cells_of (byte ∷ [])) }
+    ensures ready { take ready values.new ≡ take ready values.old }
+    ensures values { length values.new ≡ length values.old }
+    ensures marks { length marks.new ≡ length marks.old }
 {
-    if at < cells.len() {
-        if cells[at].is_none() {
-            cells[at] = Some(cell);
-        }
+    if marks.as_slice()[at] == 1 {
         return;
     }
-    for _ in cells.len()..at {
-        cells.push_back_reserved(None);
-    }
-    cells.push_back_reserved(Some(cell));
+    values.set(ready + at, byte);
+    marks.set(at, 1);
 }
 
-// Writes these bytes from a place on, if there is room.
-fn place_bytes(cells: &mut VecDeque<Option<Cell>>, at: usize, bytes: &[u8])
-    requires { at + length bytes.now ≤ deque_capacity cells.old }
-    ensures items { cells.new.items ≡ put_all cells.old.items at (cells_of bytes.now) }
-    ensures capacity { deque_capacity cells.new ≡ deque_capacity cells.old }
+/// Writes these bytes from a place on, each where none was taken yet, and makes room for them. The first `ready` values
+/// have no marks.
+pub(crate) fn place(
+    values: &mut ByteQueue,
+    marks: &mut ByteQueue,
+    ready: usize,
+    at: usize,
+    bytes: &[u8],
+) -> Result<(), AllocError>
+    requires same { length values.old ≡ ready + length marks.old }
+    requires small { at + length bytes.now < 2 ^ 63 }
+    ensures cells { OnOk result (marked_bytes marks.new (drop ready values.new)
+        ≡ put_all (marked_bytes marks.old (drop ready values.old)
+        ++ replicate (at + length bytes.now - length marks.old) None) at (cells_of bytes.now)) }
+    ensures ready { OnOk result (take ready values.new ≡ take ready values.old) }
+    ensures same { OnOk result (length values.new ≡ ready + length marks.new) }
+    ensures small { OnOk result (length values.new < 2 ^ 63) }
+    ensures values_err { OnErr result (values.new ≡ values.old) }
+    ensures marks_err { OnErr result (marks.new ≡ marks.old) }
 {
-    if at == cells.len() {
-        append_bytes(cells, bytes);
+    let end = at + bytes.len();
+    grow_both(values, marks, end.saturating_sub(marks.len()))?;
+    write(values, marks, ready, at, bytes);
+    Ok(())
+}
+
+// Writes these bytes from a place on, each where none was taken yet; mostly there is none, and they go in one piece.
+fn write(values: &mut ByteQueue, marks: &mut ByteQueue, ready: usize, at: usize, bytes: &[u8])
+    requires place { at + length bytes.now ≤ length marks.old }
+    requires same { length values.old ≡ ready + length marks.old }
+    requires small { length values.old < 2 ^ 63 }
+    ensures cells { marked_bytes marks.new (drop ready values.new)
+        ≡ put_all (marked_bytes marks.old (drop ready values.old)) at (cells_of bytes.now) }
+    ensures ready { take ready values.new ≡ take ready values.old }
+    ensures values { length values.new ≡ length values.old }
+    ensures marks { length marks.new ≡ length marks.old }
+{
+    if marks.as_slice()[at..at + bytes.len()].contains(&1) {
+        write_bytes(values, marks, ready, at, bytes);
         return;
     }
+    write_piece(values, marks, ready, at, bytes);
+}
+
+// Writes these bytes from a place on, where none was taken yet, in one piece.
+fn write_piece(values: &mut ByteQueue, marks: &mut ByteQueue, ready: usize, at: usize, bytes: &[u8])
+    requires place { at + length bytes.now ≤ length marks.old }
+    requires same { length values.old ≡ ready + length marks.old }
+    requires small { length values.old < 2 ^ 63 }
+    requires none { list_any (λ mark. mark == 1) (take (length bytes.now) (drop at marks.old)) ≡ false }
+    ensures cells { marked_bytes marks.new (drop ready values.new)
+        ≡ put_all (marked_bytes marks.old (drop ready values.old)) at (cells_of bytes.now) }
+    ensures ready { take ready values.new ≡ take ready values.old }
+    ensures values { length values.new ≡ length values.old }
+    ensures marks { length marks.new ≡ length marks.old }
+{
+    values.overwrite(ready + at, bytes);
+    marks.overfill(at, bytes.len(), 1);
+}
+
+// Writes these bytes from a place on, each where none was taken yet.
+fn write_bytes(values: &mut ByteQueue, marks: &mut ByteQueue, ready: usize, at: usize, bytes: &[u8])
+    requires place { at + length bytes.now ≤ length marks.old }
+    requires same { length values.old ≡ ready + length marks.old }
+    requires small { length values.old < 2 ^ 63 }
+    ensures cells { marked_bytes marks.new (drop ready values.new)
+        ≡ put_all (marked_bytes marks.old (drop ready values.old)) at (cells_of bytes.now) }
+    ensures ready { take ready values.new ≡ take ready values.old }
+    ensures values { length values.new ≡ length values.old }
+    ensures marks { length marks.new ≡ length marks.old }
+{
     for (i, byte) in bytes.iter().enumerate() {
-        write_cell(cells, at + i, Cell::Byte(*byte));
+        write_byte(values, marks, ready, at + i, *byte);
     }
 }
 
-// Writes these bytes after the last cell, if there is room.
-fn append_bytes(cells: &mut VecDeque<Option<Cell>>, bytes: &[u8])
-    requires { length cells.old.items + length bytes.now ≤ deque_capacity cells.old }
-    ensures items { cells.new.items ≡ put_all cells.old.items (length cells.old.items) (cells_of bytes.now) }
-    ensures capacity { deque_capacity cells.new ≡ deque_capacity cells.old }
+/// How many places in front were taken.
+pub(crate) fn ones(marks: &ByteQueue) -> usize
+    ensures { result ≡ ones marks.now }
 {
-    for byte in bytes {
-        cells.push_back_reserved(Some(Cell::Byte(*byte)));
+    let marks = marks.as_slice();
+    let mut count = 0;
+    while count < marks.len() && marks[count] == 1 {
+        count += 1;
     }
+    count
 }
 
-/// Writes what is kept of these bytes, and of a FIN after them if there is one.
-pub(crate) fn place(cells: &mut VecDeque<Option<Cell>>, at: usize, bytes: &[u8], fin: bool)
-    requires { at + length bytes.now < deque_capacity cells.old }
-    ensures items { cells.new.items ≡ put_all cells.old.items at (body_kept cells.old.items at bytes.now fin) }
+/// How many places a FIN takes in front of the first gap: one if there is a FIN and no gap.
+pub(crate) fn ends(fin: bool, marks: &ByteQueue) -> usize
+    ensures value { result ≡ ends fin marks.now }
+    ensures small { result ≤ 1 }
 {
-    let fin = end_kept(cells, at, bytes, fin);
-    let bytes = part_kept(cells, at, bytes);
-    place_body(cells, at, bytes, fin);
-}
-
-// Writes these bytes, and a FIN after them if there is one.
-fn place_body(cells: &mut VecDeque<Option<Cell>>, at: usize, bytes: &[u8], fin: bool)
-    requires { at + length bytes.now < deque_capacity cells.old }
-    ensures items { cells.new.items ≡ put_all cells.old.items at (body bytes.now fin) }
-{
-    place_bytes(cells, at, bytes);
-    if fin {
-        write_cell(cells, at + bytes.len(), Cell::Fin);
+    if fin && marks.len() == 0 {
+        return 1;
     }
-}
-
-/// How many cells stand in front of the first gap; at least `ready` do.
-pub(crate) fn advanced(cells: &VecDeque<Option<Cell>>, ready: usize) -> usize
-    requires { ready ≤ length (front cells.now.items) }
-    ensures { result ≡ length (front cells.now.items) }
-{
-    let mut ready = ready;
-    while ready < cells.len() {
-        if cells[ready].is_none() {
-            return ready;
-        }
-        ready += 1;
-    }
-    ready
+    0
 }

@@ -1,25 +1,41 @@
-use Rattle.std.proofs.Common.{◌≡◌, ◌≤◌, ◌-◌, ◌∙◌, List, Option, length, drop, min, ap, sym, arith}
-use Rattle.streams.specs.declared.cell.Cell.{Cell}
-use Rattle.streams.specs.Cells.{leading}
-use Rattle.streams.proofs.Gone.{deliver_ready}
-use Rattle.streams.proofs.Thens.{drop_then, leading_long}
-use Rattle.streams.proofs.Writes.{leading_front}
+use Rattle.std.proofs.Common.{◌≤◌, ◌∙◌, List, ℕ, length, drop, ap, sym, arith}
+use Rattle.std.proofs.lemmas.List.{length-drop}
+use Rattle.streams.proofs.Shown.{drop_shown, leading_count}
 use Rattle.streams.proofs.cell_queue.CellQueue.drop_front.Goals as goal
 
-fits : (c : goal.After-drop_front-2) → c.args.count - c.min-of_bytes.result ≤ length (leading c.self.inside.rest.items)
-fits c =
-    let all = leading_long c.self.inside.bytes c.self.inside.rest.items in
-    let same = ap (λ (xs : List (Option Cell)). length (leading xs)) c.self.view_is in
+pub drop_front-requires : goal.drop_front-requires
+drop_front-requires c =
+    let q = c.self.inside in
+    let bytes = leading_count q.ready q.values q.marks q.fin c.args.self.now c.self.invariant.0 c.self.invariant.1 c.self.view_is in
+    let all = c.self.invariant.0 in
+    omega arith
+
+pub overflow_sub-self : goal.overflow_sub-self
+overflow_sub-self c =
+    let q = c.self.inside in
+    let bytes = leading_count q.ready q.values q.marks q.fin c.args.self.now c.self.invariant.0 c.self.invariant.1 c.self.view_is in
     omega arith
 
 pub overflow_sub-self-2 : goal.overflow_sub-self-2
-overflow_sub-self-2 c = let h = fits c in let most = leading_front c.self.inside.rest.items in omega arith
+overflow_sub-self-2 c =
+    let q = c.self.inside in
+    let bytes = leading_count q.ready q.values q.marks q.fin c.args.self.now c.self.invariant.0 c.self.invariant.1 c.self.view_is in
+    let front = c.self.invariant.2 in
+    omega arith
 
 pub invariant_of-self : goal.invariant_of-self
-invariant_of-self c = rw c.drop_front-2.ensures.items (deliver_ready (c.args.count - c.min-of_bytes.result) c.self.inside.ready c.self.inside.rest.items (fits c.before) c.self.invariant)
+invariant_of-self c =
+    let q = c.self.inside in
+    let bytes = leading_count q.ready q.values q.marks q.fin c.args.self.now c.self.invariant.0 c.self.invariant.1 c.self.view_is in
+    let all = c.self.invariant.0 in
+    let less = length-drop c.args.count q.values in
+    let left = ap (λ (ys : List ℕ). length ys) c.drop_front.ensures in
+    let front = c.self.invariant.2 in
+    (omega arith, c.self.invariant.1, omega arith)
 
 pub returns : goal.returns
 returns c =
-    let of_bytes : c.min-of_bytes.result ≡ min c.args.count (length c.self.inside.bytes) = omega arith in
-    rw (c.drop_front.ensures, c.drop_front-2.ensures.items)
-    (sym (drop_then c.self.inside.bytes c.self.inside.rest.items c.args.count c.min-of_bytes.result of_bytes) ∙ ap (drop c.args.count) c.self.view_is)
+    let q = c.self.inside in
+    let bytes = leading_count q.ready q.values q.marks q.fin c.args.self.now c.self.invariant.0 c.self.invariant.1 c.self.view_is in
+    let fits : c.args.count ≤ q.ready = omega arith in
+    rw c.drop_front.ensures (sym (drop_shown q.ready c.args.count q.values q.marks q.fin c.self.invariant.0 fits) ∙ ap (drop c.args.count) c.self.view_is)

@@ -1,44 +1,91 @@
-use Rattle.std.proofs.Common.{◌≡◌, ◌+◌, ◌-◌, ◌∙◌, List, [], Option, length, ap, sym, arith}
+use Rattle.std.proofs.Common.{◌≡◌, ◌<◌, ◌∙◌, ◌||◌, false, List, ℕ, length, ap, arith}
 use Rattle.std.proofs.lemmas.Bool.Decides.{nat_tests}
-use Rattle.std.proofs.lemmas.List.{nil_from_length}
-use Rattle.streams.specs.declared.cell.Cell.{Cell}
-use Rattle.streams.specs.Cells.{front, put_all}
-use Rattle.streams.specs.Received.{body_kept}
-use Rattle.streams.specs.Views.{bytes_then}
-use Rattle.streams.proofs.Fronts.{next_put_all}
-use Rattle.streams.proofs.Thens.{front_then, kept_end, kept_then}
+use Rattle.std.proofs.lemmas.List.{length-drop}
+use Rattle.streams.proofs.Shown.{kept_in_order, kept_nothing, kept_written, ones_gone, ones_within, ready_within}
+use Rattle.streams.proofs.cell_queue.CellQueue.keep.Goals.{else-is_empty-via-then-is_empty+else-not-end, else-is_empty-via-else-is_empty, then-self, else-self}
 use Rattle.streams.proofs.cell_queue.CellQueue.keep.Goals as goal
 
 pub overflow_sub-at : goal.overflow_sub-at
-overflow_sub-at c = let all = front_then c.self.inside.bytes c.self.inside.rest.items in let same = ap (λ (xs : List (Option Cell)). length (front xs)) c.self.view_is in omega arith
+overflow_sub-at c =
+    let q = c.self.inside in
+    ready_within q.ready q.values q.marks q.fin c.args.self.now c.args.at c.self.invariant.0 c.self.view_is c.requires.at
 
-pub returns-then-is_empty-clause-ok : goal.returns-then-is_empty-clause-ok
-returns-then-is_empty-clause-ok c =
-    let b = c.self.inside.bytes in
-    let all = front_then b c.self.inside.rest.items in
-    let same = ap (λ (xs : List (Option Cell)). length (front xs)) c.self.view_is in
-    let at : length b + 0 ≡ c.args.at = omega arith in
-    let none = nil_from_length c.self.inside.rest.items (let ok = c.self.inside.rest.ok in grind (arith, nat_tests, c.is_empty.ensures, c.if-is_empty.true)) in
-    rw (c.in_ok-append.ensures.bytes, c.in_ok-append.ensures.rest)
-    (sym (kept_end b c.args.bytes.now c.args.fin)
-    ∙ (ap (λ n. put_all (bytes_then b []) n (body_kept (bytes_then b []) n c.args.bytes.now c.args.fin)) at
-    ∙ ap (λ (xs : List (Option Cell)). put_all xs c.args.at (body_kept xs c.args.at c.args.bytes.now c.args.fin)) (ap (bytes_then b) (sym none) ∙ c.self.view_is)))
+pub overflow_add-self : goal.overflow_add-self
+overflow_add-self c =
+    let q = c.self.inside in
+    let least = ready_within q.ready q.values q.marks q.fin c.args.self.now c.args.at c.self.invariant.0 c.self.view_is c.requires.at in
+    let small = c.requires.small in
+    omega arith
 
-pub advanced-self-inside-requires : goal.advanced-self-inside-requires
-advanced-self-inside-requires c =
-    let at = c.args.at - c.len.result in
-    let longer = next_put_all c.self.inside.rest.items at (body_kept c.self.inside.rest.items at c.args.bytes.now c.args.fin) in
-    rw (c.place.ensures.items, c.reserve.ensures.items) (omega arith)
+pub overflow_add-self-then-len-eq0 : goal.overflow_add-self-then-len-eq0
+overflow_add-self-then-len-eq0 c =
+    let q = c.self.inside in
+    let least = ready_within q.ready q.values q.marks q.fin c.args.self.now c.args.at c.self.invariant.0 c.self.view_is c.requires.at in
+    let small = c.requires.small in
+    omega arith
+
+pub returns-then-len-eq0-clause-ok : goal.returns-then-len-eq0-clause-ok
+returns-then-len-eq0-clause-ok c =
+    let q = c.self.inside in
+    rw c.in_ok-append.ensures.ok (kept_in_order q.ready q.values q.marks q.fin c.args.self.now c.args.at c.args.bytes.now c.args.fin
+    c.self.invariant.0 (omega arith) c.self.view_is c.requires.at (omega arith))
+
+pub returns-then-not-end-clause-ok : goal.returns-then-not-end-clause-ok
+returns-then-not-end-clause-ok c =
+    let q = c.self.inside in
+    let within = ready_within q.ready q.values q.marks q.fin c.args.self.now c.args.at c.self.invariant.0 c.self.view_is c.requires.at in
+    let part = c.part_kept-bytes.result.now in
+    let empty : length part ≡ 0 = grind (arith, nat_tests, c.is_empty.ensures, c.if-is_empty.true) in
+    kept_nothing q.ready q.values q.marks q.fin c.args.self.now c.args.at c.args.bytes.now c.args.fin part c.end_kept-end.result
+    c.self.invariant.0 c.self.view_is within (rw c.len-known.ensures.value at c.part_kept-bytes.ensures)
+    (rw c.len-known.ensures.value at c.end_kept-end.ensures)
+    empty c.if-not-end.true
+
+pub drop_front-requires : goal.drop_front-requires
+drop_front-requires c = let most = ones_within c.place.new.marks in omega arith
+
+pub overflow_add-self-2 : goal.overflow_add-self-2
+overflow_add-self-2 c =
+    let most = ones_within c.place.new.marks in
+    let all = c.in_ok-place.ensures.same in
+    let small = c.in_ok-place.ensures.small in
+    omega arith
+
+pub overflow_add-self-3 : goal.overflow_add-self-3
+overflow_add-self-3 c =
+    let most = ones_within c.place.new.marks in
+    let all = c.in_ok-place.ensures.same in
+    let small = c.in_ok-place.ensures.small in
+    omega arith
+
+pub invariant_of-self-2 : goal.invariant_of-self-2
+invariant_of-self-2 c =
+    let most = ones_within c.place.new.marks in
+    let less = length-drop c.ones-count.result c.place.new.marks in
+    let left = ap (λ (ys : List ℕ). length ys) c.drop_front.ensures in
+    let all = c.in_ok-place.ensures.same in (
+      omega arith,
+      rw (c.drop_front.ensures, c.ones-count.ensures) (ones_gone c.place.new.marks),
+      let last = c.ends-2.ensures.value in omega arith,
+    )
 
 pub returns-clause-ok : goal.returns-clause-ok
 returns-clause-ok c =
-    let b = c.self.inside.bytes in
-    let rest = c.self.inside.rest.items in
-    let at = c.args.at - c.len.result in
-    let all = front_then b rest in
-    let same = ap (λ (xs : List (Option Cell)). length (front xs)) c.self.view_is in
-    let there : length b + at ≡ c.args.at = omega arith in
-    rw (c.place.ensures.items, c.reserve.ensures.items)
-    (sym (kept_then b rest at c.args.bytes.now c.args.fin)
-    ∙ (ap (λ n. put_all (bytes_then b rest) n (body_kept (bytes_then b rest) n c.args.bytes.now c.args.fin)) there
-    ∙ ap (λ (xs : List (Option Cell)). put_all xs c.args.at (body_kept xs c.args.at c.args.bytes.now c.args.fin)) c.self.view_is))
+    let q = c.self.inside in
+    let within = ready_within q.ready q.values q.marks q.fin c.args.self.now c.args.at c.self.invariant.0 c.self.view_is c.requires.at in
+    let part = c.part_kept-bytes.result.now in
+    let end = c.end_kept-end.result in
+    let fin : c.if-self.self ≡ (q.fin || end) = elim c.if-self.branch [
+      | then-self w ↦ (rw w.if-self.true (w.self-is ∙ w.if-self.true))
+      | else-self w ↦ (rw w.if-self.false w.self-is)
+    ] in
+    let some : end ≡ false → 0 < length part = λ e. elim c.else-is_empty.branch [
+      | else-is_empty-via-then-is_empty+else-not-end w ↦ (absurd (let yes = w.if-not-end.false in cc))
+      | else-is_empty-via-else-is_empty w ↦ grind (arith, nat_tests, c.is_empty.ensures, w.if-is_empty.false)
+    ] in
+    rw (fin, c.drop_front.ensures, c.ones-count.ensures)
+    (kept_written q.ready q.values q.marks q.fin c.args.self.now c.args.at c.args.bytes.now c.args.fin part end
+    c.place.new.values c.place.new.marks
+    c.self.invariant.0 c.self.view_is within (rw c.len-known.ensures.value at c.part_kept-bytes.ensures)
+    (rw c.len-known.ensures.value at c.end_kept-end.ensures)
+    some c.in_ok-place.ensures.same c.in_ok-place.ensures.ready c.in_ok-place.ensures.cells)
