@@ -1,5 +1,5 @@
 -- Fields in hex, the last of their line among them.
-use Rattle.std.proofs.Common.{◌≡◌, ℕ, ◌+◌, ◌-◌, ◌<◌, ◌==◌, false, IsTrue, List, length, drop, Some, Result, Ok, Err, refl, sym, ap, subst, ◌∙◌, arith}
+use Rattle.std.proofs.Common.{◌≡◌, ℕ, ◌+◌, ◌-◌, ◌<◌, ◌==◌, false, IsTrue, List, length, take, drop, Some, Result, Ok, Err, refl, sym, ap, subst, ◌∙◌, arith}
 use Rattle.std.specs.List.{position_or_len}
 use Rattle.std.specs.Result.{result_ok}
 use Rattle.std.proofs.lemmas.Bool.{ne_eqb}
@@ -60,14 +60,18 @@ decoded (Err bad) bytes e = cc
 -- what is left of a line is its next field, if it spells bytes
 pub last_is : (line at : ℕ) (text rest bytes : List ℕ) → at < length text → rest ≡ drop at text → Some bytes ≡ result_ok (decode_of rest)
     → hex_word (record { line = line; stop = length text; words = words_left line at text })
-    ≡ Ok ((record { text = rest; line = line; start = at; stop = length text }, bytes), record { line = line; stop = length text; words = words_left line (length text + 1) text })
+    ≡ Ok (
+      (record { text = rest; line = line; start = at; stop = length text }, bytes),
+      record { line = line; stop = length text; words = words_left line (length text + 1) text },
+    )
 unfolding hex_word hex_value
 last_is line at text rest bytes lt e spelled =
     let decodes = decoded (decode_of rest) bytes spelled in
     let len : length rest ≡ length text - at = ap length e ∙ length-drop at text in
     let end : at + length rest ≡ length text = omega arith in
     let some : (length rest == 0) ≡ false = ne_eqb (length rest) 0 (λ none. omega arith) in
-    let next = next_is line at text rest rest (length rest) (omega arith) e (sym (no_space rest bytes decodes)) (sym (take_all (length rest) rest (omega arith))) in
+    let all : rest ≡ take (length rest) rest = sym (take_all (length rest) rest (omega arith)) in
+    let next = next_is line at text rest rest (length rest) (omega arith) e (sym (no_space rest bytes decodes)) all in
     rw (next, end, some, decodes) refl
 
 -- bytes in hex, within a limit

@@ -68,7 +68,7 @@ fn unused_thread(lines: &[Line]) -> u32 {
     greatest.saturating_add(1)
 }
 
-// Writes the text of the trace, with the lines that are added. What stands after the last of them is not cut into lines.
+// Writes the text of the trace, with the lines that are added. What stands after the last of them is copied as it is.
 fn push_trace(
     out: &mut Vec<u8>,
     text: &[u8],
