@@ -1,5 +1,6 @@
 -- Hints: slots that say where the entries of numbers may stand, and of which numbers there is none.
-use Rattle.std.specs.Prelude.{◌≢◌, ℕ, ◌-◌, List, length, Some, slice_get}
+use Rattle.std.specs.Prelude.{◌≢◌, ℕ, ◌-◌, List, length, nat_eq, Some, IsSome, slice_get}
+use Rattle.std.specs.Map.{lookup}
 use Rattle.std.specs.Int.RustNames.{bit_and}
 use Rattle.std.specs.List.{All}
 
@@ -18,3 +19,7 @@ IsHinted hints number = slice_get hints (slot (length hints) number) ≢ Some no
 -- no entry's slot is empty
 abbrev pub AreHinted : {V : Type 0} → List ℕ → List (ℕ × V) → Type 0
 AreHinted hints entries = All (λ e. IsHinted hints e.0) entries
+
+-- the number of each entry stands in a list of numbers
+abbrev pub AreIn : {V W : Type 0} → List (ℕ × W) → List (ℕ × V) → Type 0
+AreIn numbers entries = All (λ e. IsSome (lookup (nat_eq e.0) numbers)) entries

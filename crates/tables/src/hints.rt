@@ -8,8 +8,8 @@
 //!
 //! A table whose numbers are given one after the other has no hints, as an entry's place is known by its number there.
 
-ghost use Rattle.std.specs.Prelude.{◌≡◌, ◌≢◌, ◌<◌, ℕ, length, slice_get};
-ghost use Rattle.tables.specs.Hints.{no_place, slot, AreHinted, IsHinted};
+ghost use Rattle.std.specs.Prelude.{◌≡◌, ◌≢◌, ◌<◌, ℕ, IsTrue, length, slice_get};
+ghost use Rattle.tables.specs.Hints.{no_place, slot, AreHinted, AreIn, IsHinted};
 
 /// What stands in an empty slot.
 pub(crate) const NO_PLACE: u32 = u32::MAX;
@@ -29,17 +29,25 @@ pub(crate) fn hint_of(hints: &[u32], number: u64) -> Option<u32>
     Some(hints[slot_of(count, number)])
 }
 
-/// A new number, whose entry goes last, is hinted at. If memory for more slots is refused, there are none.
+/// A new number, whose entry goes last, is hinted at. If memory for more slots is refused, there are none. The numbers
+/// that rose are all there are if `all_rose` says so; the new one may be among them.
 #[inline(always)]
-pub(crate) fn add_hint<V>(hints: &mut Vec<u32>, entries: &[(u64, V)], number: u64)
-    requires { AreHinted hints.old.items entries.now }
+pub(crate) fn add_hint<V>(
+    hints: &mut Vec<u32>,
+    entries: &[(u64, V)],
+    risen: &[(u64, usize)],
+    all_rose: bool,
+    number: u64,
+)
+    requires hinted { AreHinted hints.old.items entries.now }
+    requires rose { IsTrue all_rose → AreIn risen.now entries.now }
     ensures same { AreHinted hints.new.items entries.now }
     ensures new { IsHinted hints.new.items number }
 {
     if hints.is_empty() && is_in_turn(entries, number) {
         return;
     }
-    widen(hints, entries);
+    widen(hints, entries, risen, all_rose);
     put_hint(hints.as_mut_slice(), number, entries.len());
 }
 
@@ -52,13 +60,20 @@ fn is_in_turn<V>(entries: &[(u64, V)], number: u64) -> bool {
     }
 }
 
-// At most half of the slots will be filled by one more entry, if memory isn't refused.
+// At most half of the slots will be filled by one more entry, if memory isn't refused. If all numbers rose, their list
+// is read, which is shorter than the entries: a number's place is the same in both.
 #[inline(always)]
-fn widen<V>(hints: &mut Vec<u32>, entries: &[(u64, V)])
-    requires { AreHinted hints.old.items entries.now }
+fn widen<V>(hints: &mut Vec<u32>, entries: &[(u64, V)], risen: &[(u64, usize)], all_rose: bool)
+    requires hinted { AreHinted hints.old.items entries.now }
+    requires rose { IsTrue all_rose → AreIn risen.now entries.now }
     ensures { AreHinted hints.new.items entries.now }
 {
-    if hints.len() / 2 <= entries.len() {
+    if hints.len() / 2 > entries.len() {
+        return;
+    }
+    if all_rose {
+        hint_anew(hints, risen);
+    } else {
         hint_anew(hints, entries);
     }
 }

@@ -127,7 +127,13 @@ impl<V: Drop> Table<V> {
         if is_above(self.index.top, number) {
             self.entries.reserve(1)?;
             self.index.risen.push((number, place))?;
-            add_hint(&mut self.index.hints, self.entries.as_slice(), number);
+            add_hint(
+                &mut self.index.hints,
+                self.entries.as_slice(),
+                self.index.risen.as_slice(),
+                self.index.others.is_empty(),
+                number,
+            );
             self.entries.push_reserved((number, value));
             self.index.top = Some(number);
             self.ready = None;
@@ -140,7 +146,13 @@ impl<V: Drop> Table<V> {
         }
         self.entries.reserve(1)?;
         self.index.others.insert(number, Some(place))?;
-        add_hint(&mut self.index.hints, self.entries.as_slice(), number);
+        add_hint(
+            &mut self.index.hints,
+            self.entries.as_slice(),
+            self.index.risen.as_slice(),
+            false,
+            number,
+        );
         self.entries.push_reserved((number, value));
         self.ready = None;
         Ok(())

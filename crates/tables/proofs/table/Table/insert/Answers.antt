@@ -5,9 +5,9 @@ use Rattle.std.specs.Ordering.{nat_cmp}
 use Rattle.std.specs.BTreeMap.{is_at}
 use Rattle.indexmap.specs.IndexMap.{insert_entry}
 use Rattle.std.proofs.lemmas.List.Elements.{All-push}
-use Rattle.tables.specs.Hints.{AreHinted, IsHinted}
+use Rattle.tables.specs.Hints.{AreHinted, AreIn, IsHinted}
 use Rattle.tables.specs.Tables.{Table, IsPlaced}
-use Rattle.tables.proofs.HintLemmas.{hinted_set}
+use Rattle.tables.proofs.HintLemmas.{all_rose, hinted_set}
 use Rattle.tables.proofs.TableLemmas.{within, none_found, set_is, push_is, placed_set, placed_risen, placed_other, on_err}
 use Rattle.tables.proofs.table.Table.insert.Goals as goal
 
@@ -107,3 +107,10 @@ returns-clause-ok g c =
     c.push_reserved-2.ensures.items ∙ ap (λ (es : List (ℕ × g.row.V.Denot)). es ++ (c.args.number, c.args.value) ∷ []) c.reserve-2.ensures.items
     ∙ push_is c.self.inside.entries.items c.args.number c.args.value (sym c.in_default.ensures)
     ∙ ap (λ (t : Table g.row.V.Denot). insert_entry nat_eq t.entries c.args.number c.args.value) c.self.view_is
+
+pub add_hint-requires-clause-rose : goal.add_hint-requires-clause-rose
+add_hint-requires-clause-rose g c = λ yes.
+    subst (λ (es : List (ℕ × g.row.V.Denot)). AreIn c.as_slice-then-is_above.result.now es) (sym (c.as_slice.ensures.value ∙ c.reserve.ensures.items))
+    (subst (λ (risen : List (ℕ × ℕ)). AreIn risen c.self.inside.entries.items) (sym (c.as_slice-then-is_above.ensures.value ∙ c.in_ok-push.ensures.items))
+    (all_rose c.self.inside.index.top c.self.inside.index.risen.items c.self.inside.index.others.entries c.self.inside.entries.items _ c.self.invariant.0
+    (c.is_empty.ensures.0 yes)))
