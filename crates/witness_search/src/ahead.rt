@@ -2,9 +2,9 @@
 
 use crate::chains::{Chains, ConnectionKey};
 use case_forms::{Event, Host, Line, OutOfMemory, Wire};
-use indexmap::IndexMap;
 use segment::Flag;
 use std::alloc::Global;
+use std::collections::BTreeMap;
 
 /// The endpoint of a host with these ports.
 pub(crate) fn connection_key(host: Host, lport: u16, rport: u16) -> ConnectionKey {
@@ -18,9 +18,9 @@ pub(crate) fn connection_key(host: Host, lport: u16, rport: u16) -> ConnectionKe
 #[derive(Drop)]
 pub(crate) struct LaterLines {
     /// For the place of each beginning, that of its end.
-    ends: IndexMap<usize, usize>,
+    ends: BTreeMap<usize, usize>,
     /// For each thread, the place of the first end after what was read, if no beginning was met before it.
-    ended: IndexMap<u32, usize>,
+    ended: BTreeMap<u32, usize>,
     /// For each endpoint, the places of what goes out there and was not made yet.
     outgoing: Chains,
     /// The same of resets alone.
@@ -31,8 +31,8 @@ impl LaterLines {
     /// What the lines of a trace tell.
     pub(crate) fn of(alloc: Global, lines: &[Line]) -> Result<LaterLines, OutOfMemory> {
         let mut ahead = LaterLines {
-            ends: IndexMap::new(alloc),
-            ended: IndexMap::new(alloc),
+            ends: BTreeMap::new(alloc),
+            ended: BTreeMap::new(alloc),
             outgoing: Chains::new(alloc),
             resets: Chains::new(alloc),
         };
@@ -51,7 +51,7 @@ impl LaterLines {
     fn read(&mut self, place: usize, line: &Line) -> Result<(), OutOfMemory> {
         match &line.event {
             Event::CallBegin(_) => {
-                if let Some(end) = self.ended.swap_remove(&line.thread) {
+                if let Some(end) = self.ended.remove(&line.thread) {
                     self.ends.insert(place, end)?;
                 }
             }

@@ -3,10 +3,9 @@
 use crate::search::Search;
 use case_forms::{Answer, Call, Event, Extras, Host, Label, OutOfMemory, Ports, State, Timer};
 use endpoint_state::{StepFault, World};
-use indexmap::IndexMap;
 use spec_tcp::SocketTarget;
 use std::alloc::Global;
-use std::collections::VecDeque;
+use std::collections::{BTreeMap, VecDeque};
 
 // How many calls on one thing are tried again at once, so that the search stays linear.
 const TRIES: usize = 16;
@@ -44,14 +43,14 @@ pub(crate) struct Pending {
 #[derive(Drop)]
 struct Waiting {
     alloc: Global,
-    queues: IndexMap<Meant, VecDeque<Pending>>,
+    queues: BTreeMap<Meant, VecDeque<Pending>>,
 }
 
 impl Waiting {
     fn new(alloc: Global) -> Waiting {
         Waiting {
             alloc,
-            queues: IndexMap::new(alloc),
+            queues: BTreeMap::new(alloc),
         }
     }
 
@@ -85,7 +84,7 @@ impl Waiting {
 #[derive(Drop)]
 pub(crate) struct Calls {
     /// For each thread, the place at which such a call began.
-    open: IndexMap<u32, usize>,
+    open: BTreeMap<u32, usize>,
     /// The calls whose end is known, in the order of their beginnings.
     ended: Waiting,
     /// The calls that are open at the end of the trace.
@@ -95,7 +94,7 @@ pub(crate) struct Calls {
 impl Calls {
     pub(crate) fn new(alloc: Global) -> Calls {
         Calls {
-            open: IndexMap::new(alloc),
+            open: BTreeMap::new(alloc),
             ended: Waiting::new(alloc),
             unended: Waiting::new(alloc),
         }
@@ -223,7 +222,7 @@ impl Search<'_> {
     pub(crate) fn end(&mut self, thread: u32, answer: &Answer) -> Result<(), StepFault> {
         if self.calls.open.contains_key(&thread) {
             self.effect_now(thread, answer)?;
-            self.calls.open.swap_remove(&thread);
+            self.calls.open.remove(&thread);
         }
         self.push_line_step(Extras::Bare)?;
         self.finish_in_world(thread, answer)
@@ -278,7 +277,7 @@ impl Search<'_> {
     fn tried(&mut self, thread: u32, answer: &Answer) -> Result<bool, StepFault> {
         match self.effect(thread, answer) {
             Ok(()) => {
-                self.calls.open.swap_remove(&thread);
+                self.calls.open.remove(&thread);
                 Ok(true)
             }
             Err(StepFault::Broken(_)) => Ok(false),

@@ -1,14 +1,15 @@
 //! The lines that went out and have no copy yet.
 
 use case_forms::{Host, OutOfMemory};
-use indexmap::IndexMap;
 use std::alloc::Global;
+use std::collections::BTreeMap;
+use std::collections::btree_map::Entry;
 
 // By what a digest is multiplied with each word.
 const MULTIPLIER: u64 = 0x517c_c1b7_2722_0a95;
 
 // A digest of bytes, eight of them at a time: FxHash.
-fn digest(bytes: &[u8]) -> u64 {
+pub(crate) fn digest(bytes: &[u8]) -> u64 {
     let mut state = bytes.len() as u64;
     let mut rest = bytes;
     for _ in 0..bytes.len() / 8 {
@@ -23,75 +24,74 @@ fn digest(bytes: &[u8]) -> u64 {
     state
 }
 
-fn mixed(state: u64, word: u64) -> u64 {
+pub(crate) fn mixed(state: u64, word: u64) -> u64 {
     (state.rotate_left(5) ^ word).wrapping_mul(MULTIPLIER)
+}
+
+// The bytes of a segment, ordered by their digest and then by themselves. Bytes with different digests are never
+// compared. A peer can choose bytes that all have one digest; each search then compares the bytes of as many segments as
+// an ordered map looks at, which is in the order of the logarithm of their number.
+#[derive(Clone, Copy, PartialEq, Eq, PartialOrd, Ord)]
+pub(crate) struct Key<'t> {
+    digest: u64,
+    bytes: &'t [u8],
+}
+
+impl<'t> Key<'t> {
+    pub(crate) fn of(bytes: &'t [u8]) -> Key<'t> {
+        Key {
+            digest: digest(bytes),
+            bytes,
+        }
+    }
 }
 
 // The lines with the same bytes, by their numbers in the trace that is written.
 #[derive(Clone, Copy)]
-struct Sendings<'t> {
-    bytes: &'t [u8],
+struct Sendings {
     /// The first of those that have no copy yet.
     open: Option<u64>,
     /// The last of all.
     last: u64,
-    /// The place of other bytes that have the same digest.
-    other: Option<usize>,
 }
 
-// What went out at a host. The bytes of a segment are read once for their digest as it goes out, and once as it comes
-// in.
+// What went out at a host.
 #[derive(Drop)]
-struct Sent<'t> {
-    all: Vec<Sendings<'t>>,
-    /// For a digest, a place among all.
-    places: IndexMap<u64, usize>,
+pub(crate) struct Sent<K: Ord> {
+    all: Vec<Sendings>,
+    /// For the bytes of a segment, their place among all.
+    places: BTreeMap<K, usize>,
     /// For a line, the next one with the same bytes.
-    next: IndexMap<u64, u64>,
+    next: BTreeMap<u64, u64>,
 }
 
-impl<'t> Sent<'t> {
-    fn new(alloc: Global) -> Sent<'t> {
+impl<K: Ord + Drop> Sent<K> {
+    pub(crate) fn new(alloc: Global) -> Sent<K> {
         Sent {
             all: Vec::new(alloc),
-            places: IndexMap::new(alloc),
-            next: IndexMap::new(alloc),
+            places: BTreeMap::new(alloc),
+            next: BTreeMap::new(alloc),
         }
     }
 
-    // The place of these bytes, among that of a digest and those that follow it.
-    fn among(&self, first: Option<usize>, bytes: &[u8]) -> Option<usize> {
-        let mut at = first;
-        for _ in 0..self.all.len() {
-            let known = self.all.get(at?)?;
-            if known.bytes == bytes {
-                return at;
-            }
-            at = known.other;
-        }
-        None
-    }
-
-    fn place(&self, bytes: &[u8]) -> Option<usize> {
-        let first = self.places.get(&digest(bytes)).copied();
-        self.among(first, bytes)
+    pub(crate) fn place(&self, key: &K) -> Option<usize> {
+        self.places.get(key).copied()
     }
 
     // These bytes went out with a line.
-    fn add(&mut self, bytes: &'t [u8], line: u64) -> Result<(), OutOfMemory> {
-        let digest = digest(bytes);
-        let other = self.places.get(&digest).copied();
-        if let Some(place) = self.among(other, bytes) {
-            return self.add_again(place, line);
+    pub(crate) fn add(&mut self, key: K, line: u64) -> Result<(), OutOfMemory> {
+        let place = self.all.len();
+        match self.places.entry(key)? {
+            Entry::Occupied(known) => {
+                let place = *known.get();
+                return self.add_again(place, line);
+            }
+            Entry::Vacant(free) => {
+                let open = Some(line);
+                self.all.push(Sendings { open, last: line })?;
+                free.insert(place);
+            }
         }
-        self.places.insert(digest, self.all.len())?;
-        let open = Some(line);
-        self.all.push(Sendings {
-            bytes,
-            open,
-            last: line,
-            other,
-        })?;
         Ok(())
     }
 
@@ -113,7 +113,7 @@ impl<'t> Sent<'t> {
         let Some(first) = known.open else {
             return false;
         };
-        known.open = self.next.swap_remove(&first);
+        known.open = self.next.remove(&first);
         true
     }
 }
@@ -121,8 +121,8 @@ impl<'t> Sent<'t> {
 /// What went out, by host and bytes.
 #[derive(Drop)]
 pub(crate) struct Copies<'t> {
-    zero: Sent<'t>,
-    one: Sent<'t>,
+    zero: Sent<Key<'t>>,
+    one: Sent<Key<'t>>,
 }
 
 impl<'t> Copies<'t> {
@@ -134,14 +134,14 @@ impl<'t> Copies<'t> {
         }
     }
 
-    fn of(&self, host: Host) -> &Sent<'t> {
+    fn of(&self, host: Host) -> &Sent<Key<'t>> {
         match host {
             Host::Zero => &self.zero,
             Host::One => &self.one,
         }
     }
 
-    fn of_mut(&mut self, host: Host) -> &mut Sent<'t> {
+    fn of_mut(&mut self, host: Host) -> &mut Sent<Key<'t>> {
         match host {
             Host::Zero => &mut self.zero,
             Host::One => &mut self.one,
@@ -155,12 +155,12 @@ impl<'t> Copies<'t> {
         bytes: &'t [u8],
         line: u64,
     ) -> Result<(), OutOfMemory> {
-        self.of_mut(host).add(bytes, line)
+        self.of_mut(host).add(Key::of(bytes), line)
     }
 
     /// The place of the lines with these bytes of a host. None: no such line.
-    pub(crate) fn place(&self, host: Host, bytes: &[u8]) -> Option<usize> {
-        self.of(host).place(bytes)
+    pub(crate) fn place(&self, host: Host, bytes: &'t [u8]) -> Option<usize> {
+        self.of(host).place(&Key::of(bytes))
     }
 
     /// The first line of this place that has no copy yet; if each has one, the last.

@@ -60,7 +60,7 @@ fn search(alloc: Global, trace: &Trace) -> Result<(Vec<Added>, Witness), OutOfMe
 }
 
 // A thread that no line has, if there is one above all others.
-fn unused_thread(lines: &[Line]) -> u32 {
+pub(crate) fn unused_thread(lines: &[Line]) -> u32 {
     let mut greatest = 0;
     for line in lines {
         greatest = line.thread.max(greatest);
@@ -69,7 +69,7 @@ fn unused_thread(lines: &[Line]) -> u32 {
 }
 
 // Writes the text of the trace, with the lines that are added. What stands after the last of them is copied as it is.
-fn push_trace(
+pub(crate) fn push_trace(
     out: &mut Vec<u8>,
     text: &[u8],
     trace: &Trace,
@@ -95,7 +95,7 @@ fn push_trace(
 
 // Writes the lines that are added before the line of this number, and answers those that are left. The event lines
 // begin at `first`.
-fn push_before<'a>(
+pub(crate) fn push_before<'a>(
     out: &mut Vec<u8>,
     added: &'a [Added],
     first: u64,

@@ -28,3 +28,6 @@ mod search;
 mod sending;
 
 pub use finding::find;
+
+#[cfg(test)]
+mod tests;

@@ -6,8 +6,8 @@ use crate::copies::Copies;
 use crate::deeds::has_room;
 use case_forms::{Answer, Call, Event, Header, Host, Line, OutOfMemory, Ports, Steps, Timer, Wire};
 use endpoint_state::{StepFault, World};
-use indexmap::IndexMap;
 use std::alloc::Global;
+use std::collections::BTreeMap;
 use std::mem::replace;
 
 /// A line that is added: a timer expires.
@@ -31,7 +31,7 @@ pub(crate) struct Search<'t> {
     pub copies: Copies<'t>,
     pub calls: Calls,
     /// For the place of a line that goes out, the number of its segment, where it was made before.
-    pub made: IndexMap<usize, u32>,
+    pub made: BTreeMap<usize, u32>,
     pub steps: Steps,
     pub added: Vec<Added>,
     /// The place of the line that is looked at, from 0.
@@ -57,7 +57,7 @@ impl<'t> Search<'t> {
             ahead,
             copies: Copies::new(alloc),
             calls: Calls::new(alloc),
-            made: IndexMap::new(alloc),
+            made: BTreeMap::new(alloc),
             steps: Steps::new(alloc),
             added: Vec::new(alloc),
             place: 0,

@@ -65,7 +65,7 @@ impl<'t> Search<'t> {
     pub(crate) fn go_out(&mut self, host: Host, wire: &'t Wire) -> Result<(), StepFault> {
         let key = connection_key(host, wire.seg.src, wire.seg.dst);
         self.ahead.pass(key, self.place);
-        let made = match self.made.swap_remove(&self.place) {
+        let made = match self.made.remove(&self.place) {
             Some(made) => made,
             None => self.make_shown(host, wire)?,
         };
