@@ -42,14 +42,19 @@ class Cost:
         self.printed = None
 
     def run(self, words, text):
-        with open(text, "rb") as given, tempfile.TemporaryFile() as printed:
-            child = subprocess.Popen(words, stdin=given, stdout=printed)
-            _, status, usage = os.wait4(child.pid, 0)
-            child.returncode = os.waitstatus_to_exitcode(status)
-            if child.returncode not in (0, 1, 2):
-                sys.exit(f"{' '.join(words)} ended with status {child.returncode}")
+        with tempfile.TemporaryFile() as printed:
+            self.run_into(words, text, printed)
             printed.seek(0)
             self.printed = printed.read()
+
+    def run_into(self, words, text, printed):
+        """The same, but what is printed goes to this file and isn't kept."""
+        with open(text, "rb") as given:
+            child = subprocess.Popen(words, stdin=given, stdout=printed)
+            _, status, usage = os.wait4(child.pid, 0)
+        child.returncode = os.waitstatus_to_exitcode(status)
+        if child.returncode not in (0, 1, 2):
+            sys.exit(f"{' '.join(words)} ended with status {child.returncode}")
         self.seconds = min(self.seconds, usage.ru_utime + usage.ru_stime)
         self.megabytes = max(self.megabytes, usage.ru_maxrss / 1024)
 

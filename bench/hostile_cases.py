@@ -5,11 +5,17 @@ Each kind makes much of one thing that a check has to remember or look for: piec
 timeouts and so on (the functions that `kind` marks, below). Each case is valid from size 3 on, so that the checker does all its steps, and its
 verdict is `yes`; only where lines are never placed it is `no 0 8 unplaced`, behind the last step. `verdict_of` tells the line.
 
+`find_kind` marks the kinds for `tcpwit_lab find`, which reads such a case up to the line `witness 2`. The case that `find` prints must
+have the same verdict.
+
 The texts are of version 2: both hosts give a shift of 14 and an MSS of 65495, so that a million bytes may be outstanding.
 """
 
 import random
+import struct
 import sys
+
+from colliding_threads import colliding
 
 HEADER = ["trace 2", "skew 0", "msl 3600000000", "grain 1000", "minrto 1000000", "extra 65535", "initial 6928"]
 FIRST_EVENT_LINE = 1 + len(HEADER)
@@ -30,16 +36,22 @@ TIMERS = (9, 10)
 CALLERS = (2, 1)
 
 KINDS = {}
+FIND_KINDS = {}
 
 
-def kind(*sizes):
+def kind(*sizes, among=KINDS):
     """Marks a function that makes a case of a size, with the three sizes at which it is timed."""
 
     def marked(function):
-        KINDS[function.__name__.replace("_", " ")] = (function, sizes)
+        among[function.__name__.replace("_", " ")] = (function, sizes)
         return function
 
     return marked
+
+
+def find_kind(*sizes):
+    """Marks a function that makes a case for `find`, which gets its trace."""
+    return kind(*sizes, among=FIND_KINDS)
 
 
 class Connection:
@@ -128,6 +140,12 @@ class Case:
         text = connection.text(host, position, flags, acked, payload, window)
         made = self.make(connection, host, position, len(payload), flags, window)
         return self.comes(1 - host, text, self.goes(host, text, made))
+
+    def refuse(self, host, line):
+        """The host answers the segment of a line by a reset. Returns the number of the reset."""
+        self.step(f"R {host} {line}")
+        self.made += 1
+        return self.made
 
     def take(self, host, line, window, keep=0, sample=0):
         self.step(f"T {host} {line} {window} {keep} {sample}")
@@ -339,12 +357,29 @@ def duplicate_acknowledgments(count):
     return case
 
 
+# The first state of the kit's hasher, and its multiplier.
+HASH_START = 0x243F6A8885A308D3
+HASH_FACTOR = 0x9E3779B97F4A7C15
+
+
+def hashed(number, size, state=HASH_START):
+    """The state of the kit's hasher after one more number, of `size` bytes."""
+    if size == 2:
+        words = number | number >> 8 << 16
+    else:
+        words = number * {1: 0x010101, 4: 1 | 1 << 32, 8: 1}[size]
+    product = (state ^ words) * (HASH_FACTOR ^ 2 * size)
+    return (product & (2**64 - 1)) ^ (product >> 64)
+
+
+def begins_early(state, groups):
+    """Whether a key with this hash begins in the first quarter of the places of a table with so many groups of them."""
+    return ((state ^ (state >> 32)) & (groups - 1)) < max(groups // 4, 1)
+
+
 def crowds(number, size, groups):
-    """Whether the hash of a number of `size` bytes begins in the first quarter of the places of a table with so many groups of them."""
-    words = number if size == 8 else number | number << 32
-    product = (0x243F6A8885A308D3 ^ words) * (0x9E3779B97F4A7C15 ^ 2 * size)
-    mixed = (product & (2**64 - 1)) ^ (product >> 64)
-    return ((mixed ^ (mixed >> 32)) & (groups - 1)) < max(groups // 4, 1)
+    """Whether a number of `size` bytes, as a key, begins there."""
+    return begins_early(hashed(number, size), groups)
 
 
 def groups_for(count):
@@ -353,6 +388,16 @@ def groups_for(count):
     while 9 * groups < count:
         groups *= 2
     return groups
+
+
+def half_a_call(case, is_open):
+    """Adds a line that ends the open call of a thread, or begins one if none is open. Returns whether one is open now."""
+    if is_open:
+        case.event(1, "E badsocket")
+    else:
+        case.event(1, "B status 1")
+        case.step("D 1 badsocket")
+    return not is_open
 
 
 @kind(50_000, 100_000, 200_000)
@@ -367,13 +412,8 @@ def copies_on_lines_that_collide(count):
     while len(lines) < count:
         if crowds(FIRST_EVENT_LINE + len(case.events), 8, groups):
             lines.append(case.comes(1, text, out))
-        elif is_open:
-            case.event(1, "E badsocket")
-            is_open = False
         else:
-            case.event(1, "B status 1")
-            case.step("D 1 badsocket")
-            is_open = True
+            is_open = half_a_call(case, is_open)
     for line in reversed(lines):
         case.step(f"K 1 {line}")
     return case
@@ -623,6 +663,166 @@ def lines_of_one_thread_that_wait(count):
     return case
 
 
+# FxHash reads words of eight bytes: its multiplier, and the digest that every payload is chosen to give.
+FX_FACTOR = 0x517CC1B727220A95
+FX_WANTED = 0x123456789ABCDEF0
+
+
+def fx_turned(state):
+    return (state << 5 | state >> 59) & (2**64 - 1)
+
+
+def colliding_payload(header, size):
+    """A payload of `size` bytes that gives a segment with this header, in hex, the wanted digest by its last eight bytes."""
+    first = bytes.fromhex(header) + bytes(size - 8)
+    state = len(first) + 8
+    for (word,) in struct.iter_unpack("<Q", first):
+        state = (fx_turned(state) ^ word) * FX_FACTOR % 2**64
+    last = fx_turned(state) ^ FX_WANTED * pow(FX_FACTOR, -1, 2**64) % 2**64
+    return bytes(size - 8) + last.to_bytes(8, "little")
+
+
+@find_kind(10_000, 20_000, 40_000)
+def segments_whose_digests_collide(count):
+    """FxHash gives all data segments of a connection one digest. Each is read and acknowledged before the next is sent."""
+    case, connection = Case(), Connection()
+    opener, child, _ = connected(case, connection)
+    for position in range(1, 1 + 60 * count, 60):
+        payload = colliding_payload(connection.text(0, position, "A", 1), 60)
+        case.call(CALLERS[0], f"send {opener} {payload.hex()}", "ok 60")
+        case.take(1, case.carry(connection, 0, position, "A", 1, payload), INITIAL_WINDOW, keep=1)
+        case.call(CALLERS[1], f"recv {child} 60", f"data {payload.hex()}")
+        case.take(0, case.carry(connection, 1, 1, "A", position + 60), INITIAL_WINDOW)
+    return case
+
+
+@find_kind(2_000, 4_000, 8_000)
+def segments_with_equal_long_prefixes(count):
+    """Only the last eight of the 1,480 bytes of these segments differ.
+
+    Within a connection the sequence numbers would differ too, and these are among the first bytes. So each segment is the first of a new
+    connection, with the ports and the initial sequence numbers of all the others, and the connection is then aborted.
+    """
+    case, connection = Case(), Connection()
+    listener = case.given(CALLERS[1], "listen 1 80 65535")
+    ends = random.Random(1)
+    for _ in range(count):
+        opener = handshake(case, connection, listener)
+        payload = bytes(1452) + ends.randbytes(8)
+        case.call(CALLERS[0], f"send {opener} {payload.hex()}", "ok 1460")
+        case.take(1, case.carry(connection, 0, 1, "A", 1, payload), INITIAL_WINDOW, keep=1)
+        case.call(CALLERS[0], f"abort {opener}", "ok")
+        case.take(1, case.carry(connection, 0, 1461, "AR", 1), INITIAL_WINDOW)
+    return case
+
+
+@find_kind(50_000, 100_000, 200_000)
+def calls_of_threads_that_collide(count):
+    """All calls are open at once, because their socket exists only after the last of them began."""
+    case = Case()
+    threads = colliding(count)
+    for thread in threads:
+        case.event(thread, "B status 5")
+    case.given(2**32 - 1, "listen 1 80 4")
+    for thread in threads:
+        case.step(f"D {thread} state LISTEN")
+        case.event(thread, "E state LISTEN")
+    return case
+
+
+def ports_that_collide(count):
+    """So many pairs of ports of host 1 that crowd a table whose keys are hosts and ports."""
+    groups, found = groups_for(count), []
+    for port in range(1, LAST_PORT + 1):
+        state = hashed(port, 2, hashed(1, 1))
+        for other in range(1, LAST_PORT + 1):
+            if len(found) == count:
+                return found
+            if begins_early(hashed(other, 2, state), groups):
+                found.append((port, other))
+    return found
+
+
+@find_kind(10_000, 20_000, 40_000)
+def connections_whose_ports_collide(count):
+    """Host 1 has no listener and answers each SYN by a reset."""
+    case = Case()
+    for port, other in ports_that_collide(count):
+        connection = Connection((other, port), (1000, 0))
+        case.given(CALLERS[0], f"open 0 {other} {port}")
+        made = case.refuse(1, case.carry(connection, 0, 0, "S", None))
+        reset = connection.text(1, 0, "AR", 1, window=0)
+        case.take(0, case.comes(0, reset, case.goes(1, reset, made)), 0)
+    return case
+
+
+def resets_on_crowded_lines(count, first):
+    """Host 1 answers so many copies of a SYN by resets. They go out only on lines whose numbers, counted from `first`, crowd a table."""
+    case, connection = Case(), Connection(firsts=(1000, 0))
+    case.given(CALLERS[0], "open 0 4000 80")
+    syn = connection.text(0, 0, "S", None)
+    out = case.goes(0, syn, case.make(connection, 0, 0, 0, "S"))
+    made = [case.refuse(1, case.comes(1, syn, out)) for _ in range(count)]
+    reset = connection.text(1, 0, "AR", 1, window=0)
+    groups = groups_for(count)
+    is_open = False
+    while made or is_open:
+        if made and crowds(first + len(case.events), 8, groups):
+            case.goes(1, reset, made.pop())
+        else:
+            is_open = half_a_call(case, is_open)
+    return case
+
+
+@find_kind(25_000, 50_000, 100_000)
+def lines_that_go_out_on_places_that_collide(count):
+    """A place is counted from 0, from the first event line on."""
+    return resets_on_crowded_lines(count, 0)
+
+
+@find_kind(25_000, 50_000, 100_000)
+def lines_that_go_out_under_numbers_that_collide(count):
+    """The number of a line counts the header's lines too."""
+    return resets_on_crowded_lines(count, FIRST_EVENT_LINE)
+
+
+@find_kind(25_000, 50_000, 100_000)
+def calls_that_begin_on_places_that_collide(count):
+    """The lines between end these calls, or begin others that never end."""
+    case = Case()
+    groups = groups_for(count)
+    begun, is_open = 0, []
+    while begun < count or is_open:
+        thread = 20 + len(case.events)
+        if begun < count and crowds(len(case.events), 8, groups):
+            case.event(thread, "B status 5")
+            case.step(f"D {thread} badsocket")
+            is_open.append(thread)
+            begun += 1
+        elif is_open:
+            case.event(is_open.pop(), "E badsocket")
+        else:
+            case.event(thread, "B status 5")
+    return case
+
+
+@find_kind(12_500, 25_000, 50_000)
+def calls_that_wait_at_places_that_collide(count):
+    """Calls that never end wait only at those endpoints of host 0 whose places there would crowd a table, four at each."""
+    case = Case()
+    groups = groups_for(count)
+    endpoint_of_host_0 = hashed(1, 1, hashed(0, 1))
+    place = waiting = 0
+    while waiting < count:
+        socket = case.given(CALLERS[0], f"open 0 {1 + place % LAST_PORT} {1 + place // LAST_PORT}")
+        if begins_early(hashed(place, 4, endpoint_of_host_0), groups):
+            for thread in range(4 * place, 4 * place + 4):
+                case.event(20 + thread, f"B recv {socket} 1")
+            waiting += 1
+        place += 1
+    return case
+
+
 def verdict_of(case):
     """The line that must be printed: yes with its counts, or no where a line is never placed."""
     taken = sum(1 for step in case.steps if step.split(" ", 2)[1] == "L")
@@ -632,9 +832,10 @@ def verdict_of(case):
 
 
 def main():
-    if len(sys.argv) != 3 or sys.argv[1] not in KINDS:
-        sys.exit("hostile_cases.py KIND SIZE, where KIND is one of: " + ", ".join(KINDS))
-    function, _ = KINDS[sys.argv[1]]
+    kinds = KINDS | FIND_KINDS
+    if len(sys.argv) != 3 or sys.argv[1] not in kinds:
+        sys.exit("hostile_cases.py KIND SIZE, where KIND is one of: " + ", ".join(kinds))
+    function, _ = kinds[sys.argv[1]]
     function(int(sys.argv[2])).write(sys.stdout)
 
 

@@ -1,11 +1,14 @@
 #!/usr/bin/env python3
 """Checks each kind of `hostile_cases.py` in three sizes, each twice the one before, and prints what it took.
 
-    python3 bench/hostile_sizes.py PROGRAM [--runs N] [--only WORD]
+    python3 bench/hostile_sizes.py PROGRAM [--lab PROGRAM] [--runs N] [--only WORD]
 
 Of N runs, 3 where N is missing, the least processor time counts, with the system's part, and the greatest memory. Both are
 printed for `check` and for the same case in two files, with the greatest ratio of a size to the one before. A ratio of time
 above 2.3, or of memory above 2.3, and a verdict that is not the wanted one are told at the end, and the status is then 1.
+
+With --lab, which names `tcpwit_lab`, the kinds for `find` follow. Their rows begin with `find`, and have what it used on the trace of
+the kind. PROGRAM then checks the case that was found, which isn't timed. Without --lab these kinds are left out.
 """
 
 import argparse
@@ -15,7 +18,7 @@ import sys
 import tempfile
 
 from compare import MOST_GROWTH, Cost, parted
-from hostile_cases import KINDS, verdict_of
+from hostile_cases import FIND_KINDS, KINDS, verdict_of
 
 # Less than this time or memory is mostly that of starting, and no growth is asked of it: seconds and megabytes.
 LEAST_SECONDS = 0.05
@@ -41,56 +44,95 @@ class Growth:
         return found + [f"{time:.2f} / {memory:.2f}"], max(time, memory) > MOST_GROWTH
 
 
-def write_case(name, size, path):
+def write_case(function, size, path):
     """Writes the case of a kind and a size. Answers the verdict that it must have."""
-    case = KINDS[name][0](size)
+    case = function(size)
     with open(path, "w") as text:
         case.write(text)
     return verdict_of(case)
 
 
-def written_apart(name, size, path):
+def written_apart(function, size, path):
     """The same in a process of its own, since the memory of this one would count as the program's."""
     with multiprocessing.Pool(1) as pool:
-        return pool.apply(write_case, (name, size, path))
+        return pool.apply(write_case, (function, size, path))
 
 
-def run_size(growths, path, wanted, runs):
-    """Adds what one size costs each way. Answers the verdicts that differ from the wanted one."""
-    files = parted(path)
-    ways = [(growths[0], ["check"], path), (growths[1], ["check", "--trace", files[0], "--witness", files[1]], os.devnull)]
-    differing = []
-    for growth, words, text in ways:
-        cost = Cost()
+def differing(growth, printed, wanted):
+    return [] if printed == wanted.encode() + b"\n" else [f"{growth.name}: {printed!r}, and not {wanted!r}"]
+
+
+class Checking:
+    """A kind of case that is checked as one text and as two files."""
+
+    def __init__(self, program, name):
+        self.growths = [Growth(program, name), Growth(program, name + ", two files")]
+
+    def run_size(self, path, wanted, runs):
+        """Adds what one size costs each way. Returns the verdicts that differ from the wanted one."""
+        files = parted(path)
+        ways = [(["check"], path), (["check", "--trace", files[0], "--witness", files[1]], os.devnull)]
+        told = []
+        for growth, (words, text) in zip(self.growths, ways):
+            cost = Cost()
+            for _ in range(runs):
+                cost.run([*growth.words, *words], text)
+            growth.costs.append(cost)
+            told += differing(growth, cost.printed, wanted)
+        return told
+
+
+class Finding:
+    """A kind of trace for which a witness is found."""
+
+    def __init__(self, program, lab, name):
+        self.program = program
+        self.growths = [Growth(lab, "find: " + name)]
+
+    def run_size(self, path, wanted, runs):
+        """Adds what `find` costs in one size. Returns the verdict on the case that it found, if that differs from the wanted one."""
+        (growth,) = self.growths
+        trace, _ = parted(path)
+        found = path + ".found"
+        cost, check = Cost(), Cost()
         for _ in range(runs):
-            cost.run([*growth.words, *words], text)
+            with open(found, "wb") as case:
+                cost.run_into([*growth.words, "find"], trace, case)
         growth.costs.append(cost)
-        if cost.printed != wanted.encode() + b"\n":
-            differing.append(f"{growth.name}: {cost.printed!r}, and not {wanted!r}")
-    return differing
+        check.run([*self.program, "check"], found)
+        return differing(growth, check.printed, wanted)
+
+
+def kinds_of(program, lab):
+    """For each kind, the way in which it is run, its function and its sizes. Kinds for `find` need a lab."""
+    found = [(Checking(program, name), *made) for name, made in KINDS.items()]
+    if lab is not None:
+        found += [(Finding(program, [os.path.abspath(lab)], name), *made) for name, made in FIND_KINDS.items()]
+    return found
 
 
 def main():
     parser = argparse.ArgumentParser()
     parser.add_argument("program")
+    parser.add_argument("--lab")
     parser.add_argument("--runs", type=int, default=3)
     parser.add_argument("--only", default="")
     given = parser.parse_args()
-    program = [os.path.abspath(given.program)]
     told = []
     print("| kind | size | half | once | twice | time / memory |\n|" + "---|" * 6)
     with tempfile.TemporaryDirectory() as folder:
         path = os.path.join(folder, "case")
-        for name, (_, sizes) in KINDS.items():
-            if given.only not in name:
+        for way, function, sizes in kinds_of([os.path.abspath(given.program)], given.lab):
+            if given.only not in way.growths[0].name:
                 continue
-            growths = [Growth(program, name), Growth(program, name + ", two files")]
             for size in sizes:
-                told += run_size(growths, path, written_apart(name, size, path), given.runs)
-            for growth in growths:
+                told += way.run_size(path, written_apart(function, size, path), given.runs)
+            for growth in way.growths:
                 cells, is_steep = growth.cells()
                 told += [f"{growth.name} grows faster than its size"] if is_steep else []
                 print("| " + " | ".join([growth.name, f"{sizes[1]:,}", *cells]) + " |", flush=True)
+    if given.lab is None:
+        print(f"The {len(FIND_KINDS)} kinds for `find` are left out: they need --lab.")
     for line in told:
         print(line)
     return 1 if told else 0
