@@ -26,3 +26,19 @@ is_half Two = false
 is_half Three = true
 is_half Four = false
 is_half FourHalf = true
+
+-- the header says how much of congestion control is judged
+abbrev pub says_congestion : Version → Bool
+says_congestion One = false
+says_congestion Two = false
+says_congestion Three = false
+says_congestion Four = true
+says_congestion FourHalf = true
+
+-- the version that the first line of a text names: both of version 4 are named alike
+abbrev pub named_as : Version → Version
+named_as One = One
+named_as Two = Two
+named_as Three = Three
+named_as Four = Four
+named_as FourHalf = Four

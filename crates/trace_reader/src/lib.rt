@@ -11,9 +11,9 @@
 //! - `TraceReader`: a text whose lines are read as they are requested; `SourceFault`: a fault, or a read that failed
 //! - `print_trace`: the text of a trace
 //!
-//! A text is six lines of a header, seven in version 2 and eight in version 3, and after them event lines.
-//! specs/TraceText.antt says which text stands for which trace, and is the file to read first; the forms of the lines
-//! stand in specs/Headers.antt, specs/EventLines.antt, specs/Events.antt and specs/Calls.antt. Whether the trace can be
+//! A text is six lines of a header, seven in version 2, eight in version 3 and nine in version 4, and after them event
+//! lines. specs/TraceText.antt says which text stands for which trace, and is the file to read first; the forms of the
+//! lines stand in specs/Headers.antt, specs/EventLines.antt, specs/Events.antt and specs/Calls.antt. Whether the trace can be
 //! explained is `checker`'s; here a line is only what it says.
 //!
 //! Private modules:
@@ -39,7 +39,8 @@ mod stream;
 mod wires;
 
 pub use case_forms::{
-    Answer, Call, Event, Header, Host, Initial, Line, Lines, State, Timer, Trace, Version, Wire,
+    Answer, Call, Event, Header, Host, Initial, Judged, Line, Lines, State, Timer, Trace, Version,
+    Wire,
 };
 pub use counted::Counted;
 pub use events::event_line;

@@ -7,7 +7,7 @@ ghost use Rattle.case_forms.specs.declared.trace.Trace.{Trace};
 ghost use Rattle.case_forms.specs.Limits.{Has16, Has32, HasAnswerBits, HasCallBits};
 ghost use Rattle.line_fields.specs.Hosts.{host_number};
 ghost use Rattle.line_fields.specs.Spelling.{IsBytePiece, plain, hex, number, printed, printed_line, printed_behind};
-ghost use Rattle.trace_reader.specs.Headers.{late_words};
+ghost use Rattle.trace_reader.specs.Headers.{judged_name, hosts_words, congestion_words, late_words};
 ghost use Rattle.trace_reader.specs.Calls.{call_pieces};
 ghost use Rattle.trace_reader.specs.Events.{event_pieces};
 ghost use Rattle.trace_reader.specs.EventLines.{line_pieces};
@@ -16,7 +16,9 @@ ghost use Rattle.trace_reader.specs.Printable.{HasEventBits, IsInMemory, IsPrint
 ghost use Rattle.trace_reader.specs.Printed.{header_text, trace_text};
 
 use crate::header::first_text;
-use case_forms::{Answer, Call, Event, Header, Host, Initial, Line, OutOfMemory, Trace, Version};
+use case_forms::{
+    Answer, Call, Event, Header, Host, Initial, Judged, Line, OutOfMemory, Trace, Version,
+};
 use line_fields::{
     push_answer, push_end, push_hex, push_host, push_number, push_space, push_word, timer_name,
 };
@@ -32,10 +34,47 @@ fn push_number_line(out: &mut Vec<u8>, name: &str, number: u64) -> Result<(), Ou
     push_end(out)
 }
 
-// Writes the lines that version 1 doesn't have: the RFC of the first congestion window, and the one host that is
-// recorded.
-fn push_late(out: &mut Vec<u8>, version: Version, initial: Initial) -> Result<(), OutOfMemory>
-    ensures { OnOk result (out.new.items ≡ out.old.items ++ concat (map printed (late_words version initial))) }
+// Writes a name and a word as a line.
+fn push_word_line(out: &mut Vec<u8>, name: &str, word: &str) -> Result<(), OutOfMemory>
+    ensures { OnOk result (out.new.items ≡ out.old.items ++ printed (name.now ∷ word.now ∷ [])) }
+{
+    push_word(out, name)?;
+    push_space(out)?;
+    push_word(out, word)?;
+    push_end(out)
+}
+
+// The word for how much of congestion control is judged.
+fn judged_name(congestion: Judged) -> &'static str
+    ensures { result.now ≡ judged_name congestion }
+{
+    match congestion {
+        Judged::Full => "full",
+        Judged::Recovery => "recovery",
+        Judged::Nothing => "none",
+    }
+}
+
+// Writes how many hosts were recorded, and how much of congestion control is judged.
+fn push_judged(out: &mut Vec<u8>, hosts: u64, congestion: Judged) -> Result<(), OutOfMemory>
+    ensures { OnOk result (out.new.items
+        ≡ out.old.items ++ concat (map printed (hosts_words hosts ∷ congestion_words congestion ∷ []))) }
+{
+    push_number_line(out, "hosts", hosts)?;
+    push_word_line(out, "congestion", judged_name(congestion))?;
+    Ok(())
+}
+
+// Writes the lines that version 1 doesn't have: the RFC of the first congestion window; which hosts were recorded; and
+// how much of congestion control is judged.
+fn push_late(
+    out: &mut Vec<u8>,
+    version: Version,
+    initial: Initial,
+    congestion: Judged,
+) -> Result<(), OutOfMemory>
+    ensures { OnOk result (out.new.items
+        ≡ out.old.items ++ concat (map printed (late_words version initial congestion))) }
 {
     let number = match initial {
         Initial::Rfc5681 => 5681,
@@ -47,6 +86,14 @@ fn push_late(out: &mut Vec<u8>, version: Version, initial: Initial) -> Result<()
         Version::Three => {
             push_number_line(out, "initial", number)?;
             push_number_line(out, "half", 0)
+        }
+        Version::Four => {
+            push_number_line(out, "initial", number)?;
+            push_judged(out, 2, congestion)
+        }
+        Version::FourHalf => {
+            push_number_line(out, "initial", number)?;
+            push_judged(out, 1, congestion)
         }
     }
 }
@@ -62,7 +109,7 @@ fn push_header(out: &mut Vec<u8>, header: &Header) -> Result<(), OutOfMemory>
     push_number_line(out, "grain", header.grain)?;
     push_number_line(out, "minrto", header.minrto)?;
     push_number_line(out, "extra", u64::from(header.extra))?;
-    push_late(out, header.version, header.initial)?;
+    push_late(out, header.version, header.initial, header.congestion)?;
     Ok(())
 }
 
