@@ -22,12 +22,12 @@ named_step : (h : Header) (s : ℕ) (w : World tcp_shape) (step : Step tcp_shape
     → ProfilesAreNamed h (after (tcp h) s w step)
 named_step h s w step named may me f at = by (find w.hosts me) refl
   where
-    by : (o : Option Endpoint) → find w.hosts me ≡ o → f.control.profile ≡ profile_of h.initial
+    by : (o : Option Endpoint) → find w.hosts me ≡ o → f.control.profile ≡ profile_of h
     by None none = ((follow h s w step may).begins me f none at).2
     by (Some e) there =
         let x = (follow h s w step may).profile me e there in
         let one : x.0 ≡ f = same_Some x.0 f (sym x.1 ∙ at) in
-        subst (λ (g : Endpoint). g.control.profile ≡ profile_of h.initial) one (x.2 ∙ named me e there)
+        subst (λ (g : Endpoint). g.control.profile ≡ profile_of h) one (x.2 ∙ named me e there)
 
 named_run : (h : Header) (w : World tcp_shape) (steps : List (Stamped tcp_shape)) → ProfilesAreNamed h w → Lawful (tcp h) w steps
     → ProfilesAreNamed h (after_all (tcp h) w steps)
