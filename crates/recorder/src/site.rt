@@ -23,7 +23,16 @@ impl Site for Brand {
     ghost host = { Zero };
 
     ghost header = {
-        record { version = One; skew = 0; msl = 1; grain = 0; minrto = 0; extra = 0; initial = Rfc5681; congestion = Full }
+        record {
+            version = One;
+            skew = 0;
+            msl = 1;
+            grain = 0;
+            minrto = 0;
+            extra = 0;
+            initial = Rfc5681;
+            congestion = Full;
+        }
     };
 }
 
