@@ -2,8 +2,8 @@
 //! another for it (RFC 5681, 3.1 and 3.2).
 
 ghost use Rattle.case_forms.specs.declared.version.Judged.TheVariants.{Full};
-ghost use Rattle.spec_tcp.specs.Signals.{at_moment, profile_named, profile_of, recovery_signal, signal_at_syn, signal_of};
-ghost use Rattle.spec_tcp.specs.Signals.{signal_in_other_states, timeout_signal, told_smss};
+ghost use Rattle.spec_tcp.specs.Signals.{at_moment, profile_named, profile_of, recovery_signal, signal_at_syn};
+ghost use Rattle.spec_tcp.specs.Signals.{signal_in_other_states, signal_of, timeout_signal, told_smss};
 ghost use Rattle.std.specs.Prelude.{◌≡◌, ◌<◌, ◌^◌};
 ghost use Rattle.window_rules.specs.Control.{after, greatest};
 ghost use Rattle.window_rules.specs.Counts.{HasCounts, IsFit};

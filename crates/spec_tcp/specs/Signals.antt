@@ -1,6 +1,6 @@
 -- What happens to an endpoint, as its congestion control sees it: no other definition distinguishes one kind of event
 -- from another for it (RFC 5681, 3.1 and 3.2).
-use Rattle.std.specs.Prelude.{ℕ, ◌==◌, nat_lt, Bool, not, ◌&&◌, if◌then◌else◌, Option}
+use Rattle.std.specs.Prelude.{ℕ, ◌==◌, nat_lt, not, ◌&&◌, if◌then◌else◌, Option}
 use Rattle.std.specs.Option.{option_map_or}
 use Rattle.case_forms.specs.States.{is_syn_sent}
 use Rattle.case_forms.specs.declared.version.Initial.{Initial}

@@ -17,10 +17,9 @@ use Rattle.verdict.specs.Rules.{first_broken}
 use Rattle.verdict.proofs.RuleLemmas.{none_all}
 use Rattle.window_rules.specs.Windows.{greatest_window as greatest_value}
 use Rattle.window_rules.specs.Control.{after as after_it, greatest, may_recover}
-use Rattle.window_rules.specs.declared.control.Control.{Control}
 use Rattle.window_rules.specs.declared.control.Signal.{Signal}
 use Rattle.window_rules.specs.declared.control.Profile.{Profile}
-use Rattle.window_rules.specs.declared.control.Signal.TheVariants.{Other, Syn}
+use Rattle.window_rules.specs.declared.control.Signal.TheVariants.{Other}
 use Rattle.window_rules.proofs.ControlLemmas.{chosen_cwnd, kept_ssthresh, same_profile}
 use Rattle.streams.specs.Lists.{modify}
 use Rattle.streams.proofs.Places.{get_append, all_push, all_modify}
@@ -66,18 +65,18 @@ use Rattle.spec_tcp_laws.proofs.Takes.{taker_there}
 use Rattle.spec_tcp_laws.proofs.Sound.{modify_here}
 
 -- an endpoint begins so
-abbrev Begins : Profile → Endpoint → Type 0
+abbrev pub Begins : Profile → Endpoint → Type 0
 Begins p f = (f.control.values.cwnd ≡ 0) × (f.control.values.ssthresh ≡ greatest_value) × (f.control.profile ≡ p)
 
 -- both windows stay, or the step is of a kind that may change them
-data WindowsMove (w : World tcp_shape) (step : Step tcp_shape) (me : EndpointId) (e f : Endpoint) : Type 0 where
+pub data WindowsMove (w : World tcp_shape) (step : Step tcp_shape) (me : EndpointId) (e f : Endpoint) : Type 0 where
   stayed : f.control ≡ e.control → WindowsMove w step me e f
   taken : (m : Emission) → TakesThere w step me e m → f.control.profile ≡ e.control.profile → WindowsMove w step me e f
   expired : TimesOut w step me → f.control.profile ≡ e.control.profile → WindowsMove w step me e f
   recovered : Recovers w step me → f.control.profile ≡ e.control.profile → WindowsMove w step me e f
 
 -- the endpoints of a host after a step
-record Follows (p : Profile) (w : World tcp_shape) (step : Step tcp_shape) (host : Host) (es fs : List Endpoint) : Type 0 where
+pub record Follows (p : Profile) (w : World tcp_shape) (step : Step tcp_shape) (host : Host) (es fs : List Endpoint) : Type 0 where
   pub onward : (i : ℕ) (e : Endpoint) → slice_get es i ≡ Some e → (f : Endpoint) × (slice_get fs i ≡ Some f) × WindowsMove w step (name host i) e f
   pub back : (i : ℕ) (f : Endpoint) → slice_get fs i ≡ Some f → ((e : Endpoint) × (slice_get es i ≡ Some e)) ⊎ Begins p f
 
@@ -268,7 +267,7 @@ follows_call p w step host b call answer = follows_not p w step host b.endpoints
 -- 3. both hosts
 
 -- the endpoints of both
-record BothFollow (p : Profile) (w : World tcp_shape) (step : Step tcp_shape) (b : Hosts) : Type 0 where
+pub record BothFollow (p : Profile) (w : World tcp_shape) (step : Step tcp_shape) (b : Hosts) : Type 0 where
   pub all : (x : Host) → Follows p w step x (pick w.hosts x).body.endpoints (pick b x).body.endpoints
 
 both_not : (p : Profile) (w : World tcp_shape) (step : Step tcp_shape) → BothFollow p w step w.hosts
@@ -279,7 +278,7 @@ both_host : (p : Profile) (w : World tcp_shape) (step : Step tcp_shape) (host : 
 both_host p w step host k f =
     record { all = with_cases w.hosts host k (λ x y. Follows p w step x (pick w.hosts x).body.endpoints y.body.endpoints) f (follows_not p w step (other host) (pick w.hosts (other host)).body.endpoints) }
 
-both_step : (h : Header) (s : ℕ) (w : World tcp_shape) (step : Step tcp_shape) → Permitted (tcp h) s w step
+pub both_step : (h : Header) (s : ℕ) (w : World tcp_shape) (step : Step tcp_shape) → Permitted (tcp h) s w step
     → BothFollow (profile_of h) w step (after (tcp h) s w step).hosts
 both_step h s w (Begin line t call) may = both_not (profile_of h) w (Begin line t call)
 both_step h s w (Finish line t answer) may = both_not (profile_of h) w (Finish line t answer)

@@ -1,6 +1,6 @@
 -- What follows of windows from each step of the machine: how far new data reaches, and what cwnd and ssthresh become
 -- (RFC 9293, 3.8.6; RFC 5681, 3.1 and 3.2).
-use Rattle.std.specs.Prelude.{◌≡◌, ◌<◌, ◌≤◌, ℕ, ◌+◌, if◌then◌else◌, length, None, Some}
+use Rattle.std.specs.Prelude.{◌≡◌, ◌<◌, ◌≤◌, ℕ, ◌+◌, length, None, Some}
 use Rattle.case_forms.specs.declared.trace.Header.{Header}
 use Rattle.case_forms.specs.declared.calls.Host.{Host}
 use Rattle.window_rules.specs.declared.control.Control.{Control}

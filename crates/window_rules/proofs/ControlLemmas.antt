@@ -101,7 +101,8 @@ flies = search rules
 pub edge_exact : (una : ℕ) (c : Control) (flight : ℕ) → bounds_windows c.profile ≡ true → MayFly c.values flight ↔ (una + flight ≤ control_edge una c)
 edge_exact una c flight bounds = rw bounds (flies una c.values flight)
 
-pub edge_beyond : (una : ℕ) (c : Control) (wnd : ℕ) (probe : Bool) → bounds_windows c.profile ≡ false → wnd < 2 ^ 32 → offered_edge una wnd probe ≤ control_edge una c
+pub edge_beyond : (una : ℕ) (c : Control) (wnd : ℕ) (probe : Bool) → bounds_windows c.profile ≡ false → wnd < 2 ^ 32
+    → offered_edge una wnd probe ≤ control_edge una c
 edge_beyond una c wnd probe none few = rw none (grind (arith, nat_tests))
 
 -- 2. the values then

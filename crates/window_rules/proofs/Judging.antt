@@ -14,7 +14,8 @@ use Rattle.window_rules.specs.Judging.{with_profile, JudgesAtMost, AllowsMore}
 same_control : (c : Control) (p : Profile) → p ≡ c.profile → with_profile p c ≡ c
 same_control c p is = ap (λ (q : Profile). with_profile q c) is
 
-unbounded : (c : Control) (p : Profile) (s : Signal) (at : At) → bounds_windows p ≡ false → greatest (with_profile p c) s at ≡ (greatest_window, greatest_window)
+unbounded : (c : Control) (p : Profile) (s : Signal) (at : At) → bounds_windows p ≡ false
+    → greatest (with_profile p c) s at ≡ (greatest_window, greatest_window)
 unbounded c p s at none = rw none refl
 
 further : (una : ℕ) (c : Control) (p : Profile) → bounds_windows p ≡ false → control_edge una c ≤ control_edge una (with_profile p c)
@@ -48,7 +49,8 @@ allows_more c p less = elim (cases_Bool (bounds_windows p)) [
     recovery : may_recover c ≡ true → may_recover (with_profile p c) ≡ true
     recovery = recovers (counts_duplicates p) (counts_duplicates c.profile) (nat_le 3 c.values.dup && not c.values.fast) less.duplicates
 
-pub not_read : (c : Control) (p : Profile) (s : Signal) (at : At) (cwnd ssthresh : ℕ) → after (with_profile p c) s at cwnd ssthresh ≡ with_profile p (after c s at cwnd ssthresh)
+pub not_read : (c : Control) (p : Profile) (s : Signal) (at : At) (cwnd ssthresh : ℕ)
+    → after (with_profile p c) s at cwnd ssthresh ≡ with_profile p (after c s at cwnd ssthresh)
 not_read c p (Syn smss) at cwnd ssthresh = refl
 not_read c p (SynAcked smss syn_lost) at cwnd ssthresh = refl
 not_read c p (NewAck acked) at cwnd ssthresh = refl

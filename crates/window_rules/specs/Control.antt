@@ -71,7 +71,7 @@ abbrev pub control_edge : ℕ → Control → ℕ
 control_edge una c =
     if bounds_windows c.profile then congestion_edge una c.values else congestion_edge una c.values + 2 ^ 40
 
--- fast recovery may begin: from the third duplicate acknowledgment on, and not within it (RFC 5681, 3.2, step 2); at any
--- time if duplicates aren't asked for
+-- fast recovery may begin: from the third duplicate acknowledgment on, and not within it (RFC 5681, 3.2, step 2); at
+-- any time if it needs no duplicates
 abbrev pub may_recover : Control → Bool
 may_recover c = not (counts_duplicates c.profile) || nat_le 3 c.values.dup && not c.values.fast

@@ -11,7 +11,7 @@ use Rattle.window_rules.specs.Control.{bounds_windows, counts_duplicates, greate
 abbrev pub with_profile : Profile → Control → Control
 with_profile p c = record c { profile = p }
 
--- a profile judges at most what another does: it bounds windows only if it is the other, and asks for duplicates only if
+-- a profile judges at most what another does: it bounds windows only if it is the other, and needs duplicates only if
 -- the other does
 pub record JudgesAtMost (p q : Profile) : Type 0 where
   pub windows : bounds_windows p ≡ true → p ≡ q

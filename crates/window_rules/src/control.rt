@@ -211,7 +211,7 @@ impl Control {
     }
 
     /// Whether fast recovery may begin: from the third duplicate acknowledgment on, and not while it is on (RFC 5681,
-    /// 3.2, step 2); at any time if the profile doesn't ask for duplicates.
+    /// 3.2, step 2); at any time if it needs no duplicates.
     pub fn may_recover(&self) -> bool
         ensures { result ≡ may_recover self.now }
     {
