@@ -7,7 +7,7 @@ ghost use Rattle.case_forms.specs.declared.trace.Trace.{Trace};
 ghost use Rattle.case_forms.specs.Limits.{Has16, Has32, HasAnswerBits, HasCallBits};
 ghost use Rattle.line_fields.specs.Hosts.{host_number};
 ghost use Rattle.line_fields.specs.Spelling.{IsBytePiece, plain, hex, number, printed, printed_line, printed_behind};
-ghost use Rattle.trace_reader.specs.Headers.{judged_name, hosts_words, congestion_words, late_words};
+ghost use Rattle.trace_reader.specs.Headers.{judged_name, late_words};
 ghost use Rattle.trace_reader.specs.Calls.{call_pieces};
 ghost use Rattle.trace_reader.specs.Events.{event_pieces};
 ghost use Rattle.trace_reader.specs.EventLines.{line_pieces};
@@ -55,16 +55,6 @@ fn judged_name(congestion: Judged) -> &'static str
     }
 }
 
-// Writes how many hosts were recorded, and how much of congestion control is judged.
-fn push_judged(out: &mut Vec<u8>, hosts: u64, congestion: Judged) -> Result<(), OutOfMemory>
-    ensures { OnOk result (out.new.items
-        ≡ out.old.items ++ concat (map printed (hosts_words hosts ∷ congestion_words congestion ∷ []))) }
-{
-    push_number_line(out, "hosts", hosts)?;
-    push_word_line(out, "congestion", judged_name(congestion))?;
-    Ok(())
-}
-
 // Writes the lines that version 1 doesn't have: the RFC of the first congestion window; which hosts were recorded; and
 // how much of congestion control is judged.
 fn push_late(
@@ -89,11 +79,13 @@ fn push_late(
         }
         Version::Four => {
             push_number_line(out, "initial", number)?;
-            push_judged(out, 2, congestion)
+            push_number_line(out, "hosts", 2)?;
+            push_word_line(out, "congestion", judged_name(congestion))
         }
         Version::FourHalf => {
             push_number_line(out, "initial", number)?;
-            push_judged(out, 1, congestion)
+            push_number_line(out, "hosts", 1)?;
+            push_word_line(out, "congestion", judged_name(congestion))
         }
     }
 }

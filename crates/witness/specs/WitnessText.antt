@@ -6,6 +6,7 @@ use Rattle.case_forms.specs.declared.steps.Step.{Step}
 use Rattle.case_forms.specs.declared.steps.Witness.{Witness}
 use Rattle.case_forms.specs.declared.version.Version.{Version}
 use Rattle.case_forms.specs.declared.version.Version.TheVariants.{One, Two, Three, Four}
+use Rattle.case_forms.specs.Versions.{named_as}
 use Rattle.line_fields.specs.declared.fault.TextFault.{TextFault}
 use Rattle.line_fields.specs.Reading.{◌>>=◌}
 use Rattle.line_fields.specs.Lines.{IsLine, expect_line, next_raw}
@@ -46,6 +47,10 @@ version_named (raw ∷ raws) =
     else if begins_witness Three raw then Three
     else if begins_witness Four raw then Four
     else One
+
+-- a witness as its text alone shows it: one of version 4 as one of two hosts
+abbrev pub seen_alone : Witness → Witness
+seen_alone w = record w { version = named_as w.version }
 
 -- the witness of a text, whichever version it is of, or the text's first fault
 abbrev pub witness_of : List ℕ → Result Witness TextFault

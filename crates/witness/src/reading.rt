@@ -3,11 +3,10 @@
 ghost use Rattle.std.specs.Prelude.{◌≡◌, Ok, IfOk};
 ghost use Rattle.bstr.specs.Text.{lines_of};
 ghost use Rattle.case_forms.specs.declared.steps.Witness.{Witness};
-ghost use Rattle.case_forms.specs.Versions.{named_as};
 ghost use Rattle.case_forms.specs.Witnesses.{IsWitness};
 ghost use Rattle.line_fields.specs.Reading.{Gives};
 ghost use Rattle.witness.specs.Steps.{step_of};
-ghost use Rattle.witness.specs.WitnessText.{IsWitnessText, witness_for, version_named, witness_of};
+ghost use Rattle.witness.specs.WitnessText.{IsWitnessText, seen_alone, witness_for, version_named, witness_of};
 
 use crate::first_line::begins_witness;
 use crate::labels::label;
@@ -79,7 +78,7 @@ pub fn read_witness(alloc: Global, text: &[u8]) -> Result<Witness, TextFault>
     // What is read is spelled so.
     ensures found { IfOk result (λ w. IsWitnessText w text.now) }
     // What is spelled so is read, unless memory runs out; of version 4 in the forms of two hosts.
-    ensures only { (w : Witness) → named_as w.version ≡ w.version → IsWitnessText w text.now → Gives (λ w. w) result (Ok w) }
+    ensures only { (w : Witness) → IsWitnessText w text.now → Gives (λ w. w) result (Ok (seen_alone w)) }
     // It keeps the limits on the count of its steps, on the positions that they name and on the shifts that they tell.
     ensures limits { IfOk result IsWitness }
     // Which fault it is.
