@@ -66,8 +66,10 @@ fn of_sending(rule: Rule) -> &'static str {
         Rule::Iss => "the initial sequence number is missing, or was given before",
         Rule::BytesDiffer => "the segment isn't the one that its host sends at this point",
         Rule::NotMade => "its host sends no such segment at this point",
-        Rule::PayloadRange => "the segment carries data that the program hasn't sent, or a FIN before their end",
-        Rule::AckField => "the segment acknowledges before the peer's SYN arrived, or not at all after it",
+        Rule::PayloadRange =>
+            "the segment carries data that the program hasn't sent, or a FIN before their end",
+        Rule::AckField =>
+            "the segment acknowledges before the peer's SYN arrived, or not at all after it",
         Rule::OldData => "the segment begins at a position that may not be sent now",
         Rule::Offered => "the segment ends beyond the window that its peer offers",
         Rule::Congestion => "the segment ends beyond the congestion window",

@@ -48,7 +48,10 @@ pub(crate) fn push_none(out: &mut Vec<u8>) -> Result<(), OutOfMemory> {
 /// Writes what a half case doesn't say; nothing for another case.
 pub(crate) fn push_half(out: &mut Vec<u8>, header: &Header) -> Result<(), OutOfMemory> {
     if header.version.is_half() {
-        push_word(out, "Only host 0 was recorded; the other host isn't judged.\n")
+        push_word(
+            out,
+            "Only host 0 was recorded; the other host isn't judged.\n",
+        )
     } else {
         Ok(())
     }
@@ -115,10 +118,7 @@ pub(crate) fn push_refused(out: &mut Vec<u8>, refused: &Refused) -> Result<(), O
 fn push_beyond(out: &mut Vec<u8>, bytes: u64, cwnd: u64) -> Result<(), OutOfMemory> {
     push_word(out, " sends ")?;
     push_grouped(out, bytes)?;
-    push_word(
-        out,
-        if bytes == 1 { " byte" } else { " bytes" },
-    )?;
+    push_word(out, if bytes == 1 { " byte" } else { " bytes" })?;
     push_word(out, " beyond the congestion window of ")?;
     push_grouped(out, cwnd)?;
     push_word(out, " (RFC 5681, 3.1).")

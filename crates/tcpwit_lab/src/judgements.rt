@@ -23,7 +23,11 @@ pub(crate) fn write_judgement<H: Files + Eprint, W: Write>(
             if !is_kept(rt, options, &judgement) {
                 return say(w, b"bad device\n", DEVICE);
             }
-            let status = if judgement.meets(options.least) { DONE } else { NO };
+            let status = if judgement.meets(options.least) {
+                DONE
+            } else {
+                NO
+            };
             say(w, judgement.text.as_slice(), status)
         }
         Err(CaseFault::Trace(fault)) => say_fault(alloc, "bad trace ", &fault, w),

@@ -33,8 +33,8 @@ pub(crate) const MEMORY: u8 = 4;
 pub(crate) const DEVICE: u8 = 5;
 
 /// Does what the words after the program's name ask for, and answers the status: 0 where it is done, 1 if the answer is
-/// no, 2 where the text is refused, 3 where the words are none of the program's, 4 if memory ran out, and 5 where a read
-/// or a write failed.
+/// no, 2 where the text is refused, 3 where the words are none of the program's, 4 if memory ran out, and 5 where a
+/// read or a write failed.
 pub(crate) fn run<H: Files + Eprint, R: BufRead, W: Write>(
     rt: &H,
     alloc: Global,

@@ -98,7 +98,7 @@ fn explain_no(
     let whole = Whole::read(alloc, parts)?;
     let scene = whole.scene(alloc, witness_line)?;
     explain_rule(alloc, out, &scene, rule)?;
-    say(out, &[Piece::Word(cause(rule))])?;
+    say(out, &[Piece::Word(cause(rule, scene.header.congestion))])?;
     say_unjudged(out, &scene, rule)
 }
 

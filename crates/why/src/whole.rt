@@ -30,11 +30,7 @@ impl Whole {
     }
 
     /// The world before the step in a line of the witness; for line 0, after the last step.
-    pub(crate) fn scene(
-        &self,
-        alloc: Global,
-        witness_line: u64,
-    ) -> Result<Scene<'_>, OutOfMemory> {
+    pub(crate) fn scene(&self, alloc: Global, witness_line: u64) -> Result<Scene<'_>, OutOfMemory> {
         let steps = self.steps.as_slice();
         let place = match usize::try_from(witness_line.saturating_sub(2)) {
             Ok(place) if witness_line >= 2 => place,
