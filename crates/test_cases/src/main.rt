@@ -16,17 +16,22 @@
 //! - `command_lines`: by words, as the program is given them
 //! - `told`: what `tcpwit_lab` says of a case
 //! - `kernel`: cases that are found for recordings of the Linux kernel
+//! - `version_four`: a case said in version 4
+//! - `judged`: case files in version 4, with more and less of congestion control judged
 #![tactic(auto)]
 
 mod asking;
 mod beginnings;
 mod command_lines;
+mod judged;
 mod kernel;
 mod long_lines;
 mod pairs;
 mod table;
 mod told;
+mod version_four;
 
+use judged::Covered;
 use std::process::ExitCode;
 use std::{fs, io};
 
@@ -39,6 +44,7 @@ fn main(rt: HostRuntime) -> io::Result<ExitCode> {
     let mut cases = table::read_table(&rt)?;
     table::push_untold(&rt, cases.as_slice(), &mut differing)?;
     let files = cases.len();
+    let covered = judged::ask_version_four(alloc, cases.as_slice(), &mut differing)?;
     for name in ["two_threads", "handshake_and_five_bytes"] {
         beginnings::push_beginnings(&rt, name, &mut cases)?;
     }
@@ -67,5 +73,15 @@ fn main(rt: HostRuntime) -> io::Result<ExitCode> {
             command lines are answered as wanted, {told} cases explained, shown or drawn as wanted, and {recorded} \
             recordings of the kernel explained by what is found"
     )?;
+    print_covered(&rt, covered)?;
     Ok(ExitCode::SUCCESS)
+}
+
+// Prints how many case files were also answered as wanted in version 4.
+fn print_covered(rt: &HostRuntime, covered: Covered) -> io::Result<()> {
+    println!(rt;
+        "{} case files of versions 1 to 3 have the same answer in version 4, and {} case files lose no yes when less \
+            is judged",
+        covered.same, covered.words
+    )
 }
