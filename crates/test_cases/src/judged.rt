@@ -1,10 +1,10 @@
-//! Case files said in version 4, with each word for how much of congestion control is judged.
+//! Checks each case file as version 4, with each word for how much of congestion control is judged.
 //!
-//! With `congestion full` a case of an older version has the same answer, with the numbers of trace lines moved. If
+//! With `congestion full`, a case of an older version has the same answer, with the numbers of trace lines moved. If
 //! less is judged, a yes stays the same yes.
 
 use crate::table::Case;
-use crate::version_four::{Said, moved, rename, say};
+use crate::version_four::{Rewritten, moved, rename, rewrite};
 use case_forms::{Judged, Version};
 use checker::{CaseFault, check_case};
 use std::alloc::{AllocError, Global};
@@ -16,14 +16,14 @@ type Answer = Result<Verdict, CaseFault>;
 /// How many case files each of the two tests covered.
 #[derive(Clone, Copy)]
 pub struct Covered {
-    /// Those of versions 1 to 3 that have the same answer in version 4.
+    /// Those of versions 1 to 3 whose answer was compared with that in version 4.
     pub same: usize,
-    /// Those whose answers with the three words were compared.
+    /// Those whose answers with the three words were compared with each other.
     pub words: usize,
 }
 
-/// Says each case in version 4 and asks for it with each word. A text with a fault is no case. But if the fault is in a
-/// line of the header that version 4 has too, the text has the same fault if it names version 4.
+/// Checks each case as version 4 with each word. A text with a fault can't be rewritten; but if a line of the header is
+/// at fault that version 4 has too, the fault must stay the same after the text names version 4.
 pub fn ask_version_four(
     alloc: Global,
     cases: &[Case],
@@ -34,7 +34,7 @@ pub fn ask_version_four(
         let text = case.text.as_slice();
         match check_case(alloc, text) {
             Ok(verdict) => {
-                ask_said(alloc, case, verdict, &mut covered, differing)?;
+                ask_words(alloc, case, verdict, &mut covered, differing)?;
             }
             Err(CaseFault::Trace(fault)) if is_shared(version_named(text), fault.span.line) => {
                 let found = check_case(alloc, rename(alloc, text)?.as_slice());
@@ -42,7 +42,7 @@ pub fn ask_version_four(
                 compare(
                     alloc,
                     case,
-                    "by another first line",
+                    "by its first line alone",
                     wanted,
                     found,
                     differing,
@@ -55,8 +55,8 @@ pub fn ask_version_four(
     Ok(covered)
 }
 
-// Whether a line of a header is the same line in version 4. The first line names the version, and line 8 of version 3
-// has another form there.
+// Whether a line of the header has the same form in version 4. Line 1 names the version, and line 8 of version 3 is
+// `half 0`.
 fn is_shared(version: Version, line: u64) -> bool {
     match version {
         Version::One => 1 < line && line < 7,
@@ -65,23 +65,23 @@ fn is_shared(version: Version, line: u64) -> bool {
     }
 }
 
-// Asks for a case with this verdict in version 4, with each word.
-fn ask_said(
+// Checks a case that has this verdict as version 4 with each word.
+fn ask_words(
     alloc: Global,
     case: &Case,
     verdict: Verdict,
     covered: &mut Covered,
     differing: &mut Vec<String>,
 ) -> Result<(), AllocError> {
-    let Ok(mut said) = say(alloc, case.text.as_slice()) else {
-        differing.push(format!(in alloc; "{} has a verdict and a fault", case.name)?)?;
+    let Ok(mut rewritten) = rewrite(alloc, case.text.as_slice()) else {
+        differing.push(format!(in alloc; "{} has a verdict and can't be read", case.name)?)?;
         return Ok(());
     };
-    let full = answer(alloc, &mut said, Judged::Full)?;
-    let recovery = answer(alloc, &mut said, Judged::Recovery)?;
-    let nothing = answer(alloc, &mut said, Judged::Nothing)?;
-    if is_same(&said) {
-        let wanted = Ok(moved_verdict(verdict, said.moved_by));
+    let full = answer(alloc, &mut rewritten, Judged::Full)?;
+    let recovery = answer(alloc, &mut rewritten, Judged::Recovery)?;
+    let nothing = answer(alloc, &mut rewritten, Judged::Nothing)?;
+    if is_same(&rewritten) {
+        let wanted = Ok(moved_verdict(verdict, rewritten.moved_by));
         compare(alloc, case, "with `full`", wanted, full, differing)?;
         covered.same = covered.same.saturating_add(1);
     }
@@ -95,16 +95,21 @@ fn ask_said(
     Ok(())
 }
 
-// The answer to a case in version 4, with this word.
-fn answer(alloc: Global, said: &mut Said, congestion: Judged) -> Result<Answer, AllocError> {
-    let text = said.text(alloc, congestion)?;
+// The answer to a case as version 4 with this word.
+fn answer(
+    alloc: Global,
+    rewritten: &mut Rewritten,
+    congestion: Judged,
+) -> Result<Answer, AllocError> {
+    let text = rewritten.text(alloc, congestion)?;
     Ok(check_case(alloc, text.as_slice()))
 }
 
-// Whether an older version gives the same answer as version 4. Version 1 doesn't look at the shifts of SYNs.
-fn is_same(said: &Said) -> bool {
-    match said.before {
-        Version::One => !said.carries_a_shift(),
+// Whether version 4 must give the same answer as the version that was read. Version 1 doesn't look at the shift that a
+// SYN carries, and version 4 does.
+fn is_same(rewritten: &Rewritten) -> bool {
+    match rewritten.read_as {
+        Version::One => !rewritten.carries_a_shift(),
         Version::Two | Version::Three => true,
         Version::Four | Version::FourHalf => false,
     }
@@ -114,7 +119,7 @@ fn is_yes(answer: &Answer) -> bool {
     matches!(answer, Ok(Verdict::Yes { .. }))
 }
 
-// A verdict after the trace lines moved.
+// The verdict after the event lines moved.
 fn moved_verdict(verdict: Verdict, by: u64) -> Verdict {
     match verdict {
         Verdict::Yes { .. } => verdict,
@@ -130,7 +135,7 @@ fn moved_verdict(verdict: Verdict, by: u64) -> Verdict {
     }
 }
 
-// Adds a line if a case in version 4 is not answered as wanted.
+// Adds a line if a case as version 4 isn't answered as wanted.
 fn compare(
     alloc: Global,
     case: &Case,
@@ -141,7 +146,7 @@ fn compare(
 ) -> Result<(), AllocError> {
     if found != wanted {
         differing.push(format!(in alloc;
-            "{}, in version 4 {way}: wanted {wanted:?}, found {found:?}",
+            "{}, as version 4 {way}: wanted {wanted:?}, found {found:?}",
             case.name
         )?)?;
     }

@@ -4,9 +4,9 @@
 //! it (`data/README.md`). Beside the files, each beginning of two of them is asked for, lines of the greatest length,
 //! inputs of several cases, pairs of texts that no case would be cut into, the command lines of
 //! `data/command_lines.txt`, what `tcpwit_lab` says of some cases (`data/told.txt`), and the cases that are found for
-//! recordings of the Linux kernel (`data/kernel/`). Where all is answered as wanted, one line with the counts is
-//! printed. Else each answer that differs has a line on standard error, with the name of the case, how it was asked,
-//! what was wanted and what was found, and the program ends with status 1.
+//! recordings of the Linux kernel (`data/kernel/`). Each case file is also checked as version 4. Where all is answered
+//! as wanted, two lines with the counts are printed. Else each answer that differs has a line on standard error, with
+//! the name of the case, how it was asked, what was wanted and what was found, and the program ends with status 1.
 //!
 //! - `table`: cases, and those of the files
 //! - `beginnings`: each beginning of a case
@@ -16,8 +16,8 @@
 //! - `command_lines`: by words, as the program is given them
 //! - `told`: what `tcpwit_lab` says of a case
 //! - `kernel`: cases that are found for recordings of the Linux kernel
-//! - `version_four`: a case said in version 4
-//! - `judged`: case files in version 4, with more and less of congestion control judged
+//! - `version_four`: rewrites a case as version 4
+//! - `judged`: each case file as version 4, with more and less of congestion control judged
 #![tactic(auto)]
 
 mod asking;
@@ -77,11 +77,11 @@ fn main(rt: HostRuntime) -> io::Result<ExitCode> {
     Ok(ExitCode::SUCCESS)
 }
 
-// Prints how many case files were also answered as wanted in version 4.
+// Prints how many case files each of the tests of version 4 covered.
 fn print_covered(rt: &HostRuntime, covered: Covered) -> io::Result<()> {
     println!(rt;
-        "{} case files of versions 1 to 3 have the same answer in version 4, and {} case files lose no yes when less \
-            is judged",
+        "{} case files of versions 1 to 3 have the same answer in version 4, and of {} case files none loses a yes \
+            when less is judged",
         covered.same, covered.words
     )
 }

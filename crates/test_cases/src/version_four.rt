@@ -1,7 +1,7 @@
-//! A case said in version 4: the same lines and steps, with a longer header.
+//! Rewrites a case as version 4: the same event lines and steps, after a longer header.
 //!
-//! The header of version 4 has three lines more than that of version 1, two more than version 2, and one more than
-//! version 3. So the numbers of event lines move, and a witness that names them moves its numbers too.
+//! The header has three lines more than in version 1, two more than in version 2, and one more than in version 3. So
+//! the numbers of event lines move, and so do the numbers by which a witness names them.
 
 use crate::asking::witness_begins;
 use case_forms::{
@@ -14,45 +14,45 @@ use std::alloc::{AllocError, Global};
 use trace_reader::read_trace;
 use witness::read_witness_for;
 
-/// A case in version 4, as values.
+/// A case as version 4.
 #[derive(Drop)]
-pub struct Said {
+pub struct Rewritten {
     trace: Trace,
     witness: Witness,
-    /// The version in which the case was read.
-    pub before: Version,
+    /// The version of the text that was read.
+    pub read_as: Version,
     /// How far the numbers of its event lines moved.
     pub moved_by: u64,
 }
 
-/// Says a case in version 4, unless one of its texts has a fault.
-pub fn say(alloc: Global, text: &[u8]) -> Result<Said, TextFault> {
+/// Rewrites a case as version 4. The error is the fault of the trace or of the witness.
+pub fn rewrite(alloc: Global, text: &[u8]) -> Result<Rewritten, TextFault> {
     let (trace, witness) = text.split_at(witness_begins(text));
     let mut trace = read_trace(alloc, trace)?;
-    let before = trace.header.version;
-    let witness = read_witness_for(alloc, before, witness)?;
-    let version = in_version_four(before);
+    let read_as = trace.header.version;
+    let witness = read_witness_for(alloc, read_as, witness)?;
+    let version = rewritten_version(read_as);
     let moved_by = version
         .first_event_line()
-        .saturating_sub(before.first_event_line());
+        .saturating_sub(read_as.first_event_line());
     let steps = moved_steps(alloc, &trace, &witness.steps, moved_by)?;
     trace.header.version = version;
-    Ok(Said {
+    Ok(Rewritten {
         trace,
         witness: Witness { version, steps },
-        before,
+        read_as,
         moved_by,
     })
 }
 
-impl Said {
-    /// The text of the case, with this much of congestion control judged.
+impl Rewritten {
+    /// The text of the case if this much of congestion control is judged.
     pub fn text(&mut self, alloc: Global, congestion: Judged) -> Result<Vec<u8>, OutOfMemory> {
         self.trace.header.congestion = congestion;
         print_case(alloc, &self.trace, &self.witness)
     }
 
-    /// Whether a SYN of its lines carries a shift, which version 1 doesn't look at.
+    /// Whether a SYN of the trace carries a shift (RFC 7323, 2.2).
     pub fn carries_a_shift(&self) -> bool {
         self.trace
             .lines
@@ -67,20 +67,20 @@ impl Said {
     }
 }
 
-/// A text whose first line names version 4, and the first line of its witness too. All else stays as it is.
+/// The same text, except that its first line and the first line of its witness name version 4.
 pub fn rename(alloc: Global, text: &[u8]) -> Result<Vec<u8>, AllocError> {
     let witness = witness_begins(text);
     let mut renamed = Vec::from_slice(alloc, text)?;
-    for name in ["trace ".len(), witness.saturating_add("witness ".len())] {
-        if let Some(digit) = renamed.as_mut_slice().get_mut(name) {
+    for place in ["trace ".len(), witness.saturating_add("witness ".len())] {
+        if let Some(digit) = renamed.as_mut_slice().get_mut(place) {
             *digit = b'4';
         }
     }
     Ok(renamed)
 }
 
-/// The number of a trace line after the lines moved. No line has the number 0, and a text names none above the
-/// greatest number of 32 bits: these two stay.
+/// The number of a trace line after the event lines moved. The number 0, which no line has, stays, and so does the
+/// greatest number that a text can name.
 pub fn moved(number: u64, by: u64) -> u64 {
     if number == 0 {
         return 0;
@@ -88,8 +88,8 @@ pub fn moved(number: u64, by: u64) -> u64 {
     number.saturating_add(by).min(u64::from(u32::MAX))
 }
 
-// The version 4 of as many hosts.
-fn in_version_four(version: Version) -> Version {
+// Version 4 for the same count of recorded hosts.
+fn rewritten_version(version: Version) -> Version {
     if version.is_half() {
         Version::FourHalf
     } else {
@@ -97,7 +97,7 @@ fn in_version_four(version: Version) -> Version {
     }
 }
 
-// The steps, with the lines that they name moved.
+// The steps, with the numbers of trace lines moved.
 fn moved_steps(alloc: Global, trace: &Trace, steps: &Steps, by: u64) -> Result<Steps, OutOfMemory> {
     let mut all = Steps::new(alloc);
     for step in steps.as_slice() {
@@ -110,7 +110,7 @@ fn moved_steps(alloc: Global, trace: &Trace, steps: &Steps, by: u64) -> Result<S
     Ok(all)
 }
 
-// A label, with the line that it names moved.
+// A label, with the numbers of trace lines moved.
 fn moved_label(
     trace: &Trace,
     label: &Label<NamedLine>,
@@ -135,10 +135,10 @@ fn moved_label(
     })
 }
 
-// The name of a line, moved. The extra number of a line that came in is that of another line.
+// The moved name of a line. If a segment arrived by it, its one extra number names a line too.
 fn moved_name(trace: &Trace, named: NamedLine, by: u64) -> NamedLine {
     let extras = match named.extras {
-        Extras::One(copied) if came_in(trace, named.number) => {
+        Extras::One(copied) if is_arrival(trace, named.number) => {
             Extras::One(u32::try_from(moved(u64::from(copied), by)).unwrap_or(copied))
         }
         extras => extras,
@@ -149,8 +149,8 @@ fn moved_name(trace: &Trace, named: NamedLine, by: u64) -> NamedLine {
     }
 }
 
-// Whether a segment came in by the line of this number.
-fn came_in(trace: &Trace, number: u64) -> bool {
+// Whether the line of this number shows the arrival of a segment.
+fn is_arrival(trace: &Trace, number: u64) -> bool {
     let place = number.checked_sub(trace.header.first_event_line());
     let line = place
         .and_then(|place| usize::try_from(place).ok())
