@@ -3,10 +3,10 @@
 //! The case of each name is `data/NAME.case`, and `data/expected.txt` has the line that `tcpwit check` must print for
 //! it (`data/README.md`). Beside the files, each beginning of two of them is asked for, lines of the greatest length,
 //! inputs of several cases, pairs of texts that no case would be cut into, the command lines of
-//! `data/command_lines.txt`, what `tcpwit_lab` says of some cases (`data/told.txt`), and the cases that are found for
-//! recordings of the Linux kernel (`data/kernel/`). Where all is answered as wanted, one line with the counts is
-//! printed. Else each answer that differs has a line on standard error, with the name of the case, how it was asked,
-//! what was wanted and what was found, and the program ends with status 1.
+//! `data/command_lines.txt`, what `tcpwit_lab` says of some cases (`data/told.txt`) and of some traces
+//! (`data/judged.txt`), and the cases that are found for recordings of the Linux kernel (`data/kernel/`). Where all is
+//! answered as wanted, one line with the counts is printed. Else each answer that differs has a line on standard error,
+//! with the name of the case, how it was asked, what was wanted and what was found, and the program ends with status 1.
 //!
 //! - `table`: cases, and those of the files
 //! - `beginnings`: each beginning of a case
@@ -14,13 +14,14 @@
 //! - `pairs`: a trace and a witness as two texts, into which no case would be cut
 //! - `asking`: by `check_case`, by the word `check`, as two texts in pieces, and by the words of `many`
 //! - `command_lines`: by words, as the program is given them
-//! - `told`: what `tcpwit_lab` says of a case
+//! - `told`: what `tcpwit_lab` says of a case; `judged`: how much of a run keeps the RFCs
 //! - `kernel`: cases that are found for recordings of the Linux kernel
 #![tactic(auto)]
 
 mod asking;
 mod beginnings;
 mod command_lines;
+mod judged;
 mod kernel;
 mod long_lines;
 mod pairs;
@@ -54,6 +55,8 @@ fn main(rt: HostRuntime) -> io::Result<ExitCode> {
     let rows = command_lines::ask_rows(&rt, alloc, table.as_str(), &mut differing)?;
     let table = fs::read_to_string(&rt, "told.txt")?;
     let told = told::ask_told(&rt, alloc, table.as_str(), &mut differing)?;
+    let table = fs::read_to_string(&rt, "judged.txt")?;
+    let judged = judged::ask_judged(&rt, alloc, table.as_str(), &mut differing)?;
     let recorded = kernel::ask_kernel(&rt, &mut differing)?;
     for line in &differing {
         eprintln!(rt; "{line}")?;
@@ -64,8 +67,8 @@ fn main(rt: HostRuntime) -> io::Result<ExitCode> {
     let long = cases.len().saturating_sub(files).saturating_sub(others);
     println!(rt;
         "{files} case files, {others} beginnings of two of them, {long} long lines, {pairs} pairs of texts and {rows} \
-            command lines are answered as wanted, {told} cases explained, shown or drawn as wanted, and {recorded} \
-            recordings of the kernel explained by what is found"
+            command lines are answered as wanted, {told} cases explained, shown or drawn as wanted, {judged} traces \
+            judged as wanted, and {recorded} recordings of the kernel explained by what is found"
     )?;
     Ok(ExitCode::SUCCESS)
 }

@@ -1,0 +1,51 @@
+//! A trace said in version 4.
+
+use bstr::ByteSlice;
+use case_forms::{Header, Judged, Lines, OutOfMemory, Trace, Version};
+use std::alloc::Global;
+use trace_reader::print_trace;
+
+/// The text of a trace in version 4, with this word on congestion control: another header, and the same event lines.
+pub(crate) fn retold(
+    alloc: Global,
+    text: &[u8],
+    header: &Header,
+    word: Judged,
+) -> Result<Vec<u8>, OutOfMemory> {
+    let trace = Trace {
+        header: judged_by(header, word),
+        lines: Lines::new(alloc),
+    };
+    let mut retold = print_trace(alloc, &trace)?;
+    retold.extend_from_slice(events_of(text, header.first_event_line()))?;
+    Ok(retold)
+}
+
+// The header in version 4. What older versions don't say is as they are judged: two hosts, and RFC 5681 for the first
+// window.
+fn judged_by(header: &Header, word: Judged) -> Header {
+    let version = if header.version.is_half() {
+        Version::FourHalf
+    } else {
+        Version::Four
+    };
+    Header {
+        version,
+        congestion: word,
+        ..*header
+    }
+}
+
+// The text from the line of this number on.
+fn events_of(text: &[u8], first: u64) -> &[u8] {
+    let mut at: usize = 0;
+    let mut number: u64 = 1;
+    for raw in text.lines_with_terminator() {
+        if first <= number {
+            break;
+        }
+        at = at.saturating_add(raw.len());
+        number = number.saturating_add(1);
+    }
+    text.get(at..).unwrap_or(&[])
+}
