@@ -1,4 +1,4 @@
-//! The words of the header, asked for one after the other until one has a yes.
+//! The words of the header, one after the other until one has a yes.
 
 use crate::sentences::{push_half, push_none, push_under, push_yes};
 use crate::trying::{Tried, try_word};
@@ -8,10 +8,10 @@ use line_fields::{FaultKind, TextFault};
 use std::alloc::Global;
 use trace_reader::read_trace;
 
-/// What is said of a trace.
+/// The answer for a trace.
 #[derive(Drop)]
 pub struct Judgement {
-    /// A line for each word that was tried, then sentences on what the answers mean.
+    /// A line for each word that was tried, then what the answers mean.
     pub text: Vec<u8>,
     /// The strictest word with a yes. None: no word has one.
     pub word: Option<Judged>,

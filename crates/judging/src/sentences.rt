@@ -124,12 +124,12 @@ fn push_beyond(out: &mut Vec<u8>, bytes: u64, cwnd: u64) -> Result<(), OutOfMemo
     push_word(out, " (RFC 5681, 3.1).")
 }
 
-// Fast recovery begins after the handshake, so a SYN goes again after a timeout alone.
+// Fast recovery begins after the handshake, so a SYN is sent again after a timeout alone.
 fn push_again(out: &mut Vec<u8>, syn: bool) -> Result<(), OutOfMemory> {
     push_word(
         out,
         if syn {
-            " sends a SYN again without a timeout (RFC 6298, 5)."
+            " sends a SYN again before its timeout (RFC 6298, 5)."
         } else {
             " sends old data again without a timeout or three duplicate acknowledgments (RFC 6298, 5; RFC 5681, 3.2)."
         },

@@ -1,7 +1,7 @@
-//! A trace under one word on congestion control.
+//! A trace under one word for congestion control.
 
 use crate::asking::trace_fault;
-use crate::retelling::retold;
+use crate::rewriting::rewritten;
 use crate::sentences::{push_padded, push_refused};
 use case_forms::{Header, Judged, OutOfMemory};
 use checker::{CaseFault, check_case};
@@ -27,7 +27,7 @@ pub(crate) fn try_word(
     header: &Header,
     word: Judged,
 ) -> Result<Tried, CaseFault> {
-    let trace = retold(alloc, text, header, word)?;
+    let trace = rewritten(alloc, text, header, word)?;
     let case = match find(alloc, trace.as_slice()) {
         Ok(case) => case,
         Err(fault) => return Err(trace_fault(fault)),

@@ -1,4 +1,4 @@
-//! The words of a command line that go with a judgement.
+//! The command line's words after `judge`.
 
 use case_forms::Judged;
 

@@ -1,12 +1,12 @@
-//! A trace said in version 4.
+//! A trace in version 4.
 
 use bstr::ByteSlice;
 use case_forms::{Header, Judged, Lines, OutOfMemory, Trace, Version};
 use std::alloc::Global;
 use trace_reader::print_trace;
 
-/// The text of a trace in version 4, with this word on congestion control: another header, and the same event lines.
-pub(crate) fn retold(
+/// The text of a trace in version 4, with this word for congestion control: another header, and the same event lines.
+pub(crate) fn rewritten(
     alloc: Global,
     text: &[u8],
     header: &Header,
@@ -16,13 +16,12 @@ pub(crate) fn retold(
         header: judged_by(header, word),
         lines: Lines::new(alloc),
     };
-    let mut retold = print_trace(alloc, &trace)?;
-    retold.extend_from_slice(events_of(text, header.first_event_line()))?;
-    Ok(retold)
+    let mut rewritten = print_trace(alloc, &trace)?;
+    rewritten.extend_from_slice(events_of(text, header.first_event_line()))?;
+    Ok(rewritten)
 }
 
-// The header in version 4. What older versions don't say is as they are judged: two hosts, and RFC 5681 for the first
-// window.
+// The header in version 4. What an older version doesn't say is read as it is judged: RFC 5681 gives the first window.
 fn judged_by(header: &Header, word: Judged) -> Header {
     let version = if header.version.is_half() {
         Version::FourHalf
