@@ -29,19 +29,17 @@ fn say_word(
 ) -> Result<(), OutOfMemory> {
     let (before, after) = match scene.header.version {
         Version::One | Version::Two | Version::Three => (
-            "version 4 of the header has a line",
-            ", which leaves it unjudged",
+            "version 4 of the header has a line `congestion ",
+            "`, which leaves it unjudged",
         ),
-        Version::Four | Version::FourHalf => ("the header's line", " leaves it unjudged"),
+        Version::Four | Version::FourHalf => ("`congestion ", "` in the header leaves it unjudged"),
     };
     say(
         out,
         &[
             Piece::Word("stacks with CUBIC, BBR, SACK or RACK-TLP do this; "),
             Piece::Word(before),
-            Piece::Word(" `congestion "),
             Piece::Word(word),
-            Piece::Word("`"),
             Piece::Word(after),
             Piece::Word(match rule {
                 Rule::OldData => " if an F step comes first",
