@@ -3,8 +3,8 @@
 ghost use Rattle.std.specs.Prelude.{◌<◌};
 
 use case_forms::{Answer, Call, Host, OutOfMemory};
-use indexmap::IndexMap;
 use std::alloc::Global;
+use std::collections::BTreeMap;
 
 /// A call that is open.
 #[derive(Clone, Copy)]
@@ -18,17 +18,17 @@ pub(crate) struct Open {
 /// What is known of threads and socket numbers.
 #[derive(Drop)]
 pub(crate) struct Callers {
-    sockets: IndexMap<u32, Host>,
-    open: IndexMap<u32, Open>,
-    columns: IndexMap<u32, u64>,
+    sockets: BTreeMap<u32, Host>,
+    open: BTreeMap<u32, Open>,
+    columns: BTreeMap<u32, u64>,
 }
 
 impl Callers {
     pub(crate) fn new(alloc: Global) -> Callers {
         Callers {
-            sockets: IndexMap::new(alloc),
-            open: IndexMap::new(alloc),
-            columns: IndexMap::new(alloc),
+            sockets: BTreeMap::new(alloc),
+            open: BTreeMap::new(alloc),
+            columns: BTreeMap::new(alloc),
         }
     }
 
@@ -78,7 +78,7 @@ impl Callers {
                 self.sockets.insert(*number, open.host)?;
             }
         }
-        self.open.swap_remove(&thread);
+        self.open.remove(&thread);
         Ok(open)
     }
 

@@ -2,8 +2,8 @@
 
 use crate::whole::Whole;
 use case_forms::{Event, Extras, Label, Line, NamedLine, OutOfMemory, Step};
-use indexmap::IndexMap;
 use std::alloc::Global;
+use std::collections::{BTreeMap, BTreeSet};
 
 /// What became of a segment that came in.
 #[derive(Clone, Copy)]
@@ -33,18 +33,18 @@ impl Fate {
 #[derive(Drop)]
 pub(crate) struct Fates {
     /// For each line that came in, the line that it copies.
-    pub copies: IndexMap<u64, u64>,
+    pub copies: BTreeMap<u64, u64>,
     /// The lines that were copied.
-    copied: IndexMap<u64, ()>,
-    fates: IndexMap<u64, Fate>,
+    copied: BTreeSet<u64>,
+    fates: BTreeMap<u64, Fate>,
     /// The lines that went out.
-    gone: IndexMap<u64, ()>,
+    gone: BTreeSet<u64>,
     // All that comes in was taken, and both hosts are recorded: what went out and was not copied is lost.
     is_told: bool,
     /// For each line that begins a call, the line after which the call has its effect.
-    pub effects: IndexMap<u64, u64>,
+    pub effects: BTreeMap<u64, u64>,
     // For each thread, the line that began its call.
-    begun: IndexMap<u32, u64>,
+    begun: BTreeMap<u32, u64>,
     /// The line after which the refused step stands.
     pub refused: Option<u64>,
     last: u64,
@@ -54,13 +54,13 @@ impl Fates {
     /// What the witness of a case tells.
     pub(crate) fn of(alloc: Global, whole: &Whole) -> Result<Fates, OutOfMemory> {
         let mut fates = Fates {
-            copies: IndexMap::new(alloc),
-            copied: IndexMap::new(alloc),
-            fates: IndexMap::new(alloc),
-            gone: IndexMap::new(alloc),
+            copies: BTreeMap::new(alloc),
+            copied: BTreeSet::new(alloc),
+            fates: BTreeMap::new(alloc),
+            gone: BTreeSet::new(alloc),
             is_told: false,
-            effects: IndexMap::new(alloc),
-            begun: IndexMap::new(alloc),
+            effects: BTreeMap::new(alloc),
+            begun: BTreeMap::new(alloc),
             refused: None,
             last: 0,
         };
@@ -91,9 +91,9 @@ impl Fates {
 
     /// The class of what goes out with a line and is not copied. None: a line copies it.
     pub(crate) fn class_sent(&self, line: u64) -> Option<&'static str> {
-        if self.copied.contains_key(&line) {
+        if self.copied.contains(&line) {
             None
-        } else if self.is_told && self.gone.contains_key(&line) {
+        } else if self.is_told && self.gone.contains(&line) {
             Some("lost")
         } else {
             Some("seen")
@@ -107,14 +107,14 @@ impl Fates {
         match (&line.event, named.extras) {
             (Event::Came(_, _), Extras::One(copied)) => {
                 self.copies.insert(named.number, u64::from(copied))?;
-                self.copied.insert(u64::from(copied), ())?;
+                self.copied.insert(u64::from(copied))?;
                 self.fates.insert(named.number, Fate::Waits)?;
             }
             (Event::Came(_, _), Extras::Bare) => {
                 self.fates.insert(named.number, Fate::Waits)?;
             }
             (Event::Sent(_, _), _) => {
-                self.gone.insert(named.number, ())?;
+                self.gone.insert(named.number)?;
             }
             (Event::CallBegin(_), _) => {
                 self.begun.insert(line.thread, named.number)?;

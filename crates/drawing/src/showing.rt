@@ -2,9 +2,9 @@
 
 use crate::whole::{Refused, Whole};
 use case_forms::{Label, Line, OutOfMemory, Step};
-use indexmap::IndexMap;
 use line_fields::TextFault;
 use std::alloc::Global;
+use std::collections::BTreeSet;
 use why::numbers::Numbers;
 use why::text::{Piece, add, say};
 use why::words::{push_event, push_label};
@@ -15,7 +15,7 @@ struct Showing {
     out: Vec<u8>,
     numbers: Numbers,
     /// The lines that were shown.
-    shown: IndexMap<u64, ()>,
+    shown: BTreeSet<u64>,
 }
 
 /// The case as text: each line of the trace where its step stands, and hidden steps indented between them; a step that
@@ -25,7 +25,7 @@ pub fn show(alloc: Global, text: &[u8]) -> Result<Vec<u8>, TextFault> {
     let mut show = Showing {
         out: Vec::new(alloc),
         numbers: Numbers::new(alloc, whole.trace.header.version),
-        shown: IndexMap::new(alloc),
+        shown: BTreeSet::new(alloc),
     };
     show.all(&whole)?;
     Ok(show.out)
@@ -69,7 +69,7 @@ impl Showing {
 
     fn line(&mut self, line: &Line, moment: u64) -> Result<(), OutOfMemory> {
         self.numbers.read(line)?;
-        self.shown.insert(line.number, ())?;
+        self.shown.insert(line.number)?;
         add(
             &mut self.out,
             &[
@@ -99,7 +99,7 @@ impl Showing {
 
     // Writes a line that no step takes.
     fn left(&mut self, line: &Line) -> Result<(), OutOfMemory> {
-        if self.shown.contains_key(&line.number) {
+        if self.shown.contains(&line.number) {
             return Ok(());
         }
         add(&mut self.out, &[Piece::Word("not taken: ")])?;

@@ -1,9 +1,9 @@
 //! Numbers on the wire as positions, counted from the initial sequence numbers that a trace shows.
 
 use case_forms::{Event, Host, Line, OutOfMemory, Version, Wire};
-use indexmap::IndexMap;
 use segment::{Flag, Segment};
 use std::alloc::Global;
+use std::collections::BTreeMap;
 
 // A host, its own port and the peer's.
 type ConnectionKey = (u8, u16, u16);
@@ -11,14 +11,14 @@ type ConnectionKey = (u8, u16, u16);
 /// The initial sequence numbers that were shown last.
 #[derive(Drop)]
 pub struct Numbers {
-    first: IndexMap<ConnectionKey, u32>,
+    first: BTreeMap<ConnectionKey, u32>,
     half: bool,
 }
 
 impl Numbers {
     pub fn new(alloc: Global, version: Version) -> Numbers {
         Numbers {
-            first: IndexMap::new(alloc),
+            first: BTreeMap::new(alloc),
             half: version.is_half(),
         }
     }

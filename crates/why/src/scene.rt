@@ -9,10 +9,10 @@ use case_forms::{
     SegmentPlan, Step,
 };
 use endpoint_state::{Endpoint, StepFault, World};
-use indexmap::IndexMap;
 use spec_step::{apply_hidden, apply_line};
 use spec_tcp::{Arrived, Emission};
 use std::alloc::{AllocError, Global};
+use std::collections::BTreeMap;
 use verdict::Rule;
 
 // Whether one more step may be done; no witness that `check` reads has so many.
@@ -36,7 +36,7 @@ pub(crate) struct Scene<'t> {
     /// The place of the step among the steps, from 0.
     pub place: usize,
     /// For each line that was taken, the place of the step that took it.
-    pub taken: IndexMap<u64, usize>,
+    pub taken: BTreeMap<u64, usize>,
 }
 
 impl<'t> Scene<'t> {
@@ -62,7 +62,7 @@ impl<'t> Scene<'t> {
             lines,
             steps,
             place,
-            taken: IndexMap::new(alloc),
+            taken: BTreeMap::new(alloc),
         };
         for (at, step) in steps.iter().enumerate().take(place) {
             scene.go_on(at, step)?;

@@ -29,8 +29,8 @@ pub(crate) fn mixed(state: u64, word: u64) -> u64 {
 }
 
 // The bytes of a segment, ordered by their digest and then by themselves. Bytes with different digests are never
-// compared. A peer can choose bytes that all have one digest; each search then compares the bytes of as many segments as
-// an ordered map looks at, which is in the order of the logarithm of their number.
+// compared. A peer can choose bytes that all have one digest; a search then compares the bytes of as many segments as
+// an ordered map looks at, so of at most a few times the logarithm of their number.
 #[derive(Clone, Copy, PartialEq, Eq, PartialOrd, Ord)]
 pub(crate) struct Key<'t> {
     digest: u64,

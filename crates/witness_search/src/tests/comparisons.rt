@@ -94,7 +94,10 @@ fn few_are_compared_even_if_all_have_one_digest(rt: HostRuntime) -> Result<(), O
             assert_eq!(rt; digest(text.as_slice()), DIGEST);
         }
         let compared = comparisons(rt.alloc(), texts.as_slice())?;
-        assert!(rt; compared.is_some_and(|all| all < 40 * count), "{count}: {compared:?}");
+        assert!(rt;
+            compared.is_some_and(|all| all < 40 * count),
+            "{count}: {compared:?}"
+        );
     }
     Ok(())
 }

@@ -36,7 +36,7 @@ pub(crate) fn few_letters(
 ) -> Result<Vec<u8>, OutOfMemory> {
     let mut bytes = Vec::new(alloc);
     for _ in 0..len {
-        bytes.push(draws.below(2) as u8)?;
+        bytes.push(if draws.below(2) == 0 { 0 } else { 1 })?;
     }
     Ok(bytes)
 }
