@@ -22,18 +22,16 @@ pub trait Site: Ledger {
 impl Site for Brand {
     ghost host = { Zero };
 
-    ghost header = {
-        record {
-            version = One;
-            skew = 0;
-            msl = 1;
-            grain = 0;
-            minrto = 0;
-            extra = 0;
-            initial = Rfc5681;
-            congestion = Full;
-        }
-    };
+    ghost header = { record {
+      version = One;
+      skew = 0;
+      msl = 1;
+      grain = 0;
+      minrto = 0;
+      extra = 0;
+      initial = Rfc5681;
+      congestion = Full;
+    } };
 }
 
 /// The book of that host.
