@@ -6,4 +6,13 @@ use Rattle.case_forms.specs.declared.version.Version.TheVariants.{One}
 
 abbrev pub test_header : Header
 test_header =
-    record { version = One; skew = 0; msl = 2000000; grain = 1000; minrto = 200000; extra = 1; initial = Rfc5681; congestion = Full }
+    record {
+      version = One;
+      skew = 0;
+      msl = 2000000;
+      grain = 1000;
+      minrto = 200000;
+      extra = 1;
+      initial = Rfc5681;
+      congestion = Full;
+    }

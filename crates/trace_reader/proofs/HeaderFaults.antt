@@ -27,11 +27,14 @@ use Rattle.line_fields.proofs.FieldFaults.{Agrees, number_agrees, named_agrees}
 use Rattle.line_fields.proofs.LineFaults.{whole_is, other_text, text_faults}
 use Rattle.line_fields.proofs.LineRests.{some_word}
 use Rattle.line_fields.proofs.Readers.{field_by}
-use Rattle.trace_reader.specs.HeaderForms.{IsFirstText, Row, row, initial_want, judged_rows, late_rows, header_rows, AreNamed, Fits, Breaks, Other, Bad, More, IsRow, IsRowFault, AreRows, IsRowsFault, IsHeaderFault, First, Rows}
-use Rattle.trace_reader.specs.declared.header.LateLines.{LateLines}
-use Rattle.trace_reader.specs.Headers.{initial_number, judged_name, all_judged, header_fault, some_left, named_rest, alone, value_line, next_value, version_in, first_version, first_line, initial_of, initial_value, initial_field}
+use Rattle.trace_reader.specs.HeaderForms.{IsFirstText, Row, row, initial_want, judged_rows, late_rows, header_rows, AreNamed, Fits, Breaks, Other, Bad, More}
+use Rattle.trace_reader.specs.HeaderForms.{IsRow, IsRowFault, AreRows, IsRowsFault, IsHeaderFault, First, Rows}
+use Rattle.trace_reader.specs.declared.late_lines.LateLines.{LateLines}
+use Rattle.trace_reader.specs.Headers.{initial_number, judged_name, all_judged, header_fault, some_left, named_rest, alone, value_line, next_value}
+use Rattle.trace_reader.specs.Headers.{version_in, first_version, first_line, initial_of, initial_value, initial_field}
 use Rattle.trace_reader.specs.Headers.{initial_line, half_line, hosts_line, congestion_line, hosted, late, judged_lines, late_lines, header_with, header_of}
-use Rattle.trace_reader.proofs.HeaderLaw.{Raws, Headed, is_first, version_taken, version_given, version_takes, version_again, with_first, with_skew, with_msl, with_grain, with_minrto, with_extra}
+use Rattle.trace_reader.proofs.HeaderLaw.{Raws, Headed, is_first, version_taken, version_given, version_takes, version_again}
+use Rattle.trace_reader.proofs.HeaderLaw.{with_first, with_skew, with_msl, with_grain, with_minrto, with_extra}
 
 abbrev bad : {A : Type 0} → TextFault → Result A TextFault
 bad e = Err e
@@ -319,7 +322,8 @@ regroup (Ok x) g f = refl
 regroup (Err e) g f = refl
 
 -- what reads the same has the same first faults
-heads_as : {B : Type 0} (number : ℕ) (rows : List Row) (read other : Raws → Result B TextFault) → ((raws : Raws) → read raws ≡ other raws) → Heads number rows other → Heads number rows read
+heads_as : {B : Type 0} (number : ℕ) (rows : List Row) (read other : Raws → Result B TextFault)
+    → ((raws : Raws) → read raws ≡ other raws) → Heads number rows other → Heads number rows read
 heads_as number rows read other same on raws e = (λ is. (on raws e).0 (sym (same raws) ∙ is), λ g. same raws ∙ (on raws e).1 g)
 
 -- nothing more is read
@@ -328,7 +332,9 @@ no_more_rows number given raws e = (λ same. absurd cc, λ g. absurd g)
 
 congestion_then : {B : Type 0} (rows : List Row) (next : Judged × Raws → Result B TextFault) → ((j : Judged) → Heads 10 rows (λ raws. next (j, raws)))
     → Heads 9 (row (codes "congestion") (named judged_name all_judged) ∷ rows) (λ raws. congestion_line raws >>= next)
-congestion_then rows next on = row_then (kind_value judged_name all_judged) (row (codes "congestion") (named judged_name all_judged)) (λ w. named_agrees w (kind_named judged_name all_judged w.text)) 9 rows next on
+congestion_then rows next on =
+    row_then (kind_value judged_name all_judged) (row (codes "congestion") (named judged_name all_judged))
+    (λ w. named_agrees w (kind_named judged_name all_judged w.text)) 9 rows next on
 
 half_then : {B : Type 0} (f : LateLines × Raws → B) → Heads 7 (late_rows Three) (λ raws. late_lines Three raws >>= λ x. good (f x))
 half_then {B} f = heads_as 7 (late_rows Three) _ (λ raws. initial_line raws >>= λ i. half i.0 i.1) both split
@@ -337,12 +343,14 @@ half_then {B} f = heads_as 7 (late_rows Three) _ (λ raws. initial_line raws >>=
     half i raws = half_line raws >>= λ h. Ok (f (late Three i Full, h.1))
 
     split : Heads 7 (late_rows Three) (λ raws. initial_line raws >>= λ i. half i.0 i.1)
-    split = initial_then (row (codes "half") (numeric 0 0) ∷ []) (λ i. half i.0 i.1) (λ i. number_then (codes "half") 0 0 8 [] (λ h. Ok (f (late Three i Full, h.1))) (λ n. no_more_rows 9 (λ raws. f (late Three i Full, raws))))
+    split = initial_then (row (codes "half") (numeric 0 0) ∷ []) (λ i. half i.0 i.1)
+        (λ i. number_then (codes "half") 0 0 8 [] (λ h. Ok (f (late Three i Full, h.1))) (λ n. no_more_rows 9 (λ raws. f (late Three i Full, raws))))
 
     both : (raws : Raws) → (late_lines Three raws >>= λ x. good (f x)) ≡ (initial_line raws >>= λ i. half i.0 i.1)
     both raws = regroup (initial_line raws) (λ i. half_line i.1 >>= λ h. Ok (late Three i.0 Full, h.1)) (λ x. good (f x)) ∙ behind (initial_line raws)
       where
-        behind : (m : Result (Initial × Raws) TextFault) → (m >>= λ i. (half_line i.1 >>= λ h. good (late Three i.0 Full, h.1)) >>= λ x. good (f x)) ≡ (m >>= λ i. half i.0 i.1)
+        behind : (m : Result (Initial × Raws) TextFault)
+            → (m >>= λ i. (half_line i.1 >>= λ h. good (late Three i.0 Full, h.1)) >>= λ x. good (f x)) ≡ (m >>= λ i. half i.0 i.1)
         behind (Err e) = refl
         behind (Ok i) = regroup (half_line i.1) (λ h. Ok (late Three i.0 Full, h.1)) (λ x. good (f x))
 
@@ -363,17 +371,22 @@ judged_then {B} f = heads_as 7 judged_rows _ (λ raws. initial_line raws >>= λ 
     last : (i : Initial) (n : ℕ) (raws : Raws) → ((congestion_line raws >>= λ c. good (late (hosted n) i c.0, c.1)) >>= λ x. good (f x)) ≡ congestion i n raws
     last i n raws = regroup (congestion_line raws) (λ c. Ok (late (hosted n) i c.0, c.1)) (λ x. good (f x))
 
-    after_hosts : (i : Initial) (m : Result (ℕ × Raws) TextFault) → (m >>= λ h. (congestion_line h.1 >>= λ c. good (late (hosted h.0) i c.0, c.1)) >>= λ x. good (f x)) ≡ (m >>= λ h. congestion i h.0 h.1)
+    after_hosts : (i : Initial) (m : Result (ℕ × Raws) TextFault)
+        → (m >>= λ h. (congestion_line h.1 >>= λ c. good (late (hosted h.0) i c.0, c.1)) >>= λ x. good (f x)) ≡ (m >>= λ h. congestion i h.0 h.1)
     after_hosts i (Err e) = refl
     after_hosts i (Ok h) = last i h.0 h.1
 
     after_initial : (m : Result (Initial × Raws) TextFault)
-        → (m >>= λ i. (hosts_line i.1 >>= λ h. congestion_line h.1 >>= λ c. good (late (hosted h.0) i.0 c.0, c.1)) >>= λ x. good (f x)) ≡ (m >>= λ i. hosts i.0 i.1)
+        → (m >>= λ i. (hosts_line i.1 >>= λ h. congestion_line h.1 >>= λ c. good (late (hosted h.0) i.0 c.0, c.1)) >>= λ x. good (f x))
+        ≡ (m >>= λ i. hosts i.0 i.1)
     after_initial (Err e) = refl
-    after_initial (Ok i) = regroup (hosts_line i.1) (λ h. congestion_line h.1 >>= λ c. Ok (late (hosted h.0) i.0 c.0, c.1)) (λ x. good (f x)) ∙ after_hosts i.0 (hosts_line i.1)
+    after_initial (Ok i) =
+        regroup (hosts_line i.1) (λ h. congestion_line h.1 >>= λ c. Ok (late (hosted h.0) i.0 c.0, c.1)) (λ x. good (f x)) ∙ after_hosts i.0 (hosts_line i.1)
 
     both : (raws : Raws) → (judged_lines raws >>= λ x. good (f x)) ≡ (initial_line raws >>= λ i. hosts i.0 i.1)
-    both raws = regroup (initial_line raws) (λ i. hosts_line i.1 >>= λ h. congestion_line h.1 >>= λ c. Ok (late (hosted h.0) i.0 c.0, c.1)) (λ x. good (f x)) ∙ after_initial (initial_line raws)
+    both raws =
+        regroup (initial_line raws) (λ i. hosts_line i.1 >>= λ h. congestion_line h.1 >>= λ c. Ok (late (hosted h.0) i.0 c.0, c.1)) (λ x. good (f x))
+        ∙ after_initial (initial_line raws)
 
 late_then : {B : Type 0} (v : Version) (f : LateLines × Raws → B) → Heads 7 (late_rows v) (λ raws. late_lines v raws >>= λ x. good (f x))
 late_then One f = no_more_rows 7 (λ raws. f (late One Rfc5681 Full, raws))
@@ -409,7 +422,8 @@ others_then v = number_then (codes "skew") 0 1000000000 2 (from_msl v) (with_ske
 version_err : (text : List ℕ) (e : TextFault) → version_in text ≡ Err e → e ≡ other_text 1 text
 version_err text e = go (is_first text One) (is_first text Two) (is_first text Three) (is_first text Four)
   where
-    go : (a b c d : Bool) → (if a then good One else if b then Ok Two else if c then Ok Three else if d then Ok Four else Err (other_text 1 text)) ≡ Err e → e ≡ other_text 1 text
+    go : (a b c d : Bool)
+        → (if a then good One else if b then Ok Two else if c then Ok Three else if d then Ok Four else Err (other_text 1 text)) ≡ Err e → e ≡ other_text 1 text
     go true b c d same = absurd cc
     go false true c d same = absurd cc
     go false false true d same = absurd cc
@@ -467,5 +481,6 @@ header_faults (raw ∷ raws) e = go (first_version raw) refl
             let same : good (named_as u) ≡ Ok v = sym (version_again u first line) ∙ ap first_version one ∙ is in
             let read_as : named_as u ≡ v = cc in
             let faulty = rows_faulty 2 g.done g.left g.next g.front g.rest e g.good g.fault in
-            let all : Faulty 2 (header_rows v) raws e = subst (λ (us : Raws). Faulty 2 (header_rows v) us e) (sym g.split ∙ rest) (subst (λ (rs : List Row). Faulty 2 rs (g.front ++ g.rest) e) (sym g.forms ∙ rows_named u ∙ ap header_rows read_as) faulty) in
+            let formed = subst (λ (rs : List Row). Faulty 2 rs (g.front ++ g.rest) e) (sym g.forms ∙ rows_named u ∙ ap header_rows read_as) faulty in
+            let all : Faulty 2 (header_rows v) raws e = subst (λ (us : Raws). Faulty 2 (header_rows v) us e) (sym g.split ∙ rest) formed in
             (others_then v raws e).1 all

@@ -1,5 +1,6 @@
 -- The header's lines are read exactly where their bytes spell them.
-use Rattle.std.proofs.Common.{◌≡◌, ◌≤◌, ◌<◌, ◌^◌, ◌+◌, ◌⊎◌, inl, inr, ℕ, zero, suc, List, [], ◌∷◌, ◌++◌, Bool, true, false, cond, Result, Ok, Err, refl, sym, ap, subst, ◌∙◌, append_assoc, arith}
+use Rattle.std.proofs.Common.{◌≤◌, ◌<◌, ◌^◌, ◌+◌, ℕ, zero, suc, arith}
+use Rattle.std.proofs.Common.{◌≡◌, ◌⊎◌, inl, inr, List, [], ◌∷◌, ◌++◌, Bool, true, false, cond, Result, Ok, Err, refl, sym, ap, subst, ◌∙◌, append_assoc}
 use Rattle.std.specs.Prelude.{codes, map, ◌==◌}
 use Rattle.std.specs.Fmt.{decimal}
 use Rattle.std.specs.Str.{bytes_eq}
@@ -30,9 +31,11 @@ use Rattle.line_fields.proofs.Clean.{clean_by, joined_no_return}
 use Rattle.line_fields.proofs.Endings.{ending_again}
 use Rattle.line_fields.proofs.Texts.{lines_of-raw}
 use Rattle.line_fields.proofs.LineRests.{fields_taken, fields_again, is_raw, text_takes, text_again}
-use Rattle.trace_reader.specs.declared.header.LateLines.{LateLines}
-use Rattle.trace_reader.specs.Headers.{first_words, initial_number, initial_words, half_words, hosts_words, judged_name, all_judged, congestion_words, late_words, header_words, IsHeader, AreLines}
-use Rattle.trace_reader.specs.Headers.{header_fault, some_left, named_rest, alone, value_line, next_value, version_in, first_version, version_named, first_line, initial_of, initial_value, initial_field, initial_line}
+use Rattle.trace_reader.specs.declared.late_lines.LateLines.{LateLines}
+use Rattle.trace_reader.specs.Headers.{first_words, initial_number, initial_words, half_words, hosts_words, judged_name, all_judged, congestion_words}
+use Rattle.trace_reader.specs.Headers.{late_words, header_words, IsHeader, AreLines}
+use Rattle.trace_reader.specs.Headers.{header_fault, some_left, named_rest, alone, value_line, next_value}
+use Rattle.trace_reader.specs.Headers.{version_in, first_version, version_named, first_line, initial_of, initial_value, initial_field, initial_line}
 use Rattle.trace_reader.specs.Headers.{half_line, hosts_line, congestion_line, hosted, late, judged_lines, late_lines, header_with, header_of}
 
 abbrev pub Raws : Type 0
@@ -279,7 +282,8 @@ congestion_takes raws x e =
 
 congestion_again : (j : Judged) (raw : List ℕ) (rest : Raws) → IsLine 9 (joined (congestion_words j)) raw → congestion_line (raw ∷ rest) ≡ Ok (j, rest)
 congestion_again j raw rest line =
-    next_again 9 (codes "congestion") (kind_field judged_name all_judged) IsJudged reads_judged raw (judged_name j) rest j (clean_by (codes "congestion") refl) (judged_clean j) line refl
+    next_again 9 (codes "congestion") (kind_field judged_name all_judged) IsJudged reads_judged raw (judged_name j) rest j
+    (clean_by (codes "congestion") refl) (judged_clean j) line refl
 
 -- ---- the lines that version 1 doesn't have
 
@@ -349,7 +353,14 @@ judged_takes v raws x four e =
 
 late_takes : (v : Version) (raws : Raws) (x : LateLines × Raws) → late_lines v raws ≡ Ok x → IsLate v raws x
 late_takes One raws x e =
-    subst (λ (y : LateLines × Raws). IsLate One raws y) (ok_is (late One Rfc5681 Full, raws) x e) (record { heads = []; front = refl; named = refl; initial = λ one. refl; congestion = λ says. refl; lines = tt })
+    subst (λ (y : LateLines × Raws). IsLate One raws y) (ok_is (late One Rfc5681 Full, raws) x e) (record {
+      heads = [];
+      front = refl;
+      named = refl;
+      initial = λ one. refl;
+      congestion = λ says. refl;
+      lines = tt;
+    })
 late_takes Two raws x e =
     let a = bind_ok (initial_line raws) (λ i. Ok (late Two i.0 Full, i.1)) x e in
     let n = initial_takes raws a.0 a.1 in
@@ -391,7 +402,8 @@ words_named FourHalf = refl
 abbrev pub is_first : List ℕ → Version → Bool
 is_first text v = bytes_eq text (joined (first_words v))
 
-version_by : (text : List ℕ) (fault : TextFault) (v : Version) (a b c d : Bool) → is_first text One ≡ a → is_first text Two ≡ b → is_first text Three ≡ c → is_first text Four ≡ d
+version_by : (text : List ℕ) (fault : TextFault) (v : Version) (a b c d : Bool)
+    → is_first text One ≡ a → is_first text Two ≡ b → is_first text Three ≡ c → is_first text Four ≡ d
     → cond a (Ok One) (cond b (Ok Two) (cond c (Ok Three) (cond d (Ok Four) (Err fault)))) ≡ Ok v → is_first text v ≡ true
 version_by text fault v true b c d one two three four e = ap (is_first text) (sym (ok_is One v e)) ∙ one
 version_by text fault v false true c d one two three four e = ap (is_first text) (sym (ok_is Two v e)) ∙ two
@@ -401,7 +413,9 @@ version_by text fault v false false false false one two three four e = absurd cc
 
 pub version_taken : (text : List ℕ) (v : Version) → version_in text ≡ Ok v → text ≡ joined (first_words v)
 version_taken text v e =
-    let found = version_by text (record { kind = kinds.Header; span = whole_line 1 text }) v (is_first text One) (is_first text Two) (is_first text Three) (is_first text Four) refl refl refl refl e in
+    let found =
+    version_by text (record { kind = kinds.Header; span = whole_line 1 text }) v
+    (is_first text One) (is_first text Two) (is_first text Three) (is_first text Four) refl refl refl refl e in
     (bytes_eq-Decides text (joined (first_words v))).0 found
 
 pub version_given : (v : Version) → version_in (joined (first_words v)) ≡ Ok (named_as v)
@@ -423,7 +437,8 @@ version_again v raw line =
     ap (λ (x : Result (List ℕ) TextFault). x >>= version_in) (text_again 1 raw (joined (first_words v)) (joined_no_return (first_words v) (first_clean v)) line) ∙ version_given v
 
 -- it is known from the first line alone
-named_text : (v : Version) (raw : List ℕ) (raws : Raws) → without_terminator raw ≡ joined (first_words v) → is_ended raw ≡ true → version_named (raw ∷ raws) ≡ named_as v
+named_text : (v : Version) (raw : List ℕ) (raws : Raws)
+    → without_terminator raw ≡ joined (first_words v) → is_ended raw ≡ true → version_named (raw ∷ raws) ≡ named_as v
 named_text One raw raws text ended = rw (text, ended) refl
 named_text Two raw raws text ended = rw (text, ended) refl
 named_text Three raw raws text ended = rw (text, ended) refl
@@ -520,7 +535,16 @@ header_takes raws x e =
     subst (λ (y : Headed). IsHeaded raws y) (ok_is (made, k.0.1) x k.2) (record {
       heads = h.raw ∷ s.raw ∷ m.raw ∷ n.raw ∷ i.raw ∷ t.raw ∷ l.heads;
       front = h.first ∙ ap (λ (us : Raws). h.raw ∷ us) (s.first ∙ ap (λ (us : Raws). s.raw ∷ us) (m.first ∙ ap (λ (us : Raws). m.raw ∷ us) (n.first ∙ ap (λ (us : Raws). n.raw ∷ us) (i.first ∙ ap (λ (us : Raws). i.raw ∷ us) (t.first ∙ ap (λ (us : Raws). t.raw ∷ us) l.front)))));
-      limits = record { skew = s.high; msl_least = m.low; msl = m.high; grain = n.high; minrto = i.high; extra = t.high; initial = l.initial; congestion = l.congestion };
+      limits = record {
+        skew = s.high;
+        msl_least = m.low;
+        msl = m.high;
+        grain = n.high;
+        minrto = i.high;
+        extra = t.high;
+        initial = l.initial;
+        congestion = l.congestion;
+      };
       lines = (subst (λ (ws : List (List ℕ)). IsLine 1 (joined ws) h.raw) words h.line, (s.line, (m.line, (n.line, (i.line, (t.line, l.lines))))));
     })
 
@@ -540,7 +564,8 @@ no_line : (number : ℕ) (raws : Raws) → AreLines number [] raws → raws ≡ 
 no_line number [] h = refl
 no_line number (raw ∷ raws) h = absurd h
 
-judged_again : (n : ℕ) (i : Initial) (j : Judged) (heads rest : Raws) → 1 ≤ n → n ≤ 2 → AreLines 7 (initial_words i ∷ hosts_words n ∷ congestion_words j ∷ []) heads
+judged_again : (n : ℕ) (i : Initial) (j : Judged) (heads rest : Raws) → 1 ≤ n → n ≤ 2
+    → AreLines 7 (initial_words i ∷ hosts_words n ∷ congestion_words j ∷ []) heads
     → judged_lines (heads ++ rest) ≡ Ok (late (hosted n) i j, rest)
 judged_again n i j heads rest low high lines =
     let a = has_line 7 (initial_words i) (hosts_words n ∷ congestion_words j ∷ []) heads lines in
@@ -554,14 +579,18 @@ judged_again n i j heads rest low high lines =
     let congestion = congestion_again j c.raw rest c.line in
     ap (λ (us : Raws). judged_lines (us ++ rest)) all ∙ rw (first, hosts, congestion) refl
 
-late_again : (v : Version) (i : Initial) (j : Judged) (heads rest : Raws) → (v ≡ One → i ≡ Rfc5681) → (says_congestion v ≡ false → j ≡ Full) → AreLines 7 (late_words v i j) heads
+late_again : (v : Version) (i : Initial) (j : Judged) (heads rest : Raws) → (v ≡ One → i ≡ Rfc5681) → (says_congestion v ≡ false → j ≡ Full)
+    → AreLines 7 (late_words v i j) heads
     → late_lines (named_as v) (heads ++ rest) ≡ Ok (late v i j, rest)
 late_again One i j heads rest initial congestion lines =
-    ap (λ (us : Raws). late_lines One (us ++ rest)) (no_line 7 heads lines) ∙ ap (λ (k : Initial). Ok (late One k Full, rest)) (sym (initial refl)) ∙ ap (λ (k : Judged). Ok (late One i k, rest)) (sym (congestion refl))
+    ap (λ (us : Raws). late_lines One (us ++ rest)) (no_line 7 heads lines)
+    ∙ ap (λ (k : Initial). Ok (late One k Full, rest)) (sym (initial refl))
+    ∙ ap (λ (k : Judged). Ok (late One i k, rest)) (sym (congestion refl))
 late_again Two i j heads rest initial congestion lines =
     let a = has_line 7 (initial_words i) [] heads lines in
     let all : heads ≡ a.raw ∷ [] = a.first ∙ ap (λ (us : Raws). a.raw ∷ us) (no_line 8 a.rest a.others) in
-    ap (λ (us : Raws). late_lines Two (us ++ rest)) all ∙ ap (λ (m : Result (Initial × Raws) TextFault). m >>= λ x. Ok (late Two x.0 Full, x.1)) (initial_again i a.raw rest a.line)
+    ap (λ (us : Raws). late_lines Two (us ++ rest)) all
+    ∙ ap (λ (m : Result (Initial × Raws) TextFault). m >>= λ x. Ok (late Two x.0 Full, x.1)) (initial_again i a.raw rest a.line)
     ∙ ap (λ (k : Judged). Ok (late Two i k, rest)) (sym (congestion refl))
 late_again Three i j heads rest initial congestion lines =
     let a = has_line 7 (initial_words i) (half_words ∷ []) heads lines in
@@ -614,7 +643,8 @@ header_again h heads rest limits lines =
     let late_read = late_again h.version h.initial h.congestion last rest limits.initial limits.congestion g.others in
     ap (λ (us : Raws). first_line (us ++ rest) >>= with_first) all ∙ rw (first, skew, msl, grain, minrto, extra, late_read) refl
 
-judged_words_clean : (n : ℕ) (i : Initial) (j : Judged) → n ≤ 2 → AllByRecursion (AllByRecursion IsClean) (initial_words i ∷ hosts_words n ∷ congestion_words j ∷ [])
+judged_words_clean : (n : ℕ) (i : Initial) (j : Judged) → n ≤ 2
+    → AllByRecursion (AllByRecursion IsClean) (initial_words i ∷ hosts_words n ∷ congestion_words j ∷ [])
 judged_words_clean n i j few = (
   (clean_by (codes "initial") refl, (initial_clean i, tt)),
   ((clean_by (codes "hosts") refl, (IsClean-decimal n (omega arith), tt)), ((clean_by (codes "congestion") refl, (judged_clean j, tt)), tt)),
@@ -658,7 +688,8 @@ pub header_raw : (h : Header) (heads : List (List ℕ)) → IsHeader h → AreLi
 header_raw h heads limits lines = lines_raw 1 (header_words h) heads (header_clean h limits) lines
 
 -- a text that begins with a header names its version; of both of version 4 that of two hosts
-pub header_named : (h : Header) (heads : List (List ℕ)) (rest : List ℕ) → AreLines 1 (header_words h) heads → version_named (lines_of (concat heads ++ rest)) ≡ named_as h.version
+pub header_named : (h : Header) (heads : List (List ℕ)) (rest : List ℕ) → AreLines 1 (header_words h) heads
+    → version_named (lines_of (concat heads ++ rest)) ≡ named_as h.version
 header_named h heads rest lines =
     let a = has_line 1 (first_words h.version) (from_skew h) heads lines in
     let behind = concat a.rest ++ rest in

@@ -18,7 +18,7 @@ use Rattle.line_fields.specs.Reading.{◌>>=◌, fault_at, next_field, number_va
 use Rattle.line_fields.specs.Choice.{kind_field}
 use Rattle.line_fields.specs.Lines.{IsLine, is_ended, whole_line, line_text, line_rest, next_raw}
 use Rattle.line_fields.specs.Spelling.{joined}
-use Rattle.trace_reader.specs.declared.header.LateLines.{LateLines}
+use Rattle.trace_reader.specs.declared.late_lines.LateLines.{LateLines}
 
 -- how the first line names the version
 abbrev pub version_text : Version → List ℕ

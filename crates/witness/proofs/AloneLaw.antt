@@ -37,18 +37,21 @@ label_two (F host recovery) fits = (endpoint_two host recovery.lport recovery.rp
 step_two : (number : ℕ) (s : Step) (raw : List ℕ) → IsStepText versions.FourHalf number s raw → IsStepText versions.Four number s raw
 step_two number s raw t = record { texts = t.texts; written = t.written; line = t.line; moment = t.moment; label = label_two s.label t.label; span = t.span }
 
-steps_two : (number : ℕ) (steps : List Step) (raws : List (List ℕ)) → AreSpelled (IsStepText versions.FourHalf) number_after number steps raws → AreSpelled (IsStepText versions.Four) number_after number steps raws
+steps_two : (number : ℕ) (steps : List Step) (raws : List (List ℕ)) → AreSpelled (IsStepText versions.FourHalf) number_after number steps raws
+    → AreSpelled (IsStepText versions.Four) number_after number steps raws
 steps_two number [] [] h = tt
 steps_two number [] (raw ∷ raws) h = absurd h
 steps_two number (s ∷ steps) [] h = absurd h
 steps_two number (s ∷ steps) (raw ∷ raws) h = (step_two number s raw h.0, steps_two (number + 1) steps raws h.1)
 
-alone_by : (v : Version) (steps : List Step) (text : List ℕ) → IsWitnessText (record { version = v; steps = steps }) text → IsWitnessText (record { version = named_as v; steps = steps }) text
+alone_by : (v : Version) (steps : List Step) (text : List ℕ) → IsWitnessText (record { version = v; steps = steps }) text
+    → IsWitnessText (record { version = named_as v; steps = steps }) text
 alone_by versions.One steps text t = t
 alone_by versions.Two steps text t = t
 alone_by versions.Three steps text t = t
 alone_by versions.Four steps text t = t
-alone_by versions.FourHalf steps text t = record { first = t.first; raws = t.raws; begins = t.begins; steps = steps_two 2 steps t.raws t.steps; parts = t.parts }
+alone_by versions.FourHalf steps text t =
+    record { first = t.first; raws = t.raws; begins = t.begins; steps = steps_two 2 steps t.raws t.steps; parts = t.parts }
 
 pub text_alone : (w : Witness) (text : List ℕ) → IsWitnessText w text → IsWitnessText (seen_alone w) text
 text_alone w text t = alone_by w.version w.steps text t

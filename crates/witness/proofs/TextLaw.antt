@@ -109,7 +109,8 @@ text_again w text t =
     ap (witness_in w.version) (text_lines w text t) ∙ rw (begun, steps) refl
 
 -- the version that a first line names
-named_text : (v : Version) (raw : List ℕ) (raws : List (List ℕ)) → without_terminator raw ≡ first_text v → is_ended raw ≡ true → version_named (raw ∷ raws) ≡ named_as v
+named_text : (v : Version) (raw : List ℕ) (raws : List (List ℕ))
+    → without_terminator raw ≡ first_text v → is_ended raw ≡ true → version_named (raw ∷ raws) ≡ named_as v
 named_text versions.One raw raws text ended = rw (text, ended) refl
 named_text versions.Two raw raws text ended = rw (text, ended) refl
 named_text versions.Three raw raws text ended = rw (text, ended) refl

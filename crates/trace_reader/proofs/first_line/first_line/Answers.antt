@@ -5,7 +5,7 @@ use Rattle.line_fields.specs.Rows.{with_rest}
 use Rattle.line_fields.proofs.ReadsLemmas.{reads_value, reads_fault, reads_text}
 use Rattle.trace_reader.specs.Headers.{first_version, first_line}
 use Rattle.trace_reader.proofs.StreamLaw.{version_begins}
-use Rattle.trace_reader.proofs.header.first_line.Goals as goal
+use Rattle.trace_reader.proofs.first_line.first_line.Goals as goal
 
 pub returns-in_err-require_line-clause-line : goal.returns-in_err-require_line-clause-line
 unfolding first_line

@@ -2,7 +2,7 @@ use Rattle.std.proofs.Common.{refl}
 use Rattle.std.proofs.lemmas.Result.{err_from_is_err_and}
 use Rattle.trace_reader.specs.Headers.{initial_line, hosts_line, congestion_line}
 use Rattle.trace_reader.proofs.HeaderReads.{with_judged, with_hosts, with_congestion, value_then, value_not, value_last}
-use Rattle.trace_reader.proofs.header.judged_lines.Goals as goal
+use Rattle.trace_reader.proofs.late_lines.judged_lines.Goals as goal
 
 pub returns-in_err-initial-clause-value : goal.returns-in_err-initial-clause-value
 returns-in_err-initial-clause-value g c =
@@ -22,11 +22,13 @@ returns-in_err-congestion-clause-value g c =
     rw (p.1, p.2)
     (value_then initial_line with_judged _ _ _ c.in_ok-initial.initial _ c.in_ok-initial.ensures.value
     (value_then hosts_line (with_hosts c.in_ok-initial.initial) _ _ _ c.in_ok-hosts.hosts _ c.in_ok-hosts.ensures.value
-    (value_not congestion_line (with_congestion c.in_ok-initial.initial c.in_ok-hosts.hosts) _ _ c.in_err-congestion.field-0.0 c.in_err-congestion.ensures.value)))
+    (value_not congestion_line (with_congestion c.in_ok-initial.initial c.in_ok-hosts.hosts) _ _ c.in_err-congestion.field-0.0
+    c.in_err-congestion.ensures.value)))
 
 pub returns-clause-value : goal.returns-clause-value
 returns-clause-value g c =
     rw c.hosted.ensures
     (value_then initial_line with_judged _ _ _ c.in_ok-initial.initial _ c.in_ok-initial.ensures.value
     (value_then hosts_line (with_hosts c.in_ok-initial.initial) _ _ _ c.in_ok-hosts.hosts _ c.in_ok-hosts.ensures.value
-    (value_last congestion_line (with_congestion c.in_ok-initial.initial c.in_ok-hosts.hosts) _ _ c.in_ok-congestion.congestion _ (λ rest. refl) c.in_ok-congestion.ensures.value)))
+    (value_last congestion_line (with_congestion c.in_ok-initial.initial c.in_ok-hosts.hosts) _ _ c.in_ok-congestion.congestion _ (λ rest. refl)
+    c.in_ok-congestion.ensures.value)))

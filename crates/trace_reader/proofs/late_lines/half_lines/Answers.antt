@@ -2,7 +2,7 @@ use Rattle.std.proofs.Common.{refl}
 use Rattle.std.proofs.lemmas.Result.{err_from_is_err_and}
 use Rattle.trace_reader.specs.Headers.{initial_line, half_line}
 use Rattle.trace_reader.proofs.HeaderReads.{with_host, with_half, value_then, value_not, value_last}
-use Rattle.trace_reader.proofs.header.half_lines.Goals as goal
+use Rattle.trace_reader.proofs.late_lines.half_lines.Goals as goal
 
 pub returns-in_err-initial-clause-value : goal.returns-in_err-initial-clause-value
 returns-in_err-initial-clause-value g c =

@@ -6,7 +6,7 @@ use Rattle.line_fields.specs.Rows.{with_rest}
 use Rattle.line_fields.proofs.ReadsLemmas.{reads_text}
 use Rattle.trace_reader.specs.Headers.{value_line, next_value}
 use Rattle.trace_reader.proofs.StreamLaw.{value_begins}
-use Rattle.trace_reader.proofs.header.next_number.Goals as goal
+use Rattle.trace_reader.proofs.named_lines.next_number.Goals as goal
 
 pub returns-in_err-require_line-clause-value : goal.returns-in_err-require_line-clause-value
 unfolding next_value
