@@ -4,7 +4,7 @@
     sudo python3 tools/recorded_figures.py --lab PATH --runs 6
 
 Each run is a transfer between two network namespaces, recorded by importer/tcpwit-record and judged by `tcpwit_lab judge`. It counts under
-the strictest word of the header with a yes, or under "no" if no word has one.
+the strictest word of the header with a yes, or under "no" if no word has one; then standard error has what was refused.
 """
 import argparse
 import collections
@@ -28,7 +28,10 @@ def strictest(options, kernel, size, loss, seed):
         print(done.stderr, file=sys.stderr)
         return "error"
     rows = [line.split() for line in done.stdout.splitlines()]
-    return next((row[0] for row in rows if row[0] in WORDS and row[1] == "yes"), "no")
+    found = next((row[0] for row in rows if row[0] in WORDS and row[1] == "yes"), "no")
+    if found == "no":
+        print(done.stdout, file=sys.stderr)
+    return found
 
 
 def main():

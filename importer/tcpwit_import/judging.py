@@ -8,22 +8,26 @@ from .problem import Problem
 
 TOP = os.path.dirname(os.path.dirname(os.path.dirname(os.path.realpath(__file__))))
 NAME, VARIABLE = "tcpwit_lab", "TCPWIT_LAB"
-YES, NO, FAULTY, UNKNOWN_WORDS = range(4)
+NAME_IT = f"name the program {NAME} by --lab or {VARIABLE}"
+YES, NO, FAULTY = range(3)
 
 
 def lab(option):
-    """Where tcpwit_lab is: the option, the environment's TCPWIT_LAB, the PATH, or the repository's build."""
-    for place in (option, os.environ.get(VARIABLE)):
-        if place:
-            if not os.path.isfile(place) or not os.access(place, os.X_OK):
-                raise Problem(f"{place} is no program that can be run", f"name the program {NAME} by --lab or {VARIABLE}")
-            return os.path.abspath(place)
+    """The program tcpwit_lab: by the option, the environment's TCPWIT_LAB, the PATH, or the repository's build."""
+    place = option or os.environ.get(VARIABLE)
+    if place and not (os.path.isfile(place) and os.access(place, os.X_OK)):
+        raise Problem(f"{place} is no program that can be run", NAME_IT)
     built = os.path.join(TOP, "crates", NAME, "out", NAME)
-    found = shutil.which(NAME) or (built if os.access(built, os.X_OK) else None)
+    found = place or shutil.which(NAME) or (built if os.access(built, os.X_OK) else None)
     if found is None:
         raise Problem(f"{NAME} is not in the PATH, and not built in this repository",
                       f"build it (docs/RECORDING.md), or name it by --lab or {VARIABLE}; --no-check judges nothing")
-    return os.path.abspath(found)
+    found = os.path.abspath(found)
+    # A program without `judge` is refused here, and not after a long recording. To `judge` an empty trace is faulty.
+    if on_file([found, "judge"], os.devnull).returncode != FAULTY:
+        raise Problem(f"{found} doesn't know the word judge",
+                      f"build it again from these sources (docs/RECORDING.md), or name a newer one by --lab or {VARIABLE}")
+    return found
 
 
 def case_of(trace):
@@ -50,13 +54,10 @@ def judge(program, trace, least):
     folder, name = os.path.split(case_of(trace))
     done = on_file([program, "judge", "--least", least, "--case", "./" + name], trace, folder or ".")
     lines = done.stdout.decode(errors="replace").splitlines()
-    if done.returncode == UNKNOWN_WORDS:
-        raise Problem(f"{program} doesn't know the word judge",
-                      f"build it again from these sources (docs/RECORDING.md), or name a newer one by --lab or {VARIABLE}")
     if done.returncode not in (YES, NO):
-        said = lines or done.stderr.decode(errors="replace").splitlines()
+        said = "; ".join(lines[:1] + done.stderr.decode(errors="replace").splitlines()[-1:])
         remedy = f"read what {NAME} explain says about it" if done.returncode == FAULTY else f"see whether this works: {program} judge < {trace}"
-        raise Problem(f"{trace}: {said[0] if said else ended(done.returncode)}", remedy)
+        raise Problem(f"{trace}: {said or ended(done.returncode)}", remedy)
     return lines, done.returncode
 
 
@@ -74,7 +75,7 @@ def on_file(words, name, folder=None):
         try:
             return subprocess.run(words, stdin=source, capture_output=True, check=False, cwd=folder)
         except OSError as error:
-            raise Problem(f"{words[0]}: {error.strerror}", f"name the program {NAME} by --lab or {VARIABLE}") from error
+            raise Problem(f"{words[0]}: {error.strerror}", NAME_IT) from error
 
 
 def ended(status):

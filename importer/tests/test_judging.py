@@ -9,7 +9,9 @@ from . import test_command
 from .test_command import run
 
 # Keeps the words and the trace that it was given, and a case and a picture if they are wanted; answers to `judge` what the test chose.
+# Before that it is asked whether it knows `judge`, by no other word and an empty trace.
 SCRIPT = """#!/bin/sh
+[ "$*" = judge ] && {known}
 echo "$@" >> {folder}/words
 if [ "$1" = draw ]; then echo '<svg/>'; exit 0; fi
 cat > {folder}/given
@@ -21,12 +23,12 @@ LINES = "full      no 57 88 congestion\nnone      yes 101 85\nThe run keeps RFC 
 
 
 class Judging(test_command.WithFiles):
-    def lab(self, answer, end="exit 0"):
+    def lab(self, answer, end="exit 0", known="exit 2"):
         """A program that answers so; the words that name it."""
         with open(f"{self.folder}/answer", "w", encoding="ascii") as file:
             file.write(answer)
         with open(f"{self.folder}/lab", "w", encoding="ascii") as file:
-            file.write(SCRIPT.format(folder=self.folder, end=end))
+            file.write(SCRIPT.format(folder=self.folder, end=end, known=known))
         os.chmod(f"{self.folder}/lab", 0o755)
         return ["--lab", f"{self.folder}/lab"]
 
@@ -71,11 +73,14 @@ class Judging(test_command.WithFiles):
     def test_a_program_that_fails(self):
         words = [*self.captures, *self.logs, "--out", f"{self.folder}/run.trace"]
         for answer, end, cause in (("bad trace 9 12 13 number\n", "exit 2", "run.trace: bad trace 9 12 13 number"),
-                                   ("bad usage\n", "exit 3", "doesn't know the word judge"), ("bad memory\n", "exit 4", "run.trace: bad memory"),
+                                   ("bad usage\n", "exit 3", "run.trace: bad usage"), ("bad memory\n", "exit 4", "run.trace: bad memory"),
+                                   ("bad device\n", "echo ./run.case: full >&2; exit 5", "run.trace: bad device; ./run.case: full"),
                                    ("", "exit 9", "ended with status 9"), ("", "kill -KILL $$", "ended by signal 9")):
             with self.subTest(end):
                 self.refused([*words, "--quiet", *self.lab(answer, end)], cause)
         self.refused([*self.captures, *self.logs, "--quiet", "--out", "/dev/null", *self.lab(LINES)], "/dev/null is no file")
+        for known in ("exit 0", "exit 1", "exit 3"):
+            self.refused([*words, "--quiet", *self.lab(LINES, known=known)], "doesn't know the word judge")
 
     def test_a_program_that_is_none(self):
         words = [*self.captures, *self.logs, "--quiet", "--out", f"{self.folder}/run.trace"]
@@ -111,9 +116,11 @@ class Judging(test_command.WithFiles):
         self.assertEqual(self.text("kept/run.trace")[:8], "trace 2\n")
 
     def test_a_recording_that_fails(self):
-        status, out, error = self.recorded(*self.lab("bad usage\n", "exit 3"))
+        status, out, error = self.recorded(*self.lab("bad trace 9 12 13 number\n", "exit 2"))
         self.assertEqual((status, out), (2, ""))
-        self.assertIn("doesn't know the word judge", error)
+        self.assertIn("run.trace: bad trace 9 12 13 number\n  read what tcpwit_lab explain says", error)
+        with mock.patch("os.geteuid", return_value=0):
+            self.refused(["--transfer", "5", *self.lab(LINES, known="exit 3")], "doesn't know the word judge", recording)
         self.logs = self.logs[:2] + [f"{self.folder}/nothing"]
         self.assertEqual(self.recorded(*self.lab(LINES))[:2], (2, ""))
 

@@ -262,6 +262,17 @@ class TheCommand(unittest.TestCase):
         status, out = self.reported("--against", file)
         self.assertEqual((status, "before: two: no congestion [none]" in out), (1, True))
 
+    def test_cases_are_kept_by_their_word(self):
+        judge = SimpleNamespace(judge=lambda outcome, run, values: {"full": "a", "none": "b"})
+        command.judge_and_keep(self.outcome("", ""), None, None, judge, self.folder)
+        self.assertEqual(sorted(os.listdir(self.folder)), ["x.case", "x.none.case"])
+
+    def test_a_program_that_takes_too_long(self):
+        outcome = self.outcome("", "")
+        judge = SimpleNamespace(judge=mock.Mock(side_effect=subprocess.TimeoutExpired(["/usr/bin/tcpwit_lab", "find"], 120)))
+        command.judge_and_keep(outcome, None, None, judge, None)
+        self.assertEqual((outcome.verdict, outcome.word()), ("broken tcpwit_lab find took more than 120 seconds", "broken"))
+
     def test_what_cannot_be_run(self):
         self.assertEqual(self.run_it("lwip", "--least", "cubic")[0], 2)
         for words, cause in ((["/nowhere"], "neither a folder"), (["true", "--profile", "/nowhere", "x"], "/nowhere"),
