@@ -16,7 +16,9 @@ PROGRAM = '''
 //! One host with many connections that are open and idle: how long its events take.
 #![tactic(auto)]
 
-use case_forms::{Answer, Call, Header, Host, Initial, OutOfMemory, Version};
+use case_forms::{
+    Answer, Call, Header, Host, Initial, Judged, OutOfMemory, Version,
+};
 use stack_core::{CoreConfig, HostCore, Tick};
 use std::alloc::Global;
 use std::time::Instant;
@@ -81,6 +83,7 @@ fn new_core(alloc: Global) -> HostCore {
         minrto: 200_000,
         extra: 1,
         initial: Initial::Rfc5681,
+        congestion: Judged::Full,
     };
     let config = CoreConfig {
         mss: 536,

@@ -1,5 +1,5 @@
 #!/usr/bin/env python3
-"""Writes each half of the whole cases of a folder as a case of version 3.
+"""Writes each half of the whole cases of a folder as a case of version 3, or of version 4 if the whole case is.
 
     python3 tools/half_cases.py crates/test_cases/data FOLDER
 
@@ -23,9 +23,8 @@ version 1 shows a SYN of this host that tells a shift: version 1 doesn't look at
 import pathlib
 import sys
 
-# How many lines stand before the first event line, by the first line of a trace.
-HEADERS = {"trace 1": 6, "trace 2": 7}
-HALF_HEADER = 8
+# How many lines the header of a whole case has, by its first line.
+HEADERS = {"trace 1": 6, "trace 2": 7, "trace 4": 9}
 
 
 def lines_of(text):
@@ -39,6 +38,8 @@ def split_case(text):
     if not lines or lines[0] not in HEADERS:
         return None
     first = HEADERS[lines[0]]
+    if "hosts 1" in lines[:first]:
+        return None
     cut = lines.index(lines[0].replace("trace", "witness"))
     events = [line.split(" ") for line in lines[first:cut]]
     steps = [line.split(" ") for line in lines[cut + 1 :]]
@@ -47,6 +48,8 @@ def split_case(text):
 
 def half_header(header):
     """The lines of the header of a half case."""
+    if header[0] == "trace 4":
+        return [*header[:7], "hosts 1", header[8]]
     initial = header[6] if len(header) > 6 else "initial 5681"
     return ["trace 3", *header[1:6], initial, "half 0"]
 
@@ -185,11 +188,12 @@ def write_half(case, header, host):
     if header[0] == "trace 1" and shows_shift(case, host):
         return None
     steps = case.kept_steps(host)
-    lines = {str(case.first + old): str(HALF_HEADER + new) for new, old in enumerate(places, 1)}
-    made = number_made(case, steps)
     text = half_header(header)
+    lines = {str(case.first + old): str(len(text) + new) for new, old in enumerate(places, 1)}
+    made = number_made(case, steps)
+    witness = text[0].replace("trace", "witness")
     text += [" ".join(half_line(case.events[place])) for place in places]
-    text += ["witness 3"]
+    text.append(witness)
     text += [" ".join(half_step(case, case.steps[place], lines, made)) for place in steps]
     wanted = f"yes {len(places)} {len(steps) - len(places)}"
     return "".join(line + "\n" for line in text), wanted

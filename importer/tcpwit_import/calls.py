@@ -102,14 +102,13 @@ def is_any(address):
 class HostCalls:
     """Reads the events of one host's logs. `host` is 0, 1, or None if the log has the calls of both hosts."""
 
-    def __init__(self, host, connections, captures, notes, tells_notconn=False):
+    def __init__(self, host, connections, captures, notes):
         self.host, self.captures, self.notes = host, captures, notes
         # Connections that no call has claimed yet, by the server's port.
         self.unopened, self.unaccepted, self.completions = {}, {}, {}
         for connection in connections:
             self.unopened.setdefault(connection.server[1], []).append(connection)
             self.unaccepted.setdefault(connection.server[1], []).append(connection)
-        self.tells_notconn = tells_notconn
         self.processes, self.passed, self.endpoints, self.free_at = Processes(), [], [], {}
         self.orders = count()
 
@@ -523,7 +522,7 @@ class HostCalls:
         writes, reads = words[1] in ("SHUT_WR", "SHUT_RDWR"), words[1] in ("SHUT_RD", "SHUT_RDWR")
         if endpoint.role == "listener":
             self.shut_listener(event, endpoint, reads)
-        elif event.error == "ENOTCONN" and not self.tells_notconn:
+        elif event.error == "ENOTCONN":
             self.notes.leave_out("shutdowns of connections that have ended", event.place)
         elif writes and event.result == 0:
             endpoint.shut = True

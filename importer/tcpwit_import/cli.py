@@ -4,6 +4,7 @@ import os
 import sys
 
 from . import header as headers
+from . import judging
 from .calls import HostCalls
 from .captures import read_capture, shown
 from .cases import Case, Writer
@@ -17,7 +18,11 @@ DESCRIPTION = """Makes traces for tcpwit of programs that nobody changed, from c
 A capture is what tcpdump -w or Wireshark wrote at a host's interface. A log is what strace wrote:
   strace -f --absolute-timestamps=format:unix,precision:ns -xx -s 1048576 -o FILE PROGRAM ..
 HOST is 0, 1, or both (a capture of the loopback, or the log of a program that is both hosts). With the files of host 0 alone the
-trace is a half case. The trace is printed, or written to --out, and what was left out and chosen is said on standard error."""
+trace is a half case. The trace is printed. With --out it is written there and judged: tcpwit-import prints the lines of tcpwit_lab judge,
+and keeps the case beside the trace. Standard error says what was left out and chosen.
+
+The status is 0 for a yes at the word of --congestion (else full) or a stricter one, 1 if no such word has a yes, 2 for an error. Without
+--out, or with --no-check, it is 0 once the trace is written."""
 
 
 def parser():
@@ -29,16 +34,18 @@ def parser():
     words.add_argument("--one", action="append", metavar="ADDRESS", default=[], help="only connections of this address of host 1")
     words.add_argument("--each", choices=("pair", "connection"), default="pair",
                        help="a trace for each pair of hosts, or for each connection (default: pair)")
-    words.add_argument("--out", metavar="PATH", help="the file of the trace, or a folder for several")
+    words.add_argument("--out", metavar="PATH", help="the file of the trace, or a folder for several; they are judged")
+    words.add_argument("--no-check", action="store_true", help="write the trace to --out, and judge nothing")
+    words.add_argument("--lab", metavar="PATH", help="the program tcpwit_lab, which judges")
     words.add_argument("--keep-gaps", action="store_true", help="take captures that lost packets, and logs that lack sends")
     words.add_argument("--skip-begun", action="store_true", help="leave out connections whose beginning a capture lacks")
     words.add_argument("--quiet", action="store_true", help="say errors alone")
     group = words.add_argument_group("the header, if not as found")
-    group.add_argument("--version", type=int, choices=sorted(headers.LINES), help="of the texts (2 for two hosts, 3 for one)")
+    group.add_argument("--version", type=int, choices=sorted(headers.LINES), help="of the texts (default: 2 for two hosts, 3 for one; 4 with --congestion)")
     for name in headers.LIMITS:
         group.add_argument("--" + name, type=number_within(*headers.LIMITS[name]), metavar="N")
     for name, values in headers.WORDS.items():
-        group.add_argument("--" + name, choices=values)
+        group.add_argument("--" + name, choices=values, help=headers.HELP.get(name))
     return words
 
 
@@ -95,12 +102,10 @@ def run(options, notes):
     connections = connections_of({names[host]: of_host for host, of_host in packets.items()})
     if not connections:
         raise Problem(f"{', '.join(names.values())}: no TCP segment", "capture at the interface that the programs use, with the filter tcp or none")
-    version = options.version or (headers.WHOLE if len(logs) == 2 or None in logs else headers.HALF)
     endpoints = []
     for host in sorted(logs, key=str):
         own = [names[None if None in names else host]] if None in names or host in names else []
-        reader = HostCalls(host, connections, own, notes, tells_notconn=version >= 4)
-        endpoints += reader.run(read_log(logs[host]))
+        endpoints += HostCalls(host, connections, own, notes).run(read_log(logs[host]))
     hosts = 2 if len(logs) == 2 or None in logs else 1
     return make_traces(options, notes, names, connections, endpoints, hosts)
 
@@ -234,41 +239,48 @@ def file_name(name):
 
 
 def write(options, traces):
-    """Prints one trace, or writes all."""
+    """Prints one trace, or writes all; the file of each that was written."""
     if options.out and (len(traces) > 1 or os.path.isdir(options.out)):
         os.makedirs(options.out, exist_ok=True)
-        for name, lines in traces.items():
-            with open(os.path.join(options.out, file_name(name) + ".trace"), "w", encoding="ascii") as file:
-                file.writelines(lines)
+        files = {name: os.path.join(options.out, file_name(name) + ".trace") for name in traces}
     elif len(traces) > 1:
         raise Problem(f"{len(traces)} traces: {', '.join(traces)}", "write them to a folder by --out, or choose one by --one ADDRESS")
-    elif options.out:
-        with open(options.out, "w", encoding="ascii") as file:
-            file.writelines(*traces.values())
     else:
-        sys.stdout.writelines(*traces.values())
-        sys.stdout.flush()
+        files = {name: options.out for name in traces if options.out}
+    for name, lines in traces.items():
+        if name in files:
+            with open(files[name], "w", encoding="ascii") as file:
+                file.writelines(lines)
+        else:
+            sys.stdout.writelines(lines)
+            sys.stdout.flush()
+    return files
+
+
+def import_and_judge(options):
+    """Makes, writes and judges the traces; the exit status."""
+    program = judging.lab(options.lab) if options.out and not options.no_check else None
+    notes = Notes()
+    files = write(options, run(options, notes))
+    if not options.quiet:
+        for line in notes.lines():
+            print(f"tcpwit-import: {line}", file=sys.stderr)
+    return judging.judge_all(program, files, options.congestion) if program else 0
 
 
 def main(words=None):
     """Runs the command; its exit status."""
     options = parser().parse_args(words)
-    notes = Notes()
     try:
-        traces = run(options, notes)
-        write(options, traces)
+        return import_and_judge(options)
     except Problem as problem:
         print(f"tcpwit-import: {problem}", file=sys.stderr)
-        return 1
+        return 2
     except BrokenPipeError:
         os.dup2(os.open(os.devnull, os.O_WRONLY), 1)
-        return 1
+        return 2
     except OSError as error:
         print(f"tcpwit-import: {error.filename or 'standard output'}: {error.strerror}\n  choose a place that can be written", file=sys.stderr)
-        return 1
+        return 2
     except KeyboardInterrupt:
         return 130
-    if not options.quiet:
-        for line in notes.lines():
-            print(f"tcpwit-import: {line}", file=sys.stderr)
-    return 0

@@ -16,7 +16,7 @@ CONNECT = f"connect(3, {address(ONE)}, 16) = 0"
 
 
 class Calls(unittest.TestCase):
-    def told(self, lines, host=0, talk=None, step=2 * 10**7, **options):
+    def told(self, lines, host=0, talk=None, step=2 * 10**7):
         """The texts of the calls that a log's lines make: the connection's SYN comes at the moment AT."""
         talk = talk or Talk(at=AT + step)
         rows = []
@@ -28,7 +28,7 @@ class Calls(unittest.TestCase):
         self.notes = Notes()
         with tempfile.TemporaryDirectory() as folder:
             found = events(folder, rows)
-        endpoints = HostCalls(host, connections, [f"c{host}"], self.notes, **options).run(found)
+        endpoints = HostCalls(host, connections, [f"c{host}"], self.notes).run(found)
         for connection in connections:
             connection.hosts = {connection.client: 0, connection.server: 1}
         writer = Writer(Case("run", connections, endpoints), {0: "c0", 1: "c1"}, SAME, self.notes)
@@ -115,7 +115,6 @@ class Calls(unittest.TestCase):
         self.assertEqual(self.client("shutdown(3, SHUT_RD) = 0", 'read(3, "", 9) = 0'), [])
         self.assertEqual(self.client("shutdown(3, SHUT_RDWR) = 0"), ["B shut 1", "E ok"])
         self.assertEqual(self.client("shutdown(3, SHUT_WR) = -1 ENOTCONN (x)"), [])
-        self.assertEqual(self.client("shutdown(3, SHUT_WR) = -1 ENOTCONN (x)", tells_notconn=True), ["B shut 1", "E notconn"])
 
     def test_a_fault_is_told_again(self):
         reset = "read(3, 0x7f, 9) = -1 ECONNRESET (x)"

@@ -54,7 +54,9 @@ def run(*words, command=importing):
     return status, out.getvalue(), error.getvalue()
 
 
-class Command(unittest.TestCase):
+class WithFiles(unittest.TestCase):
+    """Captures and logs of a connection, in a folder of their own."""
+
     def setUp(self):
         folder = tempfile.TemporaryDirectory()
         self.addCleanup(folder.cleanup)
@@ -69,12 +71,14 @@ class Command(unittest.TestCase):
 
     def refused(self, words, cause, command=importing):
         status, out, error = run(*words, command=command)
-        self.assertEqual((status, out), (1, ""), error)
+        self.assertEqual((status, out), (2, ""), error)
         self.assertIn(cause, error)
         self.assertNotIn("Traceback", error)
         # A cause, and a line with the remedy.
         self.assertRegex(error, r"^tcpwit-\w+: .+\n  .+\n$")
 
+
+class Command(WithFiles):
     def test_a_whole_trace(self):
         status, out, error = run(*self.captures, *self.logs)
         self.assertEqual(status, 0, error)
@@ -90,6 +94,17 @@ class Command(unittest.TestCase):
     def test_header_lines_are_chosen(self):
         _, out, _ = run(*self.captures, *self.logs, "--version", "1", "--msl", "5", "--skew", "7")
         self.assertEqual(out.splitlines()[:3], ["trace 1", "skew 7", "msl 5"])
+
+    def test_how_much_of_congestion_control_is_judged(self):
+        for word in ("full", "recovery", "none"):
+            status, out, error = run(*self.captures, *self.logs, "--congestion", word)
+            lines = out.splitlines()
+            self.assertEqual((status, lines[0], lines[6:9]), (0, "trace 4", ["initial 6928", "hosts 2", f"congestion {word}"]), error)
+            self.assertEqual(lines[9:], run(*self.captures, *self.logs)[1].splitlines()[7:])
+        _, out, _ = run(*self.captures[:3], *self.logs[:3], "--congestion", "none")
+        self.assertEqual(out.splitlines()[7:9], ["hosts 1", "congestion none"])
+        self.assertEqual(run(*self.captures, *self.logs, "--version", "4")[1].splitlines()[8], "congestion full")
+        self.refused([*self.captures, *self.logs, "--congestion", "none", "--version", "2"], "version 2 of the texts has no line congestion")
 
     def test_a_half_trace(self):
         status, out, _ = run(*self.captures[:3], *self.logs[:3])
@@ -121,7 +136,7 @@ class Command(unittest.TestCase):
         status, out, _ = run(*words)
         self.assertEqual((status, out.count(" B open "), out.count(" B listen ")), (0, 2, 1))
         self.refused([*words, "--each", "connection"], "2 traces")
-        status, out, _ = run(*words, "--each", "connection", "--out", f"{self.folder}/out")
+        status, out, _ = run(*words, "--each", "connection", "--out", f"{self.folder}/out", "--no-check")
         self.assertEqual((status, out, len(os.listdir(f"{self.folder}/out"))), (0, "", 2))
         for name in os.listdir(f"{self.folder}/out"):
             with open(f"{self.folder}/out/{name}", encoding="ascii") as file:
@@ -148,7 +163,7 @@ class Command(unittest.TestCase):
         self.refused(["--capture", "2", empty, *self.logs], "no such host")
         self.refused(["--capture", "0", self.folder, *self.logs[:3]], "Is a directory")
         self.refused([*self.captures, "--calls", "0", self.captures[2]], "no system call")
-        self.refused([*self.captures, *self.logs, "--out", "/nowhere/at/all"], "No such file")
+        self.refused([*self.captures, *self.logs, "--out", "/nowhere/at/all", "--no-check"], "No such file")
         self.refused([*self.captures[:3], *self.logs], "a host has a log and no capture")
         self.refused([*self.captures, *self.logs[3:]], "name the host that was recorded 0")
         with open(self.captures[2], "rb") as file:
@@ -197,7 +212,8 @@ class Command(unittest.TestCase):
         self.refused([*talk().write(self.folder), *logs], "no TCP call")
 
     def test_words(self):
-        for words in (["--skew", "-1"], ["--skew", "x"], ["--version", "9"], ["--msl", "0"], ["--initial", "1"], ["--nothing"], ["--capture", "0"]):
+        for words in (["--skew", "-1"], ["--skew", "x"], ["--version", "9"], ["--msl", "0"], ["--initial", "1"], ["--nothing"], ["--capture", "0"],
+                      ["--congestion", "5681"], ["--congestion", "9438"], ["--limit", "2"], ["--unit", "bytes"]):
             status, out, error = run(*words)
             self.assertEqual((status, out), (2, ""))
             self.assertNotIn("Traceback", error)
@@ -205,7 +221,8 @@ class Command(unittest.TestCase):
 
     def test_words_of_the_recorder(self):
         for words in ([], ["--transfer", "-5"], ["--transfer", "5", "--lose", "x"], ["--transfer", "5", "--loss", "2"], ["--pair", "", "--", "a"],
-                      ["--transfer", "5", "--", "a"], ["--serve", "--namespace", "--", "a"], ["--transfer", "5", "--delay", "nan"]):
+                      ["--transfer", "5", "--", "a"], ["--serve", "--namespace", "--", "a"], ["--transfer", "5", "--delay", "nan"],
+                      ["--pair", "'", "--", "a"], ["--transfer", "5", "--congestion", "cubic"], ["--transfer", "5", "--limit", "2"]):
             status, out, error = run(*words, command=recording)
             self.assertEqual((status, out), (2, ""), words)
             self.assertNotIn("Traceback", error)
@@ -215,11 +232,13 @@ class Command(unittest.TestCase):
         with mock.patch("os.geteuid", return_value=1000):
             self.refused(["--transfer", "5"], "need root", recording)
         with mock.patch("os.geteuid", return_value=0):
-            self.refused(["--tcpwit", "/nowhere", "--transfer", "5"], "/nowhere is no program", recording)
+            self.refused(["--lab", "/nowhere", "--transfer", "5"], "/nowhere is no program", recording)
+            self.refused(["--congestion", "none", "--version", "2", "--transfer", "5"], "version 2 of the texts has no line congestion", recording)
+            self.refused(["--version", "3", "--transfer", "5"], "version 3 of the texts is for one recorded host", recording)
 
     def test_the_programs_themselves(self):
         done = subprocess.run([os.path.join(TOP, "tcpwit-import")], capture_output=True, text=True, timeout=100, check=False)
-        self.assertEqual((done.returncode, done.stdout), (1, ""))
+        self.assertEqual((done.returncode, done.stdout), (2, ""))
         self.assertIn("no capture is given", done.stderr)
 
 

@@ -125,10 +125,12 @@ class Headers(unittest.TestCase):
         self.assertEqual(header(2, 0, {}), ["trace 2", "skew 0", "msl 60000000", "grain 4000", "minrto 200000", "extra 1", "initial 6928"])
         self.assertEqual(header(1, 5, {})[0::7], ["trace 3", "half 0"])
         self.assertEqual(header(2, 3, {"msl": 9}, 1), ["trace 1", "skew 3", "msl 9", "grain 4000", "minrto 200000", "extra 1"])
-        self.assertEqual(header(1, 0, {"limit": 1}, 4)[6:], ["initial 6928", "hosts 1", "congestion 9438", "limit 1", "unit segments"])
+        self.assertEqual(header(1, 0, {}, 4)[6:], ["initial 6928", "hosts 1", "congestion full"])
+        self.assertEqual(header(2, 7, {"congestion": "none"}),
+                         ["trace 4", "skew 7", "msl 60000000", "grain 4000", "minrto 200000", "extra 1", "initial 6928", "hosts 2", "congestion none"])
 
     def test_refusals(self):
-        for words in ((1, 0, {}, 2), (2, 0, {}, 3), (2, 0, {"limit": 1}, 2)):
+        for words in ((1, 0, {}, 2), (2, 0, {}, 3), (2, 0, {"congestion": "full"}, 2), (2, 0, {"initial": "5681"}, 1)):
             with self.assertRaises(Problem):
                 header(*words)
 

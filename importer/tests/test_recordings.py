@@ -1,14 +1,15 @@
 """Recordings of programs that nobody changed: data/recordings.tar.xz has captures and logs, expected.txt what becomes of them.
 
-A line of expected.txt has the name, the number of lines of the trace, and the verdict that tcpwit check gave with the witness that
-tcpwit_lab found. The verdict is compared if both programs are named by TCPWIT and TCPWIT_LAB.
+A line of expected.txt has the name, the number of lines of the trace, and the strictest word of the header with a yes: full, recovery or
+none. The word is compared if TCPWIT_LAB names the program that judges.
 """
 import os
 import re
-import subprocess
 import tarfile
 import tempfile
 import unittest
+
+from tcpwit_import.header import WORDS_OF_CONGESTION as WORDS
 
 from .test_command import run
 
@@ -32,20 +33,31 @@ class Recordings(unittest.TestCase):
         with tarfile.open(os.path.join(DATA, "recordings.tar.xz")) as archive:
             archive.extractall(cls.folder.name)
         with open(os.path.join(DATA, "expected.txt"), encoding="ascii") as file:
-            cls.expected = [line.rstrip("\n").split(" ", 2) for line in file]
+            cls.expected = [line.split() for line in file]
 
     def test_all_are_expected(self):
         self.assertEqual(sorted(os.listdir(self.folder.name)), sorted(name for name, _, _ in self.expected))
 
     def test_traces(self):
-        for name, lines, verdict in self.expected:
+        for name, lines, _ in self.expected:
             with self.subTest(name):
                 status, out, error = run(*files_of(os.path.join(self.folder.name, name)))
                 self.assertEqual(status, 0, error)
                 self.assertEqual(out.count("\n"), int(lines))
                 self.assertNotIn("doesn't show as sent", error)
                 self.is_sound(out)
-                self.judged(out, verdict)
+
+    @unittest.skipUnless(os.environ.get("TCPWIT_LAB"), "TCPWIT_LAB names no program")
+    def test_verdicts(self):
+        for name, _, word in self.expected:
+            for options in ([], ["--congestion", word]):
+                with self.subTest(name, options=options):
+                    status, out, error = run(*files_of(os.path.join(self.folder.name, name)), *options, "--out", f"{self.folder.name}/{name}.trace")
+                    rows = [line.split() for line in out.splitlines()]
+                    strictest = next((row[0] for row in rows if row[1:2] == ["yes"]), "-")
+                    # A better witness may be found, for a stricter word.
+                    self.assertIn(strictest, WORDS[:WORDS.index(word) + 1], out + error)
+                    self.assertEqual(status, 0 if options or strictest == "full" else 1)
 
     def is_sound(self, text):
         """Moments don't fall, calls of a thread stand in turn, numbers are given once, and what comes in went out before."""
@@ -72,16 +84,6 @@ class Recordings(unittest.TestCase):
 
     def setUp(self):
         self.calls = {}
-
-    def judged(self, trace, verdict):
-        """The verdict, if the programs are there."""
-        tcpwit, lab = os.environ.get("TCPWIT"), os.environ.get("TCPWIT_LAB")
-        if tcpwit and lab:
-            found = subprocess.run([lab, "find"], input=trace.encode(), capture_output=True, check=True)
-            checked = subprocess.run([tcpwit, "check"], input=found.stdout, capture_output=True, check=False)
-            # Another witness may turn a no into a yes.
-            if verdict.startswith("yes"):
-                self.assertTrue(checked.stdout.startswith(b"yes"), checked.stdout)
 
 
 if __name__ == "__main__":

@@ -47,8 +47,8 @@ def flags_of(line):
     return int(line.rsplit(" ", 1)[1][26:28], 16)
 
 
-def put_in_again(case, header, lines, left):
-    """The case of a trace that lacks the lines `left`, with them and their steps K in their places."""
+def put_in_again(case, header, lines, left, half=False):
+    """The case of a trace that lacks the lines `left`, with them and their steps K in their places. `half`: host 0 alone is recorded."""
     text = case.split("\n")
     cut = next(at for at, line in enumerate(text) if line.startswith("witness "))
     head, found, steps = text[:header], text[header:cut], [step for step in text[cut:] if step]
@@ -70,7 +70,7 @@ def put_in_again(case, header, lines, left):
     arrivals = {header + 1 + at for at, line in enumerate(whole) if is_arrival(line)}
     steps = [steps[0]] + [renumbered(step, number, arrivals) for step in steps[1:]]
     for place in places:
-        add(steps, place, whole, header)
+        add(steps, place, whole, header, half)
     return "\n".join(head + whole + steps) + "\n"
 
 
@@ -85,7 +85,7 @@ def renumbered(step, number, arrivals):
     return " ".join(words)
 
 
-def add(steps, place, whole, header):
+def add(steps, place, whole, header, half):
     """Puts the two steps of the line at `place` behind those of the line before it."""
     moment, _, _, host, text = whole[place - header - 1].split(" ")
     at = 1
@@ -96,7 +96,7 @@ def add(steps, place, whole, header):
     while at < len(steps) and steps[at].split(" ")[1] != "L" and int(steps[at].split(" ")[0]) <= int(moment):
         at += 1
     copied = ""
-    if not steps[0].endswith("3"):
+    if not half:
         out = [n for n, line in enumerate(whole[:place - header - 1], header + 1) if line.endswith(f" O {1 - int(host)} {text}")]
         copied = f" {out[-1]}"
     steps[at:at] = [f"{moment} L {place}{copied}", f"{moment} K {host} {place}"]

@@ -4,8 +4,11 @@ from dataclasses import dataclass, field
 
 import dropping
 
-# The versions of the texts: the one place where they are chosen.
-BOTH_HOSTS, ONE_HOST = 2, 3
+# How much of congestion control is judged, the strictest first.
+WORDS = ("full", "recovery", "none")
+FULL = WORDS[0]
+# The versions of the texts: the one place where they are chosen. What is judged in full is written as before version 4.
+BOTH_HOSTS, ONE_HOST, BY_WORD = 2, 3, 4
 HEADER = ("msl", "grain", "minrto", "extra", "initial")
 # What a stack is taken for where its profile says nothing.
 USUAL = {"name": "a stack", "msl": "120000000", "grain": "1000", "minrto": "0", "extra": "65535", "initial": "5681", "options": ""}
@@ -16,17 +19,23 @@ LIMIT = 120
 class Outcome:
     """What is said of one scenario."""
     scenario: object
-    verdict: str = ""           # yes .., no .., bad .., skipped, or broken
-    why: str = ""               # behind a no: what the rule compares, and what usually causes it
+    verdict: str = ""           # yes .., no .., bad .., skipped, or broken: of all of congestion control
+    strictest: str = ""         # the strictest word with a yes; empty if no word has one
+    why: str = ""               # after a no: what the rule compares, and what usually causes it
     remarks: list = field(default_factory=list)
     unexpected: list = field(default_factory=list)
     missing: int = 0            # bytes that were accepted and never read
     waiting: list = field(default_factory=list)
     lines: int = 0
 
-    def is_good(self):
+    def is_yes(self, least):
+        """Whether this word or a stricter one has a yes."""
+        return self.verdict.startswith("yes") or self.strictest in WORDS[:WORDS.index(least) + 1]
+
+    def is_good(self, least=FULL):
+        """Whether it is a yes, and all came out as the scenario says."""
         lost = self.missing and self.scenario.keeps
-        return self.verdict.startswith("yes") and not (self.unexpected or self.waiting or lost)
+        return self.is_yes(least) and not (self.unexpected or self.waiting or lost)
 
     def word(self):
         """One word for tables: what is wrong first."""
@@ -46,15 +55,17 @@ def profile(text):
     return values
 
 
-def header_of(values, half):
-    """The lines of a trace's header; `half`: host 0 alone is recorded."""
-    head = [f"trace {ONE_HOST if half else BOTH_HOSTS}", "skew 0", *(f"{word} {values[word]}" for word in HEADER)]
-    return head + ["half 0"] if half else head
+def header_of(values, half, word=FULL):
+    """The lines of a trace's header. `half`: host 0 alone is recorded; `word`: how much of congestion control is judged."""
+    lines = ["skew 0", *(f"{name} {values[name]}" for name in HEADER)]
+    if word != FULL:
+        return [f"trace {BY_WORD}", *lines, f"hosts {1 if half else 2}", f"congestion {word}"]
+    return [f"trace {ONE_HOST}", *lines, "half 0"] if half else [f"trace {BOTH_HOSTS}", *lines]
 
 
-def trace_of(values, half, lines):
+def trace_of(values, half, lines, word=FULL):
     """The trace as text."""
-    return "\n".join(header_of(values, half) + lines) + "\n"
+    return "\n".join(header_of(values, half, word) + lines) + "\n"
 
 
 def call(program, word, text):
@@ -71,30 +82,34 @@ class Judge:
     def answer(self, case):
         return call(self.check, "check", case)[0].strip()
 
-    def found(self, run, values):
+    def knows_words(self):
+        """Whether both programs read version 4 of the texts."""
+        return self.answer(call(self.lab, "find", trace_of(USUAL, False, [], WORDS[-1]))[0]).startswith("yes")
+
+    def found(self, run, values, word):
         """A case and its verdict: the first that is a yes, or that of the whole trace."""
-        first, _ = call(self.lab, "find", trace_of(values, run.peer, run.lines))
+        first, _ = call(self.lab, "find", trace_of(values, run.peer, run.lines, word))
         verdict = self.answer(first)
         if not verdict.startswith("no"):
             return first, verdict
         for left in dropping.choices(run.lines, run.odd):
-            case, answer = self.without(run, values, left)
+            case, answer = self.without(run, values, word, left)
             if answer.startswith("yes"):
                 return case, answer
-        case, answer = self.without_unkept(run, values, first, verdict)
+        case, answer = self.without_unkept(run, values, word, first, verdict)
         return (case, answer) if answer.startswith("yes") else (first, verdict)
 
-    def without(self, run, values, left):
+    def without(self, run, values, word, left):
         """A case in which the arrivals in these places are dropped, and its verdict; the witness is of the rest alone where that is no yes."""
         rest = [line for at, line in enumerate(run.lines) if at not in left]
-        case, _ = call(self.lab, "find", trace_of(values, run.peer, rest))
+        case, _ = call(self.lab, "find", trace_of(values, run.peer, rest, word))
         answer = self.answer(case)
         if not answer.startswith("yes"):
             return case, answer
-        case = dropping.put_in_again(case, len(header_of(values, run.peer)), run.lines, left)
+        case = dropping.put_in_again(case, len(header_of(values, run.peer, word)), run.lines, left, run.peer)
         return case, self.answer(case)
 
-    def without_unkept(self, run, values, case, verdict):
+    def without_unkept(self, run, values, word, case, verdict):
         """Drops, again and again, what acknowledgments show that the stack didn't keep."""
         left = set()
         for _ in range(dropping.MOST_TRIES):
@@ -103,18 +118,31 @@ class Judge:
             if not more:
                 break
             left |= more
-            case, verdict = self.without(run, values, left)
+            case, verdict = self.without(run, values, word, left)
         return case, verdict
 
     def judge(self, outcome, run, values):
-        """Finds a witness and fills in the outcome. The case."""
-        case, outcome.verdict = self.found(run, values)
-        if not outcome.verdict.startswith("yes"):
+        """Finds witnesses and fills in the outcome. The case that is judged in full, and one at the strictest word with a yes, each by its word."""
+        case, outcome.verdict = self.found(run, values, FULL)
+        cases = {FULL: case}
+        if outcome.verdict.startswith("yes"):
+            outcome.strictest = FULL
+        else:
             told, _ = call(self.lab, "explain", case)
             kept = [line for line in told.split("\n")[1:] if line.strip()]
             outcome.why = "\n".join(kept)
+        if outcome.verdict.startswith("no"):
+            self.judge_less(outcome, run, values, cases)
         if self.remarks:
             told, status = call(self.lab, "remark", case)
             self.remarks = status != 3
             outcome.remarks = [line for line in told.split("\n") if line.strip()] if self.remarks else []
-        return case
+        return cases
+
+    def judge_less(self, outcome, run, values, cases):
+        """Looks for a yes where less of congestion control is judged."""
+        for word in WORDS[1:]:
+            case, verdict = self.found(run, values, word)
+            if verdict.startswith("yes"):
+                outcome.strictest, cases[word] = word, case
+                return

@@ -1,8 +1,16 @@
 """The language of scenarios, the wire, the scripted peer, and arrivals that are dropped."""
+import contextlib
+import importlib.machinery
+import importlib.util
+import io
 import os
+import re
+import subprocess
 import sys
+import tempfile
 import unittest
 from types import SimpleNamespace
+from unittest import mock
 
 TOP = os.path.dirname(os.path.dirname(os.path.abspath(__file__)))
 sys.path.insert(0, os.path.join(TOP, "runner"))
@@ -13,6 +21,10 @@ import judging  # noqa: E402
 import language  # noqa: E402
 import segments  # noqa: E402
 import simulation  # noqa: E402
+
+LOADER = importlib.machinery.SourceFileLoader("command", os.path.join(TOP, "run"))
+command = importlib.util.module_from_spec(importlib.util.spec_from_loader("command", LOADER))
+LOADER.exec_module(command)
 
 HEAD = "show  a\nby    b\n"
 
@@ -132,6 +144,14 @@ class Dropping(unittest.TestCase):
         self.assertIn("20 L 9 8\n20 K 1 9", case.replace("20 L 10 8\n20 K 1 10", "20 L 9 8\n20 K 1 9"))
         self.assertIn("40 L 12 11", case)
 
+    def test_a_line_of_a_half_case_names_no_copy(self):
+        lines = ["10 90 O 0 aa", "20 93 I 0 bb"]
+        for word, version in (("full", 3), ("none", 4)):
+            header = judging.header_of(judging.USUAL, True, word)
+            case = "\n".join(header + lines[:1] + [f"witness {version}", f"10 L {len(header) + 1} 1"]) + "\n"
+            found = dropping.put_in_again(case, len(header), lines, {1}, True)
+            self.assertEqual(found.split("\n")[-3:], [f"20 L {len(header) + 2}", f"20 K 0 {len(header) + 2}", ""])
+
 
 class Profiles(unittest.TestCase):
     def test_a_profile(self):
@@ -143,11 +163,124 @@ class Profiles(unittest.TestCase):
         self.assertEqual(judging.trace_of(judging.USUAL, False, ["1 1 B status 5"]).split("\n")[0], "trace 2")
         self.assertEqual(judging.trace_of(judging.USUAL, True, []).split("\n")[-2], "half 0")
 
+    def test_less_of_congestion_control_is_version_4(self):
+        for half, hosts in ((False, "hosts 2"), (True, "hosts 1")):
+            for word in judging.WORDS[1:]:
+                lines = judging.header_of(judging.USUAL, half, word)
+                self.assertEqual((lines[0], lines[1:7], lines[7:]),
+                                 ("trace 4", judging.header_of(judging.USUAL, half)[1:7], [hosts, f"congestion {word}"]))
+        self.assertEqual(judging.header_of(judging.USUAL, False, "full")[0], "trace 2")
+
     def test_missing_bytes_are_no_good(self):
-        outcome = judging.Outcome(SimpleNamespace(keeps=True), "yes 1 1", missing=3)
+        outcome = judging.Outcome(SimpleNamespace(keeps=True), "yes 1 1", "full", missing=3)
         self.assertEqual((outcome.is_good(), outcome.word()), (False, "yes, but"))
         outcome.scenario.keeps = False
         self.assertEqual((outcome.is_good(), outcome.word()), (True, "yes"))
+
+
+class StandIn(judging.Judge):
+    """Programs that have a yes from one word on: what `find` makes of a trace is the trace, and `check` reads the word in it."""
+
+    def __init__(self, strictest, fault="no 9 0 congestion"):
+        super().__init__([], [])
+        self.yes, self.fault = judging.WORDS[judging.WORDS.index(strictest):] if strictest else (), fault
+
+    def answer(self, case):
+        word = re.search(r"congestion (\w+)", case)
+        return "yes 5 3" if (word[1] if word else "full") in self.yes else self.fault
+
+    def outcome(self):
+        """What is said of an empty run, and the cases."""
+        outcome = judging.Outcome(SimpleNamespace(keeps=True, name="x"))
+        with mock.patch.object(judging, "call", lambda program, word, text: ("" if word == "remark" else text, 3 if word == "remark" else 0)):
+            return outcome, self.judge(outcome, SimpleNamespace(peer=False, lines=[], odd=[]), judging.USUAL)
+
+
+class TheStrictestWord(unittest.TestCase):
+    def test_the_first_word_with_a_yes(self):
+        for word, verdict in (("full", "yes 5 3"), ("recovery", "no 9 0 congestion"), ("none", "no 9 0 congestion"), ("", "no 9 0 congestion")):
+            outcome, cases = StandIn(word).outcome()
+            self.assertEqual((outcome.strictest, outcome.verdict), (word, verdict))
+            self.assertEqual(list(cases), list(dict.fromkeys(each for each in ("full", word) if each)))
+            self.assertEqual(cases["full"][:8], "trace 2\n")
+            self.assertEqual([outcome.is_good(least) for least in judging.WORDS], [bool(word) and word in judging.WORDS[:n] for n in (1, 2, 3)])
+
+    def test_a_fault_is_judged_once(self):
+        outcome, cases = StandIn("none", "bad trace 7 0 9 header").outcome()
+        self.assertEqual((outcome.strictest, list(cases)), ("", ["full"]))
+
+    def test_programs_that_know_no_words(self):
+        with mock.patch.object(judging, "call", lambda program, word, text: (text, 0)):
+            self.assertTrue(StandIn("none").knows_words())
+            self.assertFalse(StandIn("", "bad trace 1 0 7 header").knows_words())
+
+
+class TheCommand(unittest.TestCase):
+    def setUp(self):
+        folder = tempfile.TemporaryDirectory()
+        self.addCleanup(folder.cleanup)
+        self.folder = folder.name
+
+    def run_it(self, *words):
+        """Status, output and errors of stacks/run."""
+        done = subprocess.run([sys.executable, os.path.join(TOP, "run"), *words], capture_output=True, text=True, timeout=60)
+        self.assertNotIn("Traceback", done.stderr)
+        return done.returncode, done.stdout, done.stderr
+
+    def outcome(self, verdict, strictest, name="x"):
+        return judging.Outcome(SimpleNamespace(keeps=True, name=name, show="a", by="b"), verdict, strictest)
+
+    def reported(self, *words):
+        """Status and output of a report of three outcomes."""
+        outcomes = [self.outcome("yes 5 3", "full", "one"), self.outcome("no 9 0 congestion", "recovery", "two"), self.outcome("skipped", "", "three")]
+        with mock.patch.object(sys, "argv", ["run", "lwip", *words]):
+            words = command.arguments()
+        with contextlib.redirect_stdout(io.StringIO()) as out:
+            status = command.report(words, "a stack", outcomes)
+        return status, out.getvalue()
+
+    def test_the_column(self):
+        status, out = self.reported()
+        self.assertEqual((status, [line[66:74].strip() for line in out.split("\n")[:4]]), (1, ["yes at", "full", "recovery", "-"]))
+        self.assertIn("of the no, 1 are a yes at recovery", out)
+
+    def test_the_status_goes_by_the_least_word(self):
+        self.assertEqual([self.reported("--least", word)[0] for word in judging.WORDS], [1, 0, 0])
+        for word, failures in (("full", 1), ("recovery", 0)):
+            self.reported("--least", word, "--junit", f"{self.folder}/report.xml")
+            with open(f"{self.folder}/report.xml") as file:
+                self.assertIn(f'failures="{failures}" skipped="1"', file.read())
+
+    def test_the_outcomes_are_compared(self):
+        file = f"{self.folder}/expected"
+        self.reported("--write-against", file)
+        with open(file) as lines:
+            self.assertEqual(lines.read().split("\n")[1:], ["one: yes [full]", "two: no congestion [recovery]", "three: skipped", ""])
+        self.assertEqual(self.reported("--against", file)[0], 0)
+        with open(file, "a") as lines:
+            lines.write("two: no congestion [none]\n")
+        status, out = self.reported("--against", file)
+        self.assertEqual((status, "before: two: no congestion [none]" in out), (1, True))
+
+    def test_cases_are_kept_by_their_word(self):
+        judge = SimpleNamespace(judge=lambda outcome, run, values: {"full": "a", "none": "b"})
+        command.judge_and_keep(self.outcome("", ""), None, None, judge, self.folder)
+        self.assertEqual(sorted(os.listdir(self.folder)), ["x.case", "x.none.case"])
+
+    def test_a_program_that_takes_too_long(self):
+        outcome = self.outcome("", "")
+        judge = SimpleNamespace(judge=mock.Mock(side_effect=subprocess.TimeoutExpired(["/usr/bin/tcpwit_lab", "find"], 120)))
+        command.judge_and_keep(outcome, None, None, judge, None)
+        self.assertEqual((outcome.verdict, outcome.word()), ("broken tcpwit_lab find took more than 120 seconds", "broken"))
+
+    def test_what_cannot_be_run(self):
+        self.assertEqual(self.run_it("lwip", "--least", "cubic")[0], 2)
+        for words, cause in ((["/nowhere"], "neither a folder"), (["true", "--profile", "/nowhere", "x"], "/nowhere"),
+                             (["true", "data-bulk", "--check", "/nowhere"], "tcpwit isn't found"),
+                             (["true", "data-bulk", "--check", "true", "--lab", "true"], "version 4")):
+            status, out, error = self.run_it(*words)
+            self.assertEqual((status, out), (2, ""), error)
+            self.assertIn(cause, error)
 
 
 if __name__ == "__main__":

@@ -1,22 +1,44 @@
 -- What differs between the versions of the texts.
 use Rattle.std.specs.Prelude.{ℕ, Bool, true, false}
 use Rattle.case_forms.specs.declared.version.Version.{Version}
-use Rattle.case_forms.specs.declared.version.Version.TheVariants.{One, Two, Three}
+use Rattle.case_forms.specs.declared.version.Version.TheVariants.{One, Two, Three, Four, FourHalf}
 
 -- the number of the first event line of a trace, behind the lines of its header
 abbrev pub first_line_of : Version → ℕ
 first_line_of One = 7
 first_line_of Two = 8
 first_line_of Three = 9
+first_line_of Four = 10
+first_line_of FourHalf = 10
 
 -- windows may be scaled
 abbrev pub scales : Version → Bool
 scales One = false
 scales Two = true
 scales Three = true
+scales Four = true
+scales FourHalf = true
 
 -- a half case: host 0 alone is recorded
 abbrev pub is_half : Version → Bool
 is_half One = false
 is_half Two = false
 is_half Three = true
+is_half Four = false
+is_half FourHalf = true
+
+-- the header says how much of congestion control is judged
+abbrev pub says_congestion : Version → Bool
+says_congestion One = false
+says_congestion Two = false
+says_congestion Three = false
+says_congestion Four = true
+says_congestion FourHalf = true
+
+-- the version that the first line of a text names: both of version 4 are named alike
+abbrev pub named_as : Version → Version
+named_as One = One
+named_as Two = Two
+named_as Three = Three
+named_as Four = Four
+named_as FourHalf = Four

@@ -32,4 +32,4 @@ pub use steps::{Flags, Label, SegmentPlan, Step, Steps, TakeChoice, Takes, Witne
 pub use taken_line::{Expired, TakenLine};
 pub use timer::{Expiry, Recovery, RtoChoice, Timer};
 pub use trace::{Event, Header, Line, Lines, Span, Trace, Wire};
-pub use version::{Initial, Version};
+pub use version::{Initial, Judged, Version};

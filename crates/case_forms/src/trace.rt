@@ -7,7 +7,7 @@ ghost use Rattle.case_forms.specs.Traces.{first_event_line};
 use crate::OutOfMemory;
 use crate::calls::{Answer, Call, Host};
 use crate::timer::Timer;
-use crate::version::{Initial, Version};
+use crate::version::{Initial, Judged, Version};
 use segment::{Bytes, Segment};
 use std::alloc::Global;
 use std::marker::Model;
@@ -36,6 +36,8 @@ pub struct Header {
     pub extra: u16,
     /// Which RFC gives the first congestion window; `Rfc5681` in version 1, whose texts don't say it.
     pub initial: Initial,
+    /// How much of congestion control is judged; `Full` in versions 1 to 3, whose texts don't say it.
+    pub congestion: Judged,
 }
 
 impl Header {

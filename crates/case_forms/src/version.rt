@@ -12,6 +12,10 @@ pub enum Version {
     Two,
     /// The same of a half case: host 0 alone is recorded.
     Three,
+    /// As version 2, and the trace says how much of congestion control is judged.
+    Four,
+    /// As version 3, and the trace says how much of congestion control is judged. Its texts name version 4.
+    FourHalf,
 }
 
 impl Version {
@@ -23,6 +27,7 @@ impl Version {
             Version::One => 7,
             Version::Two => 8,
             Version::Three => 9,
+            Version::Four | Version::FourHalf => 10,
         }
     }
 
@@ -32,7 +37,7 @@ impl Version {
     {
         match self {
             Version::One => false,
-            Version::Two | Version::Three => true,
+            Version::Two | Version::Three | Version::Four | Version::FourHalf => true,
         }
     }
 
@@ -41,8 +46,8 @@ impl Version {
         ensures { result ≡ is_half self }
     {
         match self {
-            Version::One | Version::Two => false,
-            Version::Three => true,
+            Version::One | Version::Two | Version::Four => false,
+            Version::Three | Version::FourHalf => true,
         }
     }
 }
@@ -54,4 +59,17 @@ pub enum Initial {
     Rfc5681,
     /// Ten segments (RFC 6928, 2).
     Rfc6928,
+}
+
+/// How much of congestion control is judged.
+#[derive(Clone, Copy)]
+pub enum Judged {
+    /// The congestion window, the slow start threshold, and when outstanding data may be sent again (RFC 5681, 3.1 and
+    /// 3.2; RFC 6298, 5).
+    Full,
+    /// When outstanding data may be sent again: after a timeout or three duplicate acknowledgments (RFC 5681, 3.2; RFC
+    /// 6298, 5).
+    Recovery,
+    /// Neither of them.
+    Nothing,
 }

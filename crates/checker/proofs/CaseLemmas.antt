@@ -16,7 +16,7 @@ use Rattle.checker.specs.declared.case.CaseFault.TheVariants as faults
 use Rattle.verdict.specs.declared.report.Verdict.{Verdict}
 use Rattle.checker.specs.declared.case.CaseFault.{CaseFault}
 use Rattle.checker.specs.Cases.{cut_place, trace_part, witness_part, judged, case_of, case_result, GivesCase}
-use Rattle.checker.specs.Texts.{GivesTexts, texts_result, witness_behind}
+use Rattle.checker.specs.Texts.{GivesTexts}
 
 pub concat_both : (xs ys : List (List ℕ)) → concat (xs ++ ys) ≡ concat xs ++ concat ys
 concat_both [] ys = refl
@@ -96,17 +96,6 @@ module _ (v : Version) where
       let here = front_is text at [] c in
       (here.0 ∙ sym parts.0, here.1 ∙ sym parts.1)
 
-  -- the parts of a case are the whole of it
-  parts_whole : (text : List ℕ) → trace_part v text ++ witness_part v text ≡ text
-  parts_whole text =
-      let raws = lines_of text in
-      sym (concat_both (take (cut_place v raws) raws) (drop (cut_place v raws) raws)) ∙ ap concat (take-append-drop (cut_place v raws) raws) ∙ concat-lines_of text
-
-  -- the version of a case is that of its trace
-  pub same_version : (text : List ℕ) (t : Trace) → IsTraceText t (trace_part v text) → t.header.version ≡ version_named (lines_of text)
-  same_version text t spelled =
-      sym (trace_named t (trace_part v text) (witness_part v text) spelled) ∙ ap (λ (x : List ℕ). version_named (lines_of x)) (parts_whole text)
-
 -- a case's two parts, read one behind the other, give the case's answer
 pub case_is : (text : List ℕ) (given : Result Verdict CaseFault) → let v = version_named (lines_of text) in GivesTexts given (Some (trace_part v text)) (Some (witness_part v text)) → given ≢ Err faults.Read → GivesCase given (case_result text)
 unfolding case_result
@@ -115,16 +104,9 @@ case_is text given gives unread = by given gives unread
     v : Version
     v = version_named (lines_of text)
 
-    same : texts_result (trace_part v text) (witness_part v text) ≡ case_of v text
-    same = go (trace_of (trace_part v text)) refl
-      where
-        go : (read : Result Trace TextFault) → trace_of (trace_part v text) ≡ read → judged read (witness_behind read (witness_part v text)) ≡ judged read (witness_for v (witness_part v text))
-        go (Err e) is = refl
-        go (Ok t) is = ap (λ (u : Version). judged (Ok t) (witness_for u (witness_part v text))) (same_version v text t (trace_takes (trace_part v text) t is))
-
     by : (r : Result Verdict CaseFault) → GivesTexts r (Some (trace_part v text)) (Some (witness_part v text)) → r ≢ Err faults.Read → GivesCase r (case_of v text)
-    by (Ok verdict) is unread = is ∙ same
-    by (Err (faults.Trace f)) is unread = is ∙ same
-    by (Err (faults.Witness f)) is unread = is ∙ same
+    by (Ok verdict) is unread = is
+    by (Err (faults.Trace f)) is unread = is
+    by (Err (faults.Witness f)) is unread = is
     by (Err faults.Read) is unread = absurd (unread refl)
     by (Err faults.OutOfMemory) is unread = tt

@@ -8,6 +8,7 @@ use Rattle.case_forms.specs.declared.trace.Trace.{Trace}
 use Rattle.case_forms.specs.declared.named_line.Extras.TheVariants as extras
 use Rattle.case_forms.specs.declared.version.Version.TheVariants.{One}
 use Rattle.case_forms.specs.declared.version.Initial.TheVariants.{Rfc5681}
+use Rattle.case_forms.specs.declared.version.Judged.TheVariants.{Full}
 use Rattle.case_forms.specs.declared.steps.Label.TheVariants as labels
 use Rattle.case_forms.specs.declared.steps.Step.{Step}
 use Rattle.checker.specs.Again.{nowhere}
@@ -16,7 +17,7 @@ use Rattle.checker.specs.Headline.{told, accepted, told_end, ended}
 -- thread 1 receives on 5, thread 2 sends on 6, then 1 receives again and 2 shuts
 abbrev facts_trace : Trace
 facts_trace = record {
-  header = record { version = One; skew = 0; msl = 120000000; grain = 1000; minrto = 1000000; extra = 0; initial = Rfc5681 };
+  header = record { version = One; skew = 0; msl = 120000000; grain = 1000; minrto = 1000000; extra = 0; initial = Rfc5681; congestion = Full };
   lines =
       record { number = 7; moment = 10; thread = 1; event = events.CallBegin (calls.Recv 5 9); span = nowhere }
       ∷ record { number = 8; moment = 10; thread = 2; event = events.CallBegin (calls.Send 6 (1 ∷ 2 ∷ 3 ∷ [])); span = nowhere }

@@ -169,7 +169,7 @@ moves_taking h s w host line how m steady waits may = go (taker (pick w.hosts ho
     go (AtListener l) is may =
         let first = not_false (m.flags.syn && not m.flags.ack && not m.flags.rst) (none_all (listener_rules how m) may).0 in
         let syn = (both_true m.flags.syn (not m.flags.ack) (both_true (m.flags.syn && not m.flags.ack) (not m.flags.rst) first).0).0 in
-        moves_push w (At host (Takes line how)) host b.endpoints (child (profile_of h.initial) l how m s)
+        moves_push w (At host (Takes line how)) host b.endpoints (child (profile_of h) l how m s)
         (λ j. inr (m.sender, refl, λ none. record { line = line; how = how; segment = m; takes = refl; waits = waits; syn = syn; made = refl; goes = inr (l, none, is) }))
     go (AtEndpoint i e) is may = let r = as_read h.version e m in
         moves_one w (At host (Takes line how)) host b.endpoints i (λ x. endpoint_taken h x how r s)
@@ -261,7 +261,7 @@ both_step h s w (Effect t answer) steady may = go (turn_of t w.threads)
     by : (call : Call) (o : Option Host) → BothMove w (Effect t answer) (call_after (tcp h) s w.hosts (Calls call answer) o)
     by call None = both_not w (Effect t answer)
     by call (Some host) =
-        both_host w (Effect t answer) host (record (pick w.hosts host) { body = after_call (profile_of h.initial) (pick w.hosts host).body call answer }) (moves_call (profile_of h.initial) w (Effect t answer) host (pick w.hosts host).body call answer)
+        both_host w (Effect t answer) host (record (pick w.hosts host) { body = after_call (profile_of h) (pick w.hosts host).body call answer }) (moves_call (profile_of h) w (Effect t answer) host (pick w.hosts host).body call answer)
 
     go : (u : Turn tcp_shape) → BothMove w (Effect t answer) (effect_after (tcp h) s w t answer u).hosts
     go Idle = both_not w (Effect t answer)

@@ -248,9 +248,9 @@ moved_taking all a h x b how m s from may = go (taker b m) refl may
         let first = not_false (m.flags.syn && not m.flags.ack && not m.flags.rst) (none_all (listener_rules how m) may).0 in
         let syn = (both_true m.flags.syn (not m.flags.ack) (both_true (m.flags.syn && not m.flags.ack) (not m.flags.rst) first).0).0 in
         record {
-          ends = λ i e at. (e, get_append b.endpoints (child (profile_of h.initial) l how m s ∷ []) i e at, same_end e);
+          ends = λ i e at. (e, get_append b.endpoints (child (profile_of h) l how m s ∷ []) i e at, same_end e);
           born =
-              all_push (λ j y. ((e : Endpoint) × (slice_get b.endpoints j ≡ Some e)) ⊎ Born a x (after_taking h b how m s (AtListener l)) y) b.endpoints (child (profile_of h.initial) l how m s) (λ j e at. inl (e, at))
+              all_push (λ j y. ((e : Endpoint) × (slice_get b.endpoints j ≡ Some e)) ⊎ Born a x (after_taking h b how m s (AtListener l)) y) b.endpoints (child (profile_of h) l how m s) (λ j e at. inl (e, at))
               (inr (record {
                 listener = λ k same. subst (λ j. port_at b.listeners j ≡ Some m.rport) (same_Some l k same) (listener_port b m.rport l (taker_listener b m l is));
                 peer = λ q same. subst (λ (n : EndpointId). (n.host ≡ other x) × HasAt a n m.lport m.rport) (same_Some m.sender q same) (from syn);

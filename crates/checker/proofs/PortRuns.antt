@@ -232,8 +232,8 @@ ported_step h both all s w (Effect t answer) steady may stands old = go (turn_of
         → Ported all (call_after (tcp h) s w.hosts (Calls call answer) o)
     by call None is had met = old
     by call (Some host) is had met =
-        ported_host all w (Effect t answer) host (record (pick w.hosts host) { body = after_call (profile_of h.initial) (pick w.hosts host).body call answer }) old
-        (moved_call (profile_of h.initial) all w.hosts host (pick w.hosts host).body call answer (record { sound = steady.sound host; numbers = old.numbers host; children = old.children host }) had
+        ported_host all w (Effect t answer) host (record (pick w.hosts host) { body = after_call (profile_of h) (pick w.hosts host).body call answer }) old
+        (moved_call (profile_of h) all w.hosts host (pick w.hosts host).body call answer (record { sound = steady.sound host; numbers = old.numbers host; children = old.children host }) had
         (λ at port backlog e. same_Some at host (subst (λ (c : Call). aim_of (tcp h) w.hosts (aim c) ≡ Some host) e is))
         (λ at lport rport e. same_Some at host (subst (λ (c : Call). aim_of (tcp h) w.hosts (aim c) ≡ Some host) e is)))
         (record { made = (old.home host).made; wire = (old.home host).wire; inbox = (old.home host).inbox }) met

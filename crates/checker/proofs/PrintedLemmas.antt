@@ -22,6 +22,8 @@ use Rattle.case_forms.specs.declared.steps.Witness.{Witness}
 use Rattle.case_forms.specs.declared.version.Version.{Version}
 use Rattle.case_forms.specs.declared.version.Version.TheVariants as versions
 use Rattle.case_forms.specs.declared.version.Initial.{Initial}
+use Rattle.case_forms.specs.declared.version.Judged.{Judged}
+use Rattle.case_forms.specs.Versions.{named_as}
 use Rattle.line_fields.specs.Lines.{IsRaw, IsLine}
 use Rattle.line_fields.specs.Folding.{AreSpelled}
 use Rattle.line_fields.specs.Spelling.{IsClean, joined, spaced, number}
@@ -49,7 +51,7 @@ use Rattle.witness.proofs.PrintableLaw as witness_law
 use Rattle.verdict.specs.declared.report.Verdict.{Verdict}
 use Rattle.verdict.specs.declared.report.Verdict.TheVariants.{Yes}
 use Rattle.checker.specs.declared.case.CaseFault.{CaseFault}
-use Rattle.checker.specs.Cases.{trace_part, witness_part, judged, case_of, case_result}
+use Rattle.checker.specs.Cases.{trace_part, witness_part, texts_result, case_of, case_result}
 use Rattle.checker.specs.Verdicts.{verdict}
 use Rattle.case_forms.specs.declared.calls.Answer.TheVariants.{Given}
 use Rattle.case_forms.specs.declared.named_line.Extras.TheVariants.{Bare}
@@ -75,6 +77,8 @@ first_letter : (v : Version) → get_or (first_text v) 0 0 ≡ 119
 first_letter versions.One = refl
 first_letter versions.Two = refl
 first_letter versions.Three = refl
+first_letter versions.Four = refl
+first_letter versions.FourHalf = refl
 
 not_first : (v : Version) (n : ℕ) (ws : List (List ℕ)) (raw : List ℕ) → AllByRecursion IsClean ws → IsOther ws → IsLine n (joined ws) raw → begins_witness v raw ≡ false
 not_first v n [] raw clean other line = absurd other
@@ -91,15 +95,19 @@ version_other : (v : Version) → IsOther (first_words v)
 version_other versions.One = (omega arith, λ e. omega arith)
 version_other versions.Two = (omega arith, λ e. omega arith)
 version_other versions.Three = (omega arith, λ e. omega arith)
+version_other versions.Four = (omega arith, λ e. omega arith)
+version_other versions.FourHalf = (omega arith, λ e. omega arith)
 
-late_others : (v : Version) (i : Initial) → AllByRecursion IsOther (late_words v i)
-late_others versions.One i = tt
-late_others versions.Two i = ((omega arith, λ e. omega arith), tt)
-late_others versions.Three i = ((omega arith, λ e. omega arith), ((omega arith, λ e. omega arith), tt))
+late_others : (v : Version) (i : Initial) (j : Judged) → AllByRecursion IsOther (late_words v i j)
+late_others versions.One i j = tt
+late_others versions.Two i j = ((omega arith, λ e. omega arith), tt)
+late_others versions.Three i j = ((omega arith, λ e. omega arith), ((omega arith, λ e. omega arith), tt))
+late_others versions.Four i j = ((omega arith, λ e. omega arith), ((omega arith, λ e. omega arith), ((omega arith, λ e. omega arith), tt)))
+late_others versions.FourHalf i j = ((omega arith, λ e. omega arith), ((omega arith, λ e. omega arith), ((omega arith, λ e. omega arith), tt)))
 
 header_others : (h : Header) → AllByRecursion IsOther (header_words h)
 header_others h =
-    (version_other h.version, ((omega arith, λ e. omega arith), ((omega arith, λ e. omega arith), ((omega arith, λ e. omega arith), ((omega arith, λ e. omega arith), ((omega arith, λ e. omega arith), late_others h.version h.initial))))))
+    (version_other h.version, ((omega arith, λ e. omega arith), ((omega arith, λ e. omega arith), ((omega arith, λ e. omega arith), ((omega arith, λ e. omega arith), ((omega arith, λ e. omega arith), late_others h.version h.initial h.congestion))))))
 
 words_not : (v : Version) (number : ℕ) (lines : List (List (List ℕ))) (raws : List (List ℕ)) → AllByRecursion (AllByRecursion IsClean) lines → AllByRecursion IsOther lines → AreLines number lines raws → AreTraceLines v raws
 words_not v number [] [] clean other h = tt
@@ -155,14 +163,24 @@ case_parts t w a b s q =
     let parts = parts_at w.version (a ++ b) (s.headers ++ s.events) (q.first ∷ q.raws) (sym lines) place in
     (parts.0 ∙ sym s.joined, parts.1 ∙ sym q.parts)
 
+-- both of version 4 are cut alike
+cut_named : (v : Version) (text : List ℕ) → (trace_part (named_as v) text ≡ trace_part v text) × (witness_part (named_as v) text ≡ witness_part v text)
+cut_named versions.One text = (refl, refl)
+cut_named versions.Two text = (refl, refl)
+cut_named versions.Three text = (refl, refl)
+cut_named versions.Four text = (refl, refl)
+cut_named versions.FourHalf text = (refl, refl)
+
 pub case_is : (t : Trace) (w : Witness) (a b : List ℕ) → t.header.version ≡ w.version → IsTraceText t a → IsWitnessText w b → case_result (a ++ b) ≡ Ok (verdict t w)
 unfolding case_result
 case_is t w a b version s q =
     let parts = case_parts t w a b s q in
-    ap (λ (v : Version). case_of v (a ++ b)) (trace_named t a b s ∙ version)
-    ∙ ap (λ (x : List ℕ). judged (trace_of x) (witness_for w.version (witness_part w.version (a ++ b)))) parts.0
-    ∙ ap (λ (x : List ℕ). judged (trace_of a) (witness_for w.version x)) parts.1
-    ∙ rw (trace_again a t s, text_again w b q) refl
+    let cut = cut_named w.version (a ++ b) in
+    let steps : witness_for t.header.version b ≡ Ok w = ap (λ (v : Version). witness_for v b) version ∙ text_again w b q in
+    ap (λ (v : Version). case_of v (a ++ b)) (trace_named t a b s ∙ ap named_as version)
+    ∙ ap (λ (x : List ℕ). texts_result x (witness_part (named_as w.version) (a ++ b))) (cut.0 ∙ parts.0)
+    ∙ ap (λ (x : List ℕ). texts_result a x) (cut.1 ∙ parts.1)
+    ∙ rw (trace_again a t s, steps) refl
 
 -- ---- a case that is printed
 
@@ -200,7 +218,7 @@ yes_in_memory t w text is b d version p q s e = (verdict t w, case_in_memory t w
 
 two_listen_prints : traces.IsPrintableTrace two_listen
 two_listen_prints = record {
-  header = record { skew = omega arith; msl_least = omega arith; msl = omega arith; grain = omega arith; minrto = omega arith; extra = omega arith; initial = λ e. refl };
+  header = record { skew = omega arith; msl_least = omega arith; msl = omega arith; grain = omega arith; minrto = omega arith; extra = omega arith; initial = λ e. refl; congestion = λ e. refl };
   recorded = (refl, omega arith, (refl, omega arith, (refl, omega arith, (refl, omega arith, tt))));
   few = omega arith;
   lines = (

@@ -21,12 +21,12 @@ use Rattle.witness.proofs.StreamLaw.{whole_err, whole_ok}
 use Rattle.verdict.specs.declared.report.Verdict.{Verdict}
 use Rattle.checker.specs.declared.case.CaseFault.{CaseFault}
 use Rattle.checker.specs.declared.case.CaseFault.TheVariants as faults
-use Rattle.checker.specs.Cases.{judged}
+use Rattle.checker.specs.Cases.{judged, witness_behind}
 use Rattle.checker.specs.Verdicts.{verdict}
 use Rattle.checker.specs.Ahead.{TraceFails, source_ahead, trace_ahead}
 use Rattle.checker.specs.declared.ahead.Ahead.{Ahead}
 use Rattle.checker.specs.Streaming.{Tells}
-use Rattle.checker.specs.Texts.{GivesTexts, AreOf, witness_behind}
+use Rattle.checker.specs.Texts.{GivesTexts, AreOf}
 
 -- a fault of the trace alone
 pub trace_tells : (a b : Option (List ℕ)) (e : CaseFault) → TraceFails e (option_map trace_of a) → GivesTexts (Err e) a b

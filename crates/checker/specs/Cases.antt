@@ -38,9 +38,18 @@ abbrev pub case_fault : FaultKind → CaseFault → CaseFault
 case_fault kinds.OutOfMemory fault = faults.OutOfMemory
 case_fault kind fault = fault
 
--- the result of a case of a version
+-- the witness of a text for that trace, in its version; behind a fault of the trace it is not looked at
+abbrev pub witness_behind : Result Trace TextFault → List ℕ → Result Witness TextFault
+witness_behind (Ok t) witness = witness_for t.header.version witness
+witness_behind (Err e) witness = Err e
+
+-- what a trace's text and a witness's text give: the trace's fault, else the witness's, else the verdict
+abbrev pub texts_result : List ℕ → List ℕ → Result Verdict CaseFault
+texts_result trace witness = judged (trace_of trace) (witness_behind (trace_of trace) witness)
+
+-- the result of a case that is cut as one of a version
 abbrev pub case_of : Version → List ℕ → Result Verdict CaseFault
-case_of v text = judged (trace_of (trace_part v text)) (witness_for v (witness_part v text))
+case_of v text = texts_result (trace_part v text) (witness_part v text)
 
 -- the version is the one that the first line of its trace names
 unfoldable pub case_result : List ℕ → Result Verdict CaseFault

@@ -3,23 +3,13 @@ use Rattle.std.specs.Prelude.{◌≡◌, ℕ, List, Option, None, Some, Result, 
 use Rattle.bstr.specs.Text.{lines_of}
 use Rattle.case_forms.specs.declared.trace.Trace.{Trace}
 use Rattle.case_forms.specs.declared.steps.Witness.{Witness}
-use Rattle.line_fields.specs.declared.fault.TextFault.{TextFault}
 use Rattle.trace_reader.specs.Headers.{version_named}
 use Rattle.trace_reader.specs.TraceText.{trace_of}
 use Rattle.witness.specs.WitnessText.{witness_for}
 use Rattle.verdict.specs.declared.report.Verdict.{Verdict}
 use Rattle.checker.specs.declared.case.CaseFault.{CaseFault}
 use Rattle.checker.specs.declared.case.CaseFault.TheVariants as faults
-use Rattle.checker.specs.Cases.{judged, trace_part, witness_part}
-
--- the witness of a text for that trace, in its version; behind a fault of the trace it is not looked at
-abbrev pub witness_behind : Result Trace TextFault → List ℕ → Result Witness TextFault
-witness_behind (Ok t) witness = witness_for t.header.version witness
-witness_behind (Err e) witness = Err e
-
--- what a trace's text and a witness's text give: the trace's fault, else the witness's, else the verdict
-abbrev pub texts_result : List ℕ → List ℕ → Result Verdict CaseFault
-texts_result trace witness = judged (trace_of trace) (witness_behind (trace_of trace) witness)
+use Rattle.checker.specs.Cases.{trace_part, witness_part, texts_result}
 
 -- what was given is what both texts give, where their bytes are known; unless memory ran out or a read failed
 abbrev pub GivesTexts : Result Verdict CaseFault → Option (List ℕ) → Option (List ℕ) → Type 0

@@ -249,6 +249,8 @@ two_versions (Some i) n k ns plan is e = longer (i ∷ k ∷ ns) (omega arith) p
     longer ns lt versions.One (inr e) = let bad : length ns ≡ 1 = ap (λ (xs : List ℕ). length xs) e in absurd (omega (bad, lt, arith))
     longer ns lt versions.Two e = let bad : length ns ≡ 1 = ap (λ (xs : List ℕ). length xs) e in absurd (omega (bad, lt, arith))
     longer ns lt versions.Three e = absurd e
+    longer ns lt versions.Four e = absurd e
+    longer ns lt versions.FourHalf e = absurd e
 
 -- it told one before
 pub told_before : (told : GivenSettings) (words : List Text) (plan : Plan) (s : Setting) (count n : ℕ) → first_option words ≡ Some (s, count) → number_of s told ≡ Some n → AsksRest told words plan → ⊥
@@ -418,11 +420,17 @@ same_version ns versions.One versions.One a b = refl
 same_version ns versions.One versions.Two (inl a) b = let bad : 0 ≡ 1 = ap (λ (xs : List ℕ). length xs) (sym a ∙ b) in absurd (omega (bad, arith))
 same_version ns versions.One versions.Two (inr a) b = let bad : 1 ≡ 2 = ap (λ (xs : List ℕ). get_or xs 0 0) (sym a ∙ b) in absurd (omega (bad, arith))
 same_version ns versions.One versions.Three a b = absurd b
+same_version ns versions.One versions.Four a b = absurd b
+same_version ns versions.One versions.FourHalf a b = absurd b
 same_version ns versions.Two versions.One a (inl b) = let bad : 0 ≡ 1 = ap (λ (xs : List ℕ). length xs) (sym b ∙ a) in absurd (omega (bad, arith))
 same_version ns versions.Two versions.One a (inr b) = let bad : 1 ≡ 2 = ap (λ (xs : List ℕ). get_or xs 0 0) (sym b ∙ a) in absurd (omega (bad, arith))
 same_version ns versions.Two versions.Two a b = refl
 same_version ns versions.Two versions.Three a b = absurd b
+same_version ns versions.Two versions.Four a b = absurd b
+same_version ns versions.Two versions.FourHalf a b = absurd b
 same_version ns versions.Three w a b = absurd a
+same_version ns versions.Four w a b = absurd a
+same_version ns versions.FourHalf w a b = absurd a
 
 one_list : (words : List Text) (p q : Plan) (a : AsksRecord words p) (b : AsksRecord words q) → a.options ≡ b.options
 one_list words p q a b =
@@ -442,6 +450,8 @@ whole_version : (ns : List ℕ) (v : Version) → IsVersion ns v → is_half v �
 whole_version ns versions.One is = refl
 whole_version ns versions.Two is = refl
 whole_version ns versions.Three is = absurd is
+whole_version ns versions.Four is = absurd is
+whole_version ns versions.FourHalf is = absurd is
 
 pub asks_whole : (words : List Text) (p : Plan) → AsksRecord words p → is_half p.version ≡ false
 asks_whole words p a = whole_version (numbers_of Format a.options) p.version a.version

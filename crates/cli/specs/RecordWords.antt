@@ -75,6 +75,8 @@ abbrev pub IsVersion : List ℕ → Version → Type 0
 IsVersion numbers versions.One = (numbers ≡ []) ⊎ (numbers ≡ 1 ∷ [])
 IsVersion numbers versions.Two = numbers ≡ 2 ∷ []
 IsVersion numbers versions.Three = ⊥
+IsVersion numbers versions.Four = ⊥
+IsVersion numbers versions.FourHalf = ⊥
 
 -- the words ask for this recording: each option once, in any order, and the version may be left out
 pub record AsksRecord (words : List Text) (plan : Plan) : Type 0 where

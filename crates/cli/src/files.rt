@@ -2,7 +2,7 @@
 
 ghost use Rattle.std.specs.Prelude.{◌≡◌, ◌≢◌, ◌⊎◌, ◌<◌, ◌^◌, Err, IfSome, codes};
 ghost use Rattle.std.specs.Io.KnownBytes.{Appends};
-ghost use Rattle.checker.specs.Texts.{texts_result};
+ghost use Rattle.checker.specs.Cases.{texts_result};
 ghost use Rattle.counted.specs.Counting.{left_of, failures_of};
 ghost use Rattle.cli.specs.Output.{Ends, line_of, status_of};
 

@@ -225,7 +225,7 @@ length_joined b i e m = by (is_syn_received e.state && acknowledges_syn e m) e.l
 taking_bounded : (h : Header) (how : TakeChoice) (m : Emission) (moment steps : ℕ) (b : HostTcp) (t : Taker) → m.ack < 2 ^ 63 → IsBoundedBody steps b → IsBoundedBody (suc steps) (after_taking h b how m moment t)
 taking_bounded h how m moment steps b Nobody small k = body_later steps b k
 taking_bounded h how m moment steps b (AtListener l) small k =
-    joins_bounded steps b (child (profile_of h.initial) l how m moment) (child_bounded (profile_of h.initial) l how m moment (suc steps)) k
+    joins_bounded steps b (child (profile_of h) l how m moment) (child_bounded (profile_of h) l how m moment (suc steps)) k
 taking_bounded h how m moment steps b (AtEndpoint i e) small k =
     let read = as_read h.version e m in
     let one = place_bounded steps b i (λ x. endpoint_taken h x how read moment) (λ x there. endpoint_taken_bounded h how read moment steps x (read_small h.version e m small)) k in
@@ -238,7 +238,7 @@ taking_bounded h how m moment steps b (AtEndpoint i e) small k =
 act_bounded : (h : Header) (me : Host) (moment steps : ℕ) (b : HostTcp) (act : Act) → IsSmallAct act → first_broken (act_rules h me moment b act) ≡ None → IsBoundedBody steps b → IsBoundedBody (suc steps) (act_after h me moment b act)
 act_bounded h me moment steps b (Calls call answer) small permitted k =
     let all = none_all (act_rules h me moment b (Calls call answer)) permitted in
-    call_bounded (profile_of h.initial) steps b call answer small (not_false (call_allows b call answer) all.0) k
+    call_bounded (profile_of h) steps b call answer small (not_false (call_allows b call answer) all.0) k
 act_bounded h me moment steps b (Makes m) small permitted k = ports_bounded steps b m.lport m.rport (λ e. after_making e m moment) (after_making_bounded m moment steps) k
 act_bounded h me moment steps b (Takes how m) small permitted k = taking_bounded h how m moment steps b (taker b m) small.ack k
 act_bounded h me moment steps b (Resets m) small permitted k = body_later steps b k

@@ -90,7 +90,7 @@ unfolding host_field
 host_then v form f on r = assoc (number_field 0 (greatest_host v) r) (λ n. Ok (host_of n.0, n.1)) f ∙ number_then 0 (greatest_host v) form (λ n. f (host_of n.0, n.1)) (λ x rest. on (host_of x) rest) r
 
 -- words
-named_agrees : {K : Type 0} (w : Word) (o : Option K) → Agrees (or_fault (fault_at kinds.Field w) o) (unknown o) w
+pub named_agrees : {K : Type 0} (w : Word) (o : Option K) → Agrees (or_fault (fault_at kinds.Field w) o) (unknown o) w
 named_agrees w None = refl
 named_agrees w (Some k) = tt
 

@@ -10,7 +10,7 @@ use Rattle.hex.specs.declared.error.FromHexError.{FromHexError}
 use Rattle.hex.proofs.HexLemmas.{decode_of-ok}
 use Rattle.line_fields.specs.declared.fault.TextFault.{TextFault}
 use Rattle.line_fields.specs.Word.{Word, Rest, words_left}
-use Rattle.line_fields.specs.Reading.{◌>>=◌, first_of, next_field}
+use Rattle.line_fields.specs.Reading.{◌>>=◌, next_field}
 use Rattle.line_fields.specs.HexFields.{at_most, hex_field, hex_value, hex_word}
 use Rattle.line_fields.proofs.Columns.{ends_at, is_space, next_is}
 

@@ -70,6 +70,8 @@ first_small : (v : Version) → first_line_of v ≤ 100
 first_small versions.One = omega arith
 first_small versions.Two = omega arith
 first_small versions.Three = omega arith
+first_small versions.Four = omega arith
+first_small versions.FourHalf = omega arith
 
 pub beside_small : (a b : Recorded) → AreBeside a b → AllSmall (in_order a.entries b.entries)
 beside_small a b x =

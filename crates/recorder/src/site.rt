@@ -6,6 +6,7 @@ ghost use Rattle.case_forms.specs.declared.calls.Host.TheVariants.{Zero};
 ghost use Rattle.case_forms.specs.declared.trace.Header.{Header};
 ghost use Rattle.case_forms.specs.declared.version.Version.TheVariants.{One};
 ghost use Rattle.case_forms.specs.declared.version.Initial.TheVariants.{Rfc5681};
+ghost use Rattle.case_forms.specs.declared.version.Judged.TheVariants.{Full};
 
 use crate::host_book::HostBook;
 use std::marker::{Brand, PhantomData};
@@ -21,7 +22,16 @@ pub trait Site: Ledger {
 impl Site for Brand {
     ghost host = { Zero };
 
-    ghost header = { record { version = One; skew = 0; msl = 1; grain = 0; minrto = 0; extra = 0; initial = Rfc5681 } };
+    ghost header = { record {
+      version = One;
+      skew = 0;
+      msl = 1;
+      grain = 0;
+      minrto = 0;
+      extra = 0;
+      initial = Rfc5681;
+      congestion = Full;
+    } };
 }
 
 /// The book of that host.

@@ -6,9 +6,9 @@ use Rattle.indexmap.specs.IndexMap.{insert_entry}
 use Rattle.std.proofs.lemmas.Bool.Decides.{nat_tests}
 use Rattle.case_forms.specs.declared.calls.Host.{Host}
 use Rattle.case_forms.specs.declared.calls.Host.TheVariants.{One, Zero}
-use Rattle.spec_network.specs.Tables.{Both, Made, gone_out, host_is, lane, on, other, pick, settled, waiting, with_host}
+use Rattle.spec_network.specs.Tables.{Both, Made, host_is, lane, on, other, pick, with_host}
 use Rattle.spec_network.specs.Hosts.{Answers, Deed, Does, Drops, Expires, Gets, Hears, HostState, Kernel, Makes, Sends, Takes}
-use Rattle.spec_network.specs.HostSteps.{act_made, deed_after}
+use Rattle.spec_network.specs.HostSteps.{deed_after}
 use Rattle.spec_merge.specs.Books.{Flying, deed_line}
 use Rattle.spec_merge.specs.Merging.{Names}
 use Rattle.spec_network.proofs.Entries.{lookup_insert}

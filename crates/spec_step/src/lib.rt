@@ -8,15 +8,18 @@
 //! - `hidden`: a step that takes none: the same
 //! - `step`: any step
 //! - `wires`: what stands on a host's wire under a line, and a segment that is brought there, which is no step
+//! - `laws`: where less of congestion control is judged, more is accepted
 #![tactic(auto)]
 
 mod hidden;
+mod laws;
 mod line;
 mod step;
 mod wires;
 
 pub use endpoint_state::StepFault;
 pub use hidden::apply_hidden;
+pub use laws::{less_judged_is_more_accepted, profiles_are_kept};
 pub use line::{apply_line, apply_line_owned};
 pub use spec_tcp::Emission;
 pub use step::{Label, admits, apply};

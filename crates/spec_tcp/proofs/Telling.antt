@@ -10,6 +10,7 @@ use Rattle.case_forms.specs.declared.calls.Answer.{Answer}
 use Rattle.case_forms.specs.declared.calls.Answer.TheVariants as answers
 use Rattle.case_forms.specs.declared.version.Version.TheVariants.{One}
 use Rattle.case_forms.specs.declared.version.Initial.TheVariants.{Rfc5681}
+use Rattle.case_forms.specs.declared.version.Judged.TheVariants.{Full}
 use Rattle.case_forms.specs.declared.trace.Header.{Header}
 use Rattle.case_forms.specs.declared.trace.Wire.{Wire}
 use Rattle.case_forms.specs.declared.trace.Event.{Event}
@@ -28,7 +29,7 @@ use Rattle.segment.specs.Encoding.{encoding, as_written}
 
 -- the header, but for the maximum segment lifetime and what a listen queue may hold above its backlog
 abbrev pub header : (msl extra : ℕ) → Header
-header msl extra = record { version = One; skew = 0; msl = msl; grain = 1000; minrto = 1000000; extra = extra; initial = Rfc5681 }
+header msl extra = record { version = One; skew = 0; msl = msl; grain = 1000; minrto = 1000000; extra = extra; initial = Rfc5681; congestion = Full }
 
 abbrev pub nowhere : Span
 nowhere = record { line = 0; start = 0; stop = 0 }

@@ -70,5 +70,5 @@ endpoint_after h b how m moment i e =
 abbrev pub after_taking : Header → HostTcp → TakeChoice → Emission → ℕ → Taker → HostTcp
 after_taking h b how m moment Nobody = b
 after_taking h b how m moment (AtListener l) =
-    record b { endpoints = b.endpoints ++ child (profile_of h.initial) l how m moment ∷ [] }
+    record b { endpoints = b.endpoints ++ child (profile_of h) l how m moment ∷ [] }
 after_taking h b how m moment (AtEndpoint i e) = endpoint_after h b how (as_read h.version e m) moment i e

@@ -61,7 +61,7 @@ act_rules h me moment b (Recovers x) = rules_at b x.lport x.rport (λ e. recover
 
 -- what the host has after it
 abbrev pub act_after : Header → Host → ℕ → HostTcp → Act → HostTcp
-act_after h me moment b (Calls call answer) = after_call (profile_of h.initial) b call answer
+act_after h me moment b (Calls call answer) = after_call (profile_of h) b call answer
 act_after h me moment b (Makes m) = at_ports b m.lport m.rport (λ e. after_making e m moment)
 act_after h me moment b (Takes how m) = after_taking h b how m moment (taker b m)
 act_after h me moment b (Resets m) = b

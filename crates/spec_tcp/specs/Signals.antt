@@ -1,10 +1,13 @@
 -- What happens to an endpoint, as its congestion control sees it: no other definition distinguishes one kind of event
 -- from another for it (RFC 5681, 3.1 and 3.2).
-use Rattle.std.specs.Prelude.{ℕ, ◌==◌, nat_lt, Bool, not, ◌&&◌, if◌then◌else◌, Option}
+use Rattle.std.specs.Prelude.{ℕ, ◌==◌, nat_lt, not, ◌&&◌, if◌then◌else◌, Option}
 use Rattle.std.specs.Option.{option_map_or}
 use Rattle.case_forms.specs.States.{is_syn_sent}
 use Rattle.case_forms.specs.declared.version.Initial.{Initial}
 use Rattle.case_forms.specs.declared.version.Initial.TheVariants as initials
+use Rattle.case_forms.specs.declared.version.Judged.{Judged}
+use Rattle.case_forms.specs.declared.version.Judged.TheVariants as judged
+use Rattle.case_forms.specs.declared.trace.Header.{Header}
 use Rattle.window_rules.specs.declared.control.At.{At}
 use Rattle.window_rules.specs.declared.control.Profile.{Profile}
 use Rattle.window_rules.specs.declared.control.Profile.TheVariants as profiles
@@ -14,10 +17,16 @@ use Rattle.window_rules.specs.declared.control.Signal.TheVariants.{Timeout, Reco
 use Rattle.spec_tcp.specs.Endpoints.{Endpoint, Emission, flight}
 use Rattle.spec_tcp.specs.Arrives.OtherStates.Ack.{is_new_ack, acknowledges_syn, acked, is_duplicate}
 
+-- the profile of an RFC for the first window, and of how much of congestion control is judged
+abbrev pub profile_named : Initial → Judged → Profile
+profile_named initials.Rfc5681 judged.Full = profiles.Rfc5681
+profile_named initials.Rfc6928 judged.Full = profiles.Rfc6928
+profile_named initial judged.Recovery = profiles.Unbounded
+profile_named initial judged.Nothing = profiles.Unjudged
+
 -- the profile that the header names
-abbrev pub profile_of : Initial → Profile
-profile_of initials.Rfc5681 = profiles.Rfc5681
-profile_of initials.Rfc6928 = profiles.Rfc6928
+abbrev pub profile_of : Header → Profile
+profile_of h = profile_named h.initial h.congestion
 
 -- the moment, and the smoothed round trip before it
 abbrev pub at_moment : Endpoint → ℕ → At

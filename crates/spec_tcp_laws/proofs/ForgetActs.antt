@@ -105,11 +105,11 @@ act_rules-forget h me moment b (Recovers x) =
 
 taking-forgets : (h : Header) (b : HostTcp) (how : TakeChoice) (m : Emission) (moment : ℕ) (t : Taker) → forget_body (after_taking h (forget_body b) how m moment (forget_taker t)) ≡ forget_body (after_taking h b how m moment t)
 taking-forgets h b how m moment Nobody = body-forget b
-taking-forgets h b how m moment (AtListener l) = rw (append-forgets b.endpoints (child (profile_of h.initial) l how m moment ∷ [])) refl
+taking-forgets h b how m moment (AtListener l) = rw (append-forgets b.endpoints (child (profile_of h) l how m moment ∷ [])) refl
 taking-forgets h b how m moment (AtEndpoint i e) = rw (read-forget h e m, modify-forgets b.endpoints i (λ x. endpoint_taken h x how (as_read h.version e m) moment) (endpoint-forgets h how (as_read h.version e m) moment)) refl
 
 pub act-forgets : (h : Header) (me : Host) (moment : ℕ) (b : HostTcp) (act : Act) → forget_body (act_after h me moment (forget_body b) act) ≡ forget_body (act_after h me moment b act)
-act-forgets h me moment b (Calls call answer) = call-forgets (profile_of h.initial) b call answer
+act-forgets h me moment b (Calls call answer) = call-forgets (profile_of h) b call answer
 act-forgets h me moment b (Makes m) = ports-forgets b m.lport m.rport (λ e. after_making e m moment) (making-forgets m moment)
 act-forgets h me moment b (Takes how m) = rw (taker-forget b m) (taking-forgets h b how m moment (taker b m))
 act-forgets h me moment b (Resets m) = body-forget b

@@ -31,3 +31,10 @@ pub mod Old
 pub mod Transitions
 pub mod HeardNumbers
 pub mod Sameness
+pub mod Limited
+pub mod JudgedEffects
+pub mod JudgedRules
+pub mod JudgedBodies
+pub mod JudgedActs
+pub mod JudgedWorlds
+pub mod JudgedRuns

@@ -5,7 +5,6 @@ use Rattle.case_forms.specs.declared.trace.Header.{Header}
 use Rattle.spec_network.specs.Hosts.{World, Step, Stamped}
 use Rattle.spec_network.specs.HostRules.{Permitted}
 use Rattle.spec_network.specs.HostSteps.{after, after_all, start, Lawful}
-use Rattle.spec_tcp.specs.declared.endpoint.EndpointId.{EndpointId}
 use Rattle.spec_tcp.specs.declared.endpoint.Endpoint.{Endpoint}
 use Rattle.spec_tcp.specs.Signals.{profile_of}
 use Rattle.spec_tcp.specs.Machine.{tcp, tcp_shape}
@@ -14,20 +13,20 @@ use Rattle.spec_tcp_laws.specs.Bounds.{ProfilesAreNamed}
 use Rattle.spec_tcp_laws.proofs.Runs.{nowhere}
 use Rattle.spec_tcp_laws.proofs.Windows.{follow}
 
-named_start : (h : Header) → ProfilesAreNamed h (start (tcp h))
+pub named_start : (h : Header) → ProfilesAreNamed h (start (tcp h))
 named_start h me e at = absurd (nowhere h me.host me.number e at)
 
 -- an endpoint keeps its profile, and a new one begins with the header's
-named_step : (h : Header) (s : ℕ) (w : World tcp_shape) (step : Step tcp_shape) → ProfilesAreNamed h w → Permitted (tcp h) s w step
+pub named_step : (h : Header) (s : ℕ) (w : World tcp_shape) (step : Step tcp_shape) → ProfilesAreNamed h w → Permitted (tcp h) s w step
     → ProfilesAreNamed h (after (tcp h) s w step)
 named_step h s w step named may me f at = by (find w.hosts me) refl
   where
-    by : (o : Option Endpoint) → find w.hosts me ≡ o → f.control.profile ≡ profile_of h.initial
+    by : (o : Option Endpoint) → find w.hosts me ≡ o → f.control.profile ≡ profile_of h
     by None none = ((follow h s w step may).begins me f none at).2
     by (Some e) there =
         let x = (follow h s w step may).profile me e there in
         let one : x.0 ≡ f = same_Some x.0 f (sym x.1 ∙ at) in
-        subst (λ (g : Endpoint). g.control.profile ≡ profile_of h.initial) one (x.2 ∙ named me e there)
+        subst (λ (g : Endpoint). g.control.profile ≡ profile_of h) one (x.2 ∙ named me e there)
 
 named_run : (h : Header) (w : World tcp_shape) (steps : List (Stamped tcp_shape)) → ProfilesAreNamed h w → Lawful (tcp h) w steps
     → ProfilesAreNamed h (after_all (tcp h) w steps)

@@ -200,7 +200,7 @@ keeps_taking h b how m moment g = go (taker b m) refl
     go : (t : Taker) → taker b m ≡ t → Keeps b (after_taking h b how m moment t) None
     go Nobody is = keeps_not b g
     go (AtListener l) is =
-        keeps_endpoints b (b.endpoints ++ child (profile_of h.initial) l how m moment ∷ []) g (stay_push b.endpoints (child (profile_of h.initial) l how m moment))
+        keeps_endpoints b (b.endpoints ++ child (profile_of h) l how m moment ∷ []) g (stay_push b.endpoints (child (profile_of h) l how m moment))
     go (AtEndpoint i e) is = let k : Emission = as_read h.version e m in by k i e (taker_there b m i e is) (is_syn_received e.state && acknowledges_syn e k) e.listener refl refl
 
 keeps_dead : (b c : HostTcp) (n : ℕ) → Sound b → AllStay b.endpoints c.endpoints → ((l : ℕ) → queue_of c l ≡ queue_of b l) → Keeps b (record c { sockets = dead b.sockets n }) None
@@ -320,7 +320,7 @@ sound_effect h s w t answer g apart may = go (turn_of t w.threads) may
     by : (call : Call) (o : Option Host) → first_broken (fresh_rules (tcp h) a (gives call answer)) ≡ None → SoundStep a (call_after (tcp h) s a (Calls call answer) o)
     by call None new = sound_not a g apart
     by call (Some host) new = let fresh = fresh_from h a (gives call answer) new in
-        sound_host a host (record (pick a host) { body = after_call (profile_of h.initial) (pick a host).body call answer }) (gives call answer) g apart fresh (keeps_call (profile_of h.initial) (pick a host).body call answer (g host) (λ n e. here host n (fresh n e)))
+        sound_host a host (record (pick a host) { body = after_call (profile_of h) (pick a host).body call answer }) (gives call answer) g apart fresh (keeps_call (profile_of h) (pick a host).body call answer (g host) (λ n e. here host n (fresh n e)))
 
     go : (u : Turn tcp_shape) → first_broken (effect_rules (tcp h) s a u answer) ≡ None → SoundStep a (effect_after (tcp h) s w t answer u).hosts
     go Idle may = sound_not a g apart

@@ -245,8 +245,8 @@ grown_effect h s w t answer g apart may = go (turn_of t w.threads) may
     by : (call : Call) (o : Option Host) → option_map_or (λ host. call_allows (pick w.hosts host).body call answer) o (is_bad_socket answer) ≡ true → AllGrown comes (call_adds w.hosts call answer) w.hosts (call_after (tcp h) s w.hosts (Calls call answer) o)
     by call None may = all_grown_not comes w.hosts (call_adds w.hosts call answer) (λ me. stray_adds w.hosts call answer me may) g
     by call (Some host) may =
-        all_grown_host comes w.hosts host (record (pick w.hosts host) { body = after_call (profile_of h.initial) (pick w.hosts host).body call answer }) (call_adds w.hosts call answer) g
-        (grown_call (profile_of h.initial) comes w.hosts host call answer (g host) may) (adds_elsewhere w.hosts host call answer apart may)
+        all_grown_host comes w.hosts host (record (pick w.hosts host) { body = after_call (profile_of h) (pick w.hosts host).body call answer }) (call_adds w.hosts call answer) g
+        (grown_call (profile_of h) comes w.hosts host call answer (g host) may) (adds_elsewhere w.hosts host call answer apart may)
 
     go : (u : Turn tcp_shape) → first_broken (effect_rules (tcp h) s w.hosts u answer) ≡ None
         → AllGrown comes (λ me. record { told = of_turn u [] (λ call. name_told w.hosts call answer me); accepted = of_turn u [] (λ call. call_accepted w.hosts call answer me); ended = of_turn u false (λ call. call_ended w.hosts call answer me) })
@@ -267,7 +267,7 @@ kept_effect h s w t answer g = go (turn_of t w.threads)
   where
     by : (call : Call) (o : Option Host) → AllLater w.hosts (call_after (tcp h) s w.hosts (Calls call answer) o) → Kept w.hosts (call_after (tcp h) s w.hosts (Calls call answer) o)
     by call None up = kept_not w.hosts g
-    by call (Some host) up = kept_call (profile_of h.initial) w.hosts host call answer g up
+    by call (Some host) up = kept_call (profile_of h) w.hosts host call answer g up
 
     go : (u : Turn tcp_shape) → AllLater w.hosts (effect_after (tcp h) s w t answer u).hosts → Kept w.hosts (effect_after (tcp h) s w t answer u).hosts
     go Idle up = kept_not w.hosts g

@@ -289,7 +289,7 @@ grown_taking h s w host line how m g waits may = go (taker (pick w.hosts host).b
     go : (t : Taker) → taker b m ≡ t → first_broken (taker_rules h host b how m s t) ≡ None
         → Grown comes host silent b.endpoints (after_taking h b how m s t).endpoints
     go Nobody is may = grown_not comes host silent b.endpoints (λ i. refl) (g host)
-    go (AtListener l) is may = grown_push comes host b.endpoints (child (profile_of h.initial) l how m s) (g host) (bare_child (profile_of h.initial) l how m s)
+    go (AtListener l) is may = grown_push comes host b.endpoints (child (profile_of h) l how m s) (g host) (bare_child (profile_of h) l how m s)
     go (AtEndpoint i e) is may = let at = taker_there b m i e is in
         grown_one comes host silent b.endpoints i (λ x. endpoint_taken h x how (as_read h.version e m) s) (g host) (λ j n. refl)
         (λ x there.
@@ -435,10 +435,10 @@ moves_taking a h whole host b how m moment g good may = go (taker b m) refl may
     go : (t : Taker) → taker b m ≡ t → first_broken (taker_rules h host b how m moment t) ≡ None
         → Moves a host b.endpoints (after_taking h b how m moment t).endpoints
     go Nobody is may = moves_not a host b.endpoints g
-    go (AtListener l) is may = moves_push a host b.endpoints (child (profile_of h.initial) l how m moment) g (record {
+    go (AtListener l) is may = moves_push a host b.endpoints (child (profile_of h) l how m moment) g (record {
       snd_una = λ more. absurd (omega arith);
       good =
-          λ c later. record { stream = met_good c _ m.sender (child (profile_of h.initial) l how m moment).stream (emission_later a c later m good).there refl refl (λ more. omega arith); waits = λ y. absurd cc };
+          λ c later. record { stream = met_good c _ m.sender (child (profile_of h) l how m moment).stream (emission_later a c later m good).there refl refl (λ more. omega arith); waits = λ y. absurd cc };
     })
     go (AtEndpoint i e) is may = let at = taker_there b m i e is in
         moves_one a host b.endpoints i (λ x. endpoint_taken h x how (as_read h.version e m) moment) g

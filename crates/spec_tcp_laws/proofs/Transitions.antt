@@ -325,7 +325,7 @@ gone_taking h s w host line how m waits = go (taker (pick w.hosts host).body m) 
 
     go : (t : Taker) → taker b m ≡ t → Gone w (At host (Takes line how)) host b.endpoints (after_taking h b how m s t).endpoints
     go Nobody is = gone_not w (At host (Takes line how)) host b.endpoints
-    go (AtListener l) is = gone_push w (At host (Takes line how)) host b.endpoints (child (profile_of h.initial) l how m s) (inr refl)
+    go (AtListener l) is = gone_push w (At host (Takes line how)) host b.endpoints (child (profile_of h) l how m s) (inr refl)
     go (AtEndpoint i e) is = gone_one w (At host (Takes line how)) host b.endpoints i (λ x. endpoint_taken h x how (as_read h.version e m) s)
         (λ x there.
         let one : e ≡ x = same_Some e x (sym (taker_there b m i e is) ∙ there) in
@@ -453,7 +453,7 @@ both_step h s w (Effect t answer) = go (turn_of t w.threads) refl
     by : (call : Call) (o : Option Host) → turn_of t w.threads ≡ Called call → BothGo w (Effect t answer) (call_after (tcp h) s w.hosts (Calls call answer) o)
     by call None turn = both_not w (Effect t answer)
     by call (Some host) turn =
-        both_host w (Effect t answer) host (record (pick w.hosts host) { body = after_call (profile_of h.initial) (pick w.hosts host).body call answer }) (gone_call (profile_of h.initial) w t host call answer turn)
+        both_host w (Effect t answer) host (record (pick w.hosts host) { body = after_call (profile_of h) (pick w.hosts host).body call answer }) (gone_call (profile_of h) w t host call answer turn)
 
     go : (u : Turn tcp_shape) → turn_of t w.threads ≡ u → BothGo w (Effect t answer) (effect_after (tcp h) s w t answer u).hosts
     go Idle is = both_not w (Effect t answer)

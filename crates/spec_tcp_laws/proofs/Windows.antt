@@ -17,10 +17,9 @@ use Rattle.verdict.specs.Rules.{first_broken}
 use Rattle.verdict.proofs.RuleLemmas.{none_all}
 use Rattle.window_rules.specs.Windows.{greatest_window as greatest_value}
 use Rattle.window_rules.specs.Control.{after as after_it, greatest, may_recover}
-use Rattle.window_rules.specs.declared.control.Control.{Control}
 use Rattle.window_rules.specs.declared.control.Signal.{Signal}
 use Rattle.window_rules.specs.declared.control.Profile.{Profile}
-use Rattle.window_rules.specs.declared.control.Signal.TheVariants.{Other, Syn}
+use Rattle.window_rules.specs.declared.control.Signal.TheVariants.{Other}
 use Rattle.window_rules.proofs.ControlLemmas.{chosen_cwnd, kept_ssthresh, same_profile}
 use Rattle.streams.specs.Lists.{modify}
 use Rattle.streams.proofs.Places.{get_append, all_push, all_modify}
@@ -66,18 +65,18 @@ use Rattle.spec_tcp_laws.proofs.Takes.{taker_there}
 use Rattle.spec_tcp_laws.proofs.Sound.{modify_here}
 
 -- an endpoint begins so
-abbrev Begins : Profile → Endpoint → Type 0
+abbrev pub Begins : Profile → Endpoint → Type 0
 Begins p f = (f.control.values.cwnd ≡ 0) × (f.control.values.ssthresh ≡ greatest_value) × (f.control.profile ≡ p)
 
 -- both windows stay, or the step is of a kind that may change them
-data WindowsMove (w : World tcp_shape) (step : Step tcp_shape) (me : EndpointId) (e f : Endpoint) : Type 0 where
+pub data WindowsMove (w : World tcp_shape) (step : Step tcp_shape) (me : EndpointId) (e f : Endpoint) : Type 0 where
   stayed : f.control ≡ e.control → WindowsMove w step me e f
   taken : (m : Emission) → TakesThere w step me e m → f.control.profile ≡ e.control.profile → WindowsMove w step me e f
   expired : TimesOut w step me → f.control.profile ≡ e.control.profile → WindowsMove w step me e f
   recovered : Recovers w step me → f.control.profile ≡ e.control.profile → WindowsMove w step me e f
 
 -- the endpoints of a host after a step
-record Follows (p : Profile) (w : World tcp_shape) (step : Step tcp_shape) (host : Host) (es fs : List Endpoint) : Type 0 where
+pub record Follows (p : Profile) (w : World tcp_shape) (step : Step tcp_shape) (host : Host) (es fs : List Endpoint) : Type 0 where
   pub onward : (i : ℕ) (e : Endpoint) → slice_get es i ≡ Some e → (f : Endpoint) × (slice_get fs i ≡ Some f) × WindowsMove w step (name host i) e f
   pub back : (i : ℕ) (f : Endpoint) → slice_get fs i ≡ Some f → ((e : Endpoint) × (slice_get es i ≡ Some e)) ⊎ Begins p f
 
@@ -171,49 +170,49 @@ allowed h b me e how m moment may = go (is_syn_sent e.state) may
 follows_taking : (h : Header) (s : ℕ) (w : World tcp_shape) (host : Host) (line : ℕ) (how : TakeChoice) (m : Emission)
     → waiting line (pick w.hosts host).inbox ≡ Some m
     → first_broken (taker_rules h host (pick w.hosts host).body how m s (taker (pick w.hosts host).body m)) ≡ None
-    → Follows (profile_of h.initial) w (At host (Takes line how)) host (pick w.hosts host).body.endpoints (after_taking h (pick w.hosts host).body how m s (taker (pick w.hosts host).body m)).endpoints
+    → Follows (profile_of h) w (At host (Takes line how)) host (pick w.hosts host).body.endpoints (after_taking h (pick w.hosts host).body how m s (taker (pick w.hosts host).body m)).endpoints
 follows_taking h s w host line how m waits may = go (taker (pick w.hosts host).body m) refl may
   where
     b : HostTcp
     b = (pick w.hosts host).body
 
     go : (t : Taker) → taker b m ≡ t → first_broken (taker_rules h host b how m s t) ≡ None
-        → Follows (profile_of h.initial) w (At host (Takes line how)) host b.endpoints (after_taking h b how m s t).endpoints
-    go Nobody is may = follows_not (profile_of h.initial) w (At host (Takes line how)) host b.endpoints
+        → Follows (profile_of h) w (At host (Takes line how)) host b.endpoints (after_taking h b how m s t).endpoints
+    go Nobody is may = follows_not (profile_of h) w (At host (Takes line how)) host b.endpoints
     go (AtListener l) is may =
         let none = at_most_from 0 how.cwnd (none_all (listener_rules how m) may).1.0 in
-        follows_push (profile_of h.initial) w (At host (Takes line how)) host b.endpoints (child (profile_of h.initial) l how m s) ((let zero' : how.cwnd ≡ 0 = omega arith in zero'), refl, refl)
+        follows_push (profile_of h) w (At host (Takes line how)) host b.endpoints (child (profile_of h) l how m s) ((let zero' : how.cwnd ≡ 0 = omega arith in zero'), refl, refl)
     go (AtEndpoint i e) is may =
-        follows_one (profile_of h.initial) w (At host (Takes line how)) host b.endpoints i (λ x. endpoint_taken h x how (as_read h.version e m) s)
+        follows_one (profile_of h) w (At host (Takes line how)) host b.endpoints i (λ x. endpoint_taken h x how (as_read h.version e m) s)
         (λ x there.
         let one : e ≡ x = same_Some e x (sym (taker_there b m i e is) ∙ there) in
         taken m (line, how, refl, waits, is ∙ ap (λ (y : Endpoint). AtEndpoint i y) one) (chosen h x how (as_read h.version e m) s).2)
 
 follows_deed : (h : Header) (s : ℕ) (w : World tcp_shape) (host : Host) (d : Deed tcp_shape) → Permitted (tcp h) s w (At host d)
-    → Follows (profile_of h.initial) w (At host d) host (pick w.hosts host).body.endpoints (deed_after (tcp h) host s (suc w.count) (pick w.hosts (other host)).wire (pick w.hosts host) d).body.endpoints
+    → Follows (profile_of h) w (At host d) host (pick w.hosts host).body.endpoints (deed_after (tcp h) host s (suc w.count) (pick w.hosts (other host)).wire (pick w.hosts host) d).body.endpoints
 follows_deed h s w host (Does x) may = let b = (pick w.hosts host).body in
-    follows_at_ports (profile_of h.initial) w (At host (Does x)) host b x.lport x.rport (λ e. after_recovery e x.cwnd x.ssthresh s)
+    follows_at_ports (profile_of h) w (At host (Does x)) host b x.lport x.rport (λ e. after_recovery e x.cwnd x.ssthresh s)
     (λ i e at there. recovered (x, refl, at) (same_profile e.control (recovery_signal e x.ssthresh) (at_moment e s) x.cwnd x.ssthresh))
 follows_deed h s w host (Expires line x) may = let b = (pick w.hosts host).body in
-    follows_at_ports (profile_of h.initial) w (At host (Expires line x)) host b x.lport x.rport (λ e. after_expiry e x.expired s)
+    follows_at_ports (profile_of h) w (At host (Expires line x)) host b x.lport x.rport (λ e. after_expiry e x.expired s)
     (λ i e at there. expiry_moves w s host line x i e at)
 follows_deed h s w host (Makes m) may = let b = (pick w.hosts host).body in
-    follows_at_ports (profile_of h.initial) w (At host (Makes m)) host b m.lport m.rport (λ e. after_making e m s)
+    follows_at_ports (profile_of h) w (At host (Makes m)) host b m.lport m.rport (λ e. after_making e m s)
     (λ i e at there. unmoved w (At host (Makes m)) (name host i) e (after_making e m s) (either_windows m.flags.rst (record (shut_down (endpoint_made e m s)) { reset_due = false }) (endpoint_made e m s) e refl refl))
 follows_deed h s w host (Sends line number wire) may =
-    follows_not (profile_of h.initial) w (At host (Sends line number wire)) host (pick w.hosts host).body.endpoints
+    follows_not (profile_of h) w (At host (Sends line number wire)) host (pick w.hosts host).body.endpoints
 follows_deed h s w host (Gets line copied wire) may =
-    follows_not (profile_of h.initial) w (At host (Gets line copied wire)) host (pick w.hosts host).body.endpoints
-follows_deed h s w host (Hears line wire) may = follows_not (profile_of h.initial) w (At host (Hears line wire)) host (pick w.hosts host).body.endpoints
+    follows_not (profile_of h) w (At host (Gets line copied wire)) host (pick w.hosts host).body.endpoints
+follows_deed h s w host (Hears line wire) may = follows_not (profile_of h) w (At host (Hears line wire)) host (pick w.hosts host).body.endpoints
 follows_deed h s w host (Takes line how) may = let k = pick w.hosts host in let step : Step tcp_shape = At host (Takes line how) in
-    on_cases (λ (b : HostTcp). Follows (profile_of h.initial) w step host k.body.endpoints b.endpoints) (waiting line k.inbox) k.body _ (follows_not (profile_of h.initial) w step host k.body.endpoints)
+    on_cases (λ (b : HostTcp). Follows (profile_of h) w step host k.body.endpoints b.endpoints) (waiting line k.inbox) k.body _ (follows_not (profile_of h) w step host k.body.endpoints)
     (λ m e.
     let t = on_passes (waiting line k.inbox) rules.Inbox (λ x. taker_rules h host k.body how x s (taker k.body x)) may in
     let one : t.0 ≡ m = same_Some t.0 m (sym t.1 ∙ e) in
     follows_taking h s w host line how m e (subst (λ (x : Emission). first_broken (taker_rules h host k.body how x s (taker k.body x)) ≡ None) one t.2))
-follows_deed h s w host (Drops line) may = follows_not (profile_of h.initial) w (At host (Drops line)) host (pick w.hosts host).body.endpoints
+follows_deed h s w host (Drops line) may = follows_not (profile_of h) w (At host (Drops line)) host (pick w.hosts host).body.endpoints
 follows_deed h s w host (Answers line) may = let k = pick w.hosts host in let step : Step tcp_shape = At host (Answers line) in
-    on_cases (λ (b : HostTcp). Follows (profile_of h.initial) w step host k.body.endpoints b.endpoints) (waiting line k.inbox) k.body _ (follows_not (profile_of h.initial) w step host k.body.endpoints) (λ m e. follows_not (profile_of h.initial) w step host k.body.endpoints)
+    on_cases (λ (b : HostTcp). Follows (profile_of h) w step host k.body.endpoints b.endpoints) (waiting line k.inbox) k.body _ (follows_not (profile_of h) w step host k.body.endpoints) (λ m e. follows_not (profile_of h) w step host k.body.endpoints)
 
 -- 2. calls
 
@@ -268,7 +267,7 @@ follows_call p w step host b call answer = follows_not p w step host b.endpoints
 -- 3. both hosts
 
 -- the endpoints of both
-record BothFollow (p : Profile) (w : World tcp_shape) (step : Step tcp_shape) (b : Hosts) : Type 0 where
+pub record BothFollow (p : Profile) (w : World tcp_shape) (step : Step tcp_shape) (b : Hosts) : Type 0 where
   pub all : (x : Host) → Follows p w step x (pick w.hosts x).body.endpoints (pick b x).body.endpoints
 
 both_not : (p : Profile) (w : World tcp_shape) (step : Step tcp_shape) → BothFollow p w step w.hosts
@@ -279,23 +278,23 @@ both_host : (p : Profile) (w : World tcp_shape) (step : Step tcp_shape) (host : 
 both_host p w step host k f =
     record { all = with_cases w.hosts host k (λ x y. Follows p w step x (pick w.hosts x).body.endpoints y.body.endpoints) f (follows_not p w step (other host) (pick w.hosts (other host)).body.endpoints) }
 
-both_step : (h : Header) (s : ℕ) (w : World tcp_shape) (step : Step tcp_shape) → Permitted (tcp h) s w step
-    → BothFollow (profile_of h.initial) w step (after (tcp h) s w step).hosts
-both_step h s w (Begin line t call) may = both_not (profile_of h.initial) w (Begin line t call)
-both_step h s w (Finish line t answer) may = both_not (profile_of h.initial) w (Finish line t answer)
+pub both_step : (h : Header) (s : ℕ) (w : World tcp_shape) (step : Step tcp_shape) → Permitted (tcp h) s w step
+    → BothFollow (profile_of h) w step (after (tcp h) s w step).hosts
+both_step h s w (Begin line t call) may = both_not (profile_of h) w (Begin line t call)
+both_step h s w (Finish line t answer) may = both_not (profile_of h) w (Finish line t answer)
 both_step h s w (Effect t answer) may = go (turn_of t w.threads)
   where
-    by : (call : Call) (o : Option Host) → BothFollow (profile_of h.initial) w (Effect t answer) (call_after (tcp h) s w.hosts (Calls call answer) o)
-    by call None = both_not (profile_of h.initial) w (Effect t answer)
+    by : (call : Call) (o : Option Host) → BothFollow (profile_of h) w (Effect t answer) (call_after (tcp h) s w.hosts (Calls call answer) o)
+    by call None = both_not (profile_of h) w (Effect t answer)
     by call (Some host) =
-        both_host (profile_of h.initial) w (Effect t answer) host (record (pick w.hosts host) { body = after_call (profile_of h.initial) (pick w.hosts host).body call answer }) (follows_call (profile_of h.initial) w (Effect t answer) host (pick w.hosts host).body call answer)
+        both_host (profile_of h) w (Effect t answer) host (record (pick w.hosts host) { body = after_call (profile_of h) (pick w.hosts host).body call answer }) (follows_call (profile_of h) w (Effect t answer) host (pick w.hosts host).body call answer)
 
-    go : (u : Turn tcp_shape) → BothFollow (profile_of h.initial) w (Effect t answer) (effect_after (tcp h) s w t answer u).hosts
-    go Idle = both_not (profile_of h.initial) w (Effect t answer)
+    go : (u : Turn tcp_shape) → BothFollow (profile_of h) w (Effect t answer) (effect_after (tcp h) s w t answer u).hosts
+    go Idle = both_not (profile_of h) w (Effect t answer)
     go (Called call) = by call (aim_of (tcp h) w.hosts (aim call))
-    go (Answered x) = both_not (profile_of h.initial) w (Effect t answer)
+    go (Answered x) = both_not (profile_of h) w (Effect t answer)
 both_step h s w (At host d) may =
-    both_host (profile_of h.initial) w (At host d) host (deed_after (tcp h) host s (suc w.count) (pick w.hosts (other host)).wire (pick w.hosts host) d) (follows_deed h s w host d may)
+    both_host (profile_of h) w (At host d) host (deed_after (tcp h) host s (suc w.count) (pick w.hosts (other host)).wire (pick w.hosts host) d) (follows_deed h s w host d may)
 
 -- 4. what the steps that may change windows leave
 
@@ -424,10 +423,10 @@ follow h s w step may = record {
   begins = λ me f none at. from me f none ((all me.host).back me.number f at);
 }
   where
-    all : (x : Host) → Follows (profile_of h.initial) w step x (pick w.hosts x).body.endpoints (pick (after (tcp h) s w step).hosts x).body.endpoints
+    all : (x : Host) → Follows (profile_of h) w step x (pick w.hosts x).body.endpoints (pick (after (tcp h) s w step).hosts x).body.endpoints
     all = (both_step h s w step may).all
 
-    from : (me : EndpointId) (f : Endpoint) → find w.hosts me ≡ None → ((e : Endpoint) × (find w.hosts me ≡ Some e)) ⊎ Begins (profile_of h.initial) f
-        → Begins (profile_of h.initial) f
+    from : (me : EndpointId) (f : Endpoint) → find w.hosts me ≡ None → ((e : Endpoint) × (find w.hosts me ≡ Some e)) ⊎ Begins (profile_of h) f
+        → Begins (profile_of h) f
     from me f none (inl e) = absurd (none-some e.0 (sym none ∙ e.1))
     from me f none (inr new) = new

@@ -1,6 +1,6 @@
 -- What follows of windows from each step of the machine: how far new data reaches, and what cwnd and ssthresh become
 -- (RFC 9293, 3.8.6; RFC 5681, 3.1 and 3.2).
-use Rattle.std.specs.Prelude.{◌≡◌, ◌<◌, ◌≤◌, ℕ, ◌+◌, if◌then◌else◌, length, None, Some}
+use Rattle.std.specs.Prelude.{◌≡◌, ◌<◌, ◌≤◌, ℕ, ◌+◌, length, None, Some}
 use Rattle.case_forms.specs.declared.trace.Header.{Header}
 use Rattle.case_forms.specs.declared.calls.Host.{Host}
 use Rattle.window_rules.specs.declared.control.Control.{Control}
@@ -95,9 +95,9 @@ pub record WindowsFollow (h : Header) (moment : ℕ) (w : World tcp_shape) (step
   pub begins : (me : EndpointId) (f : Endpoint) → find w.hosts me ≡ None
       → find (after (tcp h) moment w step).hosts me ≡ Some f
       → (f.control.values.cwnd ≡ 0) × (f.control.values.ssthresh ≡ greatest_value)
-      × (f.control.profile ≡ profile_of h.initial)
+      × (f.control.profile ≡ profile_of h)
 
 -- the congestion control of each endpoint goes by the RFC that the header names
 abbrev pub ProfilesAreNamed : Header → World tcp_shape → Type 0
 ProfilesAreNamed h w =
-    (me : EndpointId) (e : Endpoint) → find w.hosts me ≡ Some e → e.control.profile ≡ profile_of h.initial
+    (me : EndpointId) (e : Endpoint) → find w.hosts me ≡ Some e → e.control.profile ≡ profile_of h

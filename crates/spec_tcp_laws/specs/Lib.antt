@@ -7,3 +7,4 @@ pub mod ForgettingLaws
 pub mod Ascending
 pub mod Transitions
 pub mod Sameness
+pub mod Judging

@@ -198,7 +198,7 @@ module _ (h : Header) (me : Host) (moment : ℕ) (w : World tcp_shape) where
     where
       by : (o : Option Host) → Leaves (affected_by_call (pick w.hosts me).body call) (ends me w) (pick (call_after (tcp h) moment w.hosts (acts.Calls call answer) o) me).body.endpoints
       by None = leaves_same _ (ends me w)
-      by (Some host) = call_at (profile_of h.initial) me host w.hosts call answer
+      by (Some host) = call_at (profile_of h) me host w.hosts call answer
 
   pub step_leaves : (step : Step tcp_shape) → ((host : Host) (d : Deed tcp_shape) → step ≡ At host d → host ≡ me) → Leaves (affected_by me w step) (ends me w) (ends me (after (tcp h) moment w step))
   step_leaves (Begin line t call) own = leaves_same kinds.Nobody (ends me w)

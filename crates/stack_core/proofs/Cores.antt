@@ -105,6 +105,8 @@ few_first : (v : Version) → first_line_of v ≤ 16
 few_first versions.One = omega arith
 few_first versions.Two = omega arith
 few_first versions.Three = omega arith
+few_first versions.Four = omega arith
+few_first versions.FourHalf = omega arith
 
 few_none : (h : Header) (me : Host) → length (pick (start (tcp h)).hosts me).body.sockets ≤ 0
 few_none h Zero = omega arith

@@ -154,8 +154,8 @@ module _ (h : Header) (me : Host) (moment : ℕ) (w : World tcp_shape) (own : Is
       by (Some host) (inl none) = absurd cc
       by (Some host) (inr at) =
           let same : host ≡ me = same_Some host me at in
-          let body : HostTcp = after_call (profile_of h.initial) (pick w.hosts host).body call answer in
-          let numbers = call_numbers me (pick w.hosts me).body body (gives call answer) (subst (λ (x : Host). SocketsAfter (pick w.hosts x).body.sockets body.sockets (gives call answer)) same (call_sockets (profile_of h.initial) (pick w.hosts host).body call answer)) next (lanes call refl) numbers_own in
+          let body : HostTcp = after_call (profile_of h) (pick w.hosts host).body call answer in
+          let numbers = call_numbers me (pick w.hosts me).body body (gives call answer) (subst (λ (x : Host). SocketsAfter (pick w.hosts x).body.sockets body.sockets (gives call answer)) same (call_sockets (profile_of h) (pick w.hosts host).body call answer)) next (lanes call refl) numbers_own in
           changed host (record (pick w.hosts host) { body = body }) threads w.count same numbers.0 numbers.1 calls
 
   pub own_step : (step : Step tcp_shape) → FitsItem (tcp h) me moment w (Do step) → IsOrderly me w step → OwnStepped me w (after (tcp h) moment w step)

@@ -3,10 +3,11 @@
 //! The case of each name is `data/NAME.case`, and `data/expected.txt` has the line that `tcpwit check` must print for
 //! it (`data/README.md`). Beside the files, each beginning of two of them is asked for, lines of the greatest length,
 //! inputs of several cases, pairs of texts that no case would be cut into, the command lines of
-//! `data/command_lines.txt`, what `tcpwit_lab` says of some cases (`data/told.txt`), and the cases that are found for
-//! recordings of the Linux kernel (`data/kernel/`). Where all is answered as wanted, one line with the counts is
-//! printed. Else each answer that differs has a line on standard error, with the name of the case, how it was asked,
-//! what was wanted and what was found, and the program ends with status 1.
+//! `data/command_lines.txt`, what `tcpwit_lab` says of some cases (`data/told.txt`) and of some traces
+//! (`data/judged.txt`), and the cases that are found for recordings of the Linux kernel (`data/kernel/`). Each case file
+//! is also checked as version 4. Where all is answered as wanted, two lines with the counts are printed. Else each
+//! answer that differs has a line on standard error, with the name of the case, how it was asked, what was wanted and
+//! what was found, and the program ends with status 1.
 //!
 //! - `table`: cases, and those of the files
 //! - `beginnings`: each beginning of a case
@@ -14,19 +15,25 @@
 //! - `pairs`: a trace and a witness as two texts, into which no case would be cut
 //! - `asking`: by `check_case`, by the word `check`, as two texts in pieces, and by the words of `many`
 //! - `command_lines`: by words, as the program is given them
-//! - `told`: what `tcpwit_lab` says of a case
+//! - `told`: what `tcpwit_lab` says of a case; `judged`: how much of a run keeps the RFCs
 //! - `kernel`: cases that are found for recordings of the Linux kernel
+//! - `version_four`: rewrites a case as version 4
+//! - `less_judged`: each case file as version 4, with more and less of congestion control judged
 #![tactic(auto)]
 
 mod asking;
 mod beginnings;
 mod command_lines;
+mod judged;
 mod kernel;
+mod less_judged;
 mod long_lines;
 mod pairs;
 mod table;
 mod told;
+mod version_four;
 
+use less_judged::Covered;
 use std::process::ExitCode;
 use std::{fs, io};
 
@@ -39,6 +46,7 @@ fn main(rt: HostRuntime) -> io::Result<ExitCode> {
     let mut cases = table::read_table(&rt)?;
     table::push_untold(&rt, cases.as_slice(), &mut differing)?;
     let files = cases.len();
+    let covered = less_judged::ask_version_four(alloc, cases.as_slice(), &mut differing)?;
     for name in ["two_threads", "handshake_and_five_bytes"] {
         beginnings::push_beginnings(&rt, name, &mut cases)?;
     }
@@ -54,6 +62,8 @@ fn main(rt: HostRuntime) -> io::Result<ExitCode> {
     let rows = command_lines::ask_rows(&rt, alloc, table.as_str(), &mut differing)?;
     let table = fs::read_to_string(&rt, "told.txt")?;
     let told = told::ask_told(&rt, alloc, table.as_str(), &mut differing)?;
+    let table = fs::read_to_string(&rt, "judged.txt")?;
+    let judged = judged::ask_judged(&rt, alloc, table.as_str(), &mut differing)?;
     let recorded = kernel::ask_kernel(&rt, &mut differing)?;
     for line in &differing {
         eprintln!(rt; "{line}")?;
@@ -64,8 +74,18 @@ fn main(rt: HostRuntime) -> io::Result<ExitCode> {
     let long = cases.len().saturating_sub(files).saturating_sub(others);
     println!(rt;
         "{files} case files, {others} beginnings of two of them, {long} long lines, {pairs} pairs of texts and {rows} \
-            command lines are answered as wanted, {told} cases explained, shown or drawn as wanted, and {recorded} \
-            recordings of the kernel explained by what is found"
+            command lines are answered as wanted, {told} cases explained, shown or drawn as wanted, {judged} traces \
+            judged as wanted, and {recorded} recordings of the kernel explained by what is found"
     )?;
+    print_covered(&rt, covered)?;
     Ok(ExitCode::SUCCESS)
+}
+
+// Prints how many case files each of the tests of version 4 covered.
+fn print_covered(rt: &HostRuntime, covered: Covered) -> io::Result<()> {
+    println!(rt;
+        "{} case files of versions 1 to 3 have the same answer in version 4, and of {} case files none loses a yes \
+            when less is judged",
+        covered.same, covered.words
+    )
 }

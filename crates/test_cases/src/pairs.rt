@@ -10,13 +10,19 @@ const EMPTY: &str = "trace 1\nskew 0\nmsl 1\ngrain 0\nminrto 0\nextra 0\n";
 const EMPTY_OF_VERSION_2: &str =
     "trace 2\nskew 0\nmsl 1\ngrain 0\nminrto 0\nextra 0\ninitial 5681\n";
 
+const EMPTY_OF_VERSION_4: &str =
+    "trace 4\nskew 0\nmsl 1\ngrain 0\nminrto 0\nextra 0\ninitial 5681\nhosts 2\ncongestion full\n";
+
+const EMPTY_OF_ONE_HOST: &str =
+    "trace 4\nskew 0\nmsl 1\ngrain 0\nminrto 0\nextra 0\ninitial 5681\nhosts 1\ncongestion none\n";
+
 const WITH_A_WITNESS_LINE: &str = "trace 1\nskew 0\nmsl 1\ngrain 0\nminrto 0\nextra 0\nwitness 1\n";
 
 const WITH_A_CUT_WITNESS_LINE: &str =
     "trace 1\nskew 0\nmsl 1\ngrain 0\nminrto 0\nextra 0\nwitness 1";
 
 // A trace, a witness, and what is printed with the status.
-const PAIRS: [(&str, &str, &str); 12] = [
+const PAIRS: [(&str, &str, &str); 18] = [
     ("", "", "bad trace 1 0 0 header\n2"),
     ("", "witness 1\n", "bad trace 1 0 0 header\n2"),
     ("witness 1\n", "witness 1\n", "bad trace 1 0 9 header\n2"),
@@ -31,6 +37,28 @@ const PAIRS: [(&str, &str, &str); 12] = [
         "bad witness 1 0 9 header\n2",
     ),
     (EMPTY_OF_VERSION_2, "witness 2\n", "yes 0 0\n0"),
+    (
+        EMPTY_OF_VERSION_2,
+        "witness 4\n",
+        "bad witness 1 0 9 header\n2",
+    ),
+    (
+        EMPTY_OF_VERSION_4,
+        "witness 2\n",
+        "bad witness 1 0 9 header\n2",
+    ),
+    (EMPTY_OF_VERSION_4, "witness 4\n", "yes 0 0\n0"),
+    (
+        EMPTY_OF_ONE_HOST,
+        "witness 3\n",
+        "bad witness 1 0 9 header\n2",
+    ),
+    (EMPTY_OF_ONE_HOST, "witness 4\n", "yes 0 0\n0"),
+    (
+        EMPTY_OF_ONE_HOST,
+        "witness 4\n9 M 1 80 4000 0 0 S 65535\n",
+        "bad witness 2 4 5 number\n2",
+    ),
     (
         WITH_A_WITNESS_LINE,
         "witness 1\n",

@@ -3,6 +3,7 @@ use Rattle.std.proofs.Common.{◌≡◌, ℕ, refl, Option, None, Some}
 use Rattle.case_forms.specs.declared.trace.Header.{Header}
 use Rattle.case_forms.specs.declared.version.Version.TheVariants.{One}
 use Rattle.case_forms.specs.declared.version.Initial.TheVariants.{Rfc5681}
+use Rattle.case_forms.specs.declared.version.Judged.TheVariants.{Full}
 use Rattle.case_forms.specs.declared.timer.Timer.TheVariants.{Rto, Persist, Msl2}
 use Rattle.timer_rules.specs.declared.fault.TimerFault.TheVariants.{Off, Early}
 use Rattle.timer_rules.specs.declared.timers.Timers.{Timers}
@@ -10,7 +11,7 @@ use Rattle.timer_rules.specs.Timers.{start, sampled, backed_off, raised_for_lost
 
 -- a clock tick of a millisecond, a lifetime of two minutes, and this minimum of the timeout
 abbrev header : ℕ → Header
-header minrto = record { version = One; skew = 0; msl = 120000000; grain = 1000; minrto = minrto; extra = 0; initial = Rfc5681 }
+header minrto = record { version = One; skew = 0; msl = 120000000; grain = 1000; minrto = minrto; extra = 0; initial = Rfc5681; congestion = Full }
 
 -- what samples leave of the timers
 abbrev estimate : Option ℕ → ℕ → ℕ → Timers

@@ -7,26 +7,34 @@ use Rattle.std.specs.Str.Parse.{digits_value}
 use Rattle.std.proofs.lemmas.Bool.{eqb-true}
 use Rattle.std.proofs.lemmas.Slice.Eq.{bytes_eq-Decides}
 use Rattle.case_forms.specs.declared.version.Version.{Version}
-use Rattle.case_forms.specs.declared.version.Version.TheVariants.{One, Two, Three}
+use Rattle.case_forms.specs.declared.version.Version.TheVariants.{One, Two, Three, Four, FourHalf}
 use Rattle.case_forms.specs.declared.version.Initial.{Initial}
 use Rattle.case_forms.specs.declared.version.Initial.TheVariants.{Rfc5681, Rfc6928}
+use Rattle.case_forms.specs.declared.version.Judged.{Judged}
+use Rattle.case_forms.specs.declared.version.Judged.TheVariants.{Full}
+use Rattle.case_forms.specs.Versions.{named_as}
+use Rattle.line_fields.specs.Choice.{kind_named, kind_value}
 use Rattle.line_fields.specs.Faults.{missing_line}
-use Rattle.line_fields.specs.Forms.{numeric}
+use Rattle.line_fields.specs.Forms.{numeric, named}
 use Rattle.line_fields.specs.LineFaults.{IsTextFaultOf, IsNextFault}
 use Rattle.line_fields.specs.Lines.{line_rest}
 use Rattle.line_fields.specs.Reading.{◌>>=◌, fault_at, missing, first_of, next_field, is_number, number_value, number_field}
-use Rattle.line_fields.specs.Spelling.{joined}
 use Rattle.line_fields.specs.Word.{Word, Rest}
 use Rattle.line_fields.specs.declared.fault.FaultKind.{FaultKind}
 use Rattle.line_fields.specs.declared.fault.FaultKind.TheVariants as kinds
 use Rattle.line_fields.specs.declared.fault.TextFault.{TextFault}
-use Rattle.line_fields.proofs.FieldFaults.{Agrees, number_agrees}
+use Rattle.line_fields.proofs.FieldFaults.{Agrees, number_agrees, named_agrees}
 use Rattle.line_fields.proofs.LineFaults.{whole_is, other_text, text_faults}
 use Rattle.line_fields.proofs.LineRests.{some_word}
 use Rattle.line_fields.proofs.Readers.{field_by}
-use Rattle.trace_reader.specs.HeaderForms.{IsFirstText, Row, row, initial_want, late_rows, header_rows, AreNamed, Fits, Breaks, Other, Bad, More, IsRow, IsRowFault, AreRows, IsRowsFault, IsHeaderFault, First, Rows}
-use Rattle.trace_reader.specs.Headers.{initial_number, first_words, header_fault, some_left, named_rest, alone, value_line, next_value, version_in, first_version, first_line, initial_of, initial_value, initial_field, initial_line, half_line, late_lines, header_of}
-use Rattle.trace_reader.proofs.HeaderLaw.{Raws, Headed, version_taken, version_given, version_takes, version_again, with_first, with_skew, with_msl, with_grain, with_minrto, with_extra, header_with}
+use Rattle.trace_reader.specs.HeaderForms.{IsFirstText, Row, row, initial_want, judged_rows, late_rows, header_rows, AreNamed, Fits, Breaks, Other, Bad, More}
+use Rattle.trace_reader.specs.HeaderForms.{IsRow, IsRowFault, AreRows, IsRowsFault, IsHeaderFault, First, Rows}
+use Rattle.trace_reader.specs.declared.late_lines.LateLines.{LateLines}
+use Rattle.trace_reader.specs.Headers.{initial_number, judged_name, all_judged, header_fault, some_left, named_rest, alone, value_line, next_value}
+use Rattle.trace_reader.specs.Headers.{version_in, first_version, first_line, initial_of, initial_value, initial_field}
+use Rattle.trace_reader.specs.Headers.{initial_line, half_line, hosts_line, congestion_line, hosted, late, judged_lines, late_lines, header_with, header_of}
+use Rattle.trace_reader.proofs.HeaderLaw.{Raws, Headed, is_first, version_taken, version_given, version_takes, version_again}
+use Rattle.trace_reader.proofs.HeaderLaw.{with_first, with_skew, with_msl, with_grain, with_minrto, with_extra}
 
 abbrev bad : {A : Type 0} → TextFault → Result A TextFault
 bad e = Err e
@@ -313,23 +321,81 @@ regroup : {A B C : Type 0} (m : Result A TextFault) (g : A → Result B TextFaul
 regroup (Ok x) g f = refl
 regroup (Err e) g f = refl
 
-late_then : {B : Type 0} (v : Version) (f : Initial × Raws → B) → Heads 7 (late_rows v) (λ raws. late_lines v raws >>= λ x. Ok (f x))
-late_then One f raws e = (λ same. absurd cc, λ g. absurd g)
-late_then Two f raws e = initial_then [] (λ x. Ok (f x)) (λ i raws e. (λ same. absurd cc, λ g. absurd g)) raws e
-late_then {B} Three f raws e = (λ same. (split raws e).0 (sym (both raws) ∙ same), λ g. both raws ∙ (split raws e).1 g)
+-- what reads the same has the same first faults
+heads_as : {B : Type 0} (number : ℕ) (rows : List Row) (read other : Raws → Result B TextFault)
+    → ((raws : Raws) → read raws ≡ other raws) → Heads number rows other → Heads number rows read
+heads_as number rows read other same on raws e = (λ is. (on raws e).0 (sym (same raws) ∙ is), λ g. same raws ∙ (on raws e).1 g)
+
+-- nothing more is read
+no_more_rows : {B : Type 0} (number : ℕ) (given : Raws → B) → Heads number [] (λ raws. good (given raws))
+no_more_rows number given raws e = (λ same. absurd cc, λ g. absurd g)
+
+congestion_then : {B : Type 0} (rows : List Row) (next : Judged × Raws → Result B TextFault) → ((j : Judged) → Heads 10 rows (λ raws. next (j, raws)))
+    → Heads 9 (row (codes "congestion") (named judged_name all_judged) ∷ rows) (λ raws. congestion_line raws >>= next)
+congestion_then rows next on =
+    row_then (kind_value judged_name all_judged) (row (codes "congestion") (named judged_name all_judged))
+    (λ w. named_agrees w (kind_named judged_name all_judged w.text)) 9 rows next on
+
+half_then : {B : Type 0} (f : LateLines × Raws → B) → Heads 7 (late_rows Three) (λ raws. late_lines Three raws >>= λ x. good (f x))
+half_then {B} f = heads_as 7 (late_rows Three) _ (λ raws. initial_line raws >>= λ i. half i.0 i.1) both split
   where
     half : Initial → Raws → Result B TextFault
-    half i raws = half_line raws >>= λ h. Ok (f (i, h.1))
+    half i raws = half_line raws >>= λ h. Ok (f (late Three i Full, h.1))
 
     split : Heads 7 (late_rows Three) (λ raws. initial_line raws >>= λ i. half i.0 i.1)
-    split = initial_then (row (codes "half") (numeric 0 0) ∷ []) (λ i. half i.0 i.1) (λ i. number_then (codes "half") 0 0 8 [] (λ h. Ok (f (i, h.1))) (λ n raws e. (λ same. absurd cc, λ g. absurd g)))
+    split = initial_then (row (codes "half") (numeric 0 0) ∷ []) (λ i. half i.0 i.1)
+        (λ i. number_then (codes "half") 0 0 8 [] (λ h. Ok (f (late Three i Full, h.1))) (λ n. no_more_rows 9 (λ raws. f (late Three i Full, raws))))
 
     both : (raws : Raws) → (late_lines Three raws >>= λ x. good (f x)) ≡ (initial_line raws >>= λ i. half i.0 i.1)
-    both raws = regroup (initial_line raws) (λ i. half_line i.1 >>= λ h. Ok (i.0, h.1)) (λ x. good (f x)) ∙ behind (initial_line raws)
+    both raws = regroup (initial_line raws) (λ i. half_line i.1 >>= λ h. Ok (late Three i.0 Full, h.1)) (λ x. good (f x)) ∙ behind (initial_line raws)
       where
-        behind : (m : Result (Initial × Raws) TextFault) → (m >>= λ i. (half_line i.1 >>= λ h. good (i.0, h.1)) >>= λ x. good (f x)) ≡ (m >>= λ i. half i.0 i.1)
+        behind : (m : Result (Initial × Raws) TextFault)
+            → (m >>= λ i. (half_line i.1 >>= λ h. good (late Three i.0 Full, h.1)) >>= λ x. good (f x)) ≡ (m >>= λ i. half i.0 i.1)
         behind (Err e) = refl
-        behind (Ok i) = regroup (half_line i.1) (λ h. Ok (i.0, h.1)) (λ x. good (f x))
+        behind (Ok i) = regroup (half_line i.1) (λ h. Ok (late Three i.0 Full, h.1)) (λ x. good (f x))
+
+judged_then : {B : Type 0} (f : LateLines × Raws → B) → Heads 7 judged_rows (λ raws. judged_lines raws >>= λ x. good (f x))
+judged_then {B} f = heads_as 7 judged_rows _ (λ raws. initial_line raws >>= λ i. hosts i.0 i.1) both split
+  where
+    congestion : Initial → ℕ → Raws → Result B TextFault
+    congestion i n raws = congestion_line raws >>= λ c. Ok (f (late (hosted n) i c.0, c.1))
+
+    hosts : Initial → Raws → Result B TextFault
+    hosts i raws = hosts_line raws >>= λ h. congestion i h.0 h.1
+
+    split : Heads 7 judged_rows (λ raws. initial_line raws >>= λ i. hosts i.0 i.1)
+    split = initial_then (row (codes "hosts") (numeric 1 2) ∷ row (codes "congestion") (named judged_name all_judged) ∷ []) (λ i. hosts i.0 i.1)
+        (λ i. number_then (codes "hosts") 1 2 8 (row (codes "congestion") (named judged_name all_judged) ∷ []) (λ h. congestion i h.0 h.1)
+        (λ n. congestion_then [] (λ c. Ok (f (late (hosted n) i c.0, c.1))) (λ j. no_more_rows 10 (λ raws. f (late (hosted n) i j, raws)))))
+
+    last : (i : Initial) (n : ℕ) (raws : Raws) → ((congestion_line raws >>= λ c. good (late (hosted n) i c.0, c.1)) >>= λ x. good (f x)) ≡ congestion i n raws
+    last i n raws = regroup (congestion_line raws) (λ c. Ok (late (hosted n) i c.0, c.1)) (λ x. good (f x))
+
+    after_hosts : (i : Initial) (m : Result (ℕ × Raws) TextFault)
+        → (m >>= λ h. (congestion_line h.1 >>= λ c. good (late (hosted h.0) i c.0, c.1)) >>= λ x. good (f x)) ≡ (m >>= λ h. congestion i h.0 h.1)
+    after_hosts i (Err e) = refl
+    after_hosts i (Ok h) = last i h.0 h.1
+
+    after_initial : (m : Result (Initial × Raws) TextFault)
+        → (m >>= λ i. (hosts_line i.1 >>= λ h. congestion_line h.1 >>= λ c. good (late (hosted h.0) i.0 c.0, c.1)) >>= λ x. good (f x))
+        ≡ (m >>= λ i. hosts i.0 i.1)
+    after_initial (Err e) = refl
+    after_initial (Ok i) =
+        regroup (hosts_line i.1) (λ h. congestion_line h.1 >>= λ c. Ok (late (hosted h.0) i.0 c.0, c.1)) (λ x. good (f x)) ∙ after_hosts i.0 (hosts_line i.1)
+
+    both : (raws : Raws) → (judged_lines raws >>= λ x. good (f x)) ≡ (initial_line raws >>= λ i. hosts i.0 i.1)
+    both raws =
+        regroup (initial_line raws) (λ i. hosts_line i.1 >>= λ h. congestion_line h.1 >>= λ c. Ok (late (hosted h.0) i.0 c.0, c.1)) (λ x. good (f x))
+        ∙ after_initial (initial_line raws)
+
+late_then : {B : Type 0} (v : Version) (f : LateLines × Raws → B) → Heads 7 (late_rows v) (λ raws. late_lines v raws >>= λ x. good (f x))
+late_then One f = no_more_rows 7 (λ raws. f (late One Rfc5681 Full, raws))
+late_then Two f = heads_as 7 (late_rows Two) _ (λ raws. initial_line raws >>= λ i. good (f (late Two i.0 Full, i.1)))
+    (λ raws. regroup (initial_line raws) (λ i. Ok (late Two i.0 Full, i.1)) (λ x. good (f x)))
+    (initial_then [] (λ i. good (f (late Two i.0 Full, i.1))) (λ i. no_more_rows 8 (λ raws. f (late Two i Full, raws))))
+late_then Three f = half_then f
+late_then Four f = judged_then f
+late_then FourHalf f = judged_then f
 
 abbrev from_extra : Version → List Row
 from_extra v = row (codes "extra") (numeric 0 65535) ∷ late_rows v
@@ -349,24 +415,26 @@ others_then v = number_then (codes "skew") 0 1000000000 2 (from_msl v) (with_ske
     (λ m. number_then (codes "grain") 0 60000000 4 (from_minrto v) (with_grain v s m)
     (λ g. number_then (codes "minrto") 0 60000000 5 (from_extra v) (with_minrto v s m g)
     (λ i. number_then (codes "extra") 0 65535 6 (late_rows v) (with_extra v s m g i)
-    (λ x. late_then v (λ n. (header_with v s m g i x n.0, n.1)))))))
+    (λ x. late_then v (λ l. (header_with s m g i x l.0, l.1)))))))
 
 -- ---- the first line
 
 version_err : (text : List ℕ) (e : TextFault) → version_in text ≡ Err e → e ≡ other_text 1 text
-version_err text e = go (bytes_eq text (joined (first_words One))) (bytes_eq text (joined (first_words Two))) (bytes_eq text (joined (first_words Three)))
+version_err text e = go (is_first text One) (is_first text Two) (is_first text Three) (is_first text Four)
   where
-    go : (a b c : Bool) → (if a then good One else if b then Ok Two else if c then Ok Three else Err (other_text 1 text)) ≡ Err e → e ≡ other_text 1 text
-    go true b c same = absurd cc
-    go false true c same = absurd cc
-    go false false true same = absurd cc
-    go false false false same = cc
+    go : (a b c d : Bool)
+        → (if a then good One else if b then Ok Two else if c then Ok Three else if d then Ok Four else Err (other_text 1 text)) ≡ Err e → e ≡ other_text 1 text
+    go true b c d same = absurd cc
+    go false true c d same = absurd cc
+    go false false true d same = absurd cc
+    go false false false true same = absurd cc
+    go false false false false same = cc
 
 version_agrees : (text : List ℕ) (e : TextFault) → (version_in text ≡ Err e) ↔ ((IsFirstText text → ⊥) × (e ≡ other_text 1 text))
 version_agrees text e = (λ same. (wrong same, version_err text e same), λ g. back (version_in text) refl g)
   where
     wrong : version_in text ≡ Err e → IsFirstText text → ⊥
-    wrong same x = let clash : bad e ≡ Ok x.0 = sym same ∙ ap version_in x.1 ∙ version_given x.0 in absurd cc
+    wrong same x = let clash : bad e ≡ Ok (named_as x.0) = sym same ∙ ap version_in x.1 ∙ version_given x.0 in absurd cc
 
     back : (o : Result Version TextFault) → version_in text ≡ o → ((IsFirstText text → ⊥) × (e ≡ other_text 1 text)) → version_in text ≡ Err e
     back (Ok v) is g = absurd (g.0 (v, version_taken text v is))
@@ -377,6 +445,14 @@ unfolding first_version
 first_faults raw e = text_faults IsFirstText 1 version_in version_agrees raw e
 
 -- ---- the header
+
+-- both of version 4 have the same lines
+rows_named : (v : Version) → header_rows v ≡ header_rows (named_as v)
+rows_named One = refl
+rows_named Two = refl
+rows_named Three = refl
+rows_named Four = refl
+rows_named FourHalf = refl
 
 pub header_faults : (raws : List (List ℕ)) (e : TextFault) → (header_of raws ≡ Err e) ↔ IsHeaderFault raws e
 unfolding header_of first_line
@@ -394,7 +470,7 @@ header_faults (raw ∷ raws) e = go (first_version raw) refl
         back (First fault) = let same : bad {A = Version} f ≡ Err e = sym is ∙ (first_faults raw e).1 fault in let one : f ≡ e = cc in ap (λ (x : TextFault). bad {A = Headed} x) one
         back (Rows v first others split line fault) =
             let one : first ≡ raw = cc in
-            let clash : bad {A = Version} f ≡ Ok v = sym is ∙ ap first_version (sym one) ∙ version_again v first line in absurd cc
+            let clash : bad {A = Version} f ≡ Ok (named_as v) = sym is ∙ ap first_version (sym one) ∙ version_again v first line in absurd cc
     go (Ok v) is = (λ same. Rows v raw raws refl (version_takes raw v is) (faulty_rows 2 (header_rows v) raws e ((others_then v raws e).0 same)), λ g. back g)
       where
         back : IsHeaderFault (raw ∷ raws) e → with_first (v, raws) ≡ Err e
@@ -402,8 +478,9 @@ header_faults (raw ∷ raws) e = go (first_version raw) refl
         back (Rows u first others split line g) =
             let one : first ≡ raw = cc in
             let rest : others ≡ raws = cc in
-            let same : good u ≡ Ok v = sym (version_again u first line) ∙ ap first_version one ∙ is in
-            let named : u ≡ v = cc in
+            let same : good (named_as u) ≡ Ok v = sym (version_again u first line) ∙ ap first_version one ∙ is in
+            let read_as : named_as u ≡ v = cc in
             let faulty = rows_faulty 2 g.done g.left g.next g.front g.rest e g.good g.fault in
-            let all : Faulty 2 (header_rows v) raws e = subst (λ (us : Raws). Faulty 2 (header_rows v) us e) (sym g.split ∙ rest) (subst (λ (rs : List Row). Faulty 2 rs (g.front ++ g.rest) e) (sym g.forms ∙ ap header_rows named) faulty) in
+            let formed = subst (λ (rs : List Row). Faulty 2 rs (g.front ++ g.rest) e) (sym g.forms ∙ rows_named u ∙ ap header_rows read_as) faulty in
+            let all : Faulty 2 (header_rows v) raws e = subst (λ (us : Raws). Faulty 2 (header_rows v) us e) (sym g.split ∙ rest) formed in
             (others_then v raws e).1 all

@@ -1,5 +1,6 @@
 -- The header's lines are read exactly where their bytes spell them.
-use Rattle.std.proofs.Common.{◌≡◌, ◌≤◌, ◌<◌, ◌^◌, ◌+◌, ◌⊎◌, inl, inr, ℕ, List, [], ◌∷◌, ◌++◌, Bool, true, false, cond, Result, Ok, Err, refl, sym, ap, subst, ◌∙◌, append_assoc, arith}
+use Rattle.std.proofs.Common.{◌≤◌, ◌<◌, ◌^◌, ◌+◌, ℕ, zero, suc, arith}
+use Rattle.std.proofs.Common.{◌≡◌, ◌⊎◌, inl, inr, List, [], ◌∷◌, ◌++◌, Bool, true, false, cond, Result, Ok, Err, refl, sym, ap, subst, ◌∙◌, append_assoc}
 use Rattle.std.specs.Prelude.{codes, map, ◌==◌}
 use Rattle.std.specs.Fmt.{decimal}
 use Rattle.std.specs.Str.{bytes_eq}
@@ -9,9 +10,13 @@ use Rattle.std.proofs.lemmas.Slice.Eq.{bytes_eq-Decides}
 use Rattle.bstr.specs.Text.{lines_of, without_terminator}
 use Rattle.case_forms.specs.declared.trace.Header.{Header}
 use Rattle.case_forms.specs.declared.version.Version.{Version}
-use Rattle.case_forms.specs.declared.version.Version.TheVariants.{One, Two, Three}
+use Rattle.case_forms.specs.declared.version.Version.TheVariants.{One, Two, Three, Four, FourHalf}
 use Rattle.case_forms.specs.declared.version.Initial.{Initial}
 use Rattle.case_forms.specs.declared.version.Initial.TheVariants.{Rfc5681, Rfc6928}
+use Rattle.case_forms.specs.declared.version.Judged.{Judged}
+use Rattle.case_forms.specs.declared.version.Judged.TheVariants.{Full, Recovery, Nothing}
+use Rattle.case_forms.specs.Versions.{says_congestion, named_as}
+use Rattle.line_fields.specs.Choice.{kind_value, kind_field}
 use Rattle.line_fields.specs.declared.fault.FaultKind.TheVariants as kinds
 use Rattle.line_fields.specs.declared.fault.TextFault.{TextFault}
 use Rattle.line_fields.specs.Word.{Word, Rest, rest_of}
@@ -20,12 +25,18 @@ use Rattle.line_fields.specs.Lines.{IsRaw, IsLine, is_ended, whole_line, line_te
 use Rattle.line_fields.specs.Reader.{texts, IsReader}
 use Rattle.line_fields.specs.Spelling.{IsClean, joined}
 use Rattle.line_fields.proofs.Readers.{IsValue, IsNumber, bind_ok, ok_is, first_takes, first_again, is_number_value, reads_field, no_words}
+use Rattle.line_fields.proofs.Choices.{AreNamed, is_kind_value}
 use Rattle.line_fields.proofs.Joined.{IsClean-decimal}
 use Rattle.line_fields.proofs.Clean.{clean_by, joined_no_return}
 use Rattle.line_fields.proofs.Endings.{ending_again}
 use Rattle.line_fields.proofs.Texts.{lines_of-raw}
 use Rattle.line_fields.proofs.LineRests.{fields_taken, fields_again, is_raw, text_takes, text_again}
-use Rattle.trace_reader.specs.Headers.{first_words, initial_number, initial_words, half_words, late_words, header_words, IsHeader, AreLines, header_fault, some_left, named_rest, alone, value_line, next_value, version_in, first_version, version_named, first_line, initial_of, initial_value, initial_field, initial_line, half_line, late_lines, header_of}
+use Rattle.trace_reader.specs.declared.late_lines.LateLines.{LateLines}
+use Rattle.trace_reader.specs.Headers.{first_words, initial_number, initial_words, half_words, hosts_words, judged_name, all_judged, congestion_words}
+use Rattle.trace_reader.specs.Headers.{late_words, header_words, IsHeader, AreLines}
+use Rattle.trace_reader.specs.Headers.{header_fault, some_left, named_rest, alone, value_line, next_value}
+use Rattle.trace_reader.specs.Headers.{version_in, first_version, version_named, first_line, initial_of, initial_value, initial_field, initial_line}
+use Rattle.trace_reader.specs.Headers.{half_line, hosts_line, congestion_line, hosted, late, judged_lines, late_lines, header_with, header_of}
 
 abbrev pub Raws : Type 0
 Raws = List (List ℕ)
@@ -234,32 +245,136 @@ initial_takes raws x e =
 initial_again : (i : Initial) (raw : List ℕ) (rest : Raws) → IsLine 7 (joined (initial_words i)) raw → initial_line (raw ∷ rest) ≡ Ok (i, rest)
 initial_again i raw rest line = next_again 7 (codes "initial") initial_field IsInitial reads_initial raw (decimal (initial_number i)) rest i (clean_by (codes "initial") refl) (initial_clean i) line refl
 
--- what was read of the lines that version 1 doesn't have
-record IsLate (v : Version) (raws : Raws) (x : Initial × Raws) : Type 0 where
+-- ---- how much of congestion control is judged
+
+-- the text is the word for it
+abbrev IsJudged : Judged → List ℕ → Type 0
+IsJudged j text = text ≡ judged_name j
+
+judged_known : AreNamed judged_name all_judged
+judged_known Full = refl
+judged_known Recovery = refl
+judged_known Nothing = refl
+
+reads_judged : IsReader (kind_field judged_name all_judged) (λ j ws. (t : List ℕ) × IsJudged j t × (ws ≡ t ∷ []))
+reads_judged = reads_field (kind_value judged_name all_judged) IsJudged (is_kind_value judged_name all_judged judged_known)
+
+judged_clean : (j : Judged) → IsClean (judged_name j)
+judged_clean Full = clean_by (codes "full") refl
+judged_clean Recovery = clean_by (codes "recovery") refl
+judged_clean Nothing = clean_by (codes "none") refl
+
+-- what was read of the line that says it
+record IsNamedJudged (raws : Raws) (x : Judged × Raws) : Type 0 where
+  raw : List ℕ
+  first : raws ≡ raw ∷ x.1
+  line : IsLine 9 (joined (congestion_words x.0)) raw
+
+congestion_takes : (raws : Raws) (x : Judged × Raws) → congestion_line raws ≡ Ok x → IsNamedJudged raws x
+congestion_takes raws x e =
+    let n = next_takes 9 (codes "congestion") (kind_field judged_name all_judged) IsJudged reads_judged raws x e in
+    let v = n.valued in
+    record {
+      raw = n.raw;
+      first = n.first;
+      line = subst (λ (t : List ℕ). IsLine 9 (joined (codes "congestion" ∷ t ∷ [])) n.raw) v.value v.line;
+    }
+
+congestion_again : (j : Judged) (raw : List ℕ) (rest : Raws) → IsLine 9 (joined (congestion_words j)) raw → congestion_line (raw ∷ rest) ≡ Ok (j, rest)
+congestion_again j raw rest line =
+    next_again 9 (codes "congestion") (kind_field judged_name all_judged) IsJudged reads_judged raw (judged_name j) rest j
+    (clean_by (codes "congestion") refl) (judged_clean j) line refl
+
+-- ---- the lines that version 1 doesn't have
+
+-- one host or two
+one_or_two : (n : ℕ) → 1 ≤ n → n ≤ 2 → (n ≡ 1) ⊎ (n ≡ 2)
+one_or_two zero low high = absurd (omega arith)
+one_or_two (suc zero) low high = inl refl
+one_or_two (suc (suc n)) low high = inr (omega arith)
+
+-- the version of so many hosts has these lines, and its texts name version 4
+record IsHosted (n : ℕ) (v : Version) : Type 0 where
+  named : named_as v ≡ Four
+  later : v ≡ One → ⊥
+  says : says_congestion v ≡ true
+  words : (i : Initial) (j : Judged) → late_words v i j ≡ initial_words i ∷ hosts_words n ∷ congestion_words j ∷ []
+
+is_hosted : (n : ℕ) → 1 ≤ n → n ≤ 2 → IsHosted n (hosted n)
+is_hosted n low high = elim (one_or_two n low high) [
+  | inl one ↦ subst (λ (m : ℕ). IsHosted m (hosted m)) (sym one) (record { named = refl; later = λ e. cc; says = refl; words = λ i j. refl })
+  | inr two ↦ subst (λ (m : ℕ). IsHosted m (hosted m)) (sym two) (record { named = refl; later = λ e. cc; says = refl; words = λ i j. refl })
+]
+
+-- what was read of them
+record IsLate (v : Version) (raws : Raws) (x : LateLines × Raws) : Type 0 where
   heads : Raws
   front : raws ≡ heads ++ x.1
-  limit : v ≡ One → x.0 ≡ Rfc5681
-  lines : AreLines 7 (late_words v x.0) heads
+  named : named_as x.0.version ≡ named_as v
+  initial : x.0.version ≡ One → x.0.initial ≡ Rfc5681
+  congestion : says_congestion x.0.version ≡ false → x.0.congestion ≡ Full
+  lines : AreLines 7 (late_words x.0.version x.0.initial x.0.congestion) heads
 
-late_takes : (v : Version) (raws : Raws) (x : Initial × Raws) → late_lines v raws ≡ Ok x → IsLate v raws x
-late_takes One raws x e = subst (λ (y : Initial × Raws). IsLate One raws y) (ok_is (Rfc5681, raws) x e) (record { heads = []; front = refl; limit = λ one. refl; lines = tt })
-late_takes Two raws x e =
-    let n = initial_takes raws x e in
-    record { heads = n.raw ∷ []; front = n.first; limit = λ one. absurd cc; lines = (n.line, tt) }
-late_takes Three raws x e =
-    let a = bind_ok (initial_line raws) (λ i. half_line i.1 >>= λ h. Ok (i.0, h.1)) x e in
-    let b = bind_ok (half_line a.0.1) (λ h. Ok (a.0.0, h.1)) x a.2 in
+half_takes : (raws : Raws) (x : LateLines × Raws) → late_lines Three raws ≡ Ok x → IsLate Three raws x
+half_takes raws x e =
+    let a = bind_ok (initial_line raws) (λ i. half_line i.1 >>= λ h. Ok (late Three i.0 Full, h.1)) x e in
+    let b = bind_ok (half_line a.0.1) (λ h. Ok (late Three a.0.0 Full, h.1)) x a.2 in
     let n = initial_takes raws a.0 a.1 in
     let h = number_takes 8 (codes "half") 0 0 (omega arith) a.0.1 b.0 b.1 in
     let most = h.high in
     let zero : b.0.0 ≡ 0 = omega (arith, most) in
     let half : IsLine 8 (joined half_words) h.raw = subst (λ (k : ℕ). IsLine 8 (joined (codes "half" ∷ decimal k ∷ [])) h.raw) zero h.line in
-    subst (λ (y : Initial × Raws). IsLate Three raws y) (ok_is (a.0.0, b.0.1) x b.2) (record {
+    subst (λ (y : LateLines × Raws). IsLate Three raws y) (ok_is (late Three a.0.0 Full, b.0.1) x b.2) (record {
       heads = n.raw ∷ h.raw ∷ [];
       front = n.first ∙ ap (λ (us : Raws). n.raw ∷ us) h.first;
-      limit = λ one. absurd cc;
+      named = refl;
+      initial = λ one. absurd cc;
+      congestion = λ says. refl;
       lines = (n.line, (half, tt));
     })
+
+judged_takes : (v : Version) (raws : Raws) (x : LateLines × Raws) → named_as v ≡ Four → judged_lines raws ≡ Ok x → IsLate v raws x
+judged_takes v raws x four e =
+    let a = bind_ok (initial_line raws) (λ i. hosts_line i.1 >>= λ h. congestion_line h.1 >>= λ c. Ok (late (hosted h.0) i.0 c.0, c.1)) x e in
+    let b = bind_ok (hosts_line a.0.1) (λ h. congestion_line h.1 >>= λ c. Ok (late (hosted h.0) a.0.0 c.0, c.1)) x a.2 in
+    let c = bind_ok (congestion_line b.0.1) (λ c. Ok (late (hosted b.0.0) a.0.0 c.0, c.1)) x b.2 in
+    let n = initial_takes raws a.0 a.1 in
+    let h = number_takes 8 (codes "hosts") 1 2 (omega arith) a.0.1 b.0 b.1 in
+    let k = congestion_takes b.0.1 c.0 c.1 in
+    let is = is_hosted b.0.0 h.low h.high in
+    subst (λ (y : LateLines × Raws). IsLate v raws y) (ok_is (late (hosted b.0.0) a.0.0 c.0.0, c.0.1) x c.2) (record {
+      heads = n.raw ∷ h.raw ∷ k.raw ∷ [];
+      front = n.first ∙ ap (λ (us : Raws). n.raw ∷ us) (h.first ∙ ap (λ (us : Raws). h.raw ∷ us) k.first);
+      named = is.named ∙ sym four;
+      initial = λ one. absurd (is.later one);
+      congestion = λ says. let clash : true ≡ false = sym is.says ∙ says in absurd cc;
+      lines = subst (λ (ws : List (List (List ℕ))). AreLines 7 ws (n.raw ∷ h.raw ∷ k.raw ∷ [])) (sym (is.words a.0.0 c.0.0)) (n.line, (h.line, (k.line, tt)));
+    })
+
+late_takes : (v : Version) (raws : Raws) (x : LateLines × Raws) → late_lines v raws ≡ Ok x → IsLate v raws x
+late_takes One raws x e =
+    subst (λ (y : LateLines × Raws). IsLate One raws y) (ok_is (late One Rfc5681 Full, raws) x e) (record {
+      heads = [];
+      front = refl;
+      named = refl;
+      initial = λ one. refl;
+      congestion = λ says. refl;
+      lines = tt;
+    })
+late_takes Two raws x e =
+    let a = bind_ok (initial_line raws) (λ i. Ok (late Two i.0 Full, i.1)) x e in
+    let n = initial_takes raws a.0 a.1 in
+    subst (λ (y : LateLines × Raws). IsLate Two raws y) (ok_is (late Two a.0.0 Full, a.0.1) x a.2) (record {
+      heads = n.raw ∷ [];
+      front = n.first;
+      named = refl;
+      initial = λ one. absurd cc;
+      congestion = λ says. refl;
+      lines = (n.line, tt);
+    })
+late_takes Three raws x e = half_takes raws x e
+late_takes Four raws x e = judged_takes Four raws x refl e
+late_takes FourHalf raws x e = judged_takes FourHalf raws x refl e
 
 -- ---- the first line
 
@@ -272,27 +387,43 @@ first_clean : (v : Version) → AllByRecursion IsClean (first_words v)
 first_clean One = (clean_by (codes "trace") refl, (clean_by (codes "1") refl, tt))
 first_clean Two = (clean_by (codes "trace") refl, (clean_by (codes "2") refl, tt))
 first_clean Three = (clean_by (codes "trace") refl, (clean_by (codes "3") refl, tt))
+first_clean Four = (clean_by (codes "trace") refl, (clean_by (codes "4") refl, tt))
+first_clean FourHalf = (clean_by (codes "trace") refl, (clean_by (codes "4") refl, tt))
+
+-- the same fields name both of version 4
+pub words_named : (v : Version) → first_words (named_as v) ≡ first_words v
+words_named One = refl
+words_named Two = refl
+words_named Three = refl
+words_named Four = refl
+words_named FourHalf = refl
 
 -- the text is that of the first line
-abbrev is_first : List ℕ → Version → Bool
+abbrev pub is_first : List ℕ → Version → Bool
 is_first text v = bytes_eq text (joined (first_words v))
 
-version_by : (text : List ℕ) (fault : TextFault) (v : Version) (a b c : Bool) → is_first text One ≡ a → is_first text Two ≡ b → is_first text Three ≡ c
-    → cond a (Ok One) (cond b (Ok Two) (cond c (Ok Three) (Err fault))) ≡ Ok v → is_first text v ≡ true
-version_by text fault v true b c one two three e = ap (is_first text) (sym (ok_is One v e)) ∙ one
-version_by text fault v false true c one two three e = ap (is_first text) (sym (ok_is Two v e)) ∙ two
-version_by text fault v false false true one two three e = ap (is_first text) (sym (ok_is Three v e)) ∙ three
-version_by text fault v false false false one two three e = absurd cc
+version_by : (text : List ℕ) (fault : TextFault) (v : Version) (a b c d : Bool)
+    → is_first text One ≡ a → is_first text Two ≡ b → is_first text Three ≡ c → is_first text Four ≡ d
+    → cond a (Ok One) (cond b (Ok Two) (cond c (Ok Three) (cond d (Ok Four) (Err fault)))) ≡ Ok v → is_first text v ≡ true
+version_by text fault v true b c d one two three four e = ap (is_first text) (sym (ok_is One v e)) ∙ one
+version_by text fault v false true c d one two three four e = ap (is_first text) (sym (ok_is Two v e)) ∙ two
+version_by text fault v false false true d one two three four e = ap (is_first text) (sym (ok_is Three v e)) ∙ three
+version_by text fault v false false false true one two three four e = ap (is_first text) (sym (ok_is Four v e)) ∙ four
+version_by text fault v false false false false one two three four e = absurd cc
 
 pub version_taken : (text : List ℕ) (v : Version) → version_in text ≡ Ok v → text ≡ joined (first_words v)
 version_taken text v e =
-    let found = version_by text (record { kind = kinds.Header; span = whole_line 1 text }) v (is_first text One) (is_first text Two) (is_first text Three) refl refl refl e in
+    let found =
+    version_by text (record { kind = kinds.Header; span = whole_line 1 text }) v
+    (is_first text One) (is_first text Two) (is_first text Three) (is_first text Four) refl refl refl refl e in
     (bytes_eq-Decides text (joined (first_words v))).0 found
 
-pub version_given : (v : Version) → version_in (joined (first_words v)) ≡ Ok v
+pub version_given : (v : Version) → version_in (joined (first_words v)) ≡ Ok (named_as v)
 version_given One = refl
 version_given Two = refl
 version_given Three = refl
+version_given Four = refl
+version_given FourHalf = refl
 
 pub version_takes : (raw : List ℕ) (v : Version) → first_version raw ≡ Ok v → IsLine 1 (joined (first_words v)) raw
 unfolding first_version
@@ -300,18 +431,21 @@ version_takes raw v e =
     let b = bind_ok (line_text 1 raw) version_in v e in
     subst (λ (t : List ℕ). IsLine 1 t raw) (version_taken b.0 v b.2) (text_takes 1 raw b.0 b.1)
 
-pub version_again : (v : Version) (raw : List ℕ) → IsLine 1 (joined (first_words v)) raw → first_version raw ≡ Ok v
+pub version_again : (v : Version) (raw : List ℕ) → IsLine 1 (joined (first_words v)) raw → first_version raw ≡ Ok (named_as v)
 unfolding first_version
 version_again v raw line =
     ap (λ (x : Result (List ℕ) TextFault). x >>= version_in) (text_again 1 raw (joined (first_words v)) (joined_no_return (first_words v) (first_clean v)) line) ∙ version_given v
 
 -- it is known from the first line alone
-named_text : (v : Version) (raw : List ℕ) (raws : Raws) → without_terminator raw ≡ joined (first_words v) → is_ended raw ≡ true → version_named (raw ∷ raws) ≡ v
+named_text : (v : Version) (raw : List ℕ) (raws : Raws)
+    → without_terminator raw ≡ joined (first_words v) → is_ended raw ≡ true → version_named (raw ∷ raws) ≡ named_as v
 named_text One raw raws text ended = rw (text, ended) refl
 named_text Two raw raws text ended = rw (text, ended) refl
 named_text Three raw raws text ended = rw (text, ended) refl
+named_text Four raw raws text ended = rw (text, ended) refl
+named_text FourHalf raw raws text ended = rw (text, ended) refl
 
-named_by : (v : Version) (raw : List ℕ) (raws : Raws) → IsLine 1 (joined (first_words v)) raw → version_named (raw ∷ raws) ≡ v
+named_by : (v : Version) (raw : List ℕ) (raws : Raws) → IsLine 1 (joined (first_words v)) raw → version_named (raw ∷ raws) ≡ named_as v
 named_by v raw raws line =
     let own = ending_again raw (joined (first_words v)) (joined_no_return (first_words v) (first_clean v)) line.ends in
     named_text v raw raws own.0 own.1
@@ -323,7 +457,7 @@ first_taken raws x e =
     let b = bind_ok (first_version a.0.0) (λ v. Ok (v, a.0.1)) x a.2 in
     subst (λ (y : Version × Raws). IsFirst raws y) (ok_is (b.0, a.0.1) x b.2) (record { raw = a.0.0; first = raw_takes 1 raws a.0 a.1; line = version_takes a.0.0 b.0 b.1 })
 
-first_given : (v : Version) (raw : List ℕ) (rest : Raws) → IsLine 1 (joined (first_words v)) raw → first_line (raw ∷ rest) ≡ Ok (v, rest)
+first_given : (v : Version) (raw : List ℕ) (rest : Raws) → IsLine 1 (joined (first_words v)) raw → first_line (raw ∷ rest) ≡ Ok (named_as v, rest)
 unfolding first_line
 first_given v raw rest line = ap (λ (x : Result Version TextFault). x >>= λ u. Ok (u, rest)) (version_again v raw line)
 
@@ -350,14 +484,11 @@ minrto_line raws = next_value 5 (codes "minrto") (number_field 0 60000000) raws
 abbrev pub extra_line : Raws → Result Numbered TextFault
 extra_line raws = next_value 6 (codes "extra") (number_field 0 65535) raws
 
-abbrev pub header_with : Version → ℕ → ℕ → ℕ → ℕ → ℕ → Initial → Header
-header_with v s m g i x n = record { version = v; skew = s; msl = m; grain = g; minrto = i; extra = x; initial = n }
-
-abbrev pub with_initial : Version → ℕ → ℕ → ℕ → ℕ → ℕ → Initial × Raws → Result Headed TextFault
-with_initial v s m g i x n = Ok (header_with v s m g i x n.0, n.1)
+abbrev pub with_late : ℕ → ℕ → ℕ → ℕ → ℕ → LateLines × Raws → Result Headed TextFault
+with_late s m g i x l = Ok (header_with s m g i x l.0, l.1)
 
 abbrev pub with_extra : Version → ℕ → ℕ → ℕ → ℕ → Numbered → Result Headed TextFault
-with_extra v s m g i x = late_lines v x.1 >>= with_initial v s m g i x.0
+with_extra v s m g i x = late_lines v x.1 >>= with_late s m g i x.0
 
 abbrev pub with_minrto : Version → ℕ → ℕ → ℕ → Numbered → Result Headed TextFault
 with_minrto v s m g i = extra_line i.1 >>= with_extra v s m g i.0
@@ -391,7 +522,7 @@ header_takes raws x e =
     let d = bind_ok (grain_line c.0.1) (with_grain v b.0.0 c.0.0) x c.2 in
     let f = bind_ok (minrto_line d.0.1) (with_minrto v b.0.0 c.0.0 d.0.0) x d.2 in
     let g = bind_ok (extra_line f.0.1) (with_extra v b.0.0 c.0.0 d.0.0 f.0.0) x f.2 in
-    let k = bind_ok (late_lines v g.0.1) (with_initial v b.0.0 c.0.0 d.0.0 f.0.0 g.0.0) x g.2 in
+    let k = bind_ok (late_lines v g.0.1) (with_late b.0.0 c.0.0 d.0.0 f.0.0 g.0.0) x g.2 in
     let h = first_taken raws a.0 a.1 in
     let s = number_takes 2 (codes "skew") 0 1000000000 (omega arith) a.0.1 b.0 b.1 in
     let m = number_takes 3 (codes "msl") 1 3600000000 (omega arith) b.0.1 c.0 c.1 in
@@ -399,12 +530,22 @@ header_takes raws x e =
     let i = number_takes 5 (codes "minrto") 0 60000000 (omega arith) d.0.1 f.0 f.1 in
     let t = number_takes 6 (codes "extra") 0 65535 (omega arith) f.0.1 g.0 g.1 in
     let l = late_takes v g.0.1 k.0 k.1 in
-    let made : Header = header_with v b.0.0 c.0.0 d.0.0 f.0.0 g.0.0 k.0.0 in
+    let made : Header = header_with b.0.0 c.0.0 d.0.0 f.0.0 g.0.0 k.0.0 in
+    let words : first_words v ≡ first_words k.0.0.version = sym (words_named v) ∙ ap first_words (sym l.named) ∙ words_named k.0.0.version in
     subst (λ (y : Headed). IsHeaded raws y) (ok_is (made, k.0.1) x k.2) (record {
       heads = h.raw ∷ s.raw ∷ m.raw ∷ n.raw ∷ i.raw ∷ t.raw ∷ l.heads;
       front = h.first ∙ ap (λ (us : Raws). h.raw ∷ us) (s.first ∙ ap (λ (us : Raws). s.raw ∷ us) (m.first ∙ ap (λ (us : Raws). m.raw ∷ us) (n.first ∙ ap (λ (us : Raws). n.raw ∷ us) (i.first ∙ ap (λ (us : Raws). i.raw ∷ us) (t.first ∙ ap (λ (us : Raws). t.raw ∷ us) l.front)))));
-      limits = record { skew = s.high; msl_least = m.low; msl = m.high; grain = n.high; minrto = i.high; extra = t.high; initial = l.limit };
-      lines = (h.line, (s.line, (m.line, (n.line, (i.line, (t.line, l.lines))))));
+      limits = record {
+        skew = s.high;
+        msl_least = m.low;
+        msl = m.high;
+        grain = n.high;
+        minrto = i.high;
+        extra = t.high;
+        initial = l.initial;
+        congestion = l.congestion;
+      };
+      lines = (subst (λ (ws : List (List ℕ)). IsLine 1 (joined ws) h.raw) words h.line, (s.line, (m.line, (n.line, (i.line, (t.line, l.lines))))));
     })
 
 -- the first of some lines
@@ -423,24 +564,48 @@ no_line : (number : ℕ) (raws : Raws) → AreLines number [] raws → raws ≡ 
 no_line number [] h = refl
 no_line number (raw ∷ raws) h = absurd h
 
-late_again : (v : Version) (i : Initial) (heads rest : Raws) → (v ≡ One → i ≡ Rfc5681) → AreLines 7 (late_words v i) heads → late_lines v (heads ++ rest) ≡ Ok (i, rest)
-late_again One i heads rest limit lines =
-    ap (λ (us : Raws). late_lines One (us ++ rest)) (no_line 7 heads lines) ∙ ap (λ (j : Initial). Ok (j, rest)) (sym (limit refl))
-late_again Two i heads rest limit lines =
+judged_again : (n : ℕ) (i : Initial) (j : Judged) (heads rest : Raws) → 1 ≤ n → n ≤ 2
+    → AreLines 7 (initial_words i ∷ hosts_words n ∷ congestion_words j ∷ []) heads
+    → judged_lines (heads ++ rest) ≡ Ok (late (hosted n) i j, rest)
+judged_again n i j heads rest low high lines =
+    let a = has_line 7 (initial_words i) (hosts_words n ∷ congestion_words j ∷ []) heads lines in
+    let b = has_line 8 (hosts_words n) (congestion_words j ∷ []) a.rest a.others in
+    let c = has_line 9 (congestion_words j) [] b.rest b.others in
+    let last : c.rest ≡ [] = no_line 10 c.rest c.others in
+    let all : heads ≡ a.raw ∷ b.raw ∷ c.raw ∷ [] =
+    a.first ∙ ap (λ (us : Raws). a.raw ∷ us) (b.first ∙ ap (λ (us : Raws). b.raw ∷ us) (c.first ∙ ap (λ (us : Raws). c.raw ∷ us) last)) in
+    let first = initial_again i a.raw (b.raw ∷ c.raw ∷ rest) a.line in
+    let hosts = number_again 8 (codes "hosts") 1 2 (omega arith) (clean_by (codes "hosts") refl) b.raw (c.raw ∷ rest) n b.line low high in
+    let congestion = congestion_again j c.raw rest c.line in
+    ap (λ (us : Raws). judged_lines (us ++ rest)) all ∙ rw (first, hosts, congestion) refl
+
+late_again : (v : Version) (i : Initial) (j : Judged) (heads rest : Raws) → (v ≡ One → i ≡ Rfc5681) → (says_congestion v ≡ false → j ≡ Full)
+    → AreLines 7 (late_words v i j) heads
+    → late_lines (named_as v) (heads ++ rest) ≡ Ok (late v i j, rest)
+late_again One i j heads rest initial congestion lines =
+    ap (λ (us : Raws). late_lines One (us ++ rest)) (no_line 7 heads lines)
+    ∙ ap (λ (k : Initial). Ok (late One k Full, rest)) (sym (initial refl))
+    ∙ ap (λ (k : Judged). Ok (late One i k, rest)) (sym (congestion refl))
+late_again Two i j heads rest initial congestion lines =
     let a = has_line 7 (initial_words i) [] heads lines in
     let all : heads ≡ a.raw ∷ [] = a.first ∙ ap (λ (us : Raws). a.raw ∷ us) (no_line 8 a.rest a.others) in
-    ap (λ (us : Raws). late_lines Two (us ++ rest)) all ∙ initial_again i a.raw rest a.line
-late_again Three i heads rest limit lines =
+    ap (λ (us : Raws). late_lines Two (us ++ rest)) all
+    ∙ ap (λ (m : Result (Initial × Raws) TextFault). m >>= λ x. Ok (late Two x.0 Full, x.1)) (initial_again i a.raw rest a.line)
+    ∙ ap (λ (k : Judged). Ok (late Two i k, rest)) (sym (congestion refl))
+late_again Three i j heads rest initial congestion lines =
     let a = has_line 7 (initial_words i) (half_words ∷ []) heads lines in
     let b = has_line 8 half_words [] a.rest a.others in
     let all : heads ≡ a.raw ∷ b.raw ∷ [] = a.first ∙ ap (λ (us : Raws). a.raw ∷ us) (b.first ∙ ap (λ (us : Raws). b.raw ∷ us) (no_line 9 b.rest b.others)) in
     let first = initial_again i a.raw (b.raw ∷ rest) a.line in
     let half = number_again 8 (codes "half") 0 0 (omega arith) (clean_by (codes "half") refl) b.raw rest 0 b.line (omega arith) (omega arith) in
-    ap (λ (us : Raws). late_lines Three (us ++ rest)) all ∙ rw (first, half) refl
+    let read : late_lines Three (a.raw ∷ b.raw ∷ rest) ≡ Ok (late Three i Full, rest) = rw (first, half) refl in
+    ap (λ (us : Raws). late_lines Three (us ++ rest)) all ∙ read ∙ ap (λ (k : Judged). Ok (late Three i k, rest)) (sym (congestion refl))
+late_again Four i j heads rest initial congestion lines = judged_again 2 i j heads rest (omega arith) (omega arith) lines
+late_again FourHalf i j heads rest initial congestion lines = judged_again 1 i j heads rest (omega arith) (omega arith) lines
 
 -- the fields of the header's lines from one line on
 abbrev late_of : Header → List (List (List ℕ))
-late_of h = late_words h.version h.initial
+late_of h = late_words h.version h.initial h.congestion
 
 abbrev from_extra : Header → List (List (List ℕ))
 from_extra h = (codes "extra" ∷ decimal h.extra ∷ []) ∷ late_of h
@@ -475,13 +640,22 @@ header_again h heads rest limits lines =
     let grain = number_again 4 (codes "grain") 0 60000000 (omega arith) (clean_by (codes "grain") refl) d.raw (f.raw ∷ g.raw ∷ (last ++ rest)) h.grain d.line (omega arith) limits.grain in
     let minrto = number_again 5 (codes "minrto") 0 60000000 (omega arith) (clean_by (codes "minrto") refl) f.raw (g.raw ∷ (last ++ rest)) h.minrto f.line (omega arith) limits.minrto in
     let extra = number_again 6 (codes "extra") 0 65535 (omega arith) (clean_by (codes "extra") refl) g.raw (last ++ rest) h.extra g.line (omega arith) limits.extra in
-    let initial = late_again h.version h.initial last rest limits.initial g.others in
-    ap (λ (us : Raws). first_line (us ++ rest) >>= with_first) all ∙ rw (first, skew, msl, grain, minrto, extra, initial) refl
+    let late_read = late_again h.version h.initial h.congestion last rest limits.initial limits.congestion g.others in
+    ap (λ (us : Raws). first_line (us ++ rest) >>= with_first) all ∙ rw (first, skew, msl, grain, minrto, extra, late_read) refl
 
-words_clean : (v : Version) (i : Initial) → AllByRecursion (AllByRecursion IsClean) (late_words v i)
-words_clean One i = tt
-words_clean Two i = ((clean_by (codes "initial") refl, (initial_clean i, tt)), tt)
-words_clean Three i = ((clean_by (codes "initial") refl, (initial_clean i, tt)), ((clean_by (codes "half") refl, (IsClean-decimal 0 (omega arith), tt)), tt))
+judged_words_clean : (n : ℕ) (i : Initial) (j : Judged) → n ≤ 2
+    → AllByRecursion (AllByRecursion IsClean) (initial_words i ∷ hosts_words n ∷ congestion_words j ∷ [])
+judged_words_clean n i j few = (
+  (clean_by (codes "initial") refl, (initial_clean i, tt)),
+  ((clean_by (codes "hosts") refl, (IsClean-decimal n (omega arith), tt)), ((clean_by (codes "congestion") refl, (judged_clean j, tt)), tt)),
+)
+
+words_clean : (v : Version) (i : Initial) (j : Judged) → AllByRecursion (AllByRecursion IsClean) (late_words v i j)
+words_clean One i j = tt
+words_clean Two i j = ((clean_by (codes "initial") refl, (initial_clean i, tt)), tt)
+words_clean Three i j = ((clean_by (codes "initial") refl, (initial_clean i, tt)), ((clean_by (codes "half") refl, (IsClean-decimal 0 (omega arith), tt)), tt))
+words_clean Four i j = judged_words_clean 2 i j (omega arith)
+words_clean FourHalf i j = judged_words_clean 1 i j (omega arith)
 
 -- no field of a header holds a space, a CR or a LF
 pub header_clean : (h : Header) → IsHeader h → AllByRecursion (AllByRecursion IsClean) (header_words h)
@@ -496,7 +670,7 @@ header_clean h limits =
             (clean_by (codes "grain") refl, (IsClean-decimal h.grain (omega arith), tt)),
             (
               (clean_by (codes "minrto") refl, (IsClean-decimal h.minrto (omega arith), tt)),
-              ((clean_by (codes "extra") refl, (IsClean-decimal h.extra (omega arith), tt)), words_clean h.version h.initial),
+              ((clean_by (codes "extra") refl, (IsClean-decimal h.extra (omega arith), tt)), words_clean h.version h.initial h.congestion),
             ),
           ),
         ),
@@ -513,8 +687,9 @@ lines_raw number (ws ∷ lines) (raw ∷ raws) clean h = (is_raw number ws raw c
 pub header_raw : (h : Header) (heads : List (List ℕ)) → IsHeader h → AreLines 1 (header_words h) heads → AllByRecursion IsRaw heads
 header_raw h heads limits lines = lines_raw 1 (header_words h) heads (header_clean h limits) lines
 
--- a text that begins with a header names its version
-pub header_named : (h : Header) (heads : List (List ℕ)) (rest : List ℕ) → AreLines 1 (header_words h) heads → version_named (lines_of (concat heads ++ rest)) ≡ h.version
+-- a text that begins with a header names its version; of both of version 4 that of two hosts
+pub header_named : (h : Header) (heads : List (List ℕ)) (rest : List ℕ) → AreLines 1 (header_words h) heads
+    → version_named (lines_of (concat heads ++ rest)) ≡ named_as h.version
 header_named h heads rest lines =
     let a = has_line 1 (first_words h.version) (from_skew h) heads lines in
     let behind = concat a.rest ++ rest in

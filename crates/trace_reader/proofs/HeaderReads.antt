@@ -2,12 +2,16 @@
 use Rattle.std.proofs.Common.{◌≡◌, ℕ, Option, None, Some, Result, Ok, Err}
 use Rattle.case_forms.specs.declared.trace.Header.{Header}
 use Rattle.case_forms.specs.declared.version.Initial.{Initial}
+use Rattle.case_forms.specs.declared.version.Judged.{Judged}
+use Rattle.case_forms.specs.declared.version.Judged.TheVariants.{Full}
+use Rattle.case_forms.specs.declared.version.Version.TheVariants.{Two, Three}
 use Rattle.line_fields.specs.declared.fault.TextFault.{TextFault}
 use Rattle.line_fields.specs.declared.fault.SourceFault.{SourceFault}
 use Rattle.line_fields.specs.Reading.{◌>>=◌}
 use Rattle.line_fields.specs.Rows.{with_rest, Reads}
 use Rattle.line_fields.proofs.ReadsLemmas.{reads_then, reads_not}
-use Rattle.trace_reader.specs.Headers.{first_line, half_line, header_of}
+use Rattle.trace_reader.specs.declared.late_lines.LateLines.{LateLines}
+use Rattle.trace_reader.specs.Headers.{first_line, half_line, hosts_line, congestion_line, hosted, late, header_of}
 use Rattle.trace_reader.proofs.HeaderLaw.{Raws, with_first}
 
 abbrev Known : Type 0
@@ -39,13 +43,27 @@ pub is_header : (a c : Known) (r : Result Header SourceFault) → Heads (both fi
 unfolding header_of
 is_header a c r p = p
 
--- ---- the lines of version 3 that name the RFC and the one host that is recorded
+-- ---- the lines that version 1 doesn't have
 
 abbrev pub Told : Type 0
-Told = Initial × Raws
+Told = LateLines × Raws
 
+abbrev pub with_initial : Initial × Raws → Result Told TextFault
+with_initial i = Ok (late Two i.0 Full, i.1)
+
+-- in version 3
 abbrev pub with_host : Initial → ℕ × Raws → Result Told TextFault
-with_host i h = Ok (i, h.1)
+with_host i h = Ok (late Three i Full, h.1)
 
-abbrev pub with_half : Told → Result Told TextFault
+abbrev pub with_half : Initial × Raws → Result Told TextFault
 with_half i = half_line i.1 >>= with_host i.0
+
+-- in version 4
+abbrev pub with_congestion : Initial → ℕ → Judged × Raws → Result Told TextFault
+with_congestion i n c = Ok (late (hosted n) i c.0, c.1)
+
+abbrev pub with_hosts : Initial → ℕ × Raws → Result Told TextFault
+with_hosts i h = congestion_line h.1 >>= with_congestion i h.0
+
+abbrev pub with_judged : Initial × Raws → Result Told TextFault
+with_judged i = hosts_line i.1 >>= with_hosts i.0

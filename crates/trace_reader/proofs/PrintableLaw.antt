@@ -25,8 +25,10 @@ use Rattle.case_forms.specs.declared.version.Version.{Version}
 use Rattle.case_forms.specs.declared.version.Version.TheVariants as versions
 use Rattle.case_forms.specs.declared.version.Initial.{Initial}
 use Rattle.case_forms.specs.declared.version.Initial.TheVariants.{Rfc5681, Rfc6928}
+use Rattle.case_forms.specs.declared.version.Judged.{Judged}
+use Rattle.case_forms.specs.declared.version.Judged.TheVariants.{Full, Recovery, Nothing}
 use Rattle.case_forms.specs.Versions.{first_line_of}
-use Rattle.trace_reader.specs.Headers.{IsHeader, AreLines, header_words, first_words, initial_words, initial_number, late_words}
+use Rattle.trace_reader.specs.Headers.{IsHeader, AreLines, header_words, first_words, initial_words, initial_number, hosts_words, congestion_words, late_words}
 use Rattle.trace_reader.specs.Calls.{IsCall}
 use Rattle.trace_reader.specs.Events.{event_pieces, IsEvent}
 use Rattle.trace_reader.specs.EventLines.{Place, behind, line_pieces, IsEventLine}
@@ -48,6 +50,8 @@ first_printed : (v : Version) → IsLine 1 (joined (first_words v)) (printed (fi
 first_printed versions.One = fed 1 (first_words versions.One) (omega arith) (omega arith)
 first_printed versions.Two = fed 1 (first_words versions.Two) (omega arith) (omega arith)
 first_printed versions.Three = fed 1 (first_words versions.Three) (omega arith) (omega arith)
+first_printed versions.Four = fed 1 (first_words versions.Four) (omega arith) (omega arith)
+first_printed versions.FourHalf = fed 1 (first_words versions.FourHalf) (omega arith) (omega arith)
 
 initial_small : (i : Initial) → initial_number i < 2 ^ 64
 initial_small Rfc5681 = omega arith
@@ -56,10 +60,20 @@ initial_small Rfc6928 = omega arith
 initial_printed : (i : Initial) → IsLine 7 (joined (initial_words i)) (printed (initial_words i))
 initial_printed i = number_fed 7 (codes "initial") (initial_number i) (omega arith) (omega arith) (initial_small i) (omega arith)
 
-late_printed : (v : Version) (i : Initial) → AreLines 7 (late_words v i) (map printed (late_words v i))
-late_printed versions.One i = tt
-late_printed versions.Two i = (initial_printed i, tt)
-late_printed versions.Three i = (initial_printed i, (number_fed 8 (codes "half") 0 (omega arith) (omega arith) (omega arith) (omega arith), tt))
+congestion_printed : (j : Judged) → IsLine 9 (joined (congestion_words j)) (printed (congestion_words j))
+congestion_printed Full = fed 9 (congestion_words Full) (omega arith) (omega arith)
+congestion_printed Recovery = fed 9 (congestion_words Recovery) (omega arith) (omega arith)
+congestion_printed Nothing = fed 9 (congestion_words Nothing) (omega arith) (omega arith)
+
+hosts_printed : (n : ℕ) → n ≤ 2 → IsLine 8 (joined (hosts_words n)) (printed (hosts_words n))
+hosts_printed n few = number_fed 8 (codes "hosts") n (omega arith) (omega arith) (omega arith) (omega arith)
+
+late_printed : (v : Version) (i : Initial) (j : Judged) → AreLines 7 (late_words v i j) (map printed (late_words v i j))
+late_printed versions.One i j = tt
+late_printed versions.Two i j = (initial_printed i, tt)
+late_printed versions.Four i j = (initial_printed i, (hosts_printed 2 (omega arith), (congestion_printed j, tt)))
+late_printed versions.FourHalf i j = (initial_printed i, (hosts_printed 1 (omega arith), (congestion_printed j, tt)))
+late_printed versions.Three i j = (initial_printed i, (number_fed 8 (codes "half") 0 (omega arith) (omega arith) (omega arith) (omega arith), tt))
 
 header_printed : (h : Header) → IsHeader h → AreLines 1 (header_words h) (map printed (header_words h))
 header_printed h limits =
@@ -73,7 +87,7 @@ header_printed h limits =
             number_fed 4 (codes "grain") h.grain (omega arith) (omega arith) (omega arith) (omega arith),
             (
               number_fed 5 (codes "minrto") h.minrto (omega arith) (omega arith) (omega arith) (omega arith),
-              (number_fed 6 (codes "extra") h.extra (omega arith) (omega arith) (omega arith) (omega arith), late_printed h.version h.initial),
+              (number_fed 6 (codes "extra") h.extra (omega arith) (omega arith) (omega arith) (omega arith), late_printed h.version h.initial h.congestion),
             ),
           ),
         ),
@@ -141,6 +155,8 @@ first_small : (v : Version) → first_line_of v ≤ 10000001
 first_small versions.One = omega arith
 first_small versions.Two = omega arith
 first_small versions.Three = omega arith
+first_small versions.Four = omega arith
+first_small versions.FourHalf = omega arith
 
 pub is_printable : (t : Trace) (text : List ℕ) → IsTraceText (with_columns t) text → IsPrintableTrace t
 is_printable t text s =

@@ -2,8 +2,8 @@
 use Rattle.std.specs.Prelude.{◌≡◌, ◌⊎◌, ℕ, ◌+◌, ◌||◌, if◌then◌else◌, List, [], ◌∷◌, ◌++◌, length, Some, None, Ok, codes}
 use Rattle.std.specs.Str.{bytes_eq}
 use Rattle.case_forms.specs.declared.version.Version.{Version}
-use Rattle.case_forms.specs.declared.version.Version.TheVariants.{One, Two, Three}
-use Rattle.line_fields.specs.Forms.{Want, unless_empty, numeric}
+use Rattle.case_forms.specs.declared.version.Version.TheVariants.{One, Two, Three, Four, FourHalf}
+use Rattle.line_fields.specs.Forms.{Want, unless_empty, numeric, named}
 use Rattle.line_fields.specs.LineFaults.{IsWholeFault, IsTextFaultOf, IsNextFault}
 use Rattle.line_fields.specs.Lines.{IsLine, line_rest}
 use Rattle.line_fields.specs.Reading.{fault_at}
@@ -12,7 +12,7 @@ use Rattle.line_fields.specs.Word.{Word, Rest}
 use Rattle.line_fields.specs.declared.fault.FaultKind.{FaultKind}
 use Rattle.line_fields.specs.declared.fault.FaultKind.TheVariants as kinds
 use Rattle.line_fields.specs.declared.fault.TextFault.{TextFault}
-use Rattle.trace_reader.specs.Headers.{first_words, header_fault}
+use Rattle.trace_reader.specs.Headers.{judged_name, all_judged, first_words, header_fault}
 
 -- the text of the first line, in some version
 abbrev pub IsFirstText : List ℕ → Type 0
@@ -30,11 +30,21 @@ row name value = record { name = name; value = value }
 abbrev pub initial_want : Want
 initial_want w = unless_empty w (if bytes_eq w.text (codes "5681") || bytes_eq w.text (codes "6928") then None else Some kinds.Number)
 
+-- the lines of version 4 after line 6
+abbrev pub judged_rows : List Row
+judged_rows =
+    row (codes "initial") initial_want
+    ∷ row (codes "hosts") (numeric 1 2)
+    ∷ row (codes "congestion") (named judged_name all_judged)
+    ∷ []
+
 -- the lines that version 1 doesn't have
 abbrev pub late_rows : Version → List Row
 late_rows One = []
 late_rows Two = row (codes "initial") initial_want ∷ []
 late_rows Three = row (codes "initial") initial_want ∷ row (codes "half") (numeric 0 0) ∷ []
+late_rows Four = judged_rows
+late_rows FourHalf = judged_rows
 
 -- the lines from line 2 on
 abbrev pub header_rows : Version → List Row

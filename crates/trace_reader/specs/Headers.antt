@@ -1,25 +1,32 @@
--- The header's lines: six, a seventh in version 2, and an eighth in version 3.
-use Rattle.std.specs.Prelude.{◌≡◌, ◌≤◌, ℕ, ◌+◌, ◌==◌, ◌&&◌, Bool, if◌then◌else◌, List, [], ◌∷◌, Result, Ok, Err, codes}
+-- The header's lines: six, a seventh in version 2, an eighth in version 3, and a ninth in version 4.
+use Rattle.std.specs.Prelude.{◌≡◌, ◌≤◌, ℕ, ◌+◌, ◌==◌, ◌&&◌, Bool, false, if◌then◌else◌, List, [], ◌∷◌, Result, Ok, Err, codes}
 use Rattle.std.specs.Fmt.{decimal}
 use Rattle.std.specs.Str.{bytes_eq}
 use Rattle.bstr.specs.Text.{without_terminator}
 use Rattle.case_forms.specs.declared.trace.Header.{Header}
 use Rattle.case_forms.specs.declared.version.Version.{Version}
-use Rattle.case_forms.specs.declared.version.Version.TheVariants.{One, Two, Three}
+use Rattle.case_forms.specs.declared.version.Version.TheVariants.{One, Two, Three, Four, FourHalf}
 use Rattle.case_forms.specs.declared.version.Initial.{Initial}
 use Rattle.case_forms.specs.declared.version.Initial.TheVariants.{Rfc5681, Rfc6928}
+use Rattle.case_forms.specs.declared.version.Judged.{Judged}
+use Rattle.case_forms.specs.declared.version.Judged.TheVariants.{Full, Recovery, Nothing}
+use Rattle.case_forms.specs.Versions.{says_congestion}
 use Rattle.line_fields.specs.declared.fault.FaultKind.TheVariants as kinds
 use Rattle.line_fields.specs.declared.fault.TextFault.{TextFault}
 use Rattle.line_fields.specs.Word.{Word, Rest}
 use Rattle.line_fields.specs.Reading.{◌>>=◌, fault_at, next_field, number_value, number_field}
+use Rattle.line_fields.specs.Choice.{kind_field}
 use Rattle.line_fields.specs.Lines.{IsLine, is_ended, whole_line, line_text, line_rest, next_raw}
 use Rattle.line_fields.specs.Spelling.{joined}
+use Rattle.trace_reader.specs.declared.late_lines.LateLines.{LateLines}
 
 -- how the first line names the version
 abbrev pub version_text : Version → List ℕ
 version_text One = codes "1"
 version_text Two = codes "2"
 version_text Three = codes "3"
+version_text Four = codes "4"
+version_text FourHalf = codes "4"
 
 -- the fields of the first line
 abbrev pub first_words : Version → List (List ℕ)
@@ -32,7 +39,11 @@ begins_trace v raw = is_ended raw && bytes_eq (without_terminator raw) (joined (
 -- the version that the first of these lines names, 1 where it names none
 abbrev pub version_named : List (List ℕ) → Version
 version_named [] = One
-version_named (raw ∷ raws) = if begins_trace Two raw then Two else if begins_trace Three raw then Three else One
+version_named (raw ∷ raws) =
+    if begins_trace Two raw then Two
+    else if begins_trace Three raw then Three
+    else if begins_trace Four raw then Four
+    else One
 
 -- the number of the RFC that gives the first congestion window
 abbrev pub initial_number : Initial → ℕ
@@ -47,11 +58,31 @@ initial_words initial = codes "initial" ∷ decimal (initial_number initial) ∷
 abbrev pub half_words : List (List ℕ)
 half_words = codes "half" ∷ decimal 0 ∷ []
 
+-- the fields of the line that says how many hosts were recorded
+abbrev pub hosts_words : ℕ → List (List ℕ)
+hosts_words count = codes "hosts" ∷ decimal count ∷ []
+
+-- the word for how much of congestion control is judged
+abbrev pub judged_name : Judged → List ℕ
+judged_name Full = codes "full"
+judged_name Recovery = codes "recovery"
+judged_name Nothing = codes "none"
+
+-- all of these
+abbrev pub all_judged : List Judged
+all_judged = Full ∷ Recovery ∷ Nothing ∷ []
+
+-- the fields of the line that says it
+abbrev pub congestion_words : Judged → List (List ℕ)
+congestion_words congestion = codes "congestion" ∷ judged_name congestion ∷ []
+
 -- the fields of the lines that version 1 doesn't have
-abbrev pub late_words : Version → Initial → List (List (List ℕ))
-late_words One initial = []
-late_words Two initial = initial_words initial ∷ []
-late_words Three initial = initial_words initial ∷ half_words ∷ []
+abbrev pub late_words : Version → Initial → Judged → List (List (List ℕ))
+late_words One initial congestion = []
+late_words Two initial congestion = initial_words initial ∷ []
+late_words Three initial congestion = initial_words initial ∷ half_words ∷ []
+late_words Four initial congestion = initial_words initial ∷ hosts_words 2 ∷ congestion_words congestion ∷ []
+late_words FourHalf initial congestion = initial_words initial ∷ hosts_words 1 ∷ congestion_words congestion ∷ []
 
 -- the fields of the header's lines
 abbrev pub header_words : Header → List (List (List ℕ))
@@ -62,7 +93,7 @@ header_words h =
     ∷ (codes "grain" ∷ decimal h.grain ∷ [])
     ∷ (codes "minrto" ∷ decimal h.minrto ∷ [])
     ∷ (codes "extra" ∷ decimal h.extra ∷ [])
-    ∷ late_words h.version h.initial
+    ∷ late_words h.version h.initial h.congestion
 
 -- the limits of the header
 pub record IsHeader (h : Header) : Type 0 where
@@ -74,6 +105,8 @@ pub record IsHeader (h : Header) : Type 0 where
   pub extra : h.extra ≤ 65535
   -- version 1 names no other
   pub initial : h.version ≡ One → h.initial ≡ Rfc5681
+  -- a header that doesn't say it judges all of congestion control
+  pub congestion : says_congestion h.version ≡ false → h.congestion ≡ Full
 
 -- each line with its bytes, numbered on
 abbrev pub AreLines : ℕ → List (List (List ℕ)) → List (List ℕ) → Type 0
@@ -119,12 +152,13 @@ next_value number name read raws = do
   a ← value_line number name read raw.0
   Ok (a, raw.1)
 
--- the version whose first line has this text, else Header
+-- the version whose first line has this text, else Header; of both of version 4 that of two hosts
 abbrev pub version_in : List ℕ → Result Version TextFault
 version_in text =
     if bytes_eq text (joined (first_words One)) then Ok One
     else if bytes_eq text (joined (first_words Two)) then Ok Two
     else if bytes_eq text (joined (first_words Three)) then Ok Three
+    else if bytes_eq text (joined (first_words Four)) then Ok Four
     else Err (record { kind = kinds.Header; span = whole_line 1 text })
 
 -- the version of a first line, given with its end
@@ -161,14 +195,59 @@ initial_line raws = next_value 7 (codes "initial") initial_field raws
 abbrev pub half_line : List (List ℕ) → Result (ℕ × List (List ℕ)) TextFault
 half_line raws = next_value 8 (codes "half") (number_field 0 0) raws
 
--- the RFC that gives the first congestion window, by the lines that version 1 doesn't have; there it is always the same
-abbrev pub late_lines : Version → List (List ℕ) → Result (Initial × List (List ℕ)) TextFault
-late_lines One raws = Ok (Rfc5681, raws)
-late_lines Two raws = initial_line raws
-late_lines Three raws = do
+-- the next line, which says how many hosts were recorded: one or two
+abbrev pub hosts_line : List (List ℕ) → Result (ℕ × List (List ℕ)) TextFault
+hosts_line raws = next_value 8 (codes "hosts") (number_field 1 2) raws
+
+-- the next line, which says how much of congestion control is judged
+abbrev pub congestion_line : List (List ℕ) → Result (Judged × List (List ℕ)) TextFault
+congestion_line raws = next_value 9 (codes "congestion") (kind_field judged_name all_judged) raws
+
+-- version 4 with so many hosts
+abbrev pub hosted : ℕ → Version
+hosted count = if count == 1 then FourHalf else Four
+
+-- what the late lines say
+abbrev pub late : Version → Initial → Judged → LateLines
+late version initial congestion = record { version = version; initial = initial; congestion = congestion }
+
+-- what the lines of version 3 after line 6 say
+abbrev pub half_lines : List (List ℕ) → Result (LateLines × List (List ℕ)) TextFault
+half_lines raws = do
   initial ← initial_line raws
   half ← half_line initial.1
-  Ok (initial.0, half.1)
+  Ok (late Three initial.0 Full, half.1)
+
+-- and those of version 4, by which its version is known
+abbrev pub judged_lines : List (List ℕ) → Result (LateLines × List (List ℕ)) TextFault
+judged_lines raws = do
+  initial ← initial_line raws
+  hosts ← hosts_line initial.1
+  congestion ← congestion_line hosts.1
+  Ok (late (hosted hosts.0) initial.0 congestion.0, congestion.1)
+
+-- what the lines say that version 1 doesn't have; there it is always the same
+abbrev pub late_lines : Version → List (List ℕ) → Result (LateLines × List (List ℕ)) TextFault
+late_lines One raws = Ok (late One Rfc5681 Full, raws)
+late_lines Two raws = do
+  initial ← initial_line raws
+  Ok (late Two initial.0 Full, initial.1)
+late_lines Three raws = half_lines raws
+late_lines Four raws = judged_lines raws
+late_lines FourHalf raws = judged_lines raws
+
+-- the header of these numbers, and of what the late lines say
+abbrev pub header_with : (skew msl grain minrto extra : ℕ) → LateLines → Header
+header_with skew msl grain minrto extra late = record {
+  version = late.version;
+  skew = skew;
+  msl = msl;
+  grain = grain;
+  minrto = minrto;
+  extra = extra;
+  initial = late.initial;
+  congestion = late.congestion;
+}
 
 -- the header, and the lines behind it
 unfoldable pub header_of : List (List ℕ) → Result (Header × List (List ℕ)) TextFault
@@ -179,5 +258,5 @@ header_of raws = do
   grain ← next_value 4 (codes "grain") (number_field 0 60000000) msl.1
   minrto ← next_value 5 (codes "minrto") (number_field 0 60000000) grain.1
   extra ← next_value 6 (codes "extra") (number_field 0 65535) minrto.1
-  initial ← late_lines version.0 extra.1
-  Ok (record { version = version.0; skew = skew.0; msl = msl.0; grain = grain.0; minrto = minrto.0; extra = extra.0; initial = initial.0 }, initial.1)
+  late ← late_lines version.0 extra.1
+  Ok (header_with skew.0 msl.0 grain.0 minrto.0 extra.0 late.0, late.1)

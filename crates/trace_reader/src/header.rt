@@ -1,22 +1,16 @@
-//! The header's lines.
+//! The header of a trace.
 
-ghost use Rattle.std.specs.Prelude.{◌≡◌, ◌≢◌, ◌≤◌, Err, IfOk, codes};
-ghost use Rattle.bstr.specs.Text.{lines_of};
+ghost use Rattle.std.specs.Prelude.{◌≡◌, ◌≢◌, Err};
 ghost use Rattle.counted.specs.Counting.{left_of, failures_of, one_more};
-ghost use Rattle.line_fields.specs.Reading.{Gives, number_field};
 ghost use Rattle.line_fields.specs.Rows.{rows_of, with_rest, Reads};
-ghost use Rattle.line_fields.specs.Spelling.{joined};
-ghost use Rattle.trace_reader.specs.Headers.{first_words, begins_trace, version_named, named_rest, value_line};
-ghost use Rattle.trace_reader.specs.Headers.{next_value, first_version, first_line, initial_field, initial_line};
-ghost use Rattle.trace_reader.specs.Headers.{late_lines, header_of};
+ghost use Rattle.trace_reader.specs.Headers.{header_of};
 
-use bstr::ByteSlice;
-use case_forms::{Header, Initial, Version};
+use crate::first_line::first_line;
+use crate::late_lines::late_lines;
+use crate::named_lines::next_number;
+use case_forms::Header;
 use counted::Counted;
-use line_fields::{
-    FaultKind, Fields, SourceFault, Span, TextFault, checked_fields, checked_line, is_text,
-    require_line, without_line_end,
-};
+use line_fields::SourceFault;
 use std::io::BufRead;
 
 const MAX_SKEW: u64 = 1_000_000_000;
@@ -28,223 +22,6 @@ const MAX_GRAIN: u64 = 60_000_000;
 const MAX_MINRTO: u64 = 60_000_000;
 
 const MAX_EXTRA: u64 = 65_535;
-
-// The number of the line that names the RFC of the first congestion window.
-const INITIAL_LINE: u64 = 7;
-
-// The number of the line that names the one host that is recorded.
-const HALF_LINE: u64 = 8;
-
-/// The first line, which names the version of the text.
-pub(crate) fn first_text(version: Version) -> &'static str
-    ensures { result.now ≡ joined (first_words version) }
-{
-    match version {
-        Version::One => "trace 1",
-        Version::Two => "trace 2",
-        Version::Three => "trace 3",
-    }
-}
-
-// Whether a line, given with its end, is exactly the first line of a trace of this version, ended by LF or CR LF.
-fn begins_trace(version: Version, raw: &[u8]) -> bool
-    ensures { result ≡ begins_trace version raw.now }
-{
-    let (text, ended) = without_line_end(raw);
-    ended && is_text(text, first_text(version))
-}
-
-/// The version that the first line of a text names, where this line is ended; version 1 where it names none.
-pub fn version_named(text: &[u8]) -> Version
-    ensures { result ≡ version_named (lines_of text.now) }
-{
-    match text.lines_with_terminator().next() {
-        Some(raw) if begins_trace(Version::Two, raw) => Version::Two,
-        Some(raw) if begins_trace(Version::Three, raw) => Version::Three,
-        _ => Version::One,
-    }
-}
-
-// The fields of a line after its name, of which there is one at least, and the fault of another count of fields. It is
-// Header at the whole line, as another name is.
-#[tactic(auto, unfolding(crate::specs::Headers::named_rest))]
-fn named_rest<'a>(
-    number: u64,
-    name: &str,
-    raw: &'a [u8],
-) -> Result<(Fields<'a>, TextFault), TextFault>
-    ensures { Gives (λ rest. rest) result (named_rest number name.now raw.now) }
-{
-    let mut fields = checked_fields(number, raw)?;
-    let span = Span {
-        line: number,
-        start: 0,
-        stop: fields.stop(),
-    };
-    let fault = TextFault {
-        kind: FaultKind::Header,
-        span,
-    };
-    let word = fields.next()?;
-    if !word.is(name) {
-        return Err(fault);
-    }
-    if fields.is_empty() {
-        return Err(fault);
-    }
-    Ok((fields, fault))
-}
-
-// The number of a line that is a name and a number from `least` to `most`.
-#[tactic(auto, unfolding(crate::specs::Headers::value_line))]
-fn number_line(number: u64, name: &str, least: u64, most: u64, raw: &[u8]) -> Result<u64, TextFault>
-    ensures value { Gives (λ n. n) result (value_line number name.now (number_field least most) raw.now) }
-    ensures range { IfOk result (λ n. (least ≤ n) × (n ≤ most)) }
-{
-    let (mut fields, fault) = named_rest(number, name, raw)?;
-    let value = fields.number(least, most)?;
-    if !fields.is_empty() {
-        return Err(fault);
-    }
-    Ok(value)
-}
-
-// The next field, which names one of the two RFCs by its number. Another number is Number.
-#[tactic(auto, unfolding(crate::specs::Headers::initial_field))]
-fn initial_field(fields: &mut Fields) -> Result<Initial, TextFault>
-    ensures { Gives (λ initial. (initial, fields.new)) result (initial_field fields.old) }
-{
-    let field = fields.next()?;
-    match field.number(5681, 6928)? {
-        5681 => Ok(Initial::Rfc5681),
-        6928 => Ok(Initial::Rfc6928),
-        _ => Err(field.fault(FaultKind::Number)),
-    }
-}
-
-// The RFC of the line that is `initial` and its number.
-#[tactic(auto, unfolding(crate::specs::Headers::value_line))]
-fn named_initial(raw: &[u8]) -> Result<Initial, TextFault>
-    ensures { Gives (λ initial. initial) result (value_line 7 (codes "initial") initial_field raw.now) }
-{
-    let (mut fields, fault) = named_rest(INITIAL_LINE, "initial", raw)?;
-    let initial = initial_field(&mut fields)?;
-    if !fields.is_empty() {
-        return Err(fault);
-    }
-    Ok(initial)
-}
-
-// The number of the next line, which is a name and a number.
-#[tactic(auto, unfolding(crate::specs::Headers::next_value))]
-fn next_number<A: BufRead>(
-    source: &mut Counted<A>,
-    line: &mut Vec<u8>,
-    number: u64,
-    name: &str,
-    least: u64,
-    most: u64,
-) -> Result<u64, SourceFault>
-    ensures value { Reads with_rest (next_value number name.now (number_field least most))
-        (rows_of (left_of A.remaining source.old)) (rows_of (left_of A.remaining source.new)) result }
-    ensures range { IfOk result (λ n. (least ≤ n) × (n ≤ most)) }
-    ensures read { result ≡ Err SourceFault.Read → failures_of source.new ≡ one_more (failures_of source.old) }
-    ensures same { result ≢ Err SourceFault.Read → failures_of source.new ≡ failures_of source.old }
-{
-    require_line(source, number, line)?;
-    let value = number_line(number, name, least, most, line.as_slice())?;
-    Ok(value)
-}
-
-// The RFC of the next line, which is `initial` and its number.
-#[tactic(auto, unfolding(crate::specs::Headers::next_value))]
-fn next_initial<A: BufRead>(
-    source: &mut Counted<A>,
-    line: &mut Vec<u8>,
-) -> Result<Initial, SourceFault>
-    ensures value { Reads with_rest initial_line
-        (rows_of (left_of A.remaining source.old)) (rows_of (left_of A.remaining source.new)) result }
-    ensures read { result ≡ Err SourceFault.Read → failures_of source.new ≡ one_more (failures_of source.old) }
-    ensures same { result ≢ Err SourceFault.Read → failures_of source.new ≡ failures_of source.old }
-{
-    require_line(source, INITIAL_LINE, line)?;
-    let initial = named_initial(line.as_slice())?;
-    Ok(initial)
-}
-
-// The RFC of the first congestion window, and after it the line `half 0`, which says that host 0 alone is recorded.
-fn half_initial<A: BufRead>(
-    source: &mut Counted<A>,
-    line: &mut Vec<u8>,
-) -> Result<Initial, SourceFault>
-    ensures value { Reads with_rest (late_lines Version.Three)
-        (rows_of (left_of A.remaining source.old)) (rows_of (left_of A.remaining source.new)) result }
-    ensures read { result ≡ Err SourceFault.Read → failures_of source.new ≡ one_more (failures_of source.old) }
-    ensures same { result ≢ Err SourceFault.Read → failures_of source.new ≡ failures_of source.old }
-{
-    let initial = next_initial(source, line)?;
-    next_number(source, line, HALF_LINE, "half", 0, 0)?;
-    Ok(initial)
-}
-
-// The RFC that gives the first congestion window, by the next lines where the version has some.
-fn late_lines<A: BufRead>(
-    source: &mut Counted<A>,
-    line: &mut Vec<u8>,
-    version: Version,
-) -> Result<Initial, SourceFault>
-    ensures value { Reads with_rest (late_lines version)
-        (rows_of (left_of A.remaining source.old)) (rows_of (left_of A.remaining source.new)) result }
-    ensures read { result ≡ Err SourceFault.Read → failures_of source.new ≡ one_more (failures_of source.old) }
-    ensures same { result ≢ Err SourceFault.Read → failures_of source.new ≡ failures_of source.old }
-{
-    match version {
-        Version::One => Ok(Initial::Rfc5681),
-        Version::Two => next_initial(source, line),
-        Version::Three => half_initial(source, line),
-    }
-}
-
-// The version whose first line this is. Another text is Header, at the whole line.
-#[tactic(auto, unfolding(crate::specs::Headers::first_version))]
-fn first_version(raw: &[u8]) -> Result<Version, TextFault>
-    ensures { Gives (λ version. version) result (first_version raw.now) }
-{
-    let text = checked_line(1, raw)?;
-    if is_text(text, first_text(Version::One)) {
-        return Ok(Version::One);
-    }
-    if is_text(text, first_text(Version::Two)) {
-        return Ok(Version::Two);
-    }
-    if is_text(text, first_text(Version::Three)) {
-        return Ok(Version::Three);
-    }
-    let span = Span {
-        line: 1,
-        start: 0,
-        stop: text.len(),
-    };
-    Err(TextFault {
-        kind: FaultKind::Header,
-        span,
-    })
-}
-
-// The version that the first line names.
-fn first_line<A: BufRead>(
-    source: &mut Counted<A>,
-    line: &mut Vec<u8>,
-) -> Result<Version, SourceFault>
-    ensures line { Reads with_rest first_line (rows_of (left_of A.remaining source.old))
-        (rows_of (left_of A.remaining source.new)) result }
-    ensures read { result ≡ Err SourceFault.Read → failures_of source.new ≡ one_more (failures_of source.old) }
-    ensures same { result ≢ Err SourceFault.Read → failures_of source.new ≡ failures_of source.old }
-{
-    require_line(source, 1, line)?;
-    let version = first_version(line.as_slice())?;
-    Ok(version)
-}
 
 /// The header of a text, whose lines are taken.
 pub(crate) fn header<A: BufRead>(
@@ -262,14 +39,15 @@ pub(crate) fn header<A: BufRead>(
     let grain = next_number(source, line, 4, "grain", 0, MAX_GRAIN)?;
     let minrto = next_number(source, line, 5, "minrto", 0, MAX_MINRTO)?;
     let extra = next_number(source, line, 6, "extra", 0, MAX_EXTRA)? as u16;
-    let initial = late_lines(source, line, version)?;
+    let late = late_lines(source, line, version)?;
     Ok(Header {
-        version,
+        version: late.version,
         skew,
         msl,
         grain,
         minrto,
         extra,
-        initial,
+        initial: late.initial,
+        congestion: late.congestion,
     })
 }

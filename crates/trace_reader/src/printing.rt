@@ -7,7 +7,6 @@ ghost use Rattle.case_forms.specs.declared.trace.Trace.{Trace};
 ghost use Rattle.case_forms.specs.Limits.{Has16, Has32, HasAnswerBits, HasCallBits};
 ghost use Rattle.line_fields.specs.Hosts.{host_number};
 ghost use Rattle.line_fields.specs.Spelling.{IsBytePiece, plain, hex, number, printed, printed_line, printed_behind};
-ghost use Rattle.trace_reader.specs.Headers.{late_words};
 ghost use Rattle.trace_reader.specs.Calls.{call_pieces};
 ghost use Rattle.trace_reader.specs.Events.{event_pieces};
 ghost use Rattle.trace_reader.specs.EventLines.{line_pieces};
@@ -15,56 +14,12 @@ ghost use Rattle.trace_reader.specs.TraceText.{IsTraceText, trace_of};
 ghost use Rattle.trace_reader.specs.Printable.{HasEventBits, IsInMemory, IsPrintableTrace, with_columns};
 ghost use Rattle.trace_reader.specs.Printed.{header_text, trace_text};
 
-use crate::header::first_text;
-use case_forms::{Answer, Call, Event, Header, Host, Initial, Line, OutOfMemory, Trace, Version};
+use crate::header_printing::push_header;
+use case_forms::{Answer, Call, Event, Host, Line, OutOfMemory, Trace};
 use line_fields::{
     push_answer, push_end, push_hex, push_host, push_number, push_space, push_word, timer_name,
 };
 use std::alloc::Global;
-
-// Writes a name and a number as a line.
-fn push_number_line(out: &mut Vec<u8>, name: &str, number: u64) -> Result<(), OutOfMemory>
-    ensures { OnOk result (out.new.items ≡ out.old.items ++ printed (name.now ∷ decimal number ∷ [])) }
-{
-    push_word(out, name)?;
-    push_space(out)?;
-    push_number(out, number)?;
-    push_end(out)
-}
-
-// Writes the lines that version 1 doesn't have: the RFC of the first congestion window, and the one host that is
-// recorded.
-fn push_late(out: &mut Vec<u8>, version: Version, initial: Initial) -> Result<(), OutOfMemory>
-    ensures { OnOk result (out.new.items ≡ out.old.items ++ concat (map printed (late_words version initial))) }
-{
-    let number = match initial {
-        Initial::Rfc5681 => 5681,
-        Initial::Rfc6928 => 6928,
-    };
-    match version {
-        Version::One => Ok(()),
-        Version::Two => push_number_line(out, "initial", number),
-        Version::Three => {
-            push_number_line(out, "initial", number)?;
-            push_number_line(out, "half", 0)
-        }
-    }
-}
-
-// Writes the header's lines.
-fn push_header(out: &mut Vec<u8>, header: &Header) -> Result<(), OutOfMemory>
-    ensures { OnOk result (out.new.items ≡ out.old.items ++ header_text header.now) }
-{
-    push_word(out, first_text(header.version))?;
-    push_end(out)?;
-    push_number_line(out, "skew", header.skew)?;
-    push_number_line(out, "msl", header.msl)?;
-    push_number_line(out, "grain", header.grain)?;
-    push_number_line(out, "minrto", header.minrto)?;
-    push_number_line(out, "extra", u64::from(header.extra))?;
-    push_late(out, header.version, header.initial)?;
-    Ok(())
-}
 
 // Writes a number after a space.
 fn push_next(out: &mut Vec<u8>, number: u64) -> Result<(), OutOfMemory>

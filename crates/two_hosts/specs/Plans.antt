@@ -4,8 +4,9 @@ use Rattle.case_forms.specs.declared.calls.Host.TheVariants as hosts
 use Rattle.case_forms.specs.declared.trace.Header.{Header}
 use Rattle.case_forms.specs.declared.version.Initial.{Initial}
 use Rattle.case_forms.specs.declared.version.Initial.TheVariants.{Rfc5681, Rfc6928}
+use Rattle.case_forms.specs.declared.version.Judged.TheVariants.{Full}
 use Rattle.case_forms.specs.declared.version.Version.{Version}
-use Rattle.case_forms.specs.declared.version.Version.TheVariants.{One, Two, Three}
+use Rattle.case_forms.specs.declared.version.Version.TheVariants.{One, Two, Three, Four, FourHalf}
 use Rattle.recorder.specs.Views.{BookView}
 
 -- which RFC gives the first congestion window: version 1 has that of RFC 5681 alone
@@ -13,6 +14,8 @@ abbrev pub initial_of : Version → Initial
 initial_of One = Rfc5681
 initial_of Two = Rfc6928
 initial_of Three = Rfc6928
+initial_of Four = Rfc6928
+initial_of FourHalf = Rfc6928
 
 -- times in microseconds: no skew, a segment lives an hour at most, timers may be a millisecond early, and RTO is 200
 -- milliseconds at least
@@ -26,6 +29,7 @@ header_of version =
       minrto = 200000;
       extra = 1;
       initial = initial_of version;
+      congestion = Full;
     }
 
 -- the books of host 0 and of host 1, under one header

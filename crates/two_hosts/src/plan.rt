@@ -3,7 +3,7 @@
 ghost use Rattle.std.specs.Prelude.{◌≡◌};
 ghost use Rattle.two_hosts.specs.Plans.{header_of};
 
-use case_forms::{Header, Initial, Version};
+use case_forms::{Header, Initial, Judged, Version};
 use recorder::CoreConfig;
 
 /// Host 0's first initial send sequence number, two short of the end of the number space (RFC 9293, 3.4.1).
@@ -51,8 +51,9 @@ pub(crate) fn header_of(version: Version) -> Header
         extra: 1,
         initial: match version {
             Version::One => Initial::Rfc5681,
-            Version::Two | Version::Three => Initial::Rfc6928,
+            Version::Two | Version::Three | Version::Four | Version::FourHalf => Initial::Rfc6928,
         },
+        congestion: Judged::Full,
     }
 }
 

@@ -1,9 +1,17 @@
 //! What usually causes a rule to be broken.
 
+use case_forms::Judged;
 use verdict::Rule;
 
-/// A sentence on what usually causes it.
-pub(crate) fn cause(rule: Rule) -> &'static str {
+/// A sentence on what usually causes it, where so much of congestion control is judged.
+pub(crate) fn cause(rule: Rule, congestion: Judged) -> &'static str {
+    match (rule, congestion) {
+        (Rule::Recovery, Judged::Nothing) => "usually: all was acknowledged before",
+        _ => usual_cause(rule),
+    }
+}
+
+fn usual_cause(rule: Rule) -> &'static str {
     match rule {
         Rule::LineRange
         | Rule::LineAgain

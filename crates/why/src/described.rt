@@ -73,6 +73,11 @@ fn describe_windows(out: &mut Vec<u8>, endpoint: &Endpoint) -> Result<(), OutOfM
             Number(u64::from(congestion.cwnd)),
             Word(", ssthresh "),
             Number(u64::from(congestion.ssthresh)),
+            Word(if endpoint.control.profile.bounds_windows() {
+                ""
+            } else {
+                " (neither is judged)"
+            }),
             Word(", SMSS "),
             Number(u64::from(congestion.smss)),
             Word(", "),

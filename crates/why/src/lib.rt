@@ -5,6 +5,7 @@
 //! rules themselves call. Of each function it is proved that it is safe and returns, and no more.
 //!
 //! - `explain`, `Said`: a case in words; `fault_line`: a fault of a text, as one line
+//! - `refused_by`, `Refused`, `Reason`: what a verdict refuses, as values
 //! - `text`: lines of plain words; `words`: segments, calls and steps in words; `numbers`: numbers on the wire as
 //!   positions;
 //!   `parts`: the two texts of a case, and their lines. The crate `drawing` uses these four
@@ -13,13 +14,15 @@
 //!
 //! - `verdict_in_words`: the verdict's line, and what it rests on
 //! - `marks`: a line at fault, with a mark under its columns
-//! - `scene`: the world before the step that is refused
+//! - `scene`: the world before the step that is refused; `whole`: the case that it is of
+//! - `reasons`: how much is sent beyond the congestion window, and where a segment begins that may not
 //! - `described`: an endpoint in words
 //! - `why_order`, `why_calls`, `why_making`, `why_wire`, `why_taking`, `why_reset`, `why_timers`: what each rule
 //!   compares
 //! - `why_answers`: the answers that a call may have; `why_inbox`: what waits in an inbox; `why_numbers`: numbers read
 //!   as positions
-//! - `causes`: what usually causes a rule to be broken
+//! - `causes`: what usually causes a rule to be broken; `unjudged`: the header's word that leaves it unjudged
+//! - `refusal`: what a verdict refuses, as values
 #![tactic(auto)]
 
 mod causes;
@@ -27,9 +30,13 @@ mod described;
 mod marks;
 pub mod numbers;
 pub mod parts;
+mod reasons;
+mod refusal;
 mod scene;
 pub mod text;
+mod unjudged;
 mod verdict_in_words;
+mod whole;
 mod why_answers;
 mod why_calls;
 mod why_inbox;
@@ -42,5 +49,7 @@ mod why_timers;
 mod why_wire;
 pub mod words;
 
+pub use reasons::Reason;
+pub use refusal::{Refused, refused_by};
 pub use text::fault_line;
 pub use verdict_in_words::{Said, explain};

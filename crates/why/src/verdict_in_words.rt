@@ -5,13 +5,13 @@ use crate::marks::mark;
 use crate::parts::{Parts, cut, line_at};
 use crate::scene::Scene;
 use crate::text::{Piece, fault_line, say};
+use crate::unjudged::say_unjudged;
+use crate::whole::Whole;
 use crate::{why_calls, why_making, why_order, why_reset, why_taking, why_timers, why_wire};
 use case_forms::{Label, OutOfMemory};
 use checker::{CaseFault, check_case};
 use std::alloc::{AllocError, Global};
-use trace_reader::read_trace;
 use verdict::{Rule, Verdict, print_verdict};
-use witness::read_witness_for;
 
 /// What is said of a case: the line that `tcpwit check` prints and its status, and after a no or a fault some lines
 /// more.
@@ -58,7 +58,6 @@ fn explain_verdict(
         } => {
             quote(&mut text, parts, *witness_line, *trace_line)?;
             explain_no(alloc, &mut text, parts, *witness_line, *rule)?;
-            say(&mut text, &[Piece::Word(cause(*rule))])?;
             Ok(Said { text, status: 1 })
         }
     }
@@ -88,7 +87,7 @@ fn quote(
     Ok(())
 }
 
-// What is known at the step, and what the rule compares.
+// What is known at the step, what the rule compares, and what usually causes that.
 fn explain_no(
     alloc: Global,
     out: &mut Vec<u8>,
@@ -96,19 +95,11 @@ fn explain_no(
     witness_line: u64,
     rule: Rule,
 ) -> Result<(), OutOfMemory> {
-    let Ok(trace) = read_trace(alloc, parts.trace) else {
-        return Err(AllocError);
-    };
-    let Ok(witness) = read_witness_for(alloc, trace.header.version, parts.witness) else {
-        return Err(AllocError);
-    };
-    let steps = witness.steps.as_slice();
-    let place = match usize::try_from(witness_line.saturating_sub(2)) {
-        Ok(place) if witness_line >= 2 => place,
-        _ => steps.len(),
-    };
-    let scene = Scene::before(alloc, &trace.header, trace.lines.as_slice(), steps, place)?;
-    explain_rule(alloc, out, &scene, rule)
+    let whole = Whole::read(alloc, parts)?;
+    let scene = whole.scene(alloc, witness_line)?;
+    explain_rule(alloc, out, &scene, rule)?;
+    say(out, &[Piece::Word(cause(rule, scene.header.congestion))])?;
+    say_unjudged(out, &scene, rule)
 }
 
 // What the rule compares.

@@ -1,6 +1,7 @@
 //! The rules of making segments.
 
 use crate::described::describe;
+use crate::reasons::{Reason, end_of, misplaced};
 use crate::scene::Scene;
 use crate::text::{Piece, add, say};
 use crate::why_wire::no_endpoint;
@@ -54,10 +55,6 @@ fn why_at(
             ],
         ),
     }
-}
-
-fn end_of(plan: &SegmentPlan) -> u64 {
-    plan.pos.saturating_add(u64::from(plan.len))
 }
 
 fn offered(out: &mut Vec<u8>, endpoint: &Endpoint, plan: &SegmentPlan) -> Result<(), OutOfMemory> {
@@ -123,8 +120,6 @@ fn congestion(
 }
 
 fn old_data(out: &mut Vec<u8>, endpoint: &Endpoint, plan: &SegmentPlan) -> Result<(), OutOfMemory> {
-    let made = endpoint.snd_max();
-    let snd_una = endpoint.stream.snd_una;
     add(
         out,
         &[
@@ -135,36 +130,34 @@ fn old_data(out: &mut Vec<u8>, endpoint: &Endpoint, plan: &SegmentPlan) -> Resul
             Piece::Word(if plan.flags.fin { " with a FIN" } else { "" }),
         ],
     )?;
-    if plan.pos > made {
-        return say(
+    match misplaced(endpoint, plan) {
+        Reason::Gap { sent, .. } => say(
             out,
             &[
                 Piece::Word(": a gap behind "),
-                Piece::Number(made),
+                Piece::Number(sent),
                 Piece::Word(", up to which segments were made"),
             ],
-        );
-    }
-    if plan.pos < snd_una {
-        return say(
+        ),
+        Reason::Acknowledged { una, .. } => say(
             out,
             &[
                 Piece::Word(": below una "),
-                Piece::Number(snd_una),
+                Piece::Number(una),
                 Piece::Word(", so that is acknowledged; an empty segment may begin one below una"),
             ],
-        );
+        ),
+        Reason::Again { .. } | Reason::Beyond { .. } | Reason::Other => say(
+            out,
+            &[
+                Piece::Word("; segments were made up to "),
+                Piece::Number(endpoint.snd_max()),
+                Piece::Word(", and of that what ends at or below "),
+                Piece::Number(endpoint.recover),
+                Piece::Word(" may be made again: an expiry or fast recovery moves that"),
+            ],
+        ),
     }
-    say(
-        out,
-        &[
-            Piece::Word("; segments were made up to "),
-            Piece::Number(made),
-            Piece::Word(", and of that what ends at or below "),
-            Piece::Number(endpoint.recover),
-            Piece::Word(" may be made again: an expiry or fast recovery moves that"),
-        ],
-    )
 }
 
 fn payload_range(

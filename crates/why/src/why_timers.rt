@@ -211,6 +211,22 @@ fn bad_recovery(
     recovery: Recovery,
     moment: u64,
 ) -> Result<(), OutOfMemory> {
+    let profile = endpoint.control.profile;
+    if !profile.counts_duplicates() {
+        return say(
+            out,
+            &[Piece::Word("in flight: 0; fast recovery begins only if something is in flight")],
+        );
+    }
+    duplicates(out, endpoint)?;
+    if profile.bounds_windows() {
+        chosen(out, endpoint, recovery, moment)
+    } else {
+        Ok(())
+    }
+}
+
+fn duplicates(out: &mut Vec<u8>, endpoint: &Endpoint) -> Result<(), OutOfMemory> {
     let congestion = &endpoint.control.values;
     say(
         out,
@@ -225,7 +241,16 @@ fn bad_recovery(
                 ", not in fast recovery"
             }),
         ],
-    )?;
+    )
+}
+
+// The values that the step chooses, beside the greatest ones.
+fn chosen(
+    out: &mut Vec<u8>,
+    endpoint: &Endpoint,
+    recovery: Recovery,
+    moment: u64,
+) -> Result<(), OutOfMemory> {
     let (most, highest) = greatest_recovery(endpoint, recovery.ssthresh, moment);
     say(
         out,

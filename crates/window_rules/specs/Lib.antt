@@ -6,3 +6,4 @@ pub mod Laws
 pub mod Control
 pub mod Counts
 pub mod ControlLaws
+pub mod Judging

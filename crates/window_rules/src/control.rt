@@ -2,13 +2,15 @@
 //! its profile then allows, and the values after one was chosen.
 
 ghost use Rattle.std.specs.Prelude.{◌≡◌, ◌≤◌, ◌<◌, ◌+◌, ◌^◌};
-ghost use Rattle.window_rules.specs.Control.{after, began, control_edge, first_window, greatest, may_recover};
+ghost use Rattle.std.specs.Prelude.{if◌then◌else◌};
+ghost use Rattle.window_rules.specs.Control.{after, began, bounds_windows, control_edge, counts_duplicates};
+ghost use Rattle.window_rules.specs.Control.{first_window, greatest, greatest_bounded, may_recover};
 ghost use Rattle.window_rules.specs.Counts.{HasCounts, IsFit};
 
 use crate::congestion::Congestion;
 use crate::growth::{counted_after, may_grow, on_duplicate};
 use crate::losses::{on_fast, on_timeout, recovery_window};
-use crate::windows::{congestion_edge, initial_window, initial_window_6928};
+use crate::windows::{GREATEST_WINDOW, congestion_edge, initial_window, initial_window_6928};
 
 /// The rules by which an endpoint's congestion control goes.
 #[derive(Clone, Copy, Debug, PartialEq, Eq)]
@@ -17,6 +19,32 @@ pub enum Profile {
     Rfc5681,
     /// The same, with the first window of RFC 6928.
     Rfc6928,
+    /// No window and no threshold is bounded. Fast recovery begins as in RFC 5681, 3.2.
+    Unbounded,
+    /// No window and no threshold is bounded, and fast recovery may begin at any time.
+    Unjudged,
+}
+
+impl Profile {
+    /// Whether congestion windows and slow start thresholds are bounded.
+    pub fn bounds_windows(self) -> bool
+        ensures { result ≡ bounds_windows self }
+    {
+        match self {
+            Profile::Rfc5681 | Profile::Rfc6928 => true,
+            Profile::Unbounded | Profile::Unjudged => false,
+        }
+    }
+
+    /// Whether fast recovery needs duplicate acknowledgments (RFC 5681, 3.2, step 2).
+    pub fn counts_duplicates(self) -> bool
+        ensures { result ≡ counts_duplicates self }
+    {
+        match self {
+            Profile::Rfc5681 | Profile::Rfc6928 | Profile::Unbounded => true,
+            Profile::Unjudged => false,
+        }
+    }
 }
 
 /// What happened to an endpoint. All counts and sizes are bytes.
@@ -95,6 +123,17 @@ impl Control {
     pub fn greatest(&self, signal: Signal, at: At) -> (u64, u64)
         ensures { result ≡ greatest self.now signal at }
     {
+        if self.profile.bounds_windows() {
+            self.greatest_bounded(signal, at)
+        } else {
+            (GREATEST_WINDOW, GREATEST_WINDOW)
+        }
+    }
+
+    // The same where windows are bounded.
+    fn greatest_bounded(&self, signal: Signal, at: At) -> (u64, u64)
+        ensures { result ≡ greatest_bounded self.now signal at }
+    {
         let same = self.values.ssthresh as u64;
         match signal {
             Signal::Syn { .. } => (self.values.cwnd as u64, same),
@@ -158,20 +197,25 @@ impl Control {
     }
 
     /// The position at which new data ends at most, from position `una` on, which is below 2^63 (RFC 5681, 3.1 and
-    /// 3.2).
+    /// 3.2). It lies beyond every window that a peer offers if no congestion window is bounded.
     pub fn send_edge(&self, una: u64) -> u64
         requires { una < 2 ^ 63 }
         ensures { result ≡ control_edge una self.now }
     {
-        congestion_edge(una, &self.values)
+        let edge = congestion_edge(una, &self.values);
+        if self.profile.bounds_windows() {
+            edge
+        } else {
+            edge + (1 << 40)
+        }
     }
 
-    /// Whether fast recovery may begin: at the third duplicate acknowledgment, and not while it is on (RFC 5681, 3.2,
-    /// step 2).
+    /// Whether fast recovery may begin: from the third duplicate acknowledgment on, and not while it is on (RFC 5681,
+    /// 3.2, step 2); at any time if it needs no duplicates.
     pub fn may_recover(&self) -> bool
         ensures { result ≡ may_recover self.now }
     {
-        3 <= self.values.dup && !self.values.fast
+        !self.profile.counts_duplicates() || (3 <= self.values.dup && !self.values.fast)
     }
 }
 
@@ -182,5 +226,6 @@ fn first_window(profile: Profile, smss: u32, syn_lost: bool) -> u64
     match profile {
         Profile::Rfc5681 => initial_window(smss, syn_lost),
         Profile::Rfc6928 => initial_window_6928(smss),
+        Profile::Unbounded | Profile::Unjudged => GREATEST_WINDOW,
     }
 }

@@ -2,6 +2,7 @@
 //! more: each law is the contract of a call that does nothing.
 
 ghost use Rattle.window_rules.specs.ControlLaws.{ControlCounts, ControlIsGreatest, ControlTakesChoice};
+ghost use Rattle.window_rules.specs.Judging.{LessJudgedIsMoreAllowed, NoProfileIsRead};
 ghost use Rattle.window_rules.specs.Laws.{EdgesAreExact, GrowthIsGreatest, LossesAreGreatest, RecoveryIsGreatest};
 ghost use Rattle.window_rules.specs.Laws.{GrowthIsGentle, CountsOnce, LossHalves};
 
@@ -48,6 +49,16 @@ pub fn control_is_greatest()
 /// The values after a signal are those that were chosen, and no signal changes the profile.
 pub fn control_takes_choice()
     ensures { ControlTakesChoice }
+{}
+
+/// A profile that judges at most what another does allows at least what that one allows.
+pub fn less_judged_is_more_allowed()
+    ensures { LessJudgedIsMoreAllowed }
+{}
+
+/// With the same choices the same values follow, whatever the profile.
+pub fn no_profile_is_read()
+    ensures { NoProfileIsRead }
 {}
 
 /// What is counted is at most what was acknowledged, and at most the number of steps.

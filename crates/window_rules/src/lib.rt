@@ -26,7 +26,8 @@ pub use control::{At, Control, Profile, Signal};
 pub use growth::{counted_after, may_grow, on_duplicate};
 pub use laws::{
     control_counts, control_is_greatest, control_takes_choice, counts_once, edges_are_exact,
-    growth_is_gentle, growth_is_greatest, loss_halves, losses_are_greatest, recovery_is_greatest,
+    growth_is_gentle, growth_is_greatest, less_judged_is_more_allowed, loss_halves,
+    losses_are_greatest, no_profile_is_read, recovery_is_greatest,
 };
 pub use losses::{on_fast, on_timeout, recovery_window};
 pub use windows::{

@@ -1,6 +1,6 @@
 //! How far new data may reach, and the first congestion window. Positions and windows count bytes.
 
-ghost use Rattle.std.specs.Prelude.{◌≡◌, ◌≤◌, ◌<◌, ◌^◌};
+ghost use Rattle.std.specs.Prelude.{◌≡◌, ◌+◌, ◌≤◌, ◌<◌, ◌^◌};
 ghost use Rattle.window_rules.specs.Windows.{greatest_window, capped, offered_edge, limited_transmit, congestion_edge};
 ghost use Rattle.window_rules.specs.Windows.{initial_window, initial_window_6928, scaled_window};
 
@@ -24,7 +24,8 @@ pub fn offered_edge(una: u64, wnd: u32, probe: bool) -> u64
 /// 3.2).
 pub fn congestion_edge(una: u64, congestion: &Congestion) -> u64
     requires { una < 2 ^ 63 }
-    ensures { result ≡ congestion_edge una congestion.now }
+    ensures value { result ≡ congestion_edge una congestion.now }
+    ensures small { result < una + 2 ^ 35 }
 {
     una + congestion.cwnd as u64 + limited_transmit(congestion)
 }

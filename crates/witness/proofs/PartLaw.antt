@@ -192,6 +192,8 @@ reads_shift versions.One iss =
     (λ b ws s. no_shift iss s.0 b ws s.1 s.2 s.3)
 reads_shift versions.Two iss = reads_scaled versions.Two iss refl
 reads_shift versions.Three iss = reads_scaled versions.Three iss refl
+reads_shift versions.Four iss = reads_scaled versions.Four iss refl
+reads_shift versions.FourHalf iss = reads_scaled versions.FourHalf iss refl
 
 abbrev make_start : ℕ × Option ℕ → Start
 make_start y = with_shift (word y.0) y.1

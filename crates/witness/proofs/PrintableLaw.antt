@@ -175,6 +175,8 @@ first_short : (v : Version) → length (first_text v) ≤ 140000
 first_short versions.One = omega arith
 first_short versions.Two = omega arith
 first_short versions.Three = omega arith
+first_short versions.Four = omega arith
+first_short versions.FourHalf = omega arith
 
 pub is_printed : (w : Witness) → IsPrintableWitness w → IsWitnessText (with_columns w) (witness_text w)
 is_printed w p = record {

@@ -10,6 +10,7 @@ use Rattle.case_forms.specs.declared.steps.Step.{Step}
 use Rattle.case_forms.specs.declared.steps.Witness.{Witness}
 use Rattle.case_forms.specs.declared.version.Version.{Version}
 use Rattle.case_forms.specs.declared.version.Version.TheVariants as versions
+use Rattle.case_forms.specs.Versions.{named_as}
 use Rattle.line_fields.specs.declared.fault.TextFault.{TextFault}
 use Rattle.line_fields.specs.Reading.{◌>>=◌, Gives}
 use Rattle.line_fields.specs.Lines.{NoReturn, Ends, IsRaw, IsLine, is_ended, expect_line, next_raw}
@@ -23,8 +24,9 @@ use Rattle.line_fields.proofs.Texts.{lines_of-concat}
 use Rattle.line_fields.proofs.Loop.{spelled_takes, spelled_again, spelled_raws}
 use Rattle.witness.specs.FirstLine.{first_text}
 use Rattle.witness.specs.Steps.{IsStepText, step_of}
-use Rattle.witness.specs.WitnessText.{number_after, IsWitnessText, witness_in, witness_for, version_named, witness_of}
+use Rattle.witness.specs.WitnessText.{number_after, IsWitnessText, seen_alone, witness_in, witness_for, version_named, witness_of}
 use Rattle.witness.proofs.StepLaw.{reads_step, is_step_raw}
+use Rattle.witness.proofs.AloneLaw.{text_alone}
 
 -- ---- what is read is spelled so
 
@@ -70,16 +72,22 @@ abbrev first_words : Version → List (List ℕ)
 first_words versions.One = codes "witness" ∷ codes "1" ∷ []
 first_words versions.Two = codes "witness" ∷ codes "2" ∷ []
 first_words versions.Three = codes "witness" ∷ codes "3" ∷ []
+first_words versions.Four = codes "witness" ∷ codes "4" ∷ []
+first_words versions.FourHalf = codes "witness" ∷ codes "4" ∷ []
 
 words_joined : (v : Version) → joined (first_words v) ≡ first_text v
 words_joined versions.One = refl
 words_joined versions.Two = refl
 words_joined versions.Three = refl
+words_joined versions.Four = refl
+words_joined versions.FourHalf = refl
 
 words_clean : (v : Version) → AllByRecursion IsClean (first_words v)
 words_clean versions.One = (clean_by (codes "witness") refl, (clean_by (codes "1") refl, tt))
 words_clean versions.Two = (clean_by (codes "witness") refl, (clean_by (codes "2") refl, tt))
 words_clean versions.Three = (clean_by (codes "witness") refl, (clean_by (codes "3") refl, tt))
+words_clean versions.Four = (clean_by (codes "witness") refl, (clean_by (codes "4") refl, tt))
+words_clean versions.FourHalf = (clean_by (codes "witness") refl, (clean_by (codes "4") refl, tt))
 
 pub first_ends : (v : Version) → NoReturn (first_text v)
 first_ends v = subst NoReturn (words_joined v) (joined_no_return (first_words v) (words_clean v))
@@ -101,21 +109,24 @@ text_again w text t =
     ap (witness_in w.version) (text_lines w text t) ∙ rw (begun, steps) refl
 
 -- the version that a first line names
-named_text : (v : Version) (raw : List ℕ) (raws : List (List ℕ)) → without_terminator raw ≡ first_text v → is_ended raw ≡ true → version_named (raw ∷ raws) ≡ v
+named_text : (v : Version) (raw : List ℕ) (raws : List (List ℕ))
+    → without_terminator raw ≡ first_text v → is_ended raw ≡ true → version_named (raw ∷ raws) ≡ named_as v
 named_text versions.One raw raws text ended = rw (text, ended) refl
 named_text versions.Two raw raws text ended = rw (text, ended) refl
 named_text versions.Three raw raws text ended = rw (text, ended) refl
+named_text versions.Four raw raws text ended = rw (text, ended) refl
+named_text versions.FourHalf raw raws text ended = rw (text, ended) refl
 
-named_by : (v : Version) (raw : List ℕ) (raws : List (List ℕ)) → IsLine 1 (first_text v) raw → version_named (raw ∷ raws) ≡ v
+named_by : (v : Version) (raw : List ℕ) (raws : List (List ℕ)) → IsLine 1 (first_text v) raw → version_named (raw ∷ raws) ≡ named_as v
 named_by v raw raws line =
     let own = ending_again raw (first_text v) (first_ends v) line.ends in
     named_text v raw raws own.0 own.1
 
--- it is read whichever version it is of
-pub some_again : (w : Witness) (text : List ℕ) → IsWitnessText w text → witness_of text ≡ Ok w
+-- it is read whichever version it is of; one of a half case of version 4 as one of two hosts
+pub some_again : (w : Witness) (text : List ℕ) → IsWitnessText w text → witness_of text ≡ Ok (seen_alone w)
 some_again w text t =
     let version = ap version_named (text_lines w text t) ∙ named_by w.version t.first t.raws t.begins in
-    ap (λ (v : Version). witness_for v text) version ∙ text_again w text t
+    ap (λ (v : Version). witness_for v text) version ∙ text_again (seen_alone w) text (text_alone w text t)
 
 -- ---- the first line alone
 

@@ -15,6 +15,7 @@ pub(crate) fn first_text(version: Version) -> &'static str
         Version::One => "witness 1",
         Version::Two => "witness 2",
         Version::Three => "witness 3",
+        Version::Four | Version::FourHalf => "witness 4",
     }
 }
 

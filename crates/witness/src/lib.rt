@@ -12,12 +12,12 @@
 //! - `print_witness`: the text of a witness, which is read again as the same witness; `push_witness`: the same, at the
 //!   end of a `Vec`
 //!
-//! A text is bytes. Its first line is `witness 1`, `witness 2` or `witness 3`, by its version, and each further line is
-//! a step: a moment in microseconds and a label, one of `L`, `D`, `M`, `T`, `K`, `R` and `F` with its fields. What a
-//! text stands for is stated in specs/WitnessText.antt (`IsWitnessText`), which is the file to read first; how a label
-//! is spelled in specs/Labels.antt; which fault comes first, and where, by `witness_of` in the first. Whether moments
-//! rise and lines are named once is not checked here: that is `interval_order`'s. Lines, fields and answers are
-//! `line_fields`'.
+//! A text is bytes. Its first line is `witness 1`, `witness 2`, `witness 3` or `witness 4`, by its version, and each
+//! further line is a step: a moment in microseconds and a label, one of `L`, `D`, `M`, `T`, `K`, `R` and `F` with its
+//! fields. What a text stands for is stated in specs/WitnessText.antt (`IsWitnessText`), which is the file to read
+//! first; how a label is spelled in specs/Labels.antt; which fault comes first, and where, by `witness_of` in the
+//! first. Whether moments rise and lines are named once is not checked here: that is `interval_order`'s. Lines, fields
+//! and answers are `line_fields`'.
 //!
 //! Private modules:
 //!

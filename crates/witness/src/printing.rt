@@ -8,7 +8,7 @@ ghost use Rattle.line_fields.specs.Spelling.{IsBytePiece, number, printed_behind
 ghost use Rattle.witness.specs.Labels.{AreExtras, bit_number, extras_pieces, iss_pieces, shift_pieces, segment_pieces};
 ghost use Rattle.witness.specs.Labels.{endpoint_pieces, entry_pieces, label_pieces};
 ghost use Rattle.witness.specs.Steps.{step_pieces};
-ghost use Rattle.witness.specs.WitnessText.{IsWitnessText, witness_of};
+ghost use Rattle.witness.specs.WitnessText.{IsWitnessText, seen_alone, witness_for, witness_of};
 ghost use Rattle.witness.specs.Printable.{HasLabelBits, IsInMemory, IsPrintableWitness, with_columns};
 ghost use Rattle.witness.specs.Printed.{witness_text, without_spans};
 
@@ -179,7 +179,11 @@ pub fn print_law()
 /// A witness is printed as a text that stands for it, with the spans of that text, exactly if it is within the limits.
 pub fn printable_law()
     ensures printed { (w : Witness) → IsPrintableWitness w → IsWitnessText (with_columns w) (witness_text w) }
-    ensures read { (w : Witness) → IsPrintableWitness w → witness_of (witness_text w) ≡ Ok (with_columns w) }
+    // It is read again in its version, and alone as one of the version that its first line names.
+    ensures read { (w : Witness) → IsPrintableWitness w
+        → witness_for w.version (witness_text w) ≡ Ok (with_columns w) }
+    ensures alone { (w : Witness) → IsPrintableWitness w
+        → witness_of (witness_text w) ≡ Ok (seen_alone (with_columns w)) }
     ensures only { (w : Witness) (text : List ℕ) → IsWitnessText (with_columns w) text → IsPrintableWitness w }
 {}
 

@@ -6,7 +6,7 @@ ghost use Rattle.case_forms.specs.declared.steps.Witness.{Witness};
 ghost use Rattle.case_forms.specs.Witnesses.{IsWitness};
 ghost use Rattle.line_fields.specs.Reading.{Gives};
 ghost use Rattle.witness.specs.Steps.{step_of};
-ghost use Rattle.witness.specs.WitnessText.{IsWitnessText, witness_for, version_named, witness_of};
+ghost use Rattle.witness.specs.WitnessText.{IsWitnessText, seen_alone, witness_for, version_named, witness_of};
 
 use crate::first_line::begins_witness;
 use crate::labels::label;
@@ -58,24 +58,27 @@ fn read(alloc: Global, version: Version, text: &[u8]) -> Result<Witness, TextFau
     Ok(Witness { version, steps })
 }
 
-// The version that the first line of a text names, or the first where it names none.
+// The version that the first line of a text names, of version 4 the one with two hosts; or the first if it names none.
 fn version_named(text: &[u8]) -> Version
     ensures { result ≡ version_named (lines_of text.now) }
 {
     match text.lines_with_terminator().next() {
         Some(raw) if begins_witness(Version::Two, raw) => Version::Two,
         Some(raw) if begins_witness(Version::Three, raw) => Version::Three,
+        Some(raw) if begins_witness(Version::Four, raw) => Version::Four,
         _ => Version::One,
     }
 }
 
 /// The witness that a text stands for, whichever version it is of, or the text's first fault. A first line that names
 /// no version is Header. No fault says that moments fall.
+///
+/// A text of version 4 is read in the forms of two hosts: only its trace says whether host 0 alone was recorded.
 pub fn read_witness(alloc: Global, text: &[u8]) -> Result<Witness, TextFault>
     // What is read is spelled so.
     ensures found { IfOk result (λ w. IsWitnessText w text.now) }
-    // What is spelled so is read, unless memory runs out.
-    ensures only { (w : Witness) → IsWitnessText w text.now → Gives (λ w. w) result (Ok w) }
+    // What is spelled so is read, unless memory runs out; of version 4 in the forms of two hosts.
+    ensures only { (w : Witness) → IsWitnessText w text.now → Gives (λ w. w) result (Ok (seen_alone w)) }
     // It keeps the limits on the count of its steps, on the positions that they name and on the shifts that they tell.
     ensures limits { IfOk result IsWitness }
     // Which fault it is.

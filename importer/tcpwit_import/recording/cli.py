@@ -10,13 +10,13 @@ from typing import NamedTuple
 
 from .. import cli as importing
 from .. import header as headers
+from .. import judging
 from ..problem import Notes, Problem
-from . import judging
 from .carrier import Carrier
 from .namespaces import ADDRESSES, Namespace, joined_pair
 from .running import Capture, Traced
 
-DESCRIPTION = f"""Records a program's TCP, makes a trace of it, looks for a witness, and checks it.
+DESCRIPTION = f"""Records a program's TCP, makes a trace of it, and judges it.
 
   tcpwit-record -- curl -o page http://example.org/     this host alone: a half case
   tcpwit-record --serve -- nginx -g 'daemon off;'       the same of a server, until it is interrupted
@@ -26,7 +26,10 @@ DESCRIPTION = f"""Records a program's TCP, makes a trace of it, looks for a witn
   tcpwit-record --transfer 20000 --lose 3               a pair with a client and a server of its own
 
 Capturing and network namespaces need root; the programs run as the user who called sudo. Nothing outside the namespaces is changed.
-The verdict of tcpwit check is printed; what the programs print goes to standard error. Captures, logs, trace, case and picture stay in the folder --out."""
+tcpwit-record prints the lines of tcpwit_lab judge: how much of congestion control may be judged for a yes. What the programs print
+goes to standard error. Captures, logs, trace, case and picture stay in the folder --out.
+
+The status is 0 for a yes at the word of --congestion (else full) or a stricter one, 1 if no such word has a yes, 2 for an error."""
 
 
 class Chances(NamedTuple):
@@ -73,11 +76,12 @@ def parser():
     words.add_argument("--interface", default="any", metavar="IF", help="where a half case is captured (default: any)")
     words.add_argument("--out", metavar="DIR", help="the folder of all files (default: a new one, tcpwit-TIME)")
     words.add_argument("--no-check", action="store_true", help="record and import only")
-    words.add_argument("--tcpwit", metavar="PATH", help="the program tcpwit")
-    words.add_argument("--lab", metavar="PATH", help="the program tcpwit_lab")
+    words.add_argument("--lab", metavar="PATH", help="the program tcpwit_lab, which judges")
     words.add_argument("--kernel", choices=("plain", "shipped"), default=headers.KERNEL,
                        help=f"a pair's kernel settings: without what other RFCs add (plain), or as they are (default: {headers.KERNEL})")
-    words.add_argument("--version", type=int, choices=sorted(headers.LINES), help="of the texts (default: 2 for two hosts, 3 for one)")
+    words.add_argument("--congestion", choices=headers.WORDS["congestion"], help=headers.HELP["congestion"])
+    words.add_argument("--version", type=int, choices=sorted(headers.LINES),
+                       help="of the texts (default: 2 for two hosts, 3 for one; 4 with --congestion)")
     words.add_argument("--as", dest="user", metavar="USER", help="whose the programs are (default: who called sudo)")
     words.add_argument("--wait", type=within(0.1, 600), default=10, metavar="N", help="seconds until the server has to listen")
     words.add_argument("--linger", type=within(0, 600), default=1, metavar="N", help="seconds that a server lasts after the client")
@@ -101,8 +105,11 @@ def check_words(words, options):
         words.error("give --transfer, or a program after --")
     if options.serve and (options.pair or options.transfer or options.namespace):
         words.error("--serve is for a program whose peer is elsewhere")
-    if options.pair is not None and not shlex.split(options.pair):
-        words.error("--pair names no server")
+    try:
+        if options.pair is not None and not shlex.split(options.pair):
+            words.error("--pair names no server")
+    except ValueError:
+        words.error(f"--pair {options.pair!r} has a quotation mark without its second")
 
 
 class Recording:
@@ -176,7 +183,7 @@ class Recording:
         options = self.options
         namespace = None
         if options.namespace:
-                namespace = Namespace()
+            namespace = Namespace()
         self.capture("lo" if options.namespace else options.interface, "run.pcap", namespace)
         program = self.program(options.program, "run.log", namespace)
         if options.serve:
@@ -201,35 +208,51 @@ def pair_words(options):
     return talk + ["receive", "80", *echo], talk + ["send", ADDRESSES[1], "80", str(options.transfer), str(options.chunk)]
 
 
+def header_words(options):
+    """The importer's words for the header, refused before anything is recorded if they don't fit the recorded hosts."""
+    hosts = 2 if options.pair or options.transfer or options.namespace else 1
+    headers.header(hosts, 0, {"congestion": options.congestion} if options.congestion else {}, options.version)
+    return [word for name in ("version", "congestion") if (value := getattr(options, name)) for word in ("--" + name, str(value))]
+
+
+def recorded(options, recording):
+    """Records; the importer's words for the files."""
+    try:
+        return recording.pair() if options.pair or options.transfer else recording.alone()
+    except BaseException:
+        recording.abandon()
+        raise
+
+
+def written(recording, traces):
+    """Writes the traces, each to a folder of its own if there are several; their files."""
+    files = {}
+    for name, lines in traces.items():
+        folder = recording.folder if len(traces) == 1 else recording.file(importing.file_name(name))
+        os.makedirs(folder, exist_ok=True)
+        files[name] = os.path.join(folder, "run.trace")
+        with open(files[name], "w", encoding="ascii") as file:
+            file.writelines(lines)
+    return files
+
+
 def record(options):
     """Records, imports and judges; the exit status."""
     if os.geteuid() != 0:
         raise Problem("captures and network namespaces need root", "sudo tcpwit-record ..: the program itself runs as you")
-    programs = None if options.no_check else judging.both_programs(options)
+    words = header_words(options)
+    program = None if options.no_check else judging.lab(options.lab)
     recording = Recording(options)
-    try:
-        files = recording.pair() if options.pair or options.transfer else recording.alone()
-    except BaseException:
-        recording.abandon()
-        raise
-    chosen = importing.parser().parse_args(files + (["--version", str(options.version)] if options.version else []))
     notes = Notes()
-    traces = importing.run(chosen, notes)
+    traces = importing.run(importing.parser().parse_args(recorded(options, recording) + words), notes)
     for line in notes.lines():
         print(f"tcpwit-record: {line}", file=sys.stderr)
-    worst = 0
-    for name, lines in traces.items():
-        folder = recording.folder if len(traces) == 1 else recording.file(importing.file_name(name))
-        os.makedirs(folder, exist_ok=True)
-        trace = os.path.join(folder, "run.trace")
-        with open(trace, "w", encoding="ascii") as file:
-            file.writelines(lines)
-        if programs:
-            verdict, status = judging.judge(*programs, trace, folder)
-            print(verdict if len(traces) == 1 else f"{name}: {verdict}")
-            worst = max(worst, status)
+    files = written(recording, traces)
+    status = judging.judge_all(program, files, options.congestion) if program else 0
+    for trace in files.values() if program else ():
+        judging.draw(program, trace)
     print(f"tcpwit-record: all files are in {recording.folder}", file=sys.stderr)
-    return worst
+    return status
 
 
 def main(given=None):
@@ -243,9 +266,9 @@ def main(given=None):
         return record(options)
     except Problem as problem:
         print(f"tcpwit-record: {problem}", file=sys.stderr)
-        return 1
+        return 2
     except (OSError, subprocess.SubprocessError) as error:
         print(f"tcpwit-record: {error}\n  see whether the folder can be written and the programs can be run", file=sys.stderr)
-        return 1
+        return 2
     except KeyboardInterrupt:
         return 130

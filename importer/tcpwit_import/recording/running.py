@@ -1,4 +1,5 @@
 """Runs programs under strace and tcpdump, and ends both in the right order: the programs, then the captures."""
+import contextlib
 import os
 import re
 import signal
@@ -66,6 +67,9 @@ class Traced:
 
     def __init__(self, words, log, namespace=None, user=None, output=None):
         self.words, self.log = words, log
+        # The log of an earlier recording in this folder says nothing about this program.
+        with contextlib.suppress(FileNotFoundError):
+            os.remove(log)
         as_user = ["-u", user] if user else []
         self.process = started([*STRACE, *as_user, "-o", log, "--", *words], "strace", stdout=output,
                                stdin=subprocess.DEVNULL if namespace else None, preexec_fn=namespace.enter if namespace else None)

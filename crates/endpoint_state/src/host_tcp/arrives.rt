@@ -199,7 +199,7 @@ impl HostTcp {
         match self.admitted_taking(header, host, how, m, moment)? {
             Found::Listener(place) => self.create_child(
                 alloc,
-                profile_of(header.initial),
+                profile_of(header),
                 place,
                 how,
                 m,

@@ -1,5 +1,5 @@
 -- A segment arrives in SYN-SENT: what may be taken, and the endpoint once the peer is met (RFC 9293, 3.10.7.3).
-use Rattle.std.specs.Prelude.{ℕ, ◌==◌, nat_lt, max, Bool, false, not, ◌&&◌, ◌||◌, if◌then◌else◌, List, [], ◌∷◌, Option}
+use Rattle.std.specs.Prelude.{ℕ, ◌==◌, nat_lt, max, Bool, false, not, ◌&&◌, ◌||◌, if◌then◌else◌, List, [], ◌∷◌}
 use Rattle.std.specs.Prelude.{Some}
 use Rattle.std.specs.Option.{option_map_or}
 use Rattle.seqno.specs.Numbers.{number_of}

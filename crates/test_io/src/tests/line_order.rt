@@ -2,7 +2,7 @@
 
 ghost use Rattle.std.specs.Prelude.{◌≡◌, []};
 
-use case_forms::{Call, Event, Header, Initial, Line, OutOfMemory, Span, Version};
+use case_forms::{Call, Event, Header, Initial, Judged, Line, OutOfMemory, Span, Version};
 use interval_order::Window;
 
 const HEADER: Header = Header {
@@ -13,6 +13,7 @@ const HEADER: Header = Header {
     minrto: 0,
     extra: 0,
     initial: Initial::Rfc5681,
+    congestion: Judged::Full,
 };
 
 fn line(number: u64, moment: u64, thread: u32) -> Line

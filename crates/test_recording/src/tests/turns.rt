@@ -11,7 +11,7 @@ use crate::tests::kinds::{Kinds, expiries, opens_with, recovers};
 use crate::tests::pair::{FIRST_ISS, Pair, Side};
 use crate::tests::verdicts::answer;
 use crate::tests::wires::{all_twice, comes_in_after};
-use case_forms::{Answer, Call, Header, Host, Initial, Timer, Version};
+use case_forms::{Answer, Call, Header, Host, Initial, Judged, Timer, Version};
 use recorder::{HostBook, MergeFault, Recorded, Site, merge};
 use std::alloc::Global;
 use std::marker::Brand;
@@ -56,6 +56,7 @@ pub fn header() -> Header
         minrto: 200_000,
         extra: 1,
         initial: Initial::Rfc5681,
+        congestion: Judged::Full,
     }
 }
 

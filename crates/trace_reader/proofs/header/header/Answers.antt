@@ -1,7 +1,7 @@
 use Rattle.std.proofs.Common.{refl}
 use Rattle.std.proofs.lemmas.Result.{err_from_is_err_and}
 use Rattle.trace_reader.specs.Headers.{first_line, late_lines}
-use Rattle.trace_reader.proofs.HeaderLaw.{skew_line, msl_line, grain_line, minrto_line, extra_line, with_first, with_skew, with_msl, with_grain, with_minrto, with_extra, with_initial}
+use Rattle.trace_reader.proofs.HeaderLaw.{skew_line, msl_line, grain_line, minrto_line, extra_line, with_first, with_skew, with_msl, with_grain, with_minrto, with_extra, with_late}
 use Rattle.trace_reader.proofs.HeaderReads.{is_header, value_then, value_not, value_last}
 use Rattle.trace_reader.proofs.header.header.Goals as goal
 
@@ -62,9 +62,9 @@ returns-in_err-extra-clause-header g c =
     (value_then minrto_line (with_minrto c.in_ok-version.version c.in_ok-skew.skew c.in_ok-msl.msl c.in_ok-grain.grain) _ _ _ c.in_ok-minrto.minrto _ c.in_ok-minrto.ensures.value
     (value_not extra_line (with_extra c.in_ok-version.version c.in_ok-skew.skew c.in_ok-msl.msl c.in_ok-grain.grain c.in_ok-minrto.minrto) _ _ c.in_err-extra.field-0.0 c.in_err-extra.ensures.value)))))))
 
-pub returns-in_err-initial-clause-header : goal.returns-in_err-initial-clause-header
-returns-in_err-initial-clause-header g c =
-    let p = err_from_is_err_and c.from_residual-in_err-initial.result c.from_residual-in_err-initial.ensures.1 in
+pub returns-in_err-late-clause-header : goal.returns-in_err-late-clause-header
+returns-in_err-late-clause-header g c =
+    let p = err_from_is_err_and c.from_residual-in_err-late.result c.from_residual-in_err-late.ensures.1 in
     rw (p.1, p.2)
     (is_header _ _ _
     (value_then first_line with_first _ _ _ c.in_ok-version.version _ c.in_ok-version.ensures.line
@@ -73,7 +73,7 @@ returns-in_err-initial-clause-header g c =
     (value_then grain_line (with_grain c.in_ok-version.version c.in_ok-skew.skew c.in_ok-msl.msl) _ _ _ c.in_ok-grain.grain _ c.in_ok-grain.ensures.value
     (value_then minrto_line (with_minrto c.in_ok-version.version c.in_ok-skew.skew c.in_ok-msl.msl c.in_ok-grain.grain) _ _ _ c.in_ok-minrto.minrto _ c.in_ok-minrto.ensures.value
     (value_then extra_line (with_extra c.in_ok-version.version c.in_ok-skew.skew c.in_ok-msl.msl c.in_ok-grain.grain c.in_ok-minrto.minrto) _ _ _ c.in_ok-extra.field-0 _ c.in_ok-extra.ensures.value
-    (value_not (late_lines c.in_ok-version.version) (with_initial c.in_ok-version.version c.in_ok-skew.skew c.in_ok-msl.msl c.in_ok-grain.grain c.in_ok-minrto.minrto c.in_ok-extra.field-0) _ _ c.in_err-initial.field-0.0 c.in_err-initial.ensures.value))))))))
+    (value_not (late_lines c.in_ok-version.version) (with_late c.in_ok-skew.skew c.in_ok-msl.msl c.in_ok-grain.grain c.in_ok-minrto.minrto c.in_ok-extra.field-0) _ _ c.in_err-late.field-0.0 c.in_err-late.ensures.value))))))))
 
 pub returns-clause-header : goal.returns-clause-header
 returns-clause-header g c =
@@ -84,4 +84,4 @@ returns-clause-header g c =
     (value_then grain_line (with_grain c.in_ok-version.version c.in_ok-skew.skew c.in_ok-msl.msl) _ _ _ c.in_ok-grain.grain _ c.in_ok-grain.ensures.value
     (value_then minrto_line (with_minrto c.in_ok-version.version c.in_ok-skew.skew c.in_ok-msl.msl c.in_ok-grain.grain) _ _ _ c.in_ok-minrto.minrto _ c.in_ok-minrto.ensures.value
     (value_then extra_line (with_extra c.in_ok-version.version c.in_ok-skew.skew c.in_ok-msl.msl c.in_ok-grain.grain c.in_ok-minrto.minrto) _ _ _ c.in_ok-extra.field-0 _ c.in_ok-extra.ensures.value
-    (value_last (late_lines c.in_ok-version.version) (with_initial c.in_ok-version.version c.in_ok-skew.skew c.in_ok-msl.msl c.in_ok-grain.grain c.in_ok-minrto.minrto c.in_ok-extra.field-0) _ _ c.in_ok-initial.initial _ (λ rest. refl) c.in_ok-initial.ensures.value)))))))
+    (value_last (late_lines c.in_ok-version.version) (with_late c.in_ok-skew.skew c.in_ok-msl.msl c.in_ok-grain.grain c.in_ok-minrto.minrto c.in_ok-extra.field-0) _ _ c.in_ok-late.late _ (λ rest. refl) c.in_ok-late.ensures.value)))))))

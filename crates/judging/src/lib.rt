@@ -1,0 +1,31 @@
+//! How much of a recorded run keeps the RFCs.
+//!
+//! Few stacks keep RFC 5681 to the letter. So a trace is rewritten in version 4 of the texts, once for each word that a
+//! header has for congestion control, from `full` on, until `checker` accepts the witness that `witness_search` finds.
+//! The answer is the strictest word with a yes, and the first thing that `full` refused, which `why` reads from the
+//! case. The time is linear in the size of the trace. Of each function it is proved that it is safe and returns, and no
+//! more.
+//!
+//! - `judge`, `Judgement`: the answer for a trace, the word with a yes, and the case of the last word
+//! - `options_of`, `Options`: the command line's words
+//!
+//! Private modules:
+//!
+//! - `asking`: the words of the header, one after the other
+//! - `rewriting`: a trace in version 4
+//! - `trying`: one word: the case that is found, and its verdict
+//! - `sentences`: what a yes says, and what a no refuses; `phrases`: a few words for each rule
+//! - `grouped`: numbers with commas
+//! - `words`: the command line's words
+#![tactic(auto)]
+
+mod asking;
+mod grouped;
+mod phrases;
+mod rewriting;
+mod sentences;
+mod trying;
+mod words;
+
+pub use asking::{Judgement, judge};
+pub use words::{Options, options_of};

@@ -1,0 +1,50 @@
+//! A trace in version 4.
+
+use bstr::ByteSlice;
+use case_forms::{Header, Judged, Lines, OutOfMemory, Trace, Version};
+use std::alloc::Global;
+use trace_reader::print_trace;
+
+/// The text of a trace in version 4, with this word for congestion control: another header, and the same event lines.
+pub(crate) fn rewritten(
+    alloc: Global,
+    text: &[u8],
+    header: &Header,
+    word: Judged,
+) -> Result<Vec<u8>, OutOfMemory> {
+    let trace = Trace {
+        header: judged_by(header, word),
+        lines: Lines::new(alloc),
+    };
+    let mut rewritten = print_trace(alloc, &trace)?;
+    rewritten.extend_from_slice(events_of(text, header.first_event_line()))?;
+    Ok(rewritten)
+}
+
+// The header in version 4. What an older version doesn't say is read as it is judged: RFC 5681 gives the first window.
+fn judged_by(header: &Header, word: Judged) -> Header {
+    let version = if header.version.is_half() {
+        Version::FourHalf
+    } else {
+        Version::Four
+    };
+    Header {
+        version,
+        congestion: word,
+        ..*header
+    }
+}
+
+// The text from the line of this number on.
+fn events_of(text: &[u8], first: u64) -> &[u8] {
+    let mut at: usize = 0;
+    let mut number: u64 = 1;
+    for raw in text.lines_with_terminator() {
+        if first <= number {
+            break;
+        }
+        at = at.saturating_add(raw.len());
+        number = number.saturating_add(1);
+    }
+    text.get(at..).unwrap_or(&[])
+}

@@ -1,0 +1,137 @@
+//! What a yes says, and what a no refuses, in a sentence.
+
+use crate::grouped::push_grouped;
+use crate::phrases::phrase;
+use case_forms::{Header, Judged, OutOfMemory};
+use line_fields::{push_end, push_word};
+use why::text::{Piece, add};
+use why::{Reason, Refused};
+
+/// Writes a word of the header, and spaces up to column 10.
+pub(crate) fn push_padded(out: &mut Vec<u8>, word: Judged) -> Result<(), OutOfMemory> {
+    push_word(
+        out,
+        match word {
+            Judged::Full => "full      ",
+            Judged::Recovery => "recovery  ",
+            Judged::Nothing => "none      ",
+        },
+    )
+}
+
+/// Writes what a yes under a word says.
+pub(crate) fn push_yes(out: &mut Vec<u8>, word: Judged) -> Result<(), OutOfMemory> {
+    push_word(
+        out,
+        match word {
+            Judged::Full => {
+                "The run keeps RFC 9293, RFC 6298 and RFC 5681 as this profile reads them.\n"
+            }
+            Judged::Recovery =>
+                "The run keeps RFC 9293 and RFC 6298 as this profile reads them, and data are sent again only \
+after a timeout or three duplicate acknowledgments (RFC 5681, 3.2). Not judged: the congestion window.\n",
+            Judged::Nothing =>
+                "The run keeps RFC 9293 as this profile reads it. Not judged: the congestion window, and when data \
+are sent again.\n",
+        },
+    )
+}
+
+/// Writes that no word has a yes.
+pub(crate) fn push_none(out: &mut Vec<u8>) -> Result<(), OutOfMemory> {
+    push_word(
+        out,
+        "No witness was found, even with congestion control left unjudged.\n",
+    )
+}
+
+/// Writes what a half case doesn't say; nothing for another case.
+pub(crate) fn push_half(out: &mut Vec<u8>, header: &Header) -> Result<(), OutOfMemory> {
+    if header.version.is_half() {
+        push_word(
+            out,
+            "Only host 0 was recorded; the other host isn't judged.\n",
+        )
+    } else {
+        Ok(())
+    }
+}
+
+/// Writes what a word refused, as a line.
+pub(crate) fn push_under(
+    out: &mut Vec<u8>,
+    word: Judged,
+    refused: &[u8],
+) -> Result<(), OutOfMemory> {
+    push_word(
+        out,
+        match word {
+            Judged::Full => "Under full: ",
+            Judged::Recovery => "Under recovery: ",
+            Judged::Nothing => "Under none: ",
+        },
+    )?;
+    out.extend_from_slice(refused)?;
+    push_end(out)
+}
+
+/// Writes what was refused, as the end of a sentence.
+pub(crate) fn push_refused(out: &mut Vec<u8>, refused: &Refused) -> Result<(), OutOfMemory> {
+    use Piece::{Number, Word};
+    add(out, &[Word("line "), Number(refused.line)])?;
+    match refused.reason {
+        Reason::Beyond { bytes, cwnd } => push_beyond(out, bytes, cwnd),
+        Reason::Gap { pos, sent } => add(
+            out,
+            &[
+                Word(" begins at position "),
+                Number(pos),
+                Word(", but only positions below "),
+                Number(sent),
+                Word(" were sent before (old-data)."),
+            ],
+        ),
+        Reason::Acknowledged { pos, una } => add(
+            out,
+            &[
+                Word(" begins at position "),
+                Number(pos),
+                Word(", and everything below "),
+                Number(una),
+                Word(" is acknowledged already (old-data)."),
+            ],
+        ),
+        Reason::Again { syn } => push_again(out, syn),
+        Reason::Other => add(
+            out,
+            &[
+                Word(": "),
+                Word(phrase(refused.rule)),
+                Word(" ("),
+                Word(refused.rule.name()),
+                Word(")."),
+            ],
+        ),
+    }
+}
+
+fn push_beyond(out: &mut Vec<u8>, bytes: u64, cwnd: u64) -> Result<(), OutOfMemory> {
+    push_word(out, " sends ")?;
+    push_grouped(out, bytes)?;
+    push_word(out, if bytes == 1 { " byte" } else { " bytes" })?;
+    push_word(out, " beyond the congestion window of ")?;
+    push_grouped(out, cwnd)?;
+    push_word(out, " (RFC 5681, 3.1).")
+}
+
+// Fast recovery begins after the handshake, so a SYN is sent again after a timeout alone.
+fn push_again(out: &mut Vec<u8>, syn: bool) -> Result<(), OutOfMemory> {
+    push_word(
+        out,
+        if syn {
+            " sends a SYN again before its timeout (RFC 6298, 5)."
+        } else {
+            " sends old data again without a timeout or three duplicate acknowledgments (RFC 6298, 5; RFC 5681, 3.2)."
+        },
+    )
+}

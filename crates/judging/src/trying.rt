@@ -1,0 +1,64 @@
+//! A trace under one word for congestion control.
+
+use crate::asking::trace_fault;
+use crate::rewriting::rewritten;
+use crate::sentences::{push_padded, push_refused};
+use case_forms::{Header, Judged, OutOfMemory};
+use checker::{CaseFault, check_case};
+use line_fields::push_end;
+use std::alloc::Global;
+use verdict::{Verdict, print_verdict};
+use why::refused_by;
+use witness_search::find;
+
+/// A word that was tried.
+#[derive(Drop)]
+pub(crate) struct Tried {
+    pub word: Judged,
+    /// The trace in version 4, and the witness that was found.
+    pub case: Vec<u8>,
+    verdict: Verdict,
+}
+
+/// Looks for a witness of a trace under a word, and judges it.
+pub(crate) fn try_word(
+    alloc: Global,
+    text: &[u8],
+    header: &Header,
+    word: Judged,
+) -> Result<Tried, CaseFault> {
+    let trace = rewritten(alloc, text, header, word)?;
+    let case = match find(alloc, trace.as_slice()) {
+        Ok(case) => case,
+        Err(fault) => return Err(trace_fault(fault)),
+    };
+    let verdict = check_case(alloc, case.as_slice())?;
+    Ok(Tried {
+        word,
+        case,
+        verdict,
+    })
+}
+
+impl Tried {
+    /// Whether the witness explains the trace.
+    pub(crate) fn is_yes(&self) -> bool {
+        matches!(&self.verdict, Verdict::Yes { .. })
+    }
+
+    /// Writes the word and the verdict as a line.
+    pub(crate) fn push_row(&self, out: &mut Vec<u8>) -> Result<(), OutOfMemory> {
+        push_padded(out, self.word)?;
+        print_verdict(&self.verdict, out)?;
+        push_end(out)
+    }
+
+    /// The sentence on what is refused; empty if nothing is.
+    pub(crate) fn refusal(&self, alloc: Global) -> Result<Vec<u8>, OutOfMemory> {
+        let mut out = Vec::new(alloc);
+        if let Some(refused) = refused_by(alloc, self.case.as_slice(), &self.verdict)? {
+            push_refused(&mut out, &refused)?;
+        }
+        Ok(out)
+    }
+}

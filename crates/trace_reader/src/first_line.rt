@@ -1,0 +1,94 @@
+//! The first line of a trace, which names the version.
+
+ghost use Rattle.std.specs.Prelude.{◌≡◌, ◌≢◌, Err};
+ghost use Rattle.bstr.specs.Text.{lines_of};
+ghost use Rattle.counted.specs.Counting.{left_of, failures_of, one_more};
+ghost use Rattle.line_fields.specs.Reading.{Gives};
+ghost use Rattle.line_fields.specs.Rows.{rows_of, with_rest, Reads};
+ghost use Rattle.line_fields.specs.Spelling.{joined};
+ghost use Rattle.trace_reader.specs.Headers.{first_words, begins_trace, version_named, first_version, first_line};
+
+use bstr::ByteSlice;
+use case_forms::Version;
+use counted::Counted;
+use line_fields::{
+    FaultKind, SourceFault, Span, TextFault, checked_line, is_text, require_line, without_line_end,
+};
+use std::io::BufRead;
+
+/// The first line, which names the version of the text.
+pub(crate) fn first_text(version: Version) -> &'static str
+    ensures { result.now ≡ joined (first_words version) }
+{
+    match version {
+        Version::One => "trace 1",
+        Version::Two => "trace 2",
+        Version::Three => "trace 3",
+        Version::Four | Version::FourHalf => "trace 4",
+    }
+}
+
+// Whether a line, given with its end, is exactly the first line of a trace of this version, ended by LF or CR LF.
+fn begins_trace(version: Version, raw: &[u8]) -> bool
+    ensures { result ≡ begins_trace version raw.now }
+{
+    let (text, ended) = without_line_end(raw);
+    ended && is_text(text, first_text(version))
+}
+
+/// The version that the first line of a text names, if this line is ended; version 1 if it names none. A trace of
+/// version 4 has its version with two hosts, since only its line 8 says how many were recorded.
+pub fn version_named(text: &[u8]) -> Version
+    ensures { result ≡ version_named (lines_of text.now) }
+{
+    match text.lines_with_terminator().next() {
+        Some(raw) if begins_trace(Version::Two, raw) => Version::Two,
+        Some(raw) if begins_trace(Version::Three, raw) => Version::Three,
+        Some(raw) if begins_trace(Version::Four, raw) => Version::Four,
+        _ => Version::One,
+    }
+}
+
+// The version whose first line this is; of version 4 the one with two hosts. Another text is Header, at the whole line.
+#[tactic(auto, unfolding(crate::specs::Headers::first_version))]
+fn first_version(raw: &[u8]) -> Result<Version, TextFault>
+    ensures { Gives (λ version. version) result (first_version raw.now) }
+{
+    let text = checked_line(1, raw)?;
+    if is_text(text, first_text(Version::One)) {
+        return Ok(Version::One);
+    }
+    if is_text(text, first_text(Version::Two)) {
+        return Ok(Version::Two);
+    }
+    if is_text(text, first_text(Version::Three)) {
+        return Ok(Version::Three);
+    }
+    if is_text(text, first_text(Version::Four)) {
+        return Ok(Version::Four);
+    }
+    let span = Span {
+        line: 1,
+        start: 0,
+        stop: text.len(),
+    };
+    Err(TextFault {
+        kind: FaultKind::Header,
+        span,
+    })
+}
+
+/// The version that the first line names.
+pub(crate) fn first_line<A: BufRead>(
+    source: &mut Counted<A>,
+    line: &mut Vec<u8>,
+) -> Result<Version, SourceFault>
+    ensures line { Reads with_rest first_line (rows_of (left_of A.remaining source.old))
+        (rows_of (left_of A.remaining source.new)) result }
+    ensures read { result ≡ Err SourceFault.Read → failures_of source.new ≡ one_more (failures_of source.old) }
+    ensures same { result ≢ Err SourceFault.Read → failures_of source.new ≡ failures_of source.old }
+{
+    require_line(source, 1, line)?;
+    let version = first_version(line.as_slice())?;
+    Ok(version)
+}

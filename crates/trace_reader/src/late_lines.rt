@@ -1,0 +1,204 @@
+//! The header's lines after line 6, which version 1 doesn't have.
+
+ghost use Rattle.std.specs.Prelude.{◌≡◌, ◌≢◌, Err, codes};
+ghost use Rattle.counted.specs.Counting.{left_of, failures_of, one_more};
+ghost use Rattle.line_fields.specs.Choice.{kind_field};
+ghost use Rattle.line_fields.specs.Reading.{Gives};
+ghost use Rattle.line_fields.specs.Rows.{rows_of, with_rest, Reads};
+ghost use Rattle.trace_reader.specs.Headers.{value_line, initial_field, initial_line};
+ghost use Rattle.trace_reader.specs.Headers.{judged_name, all_judged, congestion_line};
+ghost use Rattle.trace_reader.specs.Headers.{hosted, half_lines, judged_lines, late_lines};
+
+use crate::named_lines::{named_rest, next_number};
+use case_forms::{Initial, Judged, Version};
+use counted::Counted;
+use line_fields::{FaultKind, Fields, SourceFault, TextFault, require_line};
+use std::io::BufRead;
+
+// The number of the line that names the RFC of the first congestion window.
+const INITIAL_LINE: u64 = 7;
+
+// The number of the line that names the one host that is recorded.
+const HALF_LINE: u64 = 8;
+
+// The number of the line that says how many hosts were recorded.
+const HOSTS_LINE: u64 = 8;
+
+// The number of the line that says how much of congestion control is judged.
+const CONGESTION_LINE: u64 = 9;
+
+/// What the header's lines after line 6 say, or what is true of a version that doesn't have them.
+#[derive(Clone, Copy)]
+pub(crate) struct LateLines {
+    pub(crate) version: Version,
+    pub(crate) initial: Initial,
+    pub(crate) congestion: Judged,
+}
+
+// The next field, which names one of the two RFCs by its number. Another number is Number.
+#[tactic(auto, unfolding(crate::specs::Headers::initial_field))]
+fn initial_field(fields: &mut Fields) -> Result<Initial, TextFault>
+    ensures { Gives (λ initial. (initial, fields.new)) result (initial_field fields.old) }
+{
+    let field = fields.next()?;
+    match field.number(5681, 6928)? {
+        5681 => Ok(Initial::Rfc5681),
+        6928 => Ok(Initial::Rfc6928),
+        _ => Err(field.fault(FaultKind::Number)),
+    }
+}
+
+// The RFC of the line that is `initial` and its number.
+#[tactic(auto, unfolding(crate::specs::Headers::value_line))]
+fn named_initial(raw: &[u8]) -> Result<Initial, TextFault>
+    ensures { Gives (λ initial. initial) result (value_line 7 (codes "initial") initial_field raw.now) }
+{
+    let (mut fields, fault) = named_rest(INITIAL_LINE, "initial", raw)?;
+    let initial = initial_field(&mut fields)?;
+    if !fields.is_empty() {
+        return Err(fault);
+    }
+    Ok(initial)
+}
+
+// The RFC of the next line, which is `initial` and its number.
+#[tactic(auto, unfolding(crate::specs::Headers::next_value))]
+fn next_initial<A: BufRead>(
+    source: &mut Counted<A>,
+    line: &mut Vec<u8>,
+) -> Result<Initial, SourceFault>
+    ensures value { Reads with_rest initial_line
+        (rows_of (left_of A.remaining source.old)) (rows_of (left_of A.remaining source.new)) result }
+    ensures read { result ≡ Err SourceFault.Read → failures_of source.new ≡ one_more (failures_of source.old) }
+    ensures same { result ≢ Err SourceFault.Read → failures_of source.new ≡ failures_of source.old }
+{
+    require_line(source, INITIAL_LINE, line)?;
+    let initial = named_initial(line.as_slice())?;
+    Ok(initial)
+}
+
+// The next field, which is the word for how much of congestion control is judged.
+fn judged(fields: &mut Fields) -> Result<Judged, TextFault>
+    ensures { Gives (λ word. (word, fields.new)) result (kind_field judged_name all_judged fields.old) }
+{
+    let name = fields.next()?;
+    if name.is("full") {
+        Ok(Judged::Full)
+    } else if name.is("recovery") {
+        Ok(Judged::Recovery)
+    } else if name.is("none") {
+        Ok(Judged::Nothing)
+    } else {
+        Err(name.fault(FaultKind::Field))
+    }
+}
+
+// How much of congestion control is judged, by the line that is `congestion` and the word for it.
+#[tactic(auto, unfolding(crate::specs::Headers::value_line))]
+fn named_congestion(raw: &[u8]) -> Result<Judged, TextFault>
+    ensures { Gives (λ word. word) result
+        (value_line 9 (codes "congestion") (kind_field judged_name all_judged) raw.now) }
+{
+    let (mut fields, fault) = named_rest(CONGESTION_LINE, "congestion", raw)?;
+    let congestion = judged(&mut fields)?;
+    if !fields.is_empty() {
+        return Err(fault);
+    }
+    Ok(congestion)
+}
+
+// How much of congestion control is judged, by the next line, which is `congestion` and the word for it.
+#[tactic(auto, unfolding(crate::specs::Headers::next_value))]
+fn next_congestion<A: BufRead>(
+    source: &mut Counted<A>,
+    line: &mut Vec<u8>,
+) -> Result<Judged, SourceFault>
+    ensures value { Reads with_rest congestion_line
+        (rows_of (left_of A.remaining source.old)) (rows_of (left_of A.remaining source.new)) result }
+    ensures read { result ≡ Err SourceFault.Read → failures_of source.new ≡ one_more (failures_of source.old) }
+    ensures same { result ≢ Err SourceFault.Read → failures_of source.new ≡ failures_of source.old }
+{
+    require_line(source, CONGESTION_LINE, line)?;
+    let congestion = named_congestion(line.as_slice())?;
+    Ok(congestion)
+}
+
+// The version of a text of version 4 by the count of hosts that were recorded.
+fn hosted(hosts: u64) -> Version
+    ensures { result ≡ hosted hosts }
+{
+    if hosts == 1 {
+        Version::FourHalf
+    } else {
+        Version::Four
+    }
+}
+
+// The RFC of the first congestion window, and after it the line `half 0`, which says that host 0 alone is recorded.
+fn half_lines<A: BufRead>(
+    source: &mut Counted<A>,
+    line: &mut Vec<u8>,
+) -> Result<LateLines, SourceFault>
+    ensures value { Reads with_rest half_lines
+        (rows_of (left_of A.remaining source.old)) (rows_of (left_of A.remaining source.new)) result }
+    ensures read { result ≡ Err SourceFault.Read → failures_of source.new ≡ one_more (failures_of source.old) }
+    ensures same { result ≢ Err SourceFault.Read → failures_of source.new ≡ failures_of source.old }
+{
+    let initial = next_initial(source, line)?;
+    next_number(source, line, HALF_LINE, "half", 0, 0)?;
+    Ok(LateLines {
+        version: Version::Three,
+        initial,
+        congestion: Judged::Full,
+    })
+}
+
+// The RFC of the first congestion window, how many hosts were recorded, and how much of congestion control is judged.
+fn judged_lines<A: BufRead>(
+    source: &mut Counted<A>,
+    line: &mut Vec<u8>,
+) -> Result<LateLines, SourceFault>
+    ensures value { Reads with_rest judged_lines
+        (rows_of (left_of A.remaining source.old)) (rows_of (left_of A.remaining source.new)) result }
+    ensures read { result ≡ Err SourceFault.Read → failures_of source.new ≡ one_more (failures_of source.old) }
+    ensures same { result ≢ Err SourceFault.Read → failures_of source.new ≡ failures_of source.old }
+{
+    let initial = next_initial(source, line)?;
+    let hosts = next_number(source, line, HOSTS_LINE, "hosts", 1, 2)?;
+    let congestion = next_congestion(source, line)?;
+    Ok(LateLines {
+        version: hosted(hosts),
+        initial,
+        congestion,
+    })
+}
+
+/// What the next lines say, if the version has some.
+pub(crate) fn late_lines<A: BufRead>(
+    source: &mut Counted<A>,
+    line: &mut Vec<u8>,
+    version: Version,
+) -> Result<LateLines, SourceFault>
+    ensures value { Reads with_rest (late_lines version)
+        (rows_of (left_of A.remaining source.old)) (rows_of (left_of A.remaining source.new)) result }
+    ensures read { result ≡ Err SourceFault.Read → failures_of source.new ≡ one_more (failures_of source.old) }
+    ensures same { result ≢ Err SourceFault.Read → failures_of source.new ≡ failures_of source.old }
+{
+    match version {
+        Version::One => Ok(LateLines {
+            version,
+            initial: Initial::Rfc5681,
+            congestion: Judged::Full,
+        }),
+        Version::Two => {
+            let initial = next_initial(source, line)?;
+            Ok(LateLines {
+                version,
+                initial,
+                congestion: Judged::Full,
+            })
+        }
+        Version::Three => half_lines(source, line),
+        Version::Four | Version::FourHalf => judged_lines(source, line),
+    }
+}

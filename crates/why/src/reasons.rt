@@ -1,0 +1,71 @@
+//! What the rules compare that judge how much is sent, and when it is sent again.
+
+use case_forms::{POSITIONS, SegmentPlan};
+use endpoint_state::Endpoint;
+
+/// Why a step is refused, for the two rules that ask how much is sent, and when it is sent again.
+#[derive(Clone, Copy)]
+pub enum Reason {
+    /// `congestion`: new data end so many bytes beyond the congestion edge.
+    Beyond {
+        bytes: u64,
+        /// The congestion window, in bytes.
+        cwnd: u64,
+    },
+    /// `old-data`: the segment begins above all that was sent.
+    Gap {
+        /// The position at which it begins.
+        pos: u64,
+        /// The end of what was sent.
+        sent: u64,
+    },
+    /// `old-data`: the segment begins below the oldest position that isn't acknowledged.
+    Acknowledged {
+        /// The position at which it begins.
+        pos: u64,
+        una: u64,
+    },
+    /// `old-data`: what was sent before may not be sent again.
+    Again {
+        /// It is a SYN.
+        syn: bool,
+    },
+    /// Any other rule.
+    Other,
+}
+
+/// The position after the last byte of a segment.
+pub(crate) fn end_of(plan: &SegmentPlan) -> u64 {
+    plan.pos.saturating_add(u64::from(plan.len))
+}
+
+/// Why a segment with new data breaks `congestion`.
+pub(crate) fn beyond(endpoint: &Endpoint, plan: &SegmentPlan) -> Reason {
+    let snd_una = endpoint.stream.snd_una;
+    if snd_una >= POSITIONS {
+        return Reason::Other;
+    }
+    let edge = endpoint.control.send_edge(snd_una);
+    Reason::Beyond {
+        bytes: end_of(plan).saturating_sub(edge),
+        cwnd: u64::from(endpoint.control.values.cwnd),
+    }
+}
+
+/// Why a segment breaks `old-data`.
+pub(crate) fn misplaced(endpoint: &Endpoint, plan: &SegmentPlan) -> Reason {
+    let sent = endpoint.snd_max();
+    let una = endpoint.stream.snd_una;
+    if plan.pos > sent {
+        Reason::Gap {
+            pos: plan.pos,
+            sent,
+        }
+    } else if plan.pos < una {
+        Reason::Acknowledged { pos: plan.pos, una }
+    } else {
+        Reason::Again {
+            syn: plan.flags.syn,
+        }
+    }
+}

@@ -1,0 +1,83 @@
+"""Judges traces by `tcpwit_lab judge`, keeps the cases, and draws them."""
+import os
+import shutil
+import subprocess
+
+from .header import FULL
+from .problem import Problem
+
+TOP = os.path.dirname(os.path.dirname(os.path.dirname(os.path.realpath(__file__))))
+NAME, VARIABLE = "tcpwit_lab", "TCPWIT_LAB"
+NAME_IT = f"name the program {NAME} by --lab or {VARIABLE}"
+YES, NO, FAULTY = range(3)
+
+
+def lab(option):
+    """The program tcpwit_lab: by the option, the environment's TCPWIT_LAB, the PATH, or the repository's build."""
+    place = option or os.environ.get(VARIABLE)
+    if place and not (os.path.isfile(place) and os.access(place, os.X_OK)):
+        raise Problem(f"{place} is no program that can be run", NAME_IT)
+    built = os.path.join(TOP, "crates", NAME, "out", NAME)
+    found = place or shutil.which(NAME) or (built if os.access(built, os.X_OK) else None)
+    if found is None:
+        raise Problem(f"{NAME} is not in the PATH, and not built in this repository",
+                      f"build it (docs/RECORDING.md), or name it by --lab or {VARIABLE}; --no-check judges nothing")
+    found = os.path.abspath(found)
+    # A program without `judge` is refused here, and not after a long recording. To `judge` an empty trace is faulty.
+    if on_file([found, "judge"], os.devnull).returncode != FAULTY:
+        raise Problem(f"{found} doesn't know the word judge",
+                      f"build it again from these sources (docs/RECORDING.md), or name a newer one by --lab or {VARIABLE}")
+    return found
+
+
+def case_of(trace):
+    """The file of a trace's case, beside the trace."""
+    return trace.removesuffix(".trace") + ".case"
+
+
+def judge_all(program, traces, least=None):
+    """Judges the files of traces, which have names, and prints the lines of each. The greatest status."""
+    worst = YES
+    for name, trace in traces.items():
+        lines, status = judge(program, trace, least or FULL)
+        if len(traces) > 1:
+            lines = [f"{name}:"] + ["  " + line for line in lines]
+        print("\n".join(lines), flush=True)
+        worst = max(worst, status)
+    return worst
+
+
+def judge(program, trace, least):
+    """The lines of `judge` and its status: 0 if the trace is a yes at this word or a stricter one, 1 if not. The case is kept."""
+    if not os.path.isfile(trace):
+        raise Problem(f"{trace} is no file that can be read again", "name a file by --out, or leave the judging out with --no-check")
+    folder, name = os.path.split(case_of(trace))
+    done = on_file([program, "judge", "--least", least, "--case", "./" + name], trace, folder or ".")
+    lines = done.stdout.decode(errors="replace").splitlines()
+    if done.returncode not in (YES, NO):
+        said = "; ".join(lines[:1] + done.stderr.decode(errors="replace").splitlines()[-1:])
+        remedy = f"read what {NAME} explain says about it" if done.returncode == FAULTY else f"see whether this works: {program} judge < {trace}"
+        raise Problem(f"{trace}: {said or ended(done.returncode)}", remedy)
+    return lines, done.returncode
+
+
+def draw(program, trace):
+    """Draws the case of a trace beside it, if it can be drawn."""
+    drawn = on_file([program, "draw"], case_of(trace))
+    if drawn.returncode == 0:
+        with open(trace.removesuffix(".trace") + ".svg", "wb") as file:
+            file.write(drawn.stdout)
+
+
+def on_file(words, name, folder=None):
+    """Runs a program on a file, in a folder."""
+    with open(name, "rb") as source:
+        try:
+            return subprocess.run(words, stdin=source, capture_output=True, check=False, cwd=folder)
+        except OSError as error:
+            raise Problem(f"{words[0]}: {error.strerror}", NAME_IT) from error
+
+
+def ended(status):
+    """How a program ended, in words."""
+    return f"{NAME} was ended by signal {-status}" if status < 0 else f"{NAME} ended with status {status}"

@@ -1,0 +1,129 @@
+"""What both commands do with `tcpwit_lab judge`: a script that answers as told takes its part."""
+import os
+from unittest import mock
+
+from tcpwit_import import judging
+from tcpwit_import.recording.cli import main as recording
+
+from . import test_command
+from .test_command import run
+
+# Keeps the words and the trace that it was given, and a case and a picture if they are wanted; answers to `judge` what the test chose.
+# Before that it is asked whether it knows `judge`, by no other word and an empty trace.
+SCRIPT = """#!/bin/sh
+[ "$*" = judge ] && {known}
+echo "$@" >> {folder}/words
+if [ "$1" = draw ]; then echo '<svg/>'; exit 0; fi
+cat > {folder}/given
+echo a case > "$5"
+cat {folder}/answer
+{end}
+"""
+LINES = "full      no 57 88 congestion\nnone      yes 101 85\nThe run keeps RFC 9293.\n"
+
+
+class Judging(test_command.WithFiles):
+    def lab(self, answer, end="exit 0", known="exit 2"):
+        """A program that answers so; the words that name it."""
+        with open(f"{self.folder}/answer", "w", encoding="ascii") as file:
+            file.write(answer)
+        with open(f"{self.folder}/lab", "w", encoding="ascii") as file:
+            file.write(SCRIPT.format(folder=self.folder, end=end, known=known))
+        os.chmod(f"{self.folder}/lab", 0o755)
+        return ["--lab", f"{self.folder}/lab"]
+
+    def text(self, name):
+        """What is in a file."""
+        with open(f"{self.folder}/{name}", encoding="ascii") as file:
+            return file.read()
+
+    def importing(self, *words):
+        """Imports into run.trace."""
+        return run(*self.captures, *self.logs, "--out", f"{self.folder}/run.trace", *words)
+
+    def test_the_lines_are_printed(self):
+        status, out, error = self.importing(*self.lab(LINES))
+        self.assertEqual((status, out), (0, LINES), error)
+        self.assertEqual(self.text("words"), "judge --least full --case ./run.case\n")
+        self.assertEqual((self.text("run.trace"), self.text("run.case")), (self.text("given"), "a case\n"))
+
+    def test_the_status_is_that_of_the_word(self):
+        status, out, _ = self.importing(*self.lab(LINES, "exit 1"), "--congestion", "recovery")
+        self.assertEqual((status, out), (1, LINES))
+        self.assertIn("judge --least recovery ", self.text("words"))
+        self.assertEqual(self.text("run.trace").splitlines()[8], "congestion recovery")
+
+    def test_several_traces_are_named(self):
+        two = [test_command.talk(zero=("10.9.0.1", port)) for port in (4000, 4001)]
+        for host in (0, 1):
+            two[0].frames[host] += two[1].frames[host]
+        second = [(9, moment, text) for _, moment, text in test_command.CLIENT[:4]]
+        client = sorted(test_command.CLIENT[:4] + second, key=lambda line: line[1])
+        self.captures, self.logs = two[0].write(self.folder)[:3], self.write_logs(client, [])[:3]
+        status, out, error = run(*self.captures, *self.logs, "--each", "connection", "--out", f"{self.folder}/out", *self.lab(LINES, "exit 1"))
+        self.assertEqual(status, 1, error)
+        lines = ["  " + line for line in LINES.splitlines()]
+        self.assertEqual(out.splitlines(), ["1-10.9.0.1:4000-10.9.0.2:80:", *lines, "2-10.9.0.1:4001-10.9.0.2:80:", *lines])
+        self.assertEqual(sorted(os.listdir(f"{self.folder}/out")), [f"{n}-10.9.0.1_400{n - 1}-10.9.0.2_80.{end}" for n in (1, 2) for end in ("case", "trace")])
+
+    def test_no_check_judges_nothing(self):
+        status, out, _ = self.importing("--no-check", "--lab", "/nowhere")
+        self.assertEqual((status, out, self.text("run.trace")[:8]), (0, "", "trace 2\n"))
+
+    def test_a_program_that_fails(self):
+        words = [*self.captures, *self.logs, "--out", f"{self.folder}/run.trace"]
+        for answer, end, cause in (("bad trace 9 12 13 number\n", "exit 2", "run.trace: bad trace 9 12 13 number"),
+                                   ("bad usage\n", "exit 3", "run.trace: bad usage"), ("bad memory\n", "exit 4", "run.trace: bad memory"),
+                                   ("bad device\n", "echo ./run.case: full >&2; exit 5", "run.trace: bad device; ./run.case: full"),
+                                   ("", "exit 9", "ended with status 9"), ("", "kill -KILL $$", "ended by signal 9")):
+            with self.subTest(end):
+                self.refused([*words, "--quiet", *self.lab(answer, end)], cause)
+        self.refused([*self.captures, *self.logs, "--quiet", "--out", "/dev/null", *self.lab(LINES)], "/dev/null is no file")
+        for known in ("exit 0", "exit 1", "exit 3"):
+            self.refused([*words, "--quiet", *self.lab(LINES, known=known)], "doesn't know the word judge")
+
+    def test_a_program_that_is_none(self):
+        words = [*self.captures, *self.logs, "--quiet", "--out", f"{self.folder}/run.trace"]
+        with open(f"{self.folder}/text", "w", encoding="ascii") as file:
+            file.write("no program")
+        self.refused([*words, "--lab", f"{self.folder}/text"], "text is no program")
+        self.refused([*words, "--lab", self.folder], "is no program")
+        os.chmod(f"{self.folder}/text", 0o755)
+        self.refused([*words, "--lab", f"{self.folder}/text"], "text: Exec format error")
+        with mock.patch.dict(os.environ, {"PATH": self.folder}), mock.patch.object(judging, "TOP", self.folder):
+            os.environ.pop(judging.VARIABLE, None)
+            self.refused(words, "tcpwit_lab is not in the PATH")
+            os.symlink(self.lab(LINES)[1], f"{self.folder}/tcpwit_lab")
+            self.assertEqual(judging.lab(None), f"{self.folder}/tcpwit_lab")
+        with mock.patch.dict(os.environ, {judging.VARIABLE: f"{self.folder}/lab"}):
+            self.assertEqual(judging.lab(None), f"{self.folder}/lab")
+
+    def test_a_case_stands_beside_its_trace(self):
+        self.assertEqual([judging.case_of(name) for name in ("a/run.trace", "run", "a.case")], ["a/run.case", "run.case", "a.case.case"])
+
+    def recorded(self, *words):
+        """A recording of the same files."""
+        with mock.patch("os.geteuid", return_value=0), mock.patch("tcpwit_import.recording.cli.recorded", return_value=self.captures + self.logs):
+            return run("--transfer", "5", "--out", f"{self.folder}/kept", *words, command=recording)
+
+    def test_a_recording_is_judged(self):
+        status, out, error = self.recorded("--congestion", "none", *self.lab(LINES))
+        self.assertEqual((status, out), (0, LINES), error)
+        self.assertEqual(self.text("words"), "judge --least none --case ./run.case\ndraw\n")
+        self.assertEqual(self.text("kept/run.trace").splitlines()[7:9], ["hosts 2", "congestion none"])
+        self.assertEqual((self.text("kept/run.case"), self.text("kept/run.svg")), ("a case\n", "<svg/>\n"))
+        self.assertEqual(self.recorded(*self.lab(LINES, "exit 1"))[:2], (1, LINES))
+        self.assertEqual(self.text("kept/run.trace")[:8], "trace 2\n")
+
+    def test_a_recording_that_fails(self):
+        status, out, error = self.recorded(*self.lab("bad trace 9 12 13 number\n", "exit 2"))
+        self.assertEqual((status, out), (2, ""))
+        self.assertIn("run.trace: bad trace 9 12 13 number\n  read what tcpwit_lab explain says", error)
+        with mock.patch("os.geteuid", return_value=0):
+            self.refused(["--transfer", "5", *self.lab(LINES, known="exit 3")], "doesn't know the word judge", recording)
+        self.logs = self.logs[:2] + [f"{self.folder}/nothing"]
+        self.assertEqual(self.recorded(*self.lab(LINES))[:2], (2, ""))
+
+    def test_a_recording_that_is_not_judged(self):
+        self.assertEqual(self.recorded("--no-check", "--lab", "/nowhere")[:2], (0, ""))
+        self.assertEqual(sorted(os.listdir(f"{self.folder}/kept")), ["run.trace"])
