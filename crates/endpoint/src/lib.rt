@@ -36,6 +36,6 @@ pub use calls::send::send;
 pub use makes::{admits_making, make};
 pub use recovery::{admits_recovery, greatest_at_recovery, greatest_recovery, recover};
 pub use reset::reset_of;
-pub use signals::{greatest_taking, profile_of};
+pub use signals::greatest_taking;
 pub use timeouts::{admits_expiry, expire, greatest_values, has_more};
 pub use wire::{admits_copy, copy_owned, heard, is_past_lifetime, matches_sent, sent, sent_owned};

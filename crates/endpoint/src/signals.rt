@@ -1,38 +1,16 @@
 //! What happens to an endpoint, as its congestion control sees it: nothing else distinguishes one kind of event from
 //! another for it (RFC 5681, 3.1 and 3.2).
 
-ghost use Rattle.case_forms.specs.declared.version.Judged.TheVariants.{Full};
-ghost use Rattle.spec_tcp.specs.Signals.{at_moment, profile_named, profile_of, recovery_signal, signal_at_syn};
+ghost use Rattle.spec_tcp.specs.Signals.{at_moment, recovery_signal, signal_at_syn};
 ghost use Rattle.spec_tcp.specs.Signals.{signal_in_other_states, signal_of, timeout_signal, told_smss};
 ghost use Rattle.std.specs.Prelude.{◌≡◌, ◌<◌, ◌^◌};
 ghost use Rattle.window_rules.specs.Control.{after, greatest};
 ghost use Rattle.window_rules.specs.Counts.{HasCounts, IsFit};
 
 use crate::arrives::other_states::ack::{acked, acknowledges_syn, is_duplicate, is_new_ack};
-use case_forms::{Header, Initial, Judged, TakeChoice};
+use case_forms::TakeChoice;
 use spec_tcp::{Arrived, Endpoint};
-use window_rules::{At, Control, Profile, Signal};
-
-/// The rules of congestion control that the header names.
-pub fn profile_of(header: &Header) -> Profile
-    ensures { result ≡ profile_of header.now }
-{
-    match header.congestion {
-        Judged::Full => full_profile(header.initial),
-        Judged::Recovery => Profile::Unbounded,
-        Judged::Nothing => Profile::Unjudged,
-    }
-}
-
-// The same if all of it is judged.
-fn full_profile(initial: Initial) -> Profile
-    ensures { result ≡ profile_named initial Full }
-{
-    match initial {
-        Initial::Rfc5681 => Profile::Rfc5681,
-        Initial::Rfc6928 => Profile::Rfc6928,
-    }
-}
+use window_rules::{At, Control, Signal};
 
 /// A moment in microseconds, with the smoothed round trip before it.
 pub(crate) fn at_moment(endpoint: &Endpoint, moment: u64) -> At

@@ -8,6 +8,7 @@
 //!
 //! - `endpoint`: endpoints, segments that were made, listeners, and what socket numbers name
 //! - `arrived`: a segment as the endpoint reads it that takes it; `queue`: a listen queue
+//! - `profile`: the profile of congestion control that a header names
 //!
 //! The definitions:
 //!
@@ -23,6 +24,7 @@
 
 mod arrived;
 mod endpoint;
+mod profile;
 mod queue;
 
 pub use arrived::Arrived;
@@ -30,4 +32,5 @@ pub use endpoint::{
     Emission, Endpoint, EndpointId, Fault, Listener, SendWindow, Socket, SocketTarget, Stream,
     window_in,
 };
+pub use profile::profile_of;
 pub use queue::Queue;
