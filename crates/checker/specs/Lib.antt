@@ -12,3 +12,4 @@ pub mod Streaming
 pub mod Turns
 pub mod Texts
 pub mod Headline
+pub mod Judging

@@ -30,10 +30,10 @@
 //! - `steps`: the rest of a witness, which is read for its faults alone
 //! - `replay`: the replay of a witness of which all is in memory; what one step does
 //! - `printed`: a trace and its witness as one text
-//! - `laws`: when the verdict is yes and what it counts, which line is taken first, that receives return a prefix of
-//!   what the peer's sends accepted, what else follows for streams, windows and peers, also after the first n steps,
-//!   that the verdict stays where the trace is printed and read again, or both are printed as a case, and that a trace
-//!   may have two witnesses
+//! - `laws`: when the verdict is yes and what it counts, that a yes stays one where less is judged, which line is taken
+//!   first, that receives return a prefix of what the peer's sends accepted, what else follows for streams, windows and
+//!   peers, also after the first n steps, that the verdict stays where the trace is printed and read again, or both are
+//!   printed as a case, and that a trace may have two witnesses
 #![tactic(auto)]
 
 mod ahead;
@@ -48,9 +48,9 @@ mod two_texts;
 
 pub use case::{CaseFault, check_case};
 pub use laws::{
-    earlier_lines_are_taken_first, explained_follows, explained_is_yes, peers_are_met,
-    printed_case, receives_begin_sends, streams_at_each_moment, two_witnesses_of_one_trace,
-    verdict_when_read_again, yes_counts_all_lines,
+    earlier_lines_are_taken_first, explained_follows, explained_is_yes, less_judged_stays_yes,
+    peers_are_met, printed_case, receives_begin_sends, streams_at_each_moment,
+    two_witnesses_of_one_trace, verdict_when_read_again, yes_counts_all_lines,
 };
 pub use printed::print_case;
 pub use replay::check;
