@@ -43,7 +43,8 @@ explained_by : (j : Judged) (t : Trace) (w : Witness) → extent j ≤ extent t.
 explained_by j t w le e =
     let by = header_by j t.header in
     let run : Lawful (tcp (header_by j t.header)) (start (tcp (header_by j t.header))) (stamped (header_by j t.header) t.lines w.steps) =
-    subst (λ (xs : List (Stamped tcp_shape)). Lawful (tcp (header_by j t.header)) (start (tcp (header_by j t.header))) xs) (sym (stamped_by j t.header t.lines w.steps))
+    subst (λ (xs : List (Stamped tcp_shape)). Lawful (tcp (header_by j t.header)) (start (tcp (header_by j t.header))) xs)
+    (sym (stamped_by j t.header t.lines w.steps))
     (lawful_by j t.header (start (tcp t.header)) (stamped t.header t.lines w.steps) le (judged_start t.header) e.run) in
     record {
       placed = placed_by j t.header t.lines (moves w.steps) e.placed;

@@ -4,8 +4,8 @@
 //! it (`data/README.md`). Beside the files, each beginning of two of them is asked for, lines of the greatest length,
 //! inputs of several cases, pairs of texts that no case would be cut into, the command lines of
 //! `data/command_lines.txt`, what `tcpwit_lab` says of some cases (`data/told.txt`) and of some traces
-//! (`data/judged.txt`), and the cases that are found for recordings of the Linux kernel (`data/kernel/`). Each case file
-//! is also checked as version 4. Where all is answered as wanted, two lines with the counts are printed. Else each
+//! (`data/judged.txt`), and the cases that are found for recordings of the Linux kernel (`data/kernel/`). Each case
+//! file is also checked as version 4. Where all is answered as wanted, two lines with the counts are printed. Else each
 //! answer that differs has a line on standard error, with the name of the case, how it was asked, what was wanted and
 //! what was found, and the program ends with status 1.
 //!
