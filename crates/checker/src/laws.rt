@@ -84,7 +84,8 @@ pub fn explained_follows()
     // In every case: what reads returned came with segments that were taken.
     ensures carried { (t : Trace) (w : Witness) → Explains t w → AllReadsWereCarried t w }
 
-    // New data ends in both windows, and windows follow their rules, by the RFC that the header names.
+    // New data ends in both windows, and windows follow their rules, by the profile that the header names. If the
+    // header says `congestion recovery` or `none`, that profile bounds no congestion window.
     ensures windows { (t : Trace) (w : Witness) → Explains t w → AllKeepWindows t w }
 
     // States follow each other by the arrows of RFC 9293, 3.3.2, figure 5, and positions never fall.
