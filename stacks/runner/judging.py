@@ -42,6 +42,10 @@ class Outcome:
         first = self.verdict.split()[0] if self.verdict else "broken"
         return first if first != "yes" or self.is_good() else "yes, but"
 
+    def shown(self):
+        """The verdict, as tables and reports have it."""
+        return f"{self.verdict}, but" if self.word() == "yes, but" else self.verdict
+
 
 def profile(text):
     """The header's values and the name, by lines of a word and a value."""

@@ -230,9 +230,10 @@ class TheCommand(unittest.TestCase):
     def outcome(self, verdict, strictest, name="x"):
         return judging.Outcome(SimpleNamespace(keeps=True, name=name, show="a", by="b"), verdict, strictest)
 
-    def reported(self, *words):
-        """Status and output of a report of three outcomes."""
-        outcomes = [self.outcome("yes 5 3", "full", "one"), self.outcome("no 9 0 congestion", "recovery", "two"), self.outcome("skipped", "", "three")]
+    def reported(self, *words, outcomes=None):
+        """Status and output of a report of these outcomes, or of three."""
+        outcomes = outcomes or [self.outcome("yes 5 3", "full", "one"), self.outcome("no 9 0 congestion", "recovery", "two"),
+                                self.outcome("skipped", "", "three")]
         with mock.patch.object(sys, "argv", ["run", "lwip", *words]):
             words = command.arguments()
         with contextlib.redirect_stdout(io.StringIO()) as out:
@@ -250,6 +251,24 @@ class TheCommand(unittest.TestCase):
             self.reported("--least", word, "--junit", f"{self.folder}/report.xml")
             with open(f"{self.folder}/report.xml") as file:
                 self.assertIn(f'failures="{failures}" skipped="1"', file.read())
+
+    def test_table_and_report_show_the_same(self):
+        less, long = self.outcome("no 9 0 congestion", "none", "less"), self.outcome("broken the stack of host 0 ended with status 1", "", "long")
+        lacking = self.outcome("yes 5 3", "full", "lacking")
+        lacking.missing = 7
+        _, out = self.reported("--least", "recovery", "--junit", f"{self.folder}/report.xml", outcomes=[less, lacking, long])
+        with open(f"{self.folder}/report.xml") as file:
+            shown = re.findall(r'<failure message="([^"]*)"', file.read())
+        self.assertEqual(shown, ["no 9 0 congestion (yes at: none)", "yes 5 3, but (yes at: full)",
+                                 "broken the stack of host 0 ended with status 1 (yes at: -)"])
+        for message in shown:
+            self.assertIn(message.split(" (")[0], out)
+
+    def test_the_page_has_every_option(self):
+        with open(os.path.join(TOP, "README.md")) as file:
+            page = file.read()
+        options = re.findall(r"^  (--[a-z-]+)", self.run_it("--help")[1], re.M)
+        self.assertEqual([option for option in options if f"`{option}" not in page], [])
 
     def test_the_outcomes_are_compared(self):
         file = f"{self.folder}/expected"
@@ -275,7 +294,9 @@ class TheCommand(unittest.TestCase):
 
     def test_what_cannot_be_run(self):
         self.assertEqual(self.run_it("lwip", "--least", "cubic")[0], 2)
-        for words, cause in ((["/nowhere"], "neither a folder"), (["true", "--profile", "/nowhere", "x"], "/nowhere"),
+        for words, cause in ((["/nowhere"], "neither a folder"), (["true", "--profile", "/nowhere", "data-bulk"], "/nowhere: No such file"),
+                             (["true", "data-bluk"], "data-bluk is neither a file"), (["true", "data-bulk", "data-bluk"], "data-bluk is neither"),
+                             (["true", "--jobs", "0"], "'0' is no number"), (["true", "--jobs", "x"], "'x' is no number"),
                              (["true", "data-bulk", "--check", "/nowhere"], "tcpwit isn't found"),
                              (["true", "data-bulk", "--check", "true", "--lab", "true"], "version 4")):
             status, out, error = self.run_it(*words)
