@@ -10,7 +10,7 @@ from .captures import read_capture, shown
 from .cases import Case, Writer
 from .clocks import SAME, bounds_of, clock_of, refuse_distant, said
 from .connections import connections_of, refuse_gaps
-from .problem import Notes, Problem
+from .problem import Notes, Problem, status_of
 from .strace_log import read_log
 
 DESCRIPTION = """Makes traces for tcpwit of programs that nobody changed, from captures and logs of their system calls.
@@ -271,16 +271,4 @@ def import_and_judge(options):
 def main(words=None):
     """Runs the command; its exit status."""
     options = parser().parse_args(words)
-    try:
-        return import_and_judge(options)
-    except Problem as problem:
-        print(f"tcpwit-import: {problem}", file=sys.stderr)
-        return 2
-    except BrokenPipeError:
-        os.dup2(os.open(os.devnull, os.O_WRONLY), 1)
-        return 2
-    except OSError as error:
-        print(f"tcpwit-import: {error.filename or 'standard output'}: {error.strerror}\n  choose a place that can be written", file=sys.stderr)
-        return 2
-    except KeyboardInterrupt:
-        return 130
+    return status_of("tcpwit-import", lambda: import_and_judge(options))

@@ -1,4 +1,6 @@
 """What ends a run with an error, and what is left out of a trace."""
+import os
+import subprocess
 import sys
 
 
@@ -12,6 +14,26 @@ class Problem(Exception):
 
     def __str__(self):
         return f"{self.cause}\n  {self.remedy}"
+
+
+def status_of(command, act):
+    """What `act` returns, the status of a command of this name, or that of its failure; standard error then has the cause and a remedy."""
+    try:
+        if sys.stdout is None:
+            raise Problem("standard output is closed", "leave it open, or send it to a file")
+        return act()
+    except Problem as problem:
+        print(f"{command}: {problem}", file=sys.stderr)
+    except BrokenPipeError:
+        # The reader of a pipe has gone. Python writes what is left at its end, and would fail again.
+        os.dup2(os.open(os.devnull, os.O_WRONLY), 1)
+    except OSError as error:
+        print(f"{command}: {error.filename or 'standard output'}: {error.strerror}\n  choose a place that can be written", file=sys.stderr)
+    except subprocess.SubprocessError as error:
+        print(f"{command}: {error}\n  see whether the programs can be run", file=sys.stderr)
+    except KeyboardInterrupt:
+        return 130
+    return 2
 
 
 class Notes:

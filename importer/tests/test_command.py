@@ -241,6 +241,19 @@ class Command(WithFiles):
         self.assertEqual((done.returncode, done.stdout), (2, ""))
         self.assertIn("no capture is given", done.stderr)
 
+    def test_outputs_that_take_nothing(self):
+        words = [os.path.join(TOP, "tcpwit-import"), "--quiet", *self.captures, *self.logs]
+        for output, cause in ((">&-", "standard output is closed"), ("> /dev/full", "standard output: No space left on device")):
+            done = subprocess.run(["sh", "-c", f'exec "$@" {output}', "sh", *words], stderr=subprocess.PIPE, text=True, timeout=100, check=False)
+            self.assertEqual(done.returncode, 2, output)
+            self.assertRegex(done.stderr, rf"^tcpwit-import: {cause}\n  .+\n$")
+        # The reader of a pipe has gone: nothing is to be said.
+        reader, writer = os.pipe()
+        os.close(reader)
+        with os.fdopen(writer, "wb") as pipe:
+            done = subprocess.run(words, stdout=pipe, stderr=subprocess.PIPE, text=True, timeout=100, check=False)
+        self.assertEqual((done.returncode, done.stderr), (2, ""))
+
 
 if __name__ == "__main__":
     unittest.main()

@@ -3,7 +3,6 @@ import argparse
 import os
 import shlex
 import signal
-import subprocess
 import sys
 import time
 from typing import NamedTuple
@@ -11,7 +10,7 @@ from typing import NamedTuple
 from .. import cli as importing
 from .. import header as headers
 from .. import judging
-from ..problem import Notes, Problem
+from ..problem import Notes, Problem, status_of
 from .carrier import Carrier
 from .namespaces import ADDRESSES, Namespace, joined_pair
 from .running import Capture, Traced
@@ -262,13 +261,4 @@ def main(given=None):
     check_words(words, options)
     # Whoever ends this program ends what it started too.
     signal.signal(signal.SIGTERM, lambda *_: sys.exit(143))
-    try:
-        return record(options)
-    except Problem as problem:
-        print(f"tcpwit-record: {problem}", file=sys.stderr)
-        return 2
-    except (OSError, subprocess.SubprocessError) as error:
-        print(f"tcpwit-record: {error}\n  see whether the folder can be written and the programs can be run", file=sys.stderr)
-        return 2
-    except KeyboardInterrupt:
-        return 130
+    return status_of("tcpwit-record", lambda: record(options))
