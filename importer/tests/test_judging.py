@@ -126,11 +126,13 @@ class Judging(test_command.WithFiles):
         self.assertEqual(self.recorded(*self.lab(LINES))[:2], (2, ""))
 
     def test_a_recording_whose_lines_cannot_be_printed(self):
-        for error, said in ((BrokenPipeError(errno.EPIPE, "Broken pipe"), None), (OSError(errno.ENOSPC, "No space left on device"), "standard output: No space")):
-            with self.subTest(said), mock.patch("tcpwit_import.judging.judge_all", side_effect=error), mock.patch("os.dup2"):
+        full = "standard output: No space left on device\n  choose a place that can be written\n"
+        for number, said in ((errno.EPIPE, []), (errno.ENOSPC, [full])):
+            error = OSError(number, os.strerror(number))
+            with self.subTest(error), mock.patch("tcpwit_import.judging.judge_all", side_effect=error), mock.patch("os.dup2"):
                 status, out, shown = self.recorded(*self.lab(LINES))
                 self.assertEqual((status, out), (2, ""))
-                self.assertEqual(shown.split("tcpwit-record: ")[2:], [f"{said} left on device\n  choose a place that can be written\n"] if said else [])
+                self.assertEqual(shown.split("tcpwit-record: ")[2:], said)
 
     def test_a_recording_that_is_not_judged(self):
         self.assertEqual(self.recorded("--no-check", "--lab", "/nowhere")[:2], (0, ""))

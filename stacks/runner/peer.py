@@ -2,7 +2,7 @@
 import re
 
 import segments
-from segments import ACK, FIN, RST, SYN, Segment, stream
+from segments import ACK, RST, SYN, Segment, stream
 
 WAIT = 5_000_000
 
