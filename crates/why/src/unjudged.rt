@@ -29,7 +29,7 @@ fn say_word(
 ) -> Result<(), OutOfMemory> {
     let (before, after) = match scene.header.version {
         Version::One | Version::Two | Version::Three => (
-            "version 4 of the header has a line `congestion ",
+            "version 4 of the texts has a header line `congestion ",
             "`, which leaves it unjudged",
         ),
         Version::Four | Version::FourHalf => ("`congestion ", "` in the header leaves it unjudged"),
