@@ -1,13 +1,20 @@
 #!/usr/bin/python3
-"""Checks the pages that a newcomer reads: each file, link and section that they name exists.
+"""Checks the pages that a newcomer reads.
 
-    tools/docs.py
+    tools/docs.py            each file, link and section that they name exists, and each command works and prints what the page shows
+    tools/docs.py --names    only the first of both, for which no program is needed
 
-Prints a line for each fault, with its page and line; the status is 1 if there is one.
+The commands are run in a copy of the repository; docs_commands.py names those that aren't run, with the reason. Prints a line for each fault, with its page and
+line. The status is 1 if there is one.
 """
+import argparse
 import os
 import re
 import sys
+
+sys.dont_write_bytecode = True
+sys.path.insert(0, os.path.dirname(os.path.abspath(__file__)))
+import docs_commands  # noqa: E402
 
 TOP = os.path.dirname(os.path.dirname(os.path.abspath(__file__)))
 PAGES = ("README.md", "docs/RECORDING.md", "docs/QUESTIONS.md", "stacks/README.md", "packaging/README.md", "importer/README.md")
@@ -114,9 +121,16 @@ class Tree:
 
 
 def main():
+    words = argparse.ArgumentParser(description=__doc__, formatter_class=argparse.RawDescriptionHelpFormatter)
+    words.add_argument("--names", action="store_true", help="check the names of files, links and sections, and run no command")
+    given = words.parse_args()
     tree = Tree()
     faults = [fault for page in PAGES for fault in tree.faults(page)]
-    print("\n".join(faults) if faults else f"{len(PAGES)} pages: each file, link and section that they name exists")
+    count = 0
+    if not given.names:
+        found, count = docs_commands.faults({page: text_of(os.path.join(TOP, page)) for page in PAGES})
+        faults += found
+    print("\n".join(faults) if faults else f"{len(PAGES)} pages: all names exist, and {count} commands or groups of commands work")
     return 1 if faults else 0
 
 
