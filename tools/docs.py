@@ -126,12 +126,12 @@ def main():
     given = words.parse_args()
     tree = Tree()
     faults = [fault for page in PAGES for fault in tree.faults(page)]
-    count = 0
-    if not given.names:
-        found, count = docs_commands.faults({page: text_of(os.path.join(TOP, page)) for page in PAGES})
-        faults += found
-    print("\n".join(faults) if faults else f"{len(PAGES)} pages: all names exist, and {count} commands or groups of commands work")
-    return 1 if faults else 0
+    print("\n".join(faults or [f"{len(PAGES)} pages: each file, link and section that they name exists"]), flush=True)
+    if given.names:
+        return 1 if faults else 0
+    failed, count = docs_commands.faults({page: text_of(os.path.join(TOP, page)) for page in PAGES})
+    print("\n".join(failed or [f"{count} commands or groups of commands work"]))
+    return 1 if faults or failed else 0
 
 
 if __name__ == "__main__":

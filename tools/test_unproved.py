@@ -1,6 +1,7 @@
 #!/usr/bin/python3
 """Which programs the scripts of a clone run, and what they say if there is none. No toolchain is needed: scripts take its place."""
 import os
+import pwd
 import shutil
 import subprocess
 import sys
@@ -70,9 +71,9 @@ class Clone(unittest.TestCase):
             self.write(f"kit/toolchain/bin/{name}", MAKER.format(folder=self.folder))
         os.symlink(f"{kit}/bin/rt", f"{self.folder}/bin/rt")
 
-    def run_in_clone(self, *words):
+    def run_in_clone(self, *words, **variables):
         """Status, output and errors of a command, whose PATH has no programs of this machine's toolchain."""
-        environment = {"PATH": f"{self.folder}/bin:/usr/bin:/bin", "PYTHONDONTWRITEBYTECODE": "1"}
+        environment = {"PATH": f"{self.folder}/bin:/usr/bin:/bin", "PYTHONDONTWRITEBYTECODE": "1", **variables}
         done = subprocess.run(words, cwd=self.top, env=environment, capture_output=True, text=True, timeout=60, check=False)
         return done.returncode, done.stdout, done.stderr
 
@@ -117,6 +118,17 @@ class Clone(unittest.TestCase):
         self.assertEqual(found, [f"{self.top}/.built/tcpwit", f"{self.top}/.built/tcpwit_lab"])
         self.assertIn("tcpwit: building it", error)
         self.assertNotIn("tcpwit_lab: building it", error)
+
+    @unittest.skipUnless(os.geteuid() == 0, "needs root")
+    def test_under_sudo_the_owner_builds(self):
+        self.toolchain()
+        owner = pwd.getpwnam("nobody")
+        for folder, _, names in os.walk(self.folder):
+            for name in ["", *names]:
+                os.chown(os.path.join(folder, name), owner.pw_uid, owner.pw_gid, follow_symlinks=False)
+        status, out, error = self.run_in_clone("tools/unproved.py", "--keep", "tcpwit_lab", SUDO_UID=str(owner.pw_uid))
+        self.assertEqual((status, out), (0, f"{self.top}/.built/tcpwit_lab\n"), error)
+        self.assertEqual({os.stat(f"{self.top}/.built/{name}").st_uid for name in ("", "tcpwit_lab", "tcpwit_lab.lock")}, {owner.pw_uid})
 
     def test_scripts_without_the_toolchain(self):
         for words in (["importer/tcpwit-import", "--capture", "0", "none.pcap", "--calls", "0", "none.log", "--out", "run.trace"],
