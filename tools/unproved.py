@@ -5,14 +5,16 @@
     python3 tools/unproved.py --keep NAME ..
 
 NAME is a crate with a `main`, OUT the file of the program. With --keep, the program of each crate is built as `./tcpwit` builds it, unless a current
-one stands, and its file is printed. `rt try` makes a module of the whole program, compiles and runs it, and keeps
-nothing. This takes the module that `rt try` hands to its compiler, and compiles and links it with the kit's own tools. The module has a
+one stands, and its file is printed. The status is 127 if there is no program and none can be built.
+
+`rt try` makes a module of the whole program, compiles and runs it, and keeps nothing. This takes the module that `rt try` hands to its compiler, and compiles and links it with the kit's own tools. The module has a
 test in place of each proof: where one fails the program stops, in place of going on with a wrong value. It leans on how the kit of
 November 2026 lays out its folder.
 """
 import fcntl
 import glob
 import os
+import pwd
 import shutil
 import subprocess
 import sys
@@ -21,6 +23,10 @@ import tempfile
 TOP = os.path.dirname(os.path.dirname(os.path.abspath(__file__)))
 FLAGS = """--target=x86_64-unknown-linux-gnu -march=x86-64 -ffunction-sections -fdata-sections --no-default-config -no-canonical-prefixes
  -fintegrated-cc1 -c -x ir -fPIE""".split()
+# The status if there is no program. `tcpwit` itself never ends with it, so nobody takes it for a verdict.
+NO_PROGRAM = 127
+INSTALL = """  Without the toolchain, install the Debian package, which contains the proved programs (packaging/README.md).
+  With it, put its folder `bin` into PATH; under sudo, PATH may be another, so run ./{name} once without sudo."""
 # Keeps the module of the whole program, and ends the try there. The first module that `rt try` compiles is a small one.
 KEEPER = """#!/bin/sh
 for word in "$@"; do
@@ -30,10 +36,20 @@ exec {clang} "$@"
 """
 
 
+def stop(cause):
+    """Ends, since there is no program."""
+    print(cause, file=sys.stderr)
+    sys.exit(NO_PROGRAM)
+
+
+def need_toolchain(name):
+    """Ends if a program can't be built."""
+    if shutil.which("rt") is None:
+        stop(f"{name} isn't built, and the Rattle toolchain, whose command is rt, isn't in PATH.\n{INSTALL.format(name=name)}")
+
+
 def kit():
     """The folder of the kit."""
-    if shutil.which("rt") is None:
-        sys.exit("the command rt of the Rattle kit is not in PATH")
     return os.path.dirname(os.path.realpath(subprocess.check_output(["rt", "doc"], text=True).strip()))
 
 
@@ -68,7 +84,7 @@ def module_of(name, folder):
         [f"{folder}/kit/bin/rt", "try", name], cwd=f"{TOP}/crates/{name}", stdin=subprocess.DEVNULL, capture_output=True, text=True
     )
     if not os.path.exists(kept):
-        sys.exit(f"{tried.stdout}{tried.stderr}`rt try` made no module of {name}")
+        stop(f"{tried.stdout}{tried.stderr}`rt try` made no module of {name}")
     return kept
 
 
@@ -86,6 +102,7 @@ def linked(objects, out):
 
 def build(name, out, level="-O0"):
     """Builds the program of a crate as the file `out`."""
+    need_toolchain(name)
     os.makedirs(os.path.dirname(os.path.abspath(out)), exist_ok=True)
     with tempfile.TemporaryDirectory() as folder:
         module = module_of(name, folder)
@@ -127,18 +144,39 @@ def kept(name):
     for program in (proved, unproved):
         if is_current(program, name):
             return program
-    os.makedirs(os.path.dirname(unproved), exist_ok=True)
-    with open(f"{unproved}.lock", "w", encoding="utf-8") as lock:
-        fcntl.flock(lock, fcntl.LOCK_EX)
-        if not is_current(unproved, name):
-            print(f"{name}: building it without proofs, once, as {unproved}; this takes a minute or two", file=sys.stderr, flush=True)
-            build(name, unproved)
+    need_toolchain(name)
+    try:
+        build_once(name, unproved)
+    except OSError as fault:
+        stop(f"{name} can't be built: {fault.filename}: {fault.strerror}")
     return unproved
+
+
+def build_once(name, program):
+    """Builds a program, unless another process has built it by then."""
+    os.makedirs(os.path.dirname(program), exist_ok=True)
+    with open(f"{program}.lock", "w", encoding="utf-8") as lock:
+        fcntl.flock(lock, fcntl.LOCK_EX)
+        if not is_current(program, name):
+            print(f"{name}: building it without proofs, once, as {program}; this takes a minute or two", file=sys.stderr, flush=True)
+            build(name, program)
+
+
+def leave_sudo():
+    """Goes on as the user who called sudo, if the repository is theirs: otherwise they couldn't build the program again."""
+    owner = os.stat(TOP).st_uid
+    if os.geteuid() == 0 and os.environ.get("SUDO_UID") == str(owner):
+        entry = pwd.getpwuid(owner)
+        os.initgroups(entry.pw_name, entry.pw_gid)
+        os.setgid(entry.pw_gid)
+        os.setuid(owner)
+        os.environ["HOME"] = entry.pw_dir
 
 
 def main():
     words = sys.argv[1:]
     if words[:1] == ["--keep"] and len(words) > 1:
+        leave_sudo()
         for name in words[1:]:
             print(kept(name))
     elif len(words) in (2, 3):

@@ -2,6 +2,7 @@
 import os
 import shutil
 import subprocess
+import sys
 
 from .header import FULL
 from .problem import Problem
@@ -13,21 +14,29 @@ YES, NO, FAULTY = range(3)
 
 
 def lab(option):
-    """The program tcpwit_lab: by the option, the environment's TCPWIT_LAB, the PATH, or the repository's build."""
+    """The program tcpwit_lab: by the option, the environment's TCPWIT_LAB, the PATH, or the one that ./tcpwit_lab runs."""
     place = option or os.environ.get(VARIABLE)
     if place and not (os.path.isfile(place) and os.access(place, os.X_OK)):
         raise Problem(f"{place} is no program that can be run", NAME_IT)
-    built = os.path.join(TOP, "crates", NAME, "out", NAME)
-    found = place or shutil.which(NAME) or (built if os.access(built, os.X_OK) else None)
+    found = place or shutil.which(NAME) or kept()
     if found is None:
         raise Problem(f"{NAME} is not in the PATH, and not built in this repository",
-                      f"build it (docs/RECORDING.md), or name it by --lab or {VARIABLE}; --no-check judges nothing")
+                      f"install the package (packaging/README.md), or name it by --lab or {VARIABLE}; --no-check judges nothing")
     found = os.path.abspath(found)
     # A program without `judge` is refused here, and not after a long recording. To `judge` an empty trace is faulty.
     if on_file([found, "judge"], os.devnull).returncode != FAULTY:
         raise Problem(f"{found} doesn't know the word judge",
                       f"build it again from these sources (docs/RECORDING.md), or name a newer one by --lab or {VARIABLE}")
     return found
+
+
+def kept():
+    """The program that ./tcpwit_lab of a clone runs, which is built if it is missing; None if it can't be built, or this is no clone."""
+    keeper = os.path.join(TOP, "tools", "unproved.py")
+    if not os.path.exists(keeper):
+        return None
+    done = subprocess.run([sys.executable, keeper, "--keep", NAME], stdout=subprocess.PIPE, text=True, check=False)
+    return done.stdout.strip() if done.returncode == 0 else None
 
 
 def case_of(trace):

@@ -1,0 +1,138 @@
+#!/usr/bin/python3
+"""Checks the pages that a newcomer reads.
+
+    tools/docs.py            each file, link and section that they name exists, and each command works and prints what the page shows
+    tools/docs.py --names    only the first of both, for which no program is needed
+
+The commands are run in a copy of the repository; docs_commands.py names those that aren't run, with the reason. Prints a line for each fault, with its page and
+line. The status is 1 if there is one.
+"""
+import argparse
+import os
+import re
+import sys
+
+sys.dont_write_bytecode = True
+sys.path.insert(0, os.path.dirname(os.path.abspath(__file__)))
+import docs_commands  # noqa: E402
+
+TOP = os.path.dirname(os.path.dirname(os.path.abspath(__file__)))
+PAGES = ("README.md", "docs/RECORDING.md", "docs/QUESTIONS.md", "stacks/README.md", "packaging/README.md", "importer/README.md")
+LINK = re.compile(r"\]\(([^)\s]+)\)")
+# A word in backticks that can be the name of a file of this repository.
+NAME = re.compile(r"`(\.?/?[\w-][\w./-]*)`")
+SOURCE = re.compile(r"\.(md|py|c|h|go|rs|sbatch|scenario)$")
+# A page and its section, by number or by title: `RECORDING.md`, section 5; [it](PROOFS.md), "The printed case".
+SECTION = re.compile(r'(?:(?:\]\(([^)\s]+\.md)\)|`([\w./]+\.md)`),? )?(?:\bsection (\d+)|(?<=, )"([^"\n]+)")')
+# What the examples get from their own server, which shows the folder where the command is called.
+FETCHED = re.compile(r"http://10\.9\.0\.2/([\w./-]*)")
+# Where programs are left that are built: a clone doesn't have them.
+BUILT = re.compile(r"(^|/)(out|\.built)(/|$)")
+
+
+def text_of(page):
+    """The text of a page, or of what its name leads to."""
+    with open(page, encoding="utf-8") as file:
+        return file.read()
+
+
+def slug(heading):
+    """The anchor of a heading."""
+    return re.sub(r"[^\w -]", "", heading.lower()).strip().replace(" ", "-")
+
+
+def headings(text):
+    """The headings of a page, and the questions and terms that begin its paragraphs."""
+    return re.findall(r"^#+ (.*)$", text, re.M) + re.findall(r"^\*\*([^*]+)\*\*", text, re.M)
+
+
+def has_section(text, number, title):
+    """Whether a page has a section with this number, or one that begins with this title."""
+    if number:
+        return re.search(rf"^#+ {number}\b", text, re.M) is not None
+    return any(re.sub(r"^[\d.]+ ", "", heading).startswith(title) for heading in headings(text))
+
+
+class Tree:
+    """A copy of the repository whose pages are checked."""
+
+    def __init__(self, top=TOP):
+        self.top = top
+        self.names = {name for folder, _, names in os.walk(top) if "/." not in folder[len(top):] for name in names}
+
+    def places(self, page, name):
+        """Where a name in a page may lead."""
+        here = os.path.dirname(os.path.join(self.top, page))
+        return [os.path.normpath(os.path.join(folder, name)) for folder in (here, self.top, f"{self.top}/docs")]
+
+    def file(self, page, name):
+        """The file that a page names, or None."""
+        return next((place for place in self.places(page, name) if os.path.exists(place)), None)
+
+    def is_of_ours(self, page, name):
+        """Whether a name is meant to be a file of the repository: by its end, or by the folder that it begins with."""
+        if re.match(r"/|\.\w+$", name) or BUILT.search(name):
+            return False
+        first, slash, _ = name.removeprefix("./").partition("/")
+        return bool(SOURCE.search(name)) or bool(slash) and self.file(page, first) is not None
+
+    def links(self, page, text):
+        """The faults of the links."""
+        for found in LINK.finditer(text):
+            name, _, anchor = found[1].partition("#")
+            if re.match(r"\w+:", name):
+                continue
+            place = os.path.join(os.path.dirname(os.path.join(self.top, page)), name) if name else os.path.join(self.top, page)
+            if not os.path.exists(place):
+                yield found.start(), f"the link {found[1]} leads nowhere"
+            elif anchor and anchor not in map(slug, headings(text_of(place))):
+                yield found.start(), f"{name or page} has no heading #{anchor}"
+
+    def files(self, page, text):
+        """The faults of the names of files."""
+        for found in NAME.finditer(text):
+            name = found[1]
+            known = self.file(page, name) or ("/" not in name and name in self.names)
+            if self.is_of_ours(page, name) and not known:
+                yield found.start(), f"there is no file {name}"
+        for found in FETCHED.finditer(text):
+            if not os.path.exists(os.path.join(self.top, found[1])):
+                yield found.start(), f"the server of the example has no page {found[1]}"
+
+    def sections(self, page, text):
+        """The faults of sections. One without a page is the page's own, or that of the page named before."""
+        own = re.search(r"^## \d", text, re.M) is not None
+        before = page
+        for found in SECTION.finditer(re.sub(r"\n(?!\n)", " ", text)):
+            named = found[1] or found[2]
+            if not named and found[4]:
+                continue
+            name = named or (page if own else before)
+            before = name if named else before
+            place = self.file(page, name)
+            if place and not has_section(text_of(place), found[3], found[4]):
+                yield found.start(), f"{name} has no section {found[3] or found[4]}"
+
+    def faults(self, page):
+        """The faults of a page, each with its line."""
+        text = text_of(os.path.join(self.top, page))
+        found = [*self.links(page, text), *self.files(page, text), *self.sections(page, text)]
+        return [f"{page}:{text.count(chr(10), 0, at) + 1}: {fault}" for at, fault in sorted(found)]
+
+
+def main():
+    words = argparse.ArgumentParser(description=__doc__, formatter_class=argparse.RawDescriptionHelpFormatter)
+    words.add_argument("--names", action="store_true", help="check the names of files, links and sections, and run no command")
+    given = words.parse_args()
+    tree = Tree()
+    faults = [fault for page in PAGES for fault in tree.faults(page)]
+    print("\n".join(faults or [f"{len(PAGES)} pages: each file, link and section that they name exists"]), flush=True)
+    if given.names:
+        return 1 if faults else 0
+    failed, count = docs_commands.faults({page: text_of(os.path.join(TOP, page)) for page in PAGES})
+    print("\n".join(failed or [f"{count} commands or groups of commands work"]))
+    return 1 if faults or failed else 0
+
+
+if __name__ == "__main__":
+    sys.exit(main())

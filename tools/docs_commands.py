@@ -1,0 +1,195 @@
+"""Runs the commands of pages in a copy of the repository, and compares what they print with what the pages show."""
+import os
+import re
+import shutil
+import signal
+import subprocess
+import tarfile
+import tempfile
+
+from unproved import kept
+
+TOP = os.path.dirname(os.path.dirname(os.path.abspath(__file__)))
+# Commands that aren't run, by how they begin, and why.
+LEFT_OUT = {
+    "sudo ": "needs root, and namespaces, the network or a package",
+    "(cd crates/": "proves",
+    "packaging/build --out": "packs proved programs",
+    "./test": "calls this script, and proves",
+    "importer/test": "is a suite of ./test",
+    "stacks/run ": "takes more than a minute; stacks/test runs some of the scenarios",
+    "tcpdump ": "needs root",
+    "strace -f --absolute-timestamps": "logs what a capture on another machine shows",
+    "parallel ": "needs two machines",
+    "tcpwit-status --cases N": "reads what parallel prints",
+    "read files cases": "needs a cluster",
+    "mkdir lines": "needs a cluster",
+    "sbatch ": "needs a cluster",
+    "cat lines/": "needs a cluster",
+    "tcpwit check < /usr/share": "needs the installed package",
+    "tcpwit_lab draw < /usr/share": "needs the installed package",
+    "man ": "needs the installed package",
+}
+# Texts that are neither commands nor what the command before them prints, by how they begin.
+SHOWN = ("trace 1  ", "no 23 0 congestion")
+# Statuses that aren't 0, of commands whose page shows no output. A busy machine lets `record` end with 1.
+STATUSES = {"tcpwit record ": 1, "strace -f -o calls": 5}
+COMMAND = re.compile(r"(\./|sudo |importer/|stacks/|packaging/|\(cd |\{ |(tcpwit|tcpwit_lab|tcpdump|strace|for|parallel|read|mkfifo|cat|sed|grep) )")
+# A command in a sentence or a table. One with `..` is cut, and one with N has a number to be chosen.
+INLINE = re.compile(r"(?<!`)`((?:\./)?tcpwit(?:_lab)? [^`\s]+ (?:(?!\.\.|\bN\b)[^`\n])+)`")
+BLOCK = re.compile(r"^(?:    .*\n)+", re.M)
+VERDICT = re.compile(r"(yes|no|bad) ")
+LIMIT = 60
+# Writes the status of each command that fails, and the command, to the file descriptor 9.
+TRAP = "set -E; trap 'echo \"$? $BASH_COMMAND\" >&9' ERR\n"
+
+
+class Commands:
+    """Commands of a page that are run together, and the lines that they should print, if the page shows them."""
+
+    def __init__(self, place, lines):
+        self.place = place
+        self.lines = lines
+        self.end = None
+        self.output = None
+
+    def left_out(self):
+        """The beginnings of LEFT_OUT that keep a command from being run."""
+        return [start for line in self.lines for start in LEFT_OUT if line.startswith(start)]
+
+    def script(self):
+        """What is run of them."""
+        return "\n".join(line for line in self.lines if not line.startswith(tuple(LEFT_OUT)))
+
+
+def command_lines(block):
+    """The commands of a block, without what is said of them behind four spaces."""
+    joined = re.sub(r"\\\n *", "", re.sub(r"^    ", "", block, flags=re.M))
+    return [re.split(r" {4,}", line)[0].rstrip() for line in joined.splitlines()]
+
+
+def commands_of(text):
+    """The commands of a page in their order, and the places of the blocks that belong to none."""
+    found = [Commands(match.start(), [match[1]]) for match in INLINE.finditer(text)]
+    last, strangers = None, []
+    for match in BLOCK.finditer(text):
+        body = re.sub(r"^    ", "", match[0], flags=re.M)
+        if COMMAND.match(body):
+            last = Commands(match.start(), command_lines(match[0]))
+            last.end = match.end()
+            found.append(last)
+        elif last and last.output is None and (not text[last.end:match.start()].strip() or VERDICT.match(body) and not body.startswith(SHOWN)):
+            last.output = body.splitlines()
+        elif not body.startswith(SHOWN):
+            strangers.append(match.start())
+    return sorted(found, key=lambda commands: commands.place), strangers
+
+
+def fits(wanted, printed):
+    """Whether lines are printed as a page shows them; `..` there is any number of lines."""
+    pattern = "".join("(?:.*\n)*" if line.strip() == ".." else re.escape(line.rstrip()) + " *\n" for line in wanted)
+    return re.fullmatch(pattern, "".join(line + "\n" for line in printed)) is not None
+
+
+def unexpected(failed):
+    """The commands that failed with a status that STATUSES doesn't have."""
+    for line in failed.splitlines():
+        status, command = line.split(" ", 1)
+        if not any(command.startswith(start) and int(status) == known for start, known in STATUSES.items()):
+            yield f"`{command}` ended with status {status}"
+
+
+class Copy:
+    """A copy of the repository, with programs that are built, and a folder for each page with what its commands read."""
+
+    def __init__(self, folder, top=TOP):
+        self.folder = folder
+        self.top = f"{folder}/copy"
+        shutil.copytree(top, self.top, symlinks=True, ignore=shutil.ignore_patterns(".git", ".built", "out", "__pycache__"))
+        for path in (f"{self.top}/.built", f"{folder}/bin"):
+            os.mkdir(path)
+        for name in ("tcpwit", "tcpwit_lab"):
+            shutil.copyfile(kept(name), f"{self.top}/.built/{name}")
+            os.chmod(f"{self.top}/.built/{name}", 0o755)
+            os.symlink(f"{self.top}/.built/{name}", f"{folder}/bin/{name}")
+        for name in ("tcpwit-junit", "tcpwit-status", "tcpwit-parts"):
+            os.symlink(f"{self.top}/packaging/lines/{name}", f"{folder}/bin/{name}")
+
+    def page(self, page, text):
+        """A folder that looks like the top of the repository, with what the commands of a page read."""
+        at = f"{self.folder}/{page.replace('/', '-')}"
+        os.mkdir(at)
+        for name in os.listdir(self.top):
+            os.symlink(f"{self.top}/{name}", f"{at}/{name}")
+        trace, case = f"{self.top}/crates/test_cases/data/kernel/lost-fin.trace", f"{self.top}/examples/handshake.case"
+        os.mkdir(f"{at}/DIR")
+        for name in ("run.trace", "TRACE", "DIR/run.trace"):
+            shutil.copyfile(trace, f"{at}/{name}")
+        for name in ("run.case", "CASE", "DIR/run.case"):
+            shutil.copyfile(case, f"{at}/{name}")
+        with open(case, encoding="ascii") as file:
+            whole = file.read()
+        files = {"CASES": f"{whole}end\n" * 2}
+        if "mkfifo F G" not in text:
+            files |= dict(zip("FG", (whole[:whole.index("witness ")], whole[whole.index("witness "):])))
+        for name, content in files.items():
+            with open(f"{at}/{name}", "w", encoding="ascii") as file:
+                file.write(content)
+        self.captures(at)
+        return at
+
+    def captures(self, at):
+        """The captures and logs of a recording, by the names of RECORDING.md."""
+        with tarfile.open(f"{self.top}/importer/tests/data/recordings.tar.xz") as archive:
+            for host in (0, 1):
+                for source, name in (("pcap", f"c{host}.pcap"), ("log", f"s{host}.log")):
+                    with open(f"{at}/{name}", "wb") as file:
+                        file.write(archive.extractfile(f"./asyncio/host{host}.{source}").read())
+
+    def run(self, script, folder):
+        """What a script prints, and the commands in it that failed."""
+        environment = {"PATH": f"{self.folder}/bin:/usr/bin:/bin", "LC_ALL": "C", "PYTHONDONTWRITEBYTECODE": "1", "HOME": self.folder}
+        with tempfile.TemporaryFile("w+") as printed, tempfile.TemporaryFile("w+") as failed:
+            shell = subprocess.Popen(["bash", "-c", f"exec 9>&{failed.fileno()}\n{TRAP}{script}\nwait"], cwd=folder, env=environment,
+                                     stdin=subprocess.DEVNULL, stdout=printed, stderr=subprocess.STDOUT, pass_fds=[failed.fileno()],
+                                     start_new_session=True)
+            try:
+                shell.wait(LIMIT)
+                late = ""
+            except subprocess.TimeoutExpired:
+                os.killpg(shell.pid, signal.SIGKILL)
+                shell.wait()
+                late = f"124 {script.splitlines()[0]}\n"
+            for file in (printed, failed):
+                file.seek(0)
+            return printed.read().splitlines(), late + failed.read()
+
+
+def faults_of(commands, copy, folder):
+    """What is wrong with some commands of a page."""
+    script = commands.script()
+    if not script:
+        return []
+    printed, failed = copy.run(script, folder)
+    shown = commands.output is not None and not commands.left_out()
+    if shown and not fits(commands.output, printed):
+        return ["prints other lines than the page shows:", *(f"    {line}" for line in printed)]
+    found = [] if shown else list(unexpected(failed))
+    return found + [f"    {line}" for line in printed[-5:]] if found else []
+
+
+def faults(pages, top=TOP):
+    """The faults of the commands of all pages, from their names to their texts, each with its page and line; how many were run."""
+    found, used, count = [], set(), 0
+    with tempfile.TemporaryDirectory() as folder:
+        copy = Copy(folder, top)
+        for page, text in pages.items():
+            at = copy.page(page, text)
+            blocks, strangers = commands_of(text)
+            line = lambda place: f"{page}:{text.count(chr(10), 0, place) + 1}"
+            found += [f"{line(place)}: neither a command nor what one prints: see COMMAND and SHOWN" for place in strangers]
+            for commands in blocks:
+                used.update(commands.left_out())
+                count += bool(commands.script())
+                found += [f"{line(commands.place)}: {fault}" for fault in faults_of(commands, copy, at)]
+    return found + [f"LEFT_OUT: no page has a command that begins with {start!r}" for start in LEFT_OUT if start not in used], count

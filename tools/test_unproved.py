@@ -1,0 +1,152 @@
+#!/usr/bin/python3
+"""Which programs the scripts of a clone run, and what they say if there is none. No toolchain is needed: scripts take its place."""
+import os
+import pwd
+import shutil
+import subprocess
+import sys
+import tempfile
+import unittest
+
+TOP = os.path.dirname(os.path.dirname(os.path.abspath(__file__)))
+NO_PROGRAM = 127
+# What the scripts need of a repository.
+FOLDERS = ("importer/tcpwit_import", "stacks/runner")
+FILES = ("tcpwit", "tcpwit_lab", "tools/unproved.py", "importer/tcpwit-import", "stacks/run", "stacks/scenarios/data-bulk.scenario")
+# A program that answers to `judge` of nothing, as tcpwit_lab does, and to everything else by its name.
+PROGRAM = """#!/bin/sh
+[ "$*" = judge ] && exit 2
+echo "this is $(basename "$0")"
+"""
+# In place of the toolchain: `rt doc` names its folder, and `rt try` hands a large module to the compiler beside it.
+RT = """#!/bin/sh
+case $1 in
+doc) echo {kit}/doc ;;
+try) head -c 200000 /dev/zero > {folder}/module.bc; "$(dirname "$0")/../toolchain/bin/clang" {folder}/module.bc ;;
+esac
+"""
+# The compiler and the linker: the file after -o is the program above.
+MAKER = """#!/bin/sh
+while [ $# -gt 1 ] && [ "$1" != -o ]; do shift; done
+[ $# -gt 1 ] && cp {folder}/program "$2"
+exit 0
+"""
+
+
+class Clone(unittest.TestCase):
+    def setUp(self):
+        folder = tempfile.TemporaryDirectory()
+        self.addCleanup(folder.cleanup)
+        self.folder, self.top = folder.name, f"{folder.name}/clone"
+        for name in FOLDERS:
+            shutil.copytree(f"{TOP}/{name}", f"{self.top}/{name}", ignore=shutil.ignore_patterns("__pycache__"))
+        for name in FILES:
+            os.makedirs(os.path.dirname(f"{self.top}/{name}"), exist_ok=True)
+            shutil.copy(f"{TOP}/{name}", f"{self.top}/{name}")
+        for name in ("tcpwit", "tcpwit_lab"):
+            self.write(f"clone/crates/{name}/src/main.rt", "")
+        self.write("clone/crates.txt", "tcpwit:\ntcpwit_lab:\n")
+        self.write("program", PROGRAM)
+        os.mkdir(f"{self.folder}/bin")
+
+    def write(self, name, text):
+        """Writes a program."""
+        path = f"{self.folder}/{name}"
+        os.makedirs(os.path.dirname(path), exist_ok=True)
+        with open(path, "w", encoding="ascii") as file:
+            file.write(text)
+        os.chmod(path, 0o755)
+
+    def built(self, *names):
+        """Puts programs where ./tcpwit and ./tcpwit_lab keep them."""
+        for name in names:
+            self.write(f"clone/.built/{name}", PROGRAM)
+
+    def toolchain(self):
+        """Puts the scripts in its place."""
+        kit = f"{self.folder}/kit"
+        for name in ("bin/rt", "bin/rtlib.py"):
+            self.write(f"kit/{name}", RT.format(kit=kit, folder=self.folder))
+        for name in ("clang", "ld.lld"):
+            self.write(f"kit/toolchain/bin/{name}", MAKER.format(folder=self.folder))
+        os.symlink(f"{kit}/bin/rt", f"{self.folder}/bin/rt")
+
+    def run_in_clone(self, *words, **variables):
+        """Status, output and errors of a command, whose PATH has no programs of this machine's toolchain."""
+        environment = {"PATH": f"{self.folder}/bin:/usr/bin:/bin", "PYTHONDONTWRITEBYTECODE": "1", **variables}
+        done = subprocess.run(words, cwd=self.top, env=environment, capture_output=True, text=True, timeout=60, check=False)
+        return done.returncode, done.stdout, done.stderr
+
+    def found(self, name):
+        """The program that the importer or the suite for stacks finds, with what is said on standard error."""
+        if name == "importer":
+            code = "import sys; sys.path.insert(0, 'importer'); from tcpwit_import import judging; print(judging.lab(None))"
+        else:
+            code = "import sys; from importlib.machinery import SourceFileLoader as Loader; run = Loader('run', 'stacks/run').load_module(); " \
+                   "print(*run.program(None, 'TCPWIT', 'tcpwit'), *run.program(None, 'TCPWIT_LAB', 'tcpwit_lab'))"
+        status, out, error = self.run_in_clone(sys.executable, "-W", "ignore", "-c", code)
+        self.assertEqual(status, 0, error)
+        return out.split(), error
+
+    def test_without_the_toolchain(self):
+        for name in ("tcpwit", "tcpwit_lab"):
+            status, out, error = self.run_in_clone(f"./{name}", "check")
+            self.assertEqual((status, out), (NO_PROGRAM, ""))
+            self.assertIn(f"{name} isn't built, and the Rattle toolchain, whose command is rt, isn't in PATH", error)
+            self.assertIn("install the Debian package", error)
+            self.assertFalse(os.path.exists(f"{self.top}/.built"))
+
+    def test_the_built_programs(self):
+        self.built("tcpwit", "tcpwit_lab")
+        self.assertEqual(self.run_in_clone("./tcpwit", "check"), (0, "this is tcpwit\n", ""))
+        self.assertEqual(self.found("importer"), ([f"{self.top}/.built/tcpwit_lab"], ""))
+        self.assertEqual(self.found("stacks"), ([f"{self.top}/.built/tcpwit", f"{self.top}/.built/tcpwit_lab"], ""))
+
+    def test_the_path_comes_first(self):
+        self.built("tcpwit", "tcpwit_lab")
+        for name in ("tcpwit", "tcpwit_lab"):
+            self.write(f"bin/{name}", PROGRAM)
+        self.assertEqual(self.found("importer"), ([f"{self.folder}/bin/tcpwit_lab"], ""))
+        self.assertEqual(self.found("stacks"), ([f"{self.folder}/bin/tcpwit", f"{self.folder}/bin/tcpwit_lab"], ""))
+
+    def test_missing_programs_are_built(self):
+        self.toolchain()
+        found, error = self.found("importer")
+        self.assertEqual(found, [f"{self.top}/.built/tcpwit_lab"])
+        self.assertIn("tcpwit_lab: building it without proofs, once", error)
+        found, error = self.found("stacks")
+        self.assertEqual(found, [f"{self.top}/.built/tcpwit", f"{self.top}/.built/tcpwit_lab"])
+        self.assertIn("tcpwit: building it", error)
+        self.assertNotIn("tcpwit_lab: building it", error)
+
+    @unittest.skipUnless(os.geteuid() == 0, "needs root")
+    def test_under_sudo_the_owner_builds(self):
+        self.toolchain()
+        owner = pwd.getpwnam("nobody")
+        for folder, _, names in os.walk(self.folder):
+            for name in ["", *names]:
+                os.chown(os.path.join(folder, name), owner.pw_uid, owner.pw_gid, follow_symlinks=False)
+        status, out, error = self.run_in_clone("tools/unproved.py", "--keep", "tcpwit_lab", SUDO_UID=str(owner.pw_uid))
+        self.assertEqual((status, out), (0, f"{self.top}/.built/tcpwit_lab\n"), error)
+        self.assertEqual({os.stat(f"{self.top}/.built/{name}").st_uid for name in ("", "tcpwit_lab", "tcpwit_lab.lock")}, {owner.pw_uid})
+
+    def test_scripts_without_the_toolchain(self):
+        for words in (["importer/tcpwit-import", "--capture", "0", "none.pcap", "--calls", "0", "none.log", "--out", "run.trace"],
+                      ["stacks/run", "true", "data-bulk"]):
+            status, out, error = self.run_in_clone(*words)
+            self.assertEqual((status, out), (2, ""), error)
+            self.assertIn("install the Debian package", error)
+            self.assertNotIn("Traceback", error)
+
+    def test_an_installed_package_has_nothing_to_build(self):
+        os.remove(f"{self.top}/tools/unproved.py")
+        status, _, error = self.run_in_clone("stacks/run", "true", "data-bulk")
+        self.assertEqual(status, 2)
+        self.assertIn("tcpwit isn't found", error)
+        for name in ("tcpwit", "tcpwit_lab"):
+            self.write(f"bin/{name}", PROGRAM)
+        self.assertEqual(self.found("importer"), ([f"{self.folder}/bin/tcpwit_lab"], ""))
+
+
+if __name__ == "__main__":
+    unittest.main()
