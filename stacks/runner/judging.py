@@ -1,4 +1,5 @@
 """From a run to a verdict: the header of the trace, a witness by `tcpwit_lab find`, the answer of `tcpwit check`."""
+import re
 import subprocess
 from dataclasses import dataclass, field
 
@@ -19,7 +20,7 @@ LIMIT = 120
 class Outcome:
     """What is said of one scenario."""
     scenario: object
-    verdict: str = ""           # yes .., no .., bad .., skipped, or broken: of all of congestion control
+    verdict: str = ""           # yes .., no .., bad .., skipped .., recorded, or broken ..: of all of congestion control
     strictest: str = ""         # the strictest word with a yes; empty if no word has one
     why: str = ""               # after a no: what the rule compares, and what usually causes it
     remarks: list = field(default_factory=list)
@@ -36,6 +37,10 @@ class Outcome:
         """Whether it is a yes, and all came out as the scenario says."""
         lost = self.missing and self.scenario.keeps
         return self.is_yes(least) and not (self.unexpected or self.waiting or lost)
+
+    def is_unjudged(self):
+        """Whether there is no verdict, and no fault either: the adapter can't run the scenario, or nothing is to be judged."""
+        return self.word() in ("skipped", "recorded")
 
     def word(self):
         """One word for tables: what is wrong first."""
@@ -56,6 +61,8 @@ def profile(text):
             if word not in values:
                 raise ValueError(f"{word} is no word of a profile")
             values[word] = value.strip()
+            if word in HEADER and not re.fullmatch("[0-9]+", values[word]):
+                raise ValueError(f"{word} {values[word]!r} is no number")
     return values
 
 
@@ -88,7 +95,11 @@ class Judge:
 
     def knows_words(self):
         """Whether both programs read version 4 of the texts."""
-        return self.answer(call(self.lab, "find", trace_of(USUAL, False, [], WORDS[-1]))[0]).startswith("yes")
+        return self.empty(USUAL).startswith("yes")
+
+    def empty(self, values):
+        """The verdict on a trace that is only a header, with these values of a profile."""
+        return self.answer(call(self.lab, "find", trace_of(values, False, [], WORDS[-1]))[0])
 
     def found(self, run, values, word):
         """A case and its verdict: the first that is a yes, or that of the whole trace."""

@@ -4,14 +4,12 @@ Time is simulated: an event is taken, the stack of its host does what it does at
 run depends on the scenario, its seed and the stack alone.
 """
 import heapq
-import os
 import random
-import signal
-import subprocess
 import threading
 
-from segments import read, stream
+from host import Host
 from peer import Peer
+from segments import read, stream
 
 FAULTS = ("refused", "reset", "timeout")
 # Threads of the lines that no call writes, for host 0 and host 1.
@@ -20,71 +18,6 @@ LONGEST_CALL = 60000
 MOST_EVENTS = 200_000
 # Seconds of the machine's clock after which a stack that doesn't answer is ended.
 LONGEST_RUN = 60
-
-
-class Broken(Exception):
-    """The stack's process ended, or said what nobody understands."""
-
-
-class Cannot(Exception):
-    """The adapter can't do what the scenario wants."""
-
-
-class Host:
-    """A stack in a process of its own."""
-
-    def __init__(self, number, command, settings):
-        self.number = number
-        self.process = subprocess.Popen(command, stdin=subprocess.PIPE, stdout=subprocess.PIPE, text=True, bufsize=1 << 16,
-                                        start_new_session=True)
-        self.next = None
-        self.settings = settings
-
-    def hello(self, seed, options):
-        """Sets the stack up."""
-        number, settings = self.number, self.settings
-        mss, window = settings.get((number, "mss"), 536), settings.get((number, "window"), 0)
-        answer, _ = self.ask(f"start {number} {seed} {mss} {window} {options}")
-        if answer != "ok":
-            raise Cannot(f"start with mss {mss} and window {window}")
-
-    def ask(self, command):
-        """Sends a command; the answer, and what happened: ('out', hex) and ('expired', ports and timer)."""
-        try:
-            self.process.stdin.write(command + "\n")
-            self.process.stdin.flush()
-        except BrokenPipeError as fault:
-            raise Broken(f"the stack of host {self.number} ended before: {command[:60]}") from fault
-        happened = []
-        while True:
-            line = self.process.stdout.readline()
-            word, _, rest = line.rstrip("\n").partition(" ")
-            if word == "=":
-                wanted, _, answer = rest.partition(" ")
-                self.next = None if wanted == "-" else int(wanted)
-                return answer, happened
-            if word not in ("out", "expired"):
-                raise Broken(f"host {self.number} answered {line.strip()[:60]!r} to: {command[:60]}")
-            happened.append((word, rest))
-
-    def kill(self):
-        """Ends the process and those that it started."""
-        try:
-            os.killpg(self.process.pid, signal.SIGKILL)
-        except ProcessLookupError:
-            pass
-
-    def end(self):
-        try:
-            self.process.stdin.close()
-        except BrokenPipeError:
-            pass
-        try:
-            self.process.wait(5)
-        except subprocess.TimeoutExpired:
-            self.kill()
-            self.process.wait()
-        self.process.stdout.close()
 
 
 class Wire:
@@ -193,7 +126,7 @@ class Run:
 
     def ask(self, host, command):
         """Has a stack do something, and sees to what came of it."""
-        answer, happened = self.hosts[host].ask(f"{self.now} {command}")
+        answer, happened = self.hosts[host].ask(command.split(" ", 1)[0], f"{self.now} {command}")
         for word, rest in happened:
             if word == "expired":
                 local, remote, timer = rest.split()
@@ -277,8 +210,6 @@ class Run:
         """Tries an open call. Whether it was answered."""
         step, host, command = thread.open
         answer = self.ask(host, command) if command else "badsocket"
-        if answer == "cannot":
-            raise Cannot(f"{step.word} at host {host}")
         number = self.names.get(step.args[0]) if step.word not in ("listen", "open") else None
         answer = self.told_again(number, step.word, answer)
         waits = answer == "again" and step.word in ("await", "accept", "send", "recv") and "again" not in step.expected

@@ -17,6 +17,7 @@ sys.path.insert(0, os.path.join(TOP, "runner"))
 sys.dont_write_bytecode = True
 
 import dropping  # noqa: E402
+import host  # noqa: E402
 import judging  # noqa: E402
 import language  # noqa: E402
 import segments  # noqa: E402
@@ -215,6 +216,34 @@ class TheStrictestWord(unittest.TestCase):
             self.assertFalse(StandIn("", "bad trace 1 0 7 header").knows_words())
 
 
+class Answers(unittest.TestCase):
+    def test_what_a_call_may_be_answered(self):
+        for word, answer in (("start", "ok"), ("await", "again"), ("open", "ok 0"), ("send", "ok 12"), ("recv", "data 00ff"), ("recv", "eof"),
+                             ("status", "state FIN-WAIT-1"), ("close", "ok")):
+            self.assertTrue(host.is_answer(word, answer), (word, answer))
+        for word, answer in (("start", ""), ("start", "no"), ("await", "ok 1"), ("open", "ok"), ("send", "ok 0"), ("recv", "data"), ("recv", "data 0"),
+                             ("recv", "data xy"), ("status", "ok"), ("close", "fine"), ("await", "badsocket")):
+            self.assertFalse(host.is_answer(word, answer), (word, answer))
+
+    def test_what_a_stack_may_say(self):
+        syn = "0fa00050000000000000000050020000" + "00000000"
+        for word, rest in (("out", syn), ("expired", "80 4000 rto")):
+            self.assertEqual(host.fault_of(word, rest), "")
+        for word, rest, cause in (("out", syn[:-1], "two for each"), ("out", syn[:-2], "19 bytes, fewer"), ("out", "", "0 bytes, fewer"),
+                                  ("out", syn.upper().replace("F", "G"), "hex"), ("out", syn[:24] + "6" + syn[25:], "header says 24"),
+                                  ("out", syn[:24] + "4" + syn[25:], "header says 16"), ("expired", "80 4000", "timer"), ("expired", "80 4000 RTO", "timer"),
+                                  ("\x00\xff", "", "isn't understood"), ("", "", "isn't understood")):
+            self.assertIn(cause, host.fault_of(word, rest), rest)
+
+
+# An adapter that says the same to everything.
+ADAPTER = """#!{python}
+import sys
+for line in sys.stdin:
+    print({answer!r}, flush=True)
+"""
+
+
 class TheCommand(unittest.TestCase):
     def setUp(self):
         folder = tempfile.TemporaryDirectory()
@@ -226,6 +255,63 @@ class TheCommand(unittest.TestCase):
         done = subprocess.run([sys.executable, os.path.join(TOP, "run"), *words], capture_output=True, text=True, timeout=60)
         self.assertNotIn("Traceback", done.stderr)
         return done.returncode, done.stdout, done.stderr
+
+    def adapter(self, text=ADAPTER, **values):
+        """A program that stands for a stack."""
+        path = f"{self.folder}/adapter"
+        with open(path, "w") as file:
+            file.write(text.format(python=sys.executable, **values))
+        os.chmod(path, 0o755)
+        return path
+
+    def programs(self):
+        """Options for programs that judge: a `tcpwit` that has a yes for all."""
+        path = f"{self.folder}/judge"
+        with open(path, "w") as file:
+            file.write("#!/bin/sh\necho yes 1 1\n")
+        os.chmod(path, 0o755)
+        return "--check", path, "--lab", path
+
+    def test_skipped_by_the_word_cannot_alone(self):
+        status, out, error = self.run_it(self.adapter(answer="= - cannot"), "open-plain", "data-bulk", *self.programs())
+        self.assertEqual((status, "nothing was judged" in error), (2, True))
+        self.assertIn("nothing was judged\nnot among them: 2 of 2 skipped", out)
+        for answer in ("= - banana", "= x ok", "=", "banana", "out 00", "expired 1", "= - again"):
+            status, out, error = self.run_it(self.adapter(answer=answer), "open-plain", *self.programs())
+            self.assertEqual((status, "1 broken" in out, error), (1, True, ""), answer)
+            self.assertIn(f"{answer!r}, to: start 0 1", out)
+
+    def test_only_trace_is_no_yes(self):
+        status, out, error = self.run_it(self.adapter(answer="= - ok"), "hostile-closed-ack", "--only-trace", "--junit", f"{self.folder}/report.xml")
+        self.assertEqual((status, error), (1, "nothing was judged: --only-trace\n"))
+        self.assertRegex(out, "hostile-closed-ack +recorded ")
+        self.assertNotIn("yes,", out)
+        with open(f"{self.folder}/report.xml") as file:
+            self.assertIn('failures="0" skipped="1"', file.read())
+        self.assertEqual(self.run_it("true", "--only-trace", "--against", "/nowhere")[0], 2)
+
+    def test_a_whole_name_is_one_scenario(self):
+        def names(*words):
+            return [os.path.basename(path)[:-9] for path in command.paths_of(words)]
+        folder = os.path.join(TOP, "scenarios")
+        self.assertEqual(names("data-bulk"), ["data-bulk"])
+        self.assertEqual(names("data-bulk.scenario"), ["data-bulk"])
+        self.assertEqual(names("data-bulk", f"{folder}/data-bulk.scenario"), ["data-bulk"])
+        self.assertEqual(names("data-bulk-"), ["data-bulk-large-segments", "data-bulk-tiny-segments"])
+        self.assertEqual(len(names()), len(os.listdir(folder)))
+
+    def test_a_profile_that_cannot_be_used(self):
+        for text, cause in (("mls 5", "profile: mls is no word of a profile"), ("msl fast", "profile: msl 'fast' is no number"),
+                            ("msl", "profile: msl '' is no number"), ("msl 5", "even a trace without lines is answered 'bad trace 3'")):
+            with open(f"{self.folder}/profile", "w") as file:
+                file.write(text)
+            judge = f"{self.folder}/judge"
+            with open(judge, "w") as file:
+                file.write("#!/bin/sh\ntext=$(cat)\ncase $1$text in check*'msl 5'*) echo bad trace 3 ;; check*) echo yes 1 1 ;; *) echo \"$text\" ;; esac\n")
+            os.chmod(judge, 0o755)
+            status, out, error = self.run_it(self.adapter(answer="= - ok"), "--profile", f"{self.folder}/profile", "--check", judge, "--lab", judge)
+            self.assertEqual((status, out), (2, ""))
+            self.assertIn(cause, error)
 
     def outcome(self, verdict, strictest, name="x"):
         return judging.Outcome(SimpleNamespace(keeps=True, name=name, show="a", by="b"), verdict, strictest)
@@ -295,7 +381,8 @@ class TheCommand(unittest.TestCase):
     def test_what_cannot_be_run(self):
         self.assertEqual(self.run_it("lwip", "--least", "cubic")[0], 2)
         for words, cause in ((["/nowhere"], "neither a folder"), (["true", "--profile", "/nowhere", "data-bulk"], "/nowhere: No such file"),
-                             (["true", "data-bluk"], "data-bluk is neither a file"), (["true", "data-bulk", "data-bluk"], "data-bluk is neither"),
+                             (["true", "data-bluk"], "'data-bluk' is neither a file"), (["true", "data-bulk", ""], "'' is neither"),
+                             (["runner"], "runner/build"), (["scenarios/../scenarios"], "build"),
                              (["true", "--jobs", "0"], "'0' is no number"), (["true", "--jobs", "x"], "'x' is no number"),
                              (["true", "data-bulk", "--check", "/nowhere"], "tcpwit isn't found"),
                              (["true", "data-bulk", "--check", "true", "--lab", "true"], "version 4")):
