@@ -23,7 +23,6 @@ class Outcome:
     verdict: str = ""           # yes .., no .., bad .., skipped .., recorded, or broken ..: of all of congestion control
     strictest: str = ""         # the strictest word with a yes; empty if no word has one
     why: str = ""               # after a no: what the rule compares, and what usually causes it
-    remarks: list = field(default_factory=list)
     unexpected: list = field(default_factory=list)
     missing: int = 0            # bytes that were accepted and never read
     waiting: list = field(default_factory=list)
@@ -88,7 +87,6 @@ def call(program, word, text):
 class Judge:
     def __init__(self, check, lab):
         self.check, self.lab = check, lab
-        self.remarks = True
 
     def answer(self, case):
         return call(self.check, "check", case)[0].strip()
@@ -148,10 +146,6 @@ class Judge:
             outcome.why = "\n".join(kept)
         if outcome.verdict.startswith("no"):
             self.judge_less(outcome, run, values, cases)
-        if self.remarks:
-            told, status = call(self.lab, "remark", case)
-            self.remarks = status != 3
-            outcome.remarks = [line for line in told.split("\n") if line.strip()] if self.remarks else []
         return cases
 
     def judge_less(self, outcome, run, values, cases):

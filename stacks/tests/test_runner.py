@@ -193,8 +193,14 @@ class StandIn(judging.Judge):
     def outcome(self):
         """What is said of an empty run, and the cases."""
         outcome = judging.Outcome(SimpleNamespace(keeps=True, name="x"))
-        with mock.patch.object(judging, "call", lambda program, word, text: ("" if word == "remark" else text, 3 if word == "remark" else 0)):
+        with mock.patch.object(judging, "call", self.called):
             return outcome, self.judge(outcome, SimpleNamespace(peer=False, lines=[], odd=[]), judging.USUAL)
+
+    def called(self, program, word, text):
+        """A word of `tcpwit` or `tcpwit_lab`: they have no others."""
+        if word not in ("check", "find", "explain"):
+            raise AssertionError(word)
+        return text, 0
 
 
 class TheStrictestWord(unittest.TestCase):
@@ -329,6 +335,7 @@ class TheCommand(unittest.TestCase):
     def test_the_column(self):
         status, out = self.reported()
         self.assertEqual((status, [line[66:74].strip() for line in out.split("\n")[:4]]), (1, ["yes at", "full", "recovery", "-"]))
+        self.assertEqual(out.split("\n")[0].split(), ["scenario", "verdict", "yes", "at", "missing", "open"])
         self.assertIn("of the no, 1 are a yes at recovery", out)
 
     def test_the_status_goes_by_the_least_word(self):
