@@ -1,8 +1,11 @@
 """A stack in a process of its own, and the lines that it may say (the head of ../driver.c)."""
 import os
 import re
-import signal
-import subprocess
+import selectors
+import time
+
+import processes
+from limits import Broken
 
 SHORTEST = 20   # bytes of a TCP header without options
 # What a call may be answered, besides by the words below.
@@ -11,10 +14,12 @@ GIVEN = {"listen": r"ok \d+", "open": r"ok \d+", "accept": r"ok \d+", "send": r"
 WORDS = ("again", "eof", "closed", "notconn", "refused", "reset", "timeout", "inuse")
 NEXT = r"-|\d+"
 EXPIRED = r"\d+ \d+ (rto|persist|2msl|giveup)"
-
-
-class Broken(Exception):
-    """The stack's process ended, or said what nobody understands."""
+# Bytes of one line, lines of one command, and bytes that are read at once.
+LONGEST_LINE, MOST_LINES, AT_ONCE = 1 << 20, 20_000, 1 << 16
+# How much of standard error is shown: bytes, lines, and letters of a line.
+TAIL, TAIL_LINES, TAIL_WIDTH = 4000, 8, 180
+# Seconds in which a process that ends ends.
+GRACE = 1
 
 
 class Cannot(Exception):
@@ -24,12 +29,17 @@ class Cannot(Exception):
 class Host:
     """A stack in a process of its own."""
 
-    def __init__(self, number, command, settings):
-        self.number = number
-        self.process = subprocess.Popen(command, stdin=subprocess.PIPE, stdout=subprocess.PIPE, text=True, bufsize=1 << 16,
-                                        start_new_session=True)
+    def __init__(self, number, command, settings, watch):
+        self.number, self.settings, self.watch = number, settings, watch
+        self.process = processes.start(command)
         self.next = None
-        self.settings = settings
+        self.said = self.errors = self.pending = b""
+        self.closed = self.failed = False
+        self.selector = selectors.DefaultSelector()
+        for pipe in (self.process.stdin, self.process.stdout, self.process.stderr):
+            os.set_blocking(pipe.fileno(), False)
+        self.selector.register(self.process.stdout, selectors.EVENT_READ, self.read)
+        self.selector.register(self.process.stderr, selectors.EVENT_READ, self.read_errors)
 
     def hello(self, seed, options):
         """Sets the stack up."""
@@ -37,23 +47,83 @@ class Host:
         mss, window = settings.get((number, "mss"), 536), settings.get((number, "window"), 0)
         self.ask("start", f"start {number} {seed} {mss} {window} {options}")
 
+    # ---- the pipes ----
+
+    def move(self, seconds):
+        """Reads and writes what can be at once; waits for that so long at most. Whether anything was."""
+        found = self.selector.select(max(0, seconds))
+        for key, _ in found:
+            key.data()
+        return bool(found)
+
+    def write(self):
+        try:
+            self.pending = self.pending[os.write(self.process.stdin.fileno(), self.pending[:AT_ONCE]):]
+        except BrokenPipeError:
+            self.pending = b""
+        if not self.pending:
+            self.selector.unregister(self.process.stdin)
+
+    def read(self):
+        more = os.read(self.process.stdout.fileno(), AT_ONCE)
+        self.said += more
+        if not more:
+            self.closed = True
+            self.selector.unregister(self.process.stdout)
+
+    def read_errors(self):
+        more = os.read(self.process.stderr.fileno(), AT_ONCE)
+        self.errors = (self.errors + more)[-TAIL:]
+        if not more:
+            self.selector.unregister(self.process.stderr)
+
+    def tail(self):
+        """The last lines of standard error, without control bytes."""
+        lines = self.errors.decode(errors="backslashreplace").split("\n")
+        lines = ["".join(c if c.isprintable() else repr(c)[1:-1] for c in line)[:TAIL_WIDTH] for line in lines if line.strip()]
+        return [f"host {self.number}, standard error: {line}" for line in lines[-TAIL_LINES:]]
+
+    def broken(self, cause, command):
+        """The exception for a fault of the process."""
+        self.failed = True
+        until = time.monotonic() + GRACE / 4
+        while time.monotonic() < until and self.process.stderr in [key.fileobj for key in self.selector.get_map().values()]:
+            self.move(until - time.monotonic())
+        return Broken(f"host {self.number} {cause}, to: {command[:60].rstrip()}", self.tail())
+
+    # ---- commands ----
+
     def ask(self, word, command):
         """Sends a command, whose call is `word`; the answer, and what happened: ('out', hex) and ('expired', ports and timer)."""
-        try:
-            self.process.stdin.write(command + "\n")
-            self.process.stdin.flush()
-        except BrokenPipeError as fault:
-            raise Broken(f"the stack of host {self.number} ended before: {command[:60]}") from fault
+        seconds = min(self.watch.limits.command, self.watch.left(f"before: {command[:60]}"))
+        until = time.monotonic() + seconds
+        self.pending = (command + "\n").encode()
+        self.selector.register(self.process.stdin, selectors.EVENT_WRITE, self.write)
         happened = []
-        while True:
-            line = self.process.stdout.readline().rstrip("\n")
+        while len(happened) < MOST_LINES:
+            line = self.line(until, command)
             first, _, rest = line.partition(" ")
             if first == "=":
                 return self.answer(word, command, line), happened
             fault = fault_of(first, rest)
             if fault:
-                raise Broken(f"host {self.number} {fault}: {line[:60]!r}, to: {command[:60]}")
+                raise self.broken(f"{fault}: {line[:60]!r}", command)
             happened.append((first, rest))
+        raise self.broken(f"said {MOST_LINES} lines without an answer", command)
+
+    def line(self, until, command):
+        """The next line that the process says, until this moment."""
+        while b"\n" not in self.said:
+            if len(self.said) > LONGEST_LINE:
+                raise self.broken(f"said a line of more than {LONGEST_LINE} bytes", command)
+            if self.closed:
+                cause = processes.status_within(self.process, GRACE) or "closed its output"
+                raise self.broken(f"{cause} after {self.said[-60:]!r}" if self.said else cause, command)
+            if time.monotonic() >= until or not self.move(until - time.monotonic()):
+                self.watch.left(f"while host {self.number} was asked: {command[:60].rstrip()}")
+                raise self.broken(processes.status(self.process) or f"said nothing for {self.watch.limits.command:g} s", command)
+        line, _, self.said = self.said.partition(b"\n")
+        return line.decode("ascii", "backslashreplace")
 
     def answer(self, word, command, line):
         """What the line `= NEXT ANSWER` answers; notes when a tick is wanted."""
@@ -62,28 +132,25 @@ class Host:
         if answer == "cannot":
             raise Cannot(f"{word} at host {self.number}")
         if not re.fullmatch(NEXT, wanted) or not is_answer(word, answer):
-            raise Broken(f"host {self.number} answered what is no answer: {line[:60]!r}, to: {command[:60]}")
+            raise self.broken(f"answered what is no answer: {line[:60]!r}", command)
+        if self.pending:
+            raise self.broken(f"answered before it read the command: {line[:60]!r}", command)
         self.next = None if wanted == "-" else int(wanted)
         return answer
 
-    def kill(self):
-        """Ends the process and those that it started."""
-        try:
-            os.killpg(self.process.pid, signal.SIGKILL)
-        except ProcessLookupError:
-            pass
-
     def end(self):
-        try:
-            self.process.stdin.close()
-        except BrokenPipeError:
-            pass
-        try:
-            self.process.wait(5)
-        except subprocess.TimeoutExpired:
-            self.kill()
-            self.process.wait()
-        self.process.stdout.close()
+        """Closes the input, and ends what has not ended soon after; at once after a fault."""
+        if self.process.stdin in [key.fileobj for key in self.selector.get_map().values()]:
+            self.selector.unregister(self.process.stdin)
+        self.process.stdin.close()
+        until = time.monotonic() + (0 if self.failed else GRACE)
+        while not processes.status(self.process) and time.monotonic() < until:
+            if self.selector.get_map():
+                self.move(processes.PAUSE)
+            else:
+                time.sleep(processes.PAUSE)
+        self.selector.close()
+        processes.end(self.process)
 
 
 def is_answer(word, answer):

@@ -1,9 +1,11 @@
 """From a run to a verdict: the header of the trace, a witness by `tcpwit_lab find`, the answer of `tcpwit check`."""
+import os
 import re
-import subprocess
 from dataclasses import dataclass, field
 
 import dropping
+import processes
+from limits import Broken
 
 # How much of congestion control is judged, the strictest first.
 WORDS = ("full", "recovery", "none")
@@ -13,7 +15,8 @@ BOTH_HOSTS, ONE_HOST, BY_WORD = 2, 3, 4
 HEADER = ("msl", "grain", "minrto", "extra", "initial")
 # What a stack is taken for where its profile says nothing.
 USUAL = {"name": "a stack", "msl": "120000000", "grain": "1000", "minrto": "0", "extra": "65535", "initial": "5681", "options": ""}
-LIMIT = 120
+# Seconds for a program that is tried before the first scenario.
+LIMIT = 60
 
 
 @dataclass
@@ -26,6 +29,7 @@ class Outcome:
     unexpected: list = field(default_factory=list)
     missing: int = 0            # bytes that were accepted and never read
     waiting: list = field(default_factory=list)
+    errors: list = field(default_factory=list)   # the last lines of standard error, if the stack's process is at fault
     lines: int = 0
 
     def is_yes(self, least):
@@ -78,18 +82,20 @@ def trace_of(values, half, lines, word=FULL):
     return "\n".join(header_of(values, half, word) + lines) + "\n"
 
 
-def call(program, word, text):
-    """A program's output and status."""
-    done = subprocess.run([*program, word], input=text, capture_output=True, text=True, timeout=LIMIT)
-    return done.stdout, done.returncode
-
-
 class Judge:
-    def __init__(self, check, lab):
-        self.check, self.lab = check, lab
+    def __init__(self, check, lab, watch=None):
+        self.check, self.lab, self.watch = check, lab, watch
+
+    def call(self, program, word, text):
+        """A program's output and status."""
+        where = f"in {' '.join(map(os.path.basename, program))} {word}"
+        told, status = processes.call([*program, word], text, self.watch.left(where) if self.watch else LIMIT)
+        if told is None:
+            raise Broken(f"{self.watch.cause if self.watch else f'more than {LIMIT} s went by'}, {where}")
+        return told, status
 
     def answer(self, case):
-        return call(self.check, "check", case)[0].strip()
+        return self.call(self.check, "check", case)[0].strip()
 
     def knows_words(self):
         """Whether both programs read version 4 of the texts."""
@@ -97,11 +103,11 @@ class Judge:
 
     def empty(self, values):
         """The verdict on a trace that is only a header, with these values of a profile."""
-        return self.answer(call(self.lab, "find", trace_of(values, False, [], WORDS[-1]))[0])
+        return self.answer(self.call(self.lab, "find", trace_of(values, False, [], WORDS[-1]))[0])
 
     def found(self, run, values, word):
         """A case and its verdict: the first that is a yes, or that of the whole trace."""
-        first, _ = call(self.lab, "find", trace_of(values, run.peer, run.lines, word))
+        first, _ = self.call(self.lab, "find", trace_of(values, run.peer, run.lines, word))
         verdict = self.answer(first)
         if not verdict.startswith("no"):
             return first, verdict
@@ -115,7 +121,7 @@ class Judge:
     def without(self, run, values, word, left):
         """A case in which the arrivals in these places are dropped, and its verdict; the witness is of the rest alone where that is no yes."""
         rest = [line for at, line in enumerate(run.lines) if at not in left]
-        case, _ = call(self.lab, "find", trace_of(values, run.peer, rest, word))
+        case, _ = self.call(self.lab, "find", trace_of(values, run.peer, rest, word))
         answer = self.answer(case)
         if not answer.startswith("yes"):
             return case, answer
@@ -126,7 +132,7 @@ class Judge:
         """Drops, again and again, what acknowledgments show that the stack didn't keep."""
         left = set()
         for _ in range(dropping.MOST_TRIES):
-            told, _ = call(self.lab, "explain", case)
+            told, _ = self.call(self.lab, "explain", case)
             more = dropping.not_acknowledged(verdict, told, case, run.lines) - left
             if not more:
                 break
@@ -141,7 +147,7 @@ class Judge:
         if outcome.verdict.startswith("yes"):
             outcome.strictest = FULL
         else:
-            told, _ = call(self.lab, "explain", case)
+            told, _ = self.call(self.lab, "explain", case)
             kept = [line for line in told.split("\n")[1:] if line.strip()]
             outcome.why = "\n".join(kept)
         if outcome.verdict.startswith("no"):
@@ -151,7 +157,11 @@ class Judge:
     def judge_less(self, outcome, run, values, cases):
         """Looks for a yes where less of congestion control is judged."""
         for word in WORDS[1:]:
-            case, verdict = self.found(run, values, word)
+            try:
+                case, verdict = self.found(run, values, word)
+            except Broken as cause:
+                outcome.unexpected.append(f"run: {cause}; no yes was looked for at {word} and below")
+                return
             if verdict.startswith("yes"):
                 outcome.strictest, cases[word] = word, case
                 return

@@ -5,7 +5,6 @@ run depends on the scenario, its seed and the stack alone.
 """
 import heapq
 import random
-import threading
 
 from host import Host
 from peer import Peer
@@ -16,8 +15,6 @@ FAULTS = ("refused", "reset", "timeout")
 OUT_THREAD, IN_THREAD, TIMER_THREAD = 90, 92, 94
 LONGEST_CALL = 60000
 MOST_EVENTS = 200_000
-# Seconds of the machine's clock after which a stack that doesn't answer is ended.
-LONGEST_RUN = 60
 
 
 class Wire:
@@ -88,8 +85,9 @@ class Runner:
 class Run:
     """The run as a whole."""
 
-    def __init__(self, scenario, command, options=""):
+    def __init__(self, scenario, command, watch, options=""):
         self.options = options
+        self.watch = watch
         self.scenario = scenario
         self.wire = Wire(scenario)
         self.lines = []
@@ -312,6 +310,7 @@ class Run:
         moment, ticks = self.next_event()
         if moment is None or moment > limit:
             return False
+        self.watch.left(f"at {moment} µs of its clock")
         self.now = max(self.now, moment)
         if ticks is not None:
             self.ask(ticks, "tick")
@@ -327,7 +326,7 @@ class Run:
 
     def start(self):
         for number in (0,) if self.peer else (0, 1):
-            host = Host(number, self.command, self.scenario.settings)
+            host = Host(number, self.command, self.scenario.settings, self.watch)
             self.hosts.append(host)
             host.hello(self.scenario.seed, self.options)
         for at, thread in enumerate(self.threads):
@@ -338,9 +337,6 @@ class Run:
 
     def run(self):
         """Runs to the end. The event lines are in `lines` then."""
-        watch = threading.Timer(LONGEST_RUN, lambda: [host.kill() for host in self.hosts])
-        watch.daemon = True
-        watch.start()
         try:
             self.start()
             over = None
@@ -348,7 +344,6 @@ class Run:
                 if self.is_over() and over is None:
                     over = min(self.now + self.scenario.linger, self.scenario.until)
         finally:
-            watch.cancel()
             for host in self.hosts:
                 host.end()
         if self.peer:

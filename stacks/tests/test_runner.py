@@ -8,6 +8,7 @@ import re
 import subprocess
 import sys
 import tempfile
+import time
 import unittest
 from types import SimpleNamespace
 from unittest import mock
@@ -20,6 +21,7 @@ import dropping  # noqa: E402
 import host  # noqa: E402
 import judging  # noqa: E402
 import language  # noqa: E402
+import limits  # noqa: E402
 import segments  # noqa: E402
 import simulation  # noqa: E402
 
@@ -193,10 +195,9 @@ class StandIn(judging.Judge):
     def outcome(self):
         """What is said of an empty run, and the cases."""
         outcome = judging.Outcome(SimpleNamespace(keeps=True, name="x"))
-        with mock.patch.object(judging, "call", self.called):
-            return outcome, self.judge(outcome, SimpleNamespace(peer=False, lines=[], odd=[]), judging.USUAL)
+        return outcome, self.judge(outcome, SimpleNamespace(peer=False, lines=[], odd=[]), judging.USUAL)
 
-    def called(self, program, word, text):
+    def call(self, program, word, text):
         """A word of `tcpwit` or `tcpwit_lab`: they have no others."""
         if word not in ("check", "find", "explain"):
             raise AssertionError(word)
@@ -217,9 +218,8 @@ class TheStrictestWord(unittest.TestCase):
         self.assertEqual((outcome.strictest, list(cases)), ("", ["full"]))
 
     def test_programs_that_know_no_words(self):
-        with mock.patch.object(judging, "call", lambda program, word, text: (text, 0)):
-            self.assertTrue(StandIn("none").knows_words())
-            self.assertFalse(StandIn("", "bad trace 1 0 7 header").knows_words())
+        self.assertTrue(StandIn("none").knows_words())
+        self.assertFalse(StandIn("", "bad trace 1 0 7 header").knows_words())
 
 
 class Answers(unittest.TestCase):
@@ -379,11 +379,86 @@ class TheCommand(unittest.TestCase):
         command.judge_and_keep(self.outcome("", ""), None, None, judge, self.folder)
         self.assertEqual(sorted(os.listdir(self.folder)), ["x.case", "x.none.case"])
 
+    def shell(self, text):
+        """A shell script that stands for a stack, and a file for the numbers of its processes."""
+        return self.adapter("#!/bin/sh\n{script}\n", script=text.replace("PIDS", f"{self.folder}/pids"))
+
+    def broken(self, text, *words):
+        """What the table says of a scenario if this script is the stack."""
+        status, out, error = self.run_it(self.shell(text), "hostile-closed-ack", *words, *self.programs())
+        self.assertEqual((status, error, out.strip().split("\n")[-1]), (1, "", "1 broken"))
+        return out
+
+    def assert_none_is_left(self):
+        """Whether the processes of the file end; one that nobody has waited for yet has ended."""
+        with open(f"{self.folder}/pids") as file:
+            numbers = file.read().split()
+        until = time.monotonic() + 30
+        while any(map(self.runs, numbers)):
+            self.assertLess(time.monotonic(), until, numbers)
+            time.sleep(0.01)
+
+    def runs(self, number):
+        try:
+            with open(f"/proc/{number}/stat") as file:
+                return file.read().rsplit(")", 1)[1].split()[0] != "Z"
+        except OSError:
+            return False
+
+    HANGS = "read x; sleep 1000 & echo $$ $! > PIDS; echo '= - ok'; wait"
+
+    def test_a_stack_that_hangs(self):
+        self.assertIn("host 0 said nothing for 2 s, to: 20500 in ", self.broken(self.HANGS, "--command-limit", "2"))
+        self.assert_none_is_left()
+
+    def test_a_stack_that_dies(self):
+        out = self.broken("read x; echo what went wrong >&2; printf 'a\\033b\\n' >&2; exit 7")
+        self.assertIn("broken host 0 ended with status 7, to: start 0 1 536 0", out)
+        self.assertIn("    host 0, standard error: what went wrong\n    host 0, standard error: a\\x1bb\n", out)
+        self.assertIn("was ended by the signal SIGSEGV", self.broken("read x; kill -SEGV $$"))
+        self.assertIn("ended with status 3 after b'= - o'", self.broken("read x; printf '= - o'; exit 3"))
+        self.assertIn("host 0 closed its output", self.broken("echo $$ > PIDS; exec >&-; exec sleep 1000"))
+        self.assert_none_is_left()
+
+    def test_a_stack_that_says_rubbish(self):
+        self.assertIn("said what isn't understood: '\\\\xff", self.broken("read x; printf '\\377\\001\\n'; read x"))
+        self.assertIn("two for each: 'out 0fa'", self.broken("read x; echo out 0fa; read x"))
+        self.assertIn("said 20000 lines without an answer", self.broken("while echo expired 80 4000 rto; do :; done"))
+        self.assertIn("said a line of more than 1048576 bytes", self.broken("exec tr '\\000' a < /dev/zero"))
+
+    def test_a_scenario_and_a_run_end_in_time(self):
+        slow = "while read x; do echo '= 0 ok'; sleep 0.1; done"
+        self.assertIn("broken the scenario took more than 1 s", self.broken(slow, "--scenario-limit", "1"))
+        status, out, _ = self.run_it(self.shell(slow), "hostile-closed-ack", "hostile-closed-syn", "--run-limit", "1", "--jobs", "1", *self.programs())
+        self.assertEqual((status, out.count("broken the run took more than 1 s, "), "2 broken" in out), (1, 2, True))
+
     def test_a_program_that_takes_too_long(self):
-        outcome = self.outcome("", "")
-        judge = SimpleNamespace(judge=mock.Mock(side_effect=subprocess.TimeoutExpired(["/usr/bin/tcpwit_lab", "find"], 120)))
-        command.judge_and_keep(outcome, None, None, judge, None)
-        self.assertEqual((outcome.verdict, outcome.word()), ("broken tcpwit_lab find took more than 120 seconds", "broken"))
+        with self.assertRaises(limits.Broken) as caught:
+            judging.Judge(["sleep"], [], limits.Watch(limits.Limits(scenario=0.2), float("inf"))).call(["sleep"], "1000", "")
+        self.assertEqual(str(caught.exception), "the scenario took more than 0.2 s, in sleep 1000")
+
+    def test_no_process_is_left_after_a_signal(self):
+        stack = self.shell(self.HANGS.replace("> PIDS", "> PIDS.tmp; mv PIDS.tmp PIDS"))
+        run = subprocess.Popen([sys.executable, os.path.join(TOP, "run"), stack, "hostile-closed-ack", *self.programs()], stdout=subprocess.PIPE,
+                               stderr=subprocess.STDOUT, text=True)
+        while not os.path.exists(f"{self.folder}/pids") and run.poll() is None:
+            time.sleep(0.01)
+        run.terminate()
+        self.assertEqual((run.communicate(timeout=60)[0], run.returncode), ("", 143))
+        self.assert_none_is_left()
+
+    def test_results_are_told_as_they_come(self):
+        def outcomes():
+            yield self.outcome("yes 5 3", "full", "one")
+            self.assertIn("one   ", out.getvalue())
+            with open(report) as file:
+                self.assertEqual((file.read().count("<testcase"), file.tell() > 0), (1, True))
+            yield self.outcome("yes 5 3", "full", "two")
+        report = f"{self.folder}/report.xml"
+        with mock.patch.object(sys, "argv", ["run", "lwip", "--junit", report]):
+            words = command.arguments()
+        with contextlib.redirect_stdout(io.StringIO()) as out:
+            self.assertEqual(command.report(words, "a stack", outcomes()), 0)
 
     def test_what_cannot_be_run(self):
         self.assertEqual(self.run_it("lwip", "--least", "cubic")[0], 2)
