@@ -1,8 +1,11 @@
 """From a run to a verdict: the header of the trace, a witness by `tcpwit_lab find`, the answer of `tcpwit check`."""
-import subprocess
+import os
+import re
 from dataclasses import dataclass, field
 
 import dropping
+import processes
+from limits import Broken
 
 # How much of congestion control is judged, the strictest first.
 WORDS = ("full", "recovery", "none")
@@ -12,20 +15,21 @@ BOTH_HOSTS, ONE_HOST, BY_WORD = 2, 3, 4
 HEADER = ("msl", "grain", "minrto", "extra", "initial")
 # What a stack is taken for where its profile says nothing.
 USUAL = {"name": "a stack", "msl": "120000000", "grain": "1000", "minrto": "0", "extra": "65535", "initial": "5681", "options": ""}
-LIMIT = 120
+# Seconds for a program that is tried before the first scenario.
+LIMIT = 60
 
 
 @dataclass
 class Outcome:
     """What is said of one scenario."""
     scenario: object
-    verdict: str = ""           # yes .., no .., bad .., skipped, or broken: of all of congestion control
+    verdict: str = ""           # yes .., no .., bad .., skipped .., recorded, or broken ..: of all of congestion control
     strictest: str = ""         # the strictest word with a yes; empty if no word has one
     why: str = ""               # after a no: what the rule compares, and what usually causes it
-    remarks: list = field(default_factory=list)
     unexpected: list = field(default_factory=list)
     missing: int = 0            # bytes that were accepted and never read
     waiting: list = field(default_factory=list)
+    errors: list = field(default_factory=list)   # the last lines of standard error, if the stack's process is at fault
     lines: int = 0
 
     def is_yes(self, least):
@@ -36,6 +40,10 @@ class Outcome:
         """Whether it is a yes, and all came out as the scenario says."""
         lost = self.missing and self.scenario.keeps
         return self.is_yes(least) and not (self.unexpected or self.waiting or lost)
+
+    def is_unjudged(self):
+        """Whether there is no verdict, and no fault either: the adapter can't run the scenario, or nothing is to be judged."""
+        return self.word() in ("skipped", "recorded")
 
     def word(self):
         """One word for tables: what is wrong first."""
@@ -56,6 +64,8 @@ def profile(text):
             if word not in values:
                 raise ValueError(f"{word} is no word of a profile")
             values[word] = value.strip()
+            if word in HEADER and not re.fullmatch("[0-9]+", values[word]):
+                raise ValueError(f"{word} {values[word]!r} is no number")
     return values
 
 
@@ -72,27 +82,32 @@ def trace_of(values, half, lines, word=FULL):
     return "\n".join(header_of(values, half, word) + lines) + "\n"
 
 
-def call(program, word, text):
-    """A program's output and status."""
-    done = subprocess.run([*program, word], input=text, capture_output=True, text=True, timeout=LIMIT)
-    return done.stdout, done.returncode
-
-
 class Judge:
-    def __init__(self, check, lab):
-        self.check, self.lab = check, lab
-        self.remarks = True
+    def __init__(self, check, lab, watch=None):
+        self.check, self.lab, self.watch = check, lab, watch
+
+    def call(self, program, word, text):
+        """A program's output and status."""
+        where = f"in {' '.join(map(os.path.basename, program))} {word}"
+        told, status = processes.call([*program, word], text, self.watch.left(where) if self.watch else LIMIT)
+        if told is None:
+            raise Broken(f"{self.watch.cause if self.watch else f'more than {LIMIT} s went by'}, {where}")
+        return told, status
 
     def answer(self, case):
-        return call(self.check, "check", case)[0].strip()
+        return self.call(self.check, "check", case)[0].strip()
 
     def knows_words(self):
         """Whether both programs read version 4 of the texts."""
-        return self.answer(call(self.lab, "find", trace_of(USUAL, False, [], WORDS[-1]))[0]).startswith("yes")
+        return self.empty(USUAL).startswith("yes")
+
+    def empty(self, values):
+        """The verdict on a trace that is only a header, with these values of a profile."""
+        return self.answer(self.call(self.lab, "find", trace_of(values, False, [], WORDS[-1]))[0])
 
     def found(self, run, values, word):
         """A case and its verdict: the first that is a yes, or that of the whole trace."""
-        first, _ = call(self.lab, "find", trace_of(values, run.peer, run.lines, word))
+        first, _ = self.call(self.lab, "find", trace_of(values, run.peer, run.lines, word))
         verdict = self.answer(first)
         if not verdict.startswith("no"):
             return first, verdict
@@ -106,7 +121,7 @@ class Judge:
     def without(self, run, values, word, left):
         """A case in which the arrivals in these places are dropped, and its verdict; the witness is of the rest alone where that is no yes."""
         rest = [line for at, line in enumerate(run.lines) if at not in left]
-        case, _ = call(self.lab, "find", trace_of(values, run.peer, rest, word))
+        case, _ = self.call(self.lab, "find", trace_of(values, run.peer, rest, word))
         answer = self.answer(case)
         if not answer.startswith("yes"):
             return case, answer
@@ -117,7 +132,7 @@ class Judge:
         """Drops, again and again, what acknowledgments show that the stack didn't keep."""
         left = set()
         for _ in range(dropping.MOST_TRIES):
-            told, _ = call(self.lab, "explain", case)
+            told, _ = self.call(self.lab, "explain", case)
             more = dropping.not_acknowledged(verdict, told, case, run.lines) - left
             if not more:
                 break
@@ -132,21 +147,21 @@ class Judge:
         if outcome.verdict.startswith("yes"):
             outcome.strictest = FULL
         else:
-            told, _ = call(self.lab, "explain", case)
+            told, _ = self.call(self.lab, "explain", case)
             kept = [line for line in told.split("\n")[1:] if line.strip()]
             outcome.why = "\n".join(kept)
         if outcome.verdict.startswith("no"):
             self.judge_less(outcome, run, values, cases)
-        if self.remarks:
-            told, status = call(self.lab, "remark", case)
-            self.remarks = status != 3
-            outcome.remarks = [line for line in told.split("\n") if line.strip()] if self.remarks else []
         return cases
 
     def judge_less(self, outcome, run, values, cases):
         """Looks for a yes where less of congestion control is judged."""
         for word in WORDS[1:]:
-            case, verdict = self.found(run, values, word)
+            try:
+                case, verdict = self.found(run, values, word)
+            except Broken as cause:
+                outcome.unexpected.append(f"run: {cause}; no yes was looked for at {word} and below")
+                return
             if verdict.startswith("yes"):
                 outcome.strictest, cases[word] = word, case
                 return

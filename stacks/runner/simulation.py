@@ -4,87 +4,17 @@ Time is simulated: an event is taken, the stack of its host does what it does at
 run depends on the scenario, its seed and the stack alone.
 """
 import heapq
-import os
 import random
-import signal
-import subprocess
-import threading
 
-from segments import read, stream
+from host import Host
 from peer import Peer
+from segments import read, stream
 
 FAULTS = ("refused", "reset", "timeout")
 # Threads of the lines that no call writes, for host 0 and host 1.
 OUT_THREAD, IN_THREAD, TIMER_THREAD = 90, 92, 94
 LONGEST_CALL = 60000
 MOST_EVENTS = 200_000
-# Seconds of the machine's clock after which a stack that doesn't answer is ended.
-LONGEST_RUN = 60
-
-
-class Broken(Exception):
-    """The stack's process ended, or said what nobody understands."""
-
-
-class Cannot(Exception):
-    """The adapter can't do what the scenario wants."""
-
-
-class Host:
-    """A stack in a process of its own."""
-
-    def __init__(self, number, command, settings):
-        self.number = number
-        self.process = subprocess.Popen(command, stdin=subprocess.PIPE, stdout=subprocess.PIPE, text=True, bufsize=1 << 16,
-                                        start_new_session=True)
-        self.next = None
-        self.settings = settings
-
-    def hello(self, seed, options):
-        """Sets the stack up."""
-        number, settings = self.number, self.settings
-        mss, window = settings.get((number, "mss"), 536), settings.get((number, "window"), 0)
-        answer, _ = self.ask(f"start {number} {seed} {mss} {window} {options}")
-        if answer != "ok":
-            raise Cannot(f"start with mss {mss} and window {window}")
-
-    def ask(self, command):
-        """Sends a command; the answer, and what happened: ('out', hex) and ('expired', ports and timer)."""
-        try:
-            self.process.stdin.write(command + "\n")
-            self.process.stdin.flush()
-        except BrokenPipeError as fault:
-            raise Broken(f"the stack of host {self.number} ended before: {command[:60]}") from fault
-        happened = []
-        while True:
-            line = self.process.stdout.readline()
-            word, _, rest = line.rstrip("\n").partition(" ")
-            if word == "=":
-                wanted, _, answer = rest.partition(" ")
-                self.next = None if wanted == "-" else int(wanted)
-                return answer, happened
-            if word not in ("out", "expired"):
-                raise Broken(f"host {self.number} answered {line.strip()[:60]!r} to: {command[:60]}")
-            happened.append((word, rest))
-
-    def kill(self):
-        """Ends the process and those that it started."""
-        try:
-            os.killpg(self.process.pid, signal.SIGKILL)
-        except ProcessLookupError:
-            pass
-
-    def end(self):
-        try:
-            self.process.stdin.close()
-        except BrokenPipeError:
-            pass
-        try:
-            self.process.wait(5)
-        except subprocess.TimeoutExpired:
-            self.kill()
-            self.process.wait()
-        self.process.stdout.close()
 
 
 class Wire:
@@ -155,8 +85,9 @@ class Runner:
 class Run:
     """The run as a whole."""
 
-    def __init__(self, scenario, command, options=""):
+    def __init__(self, scenario, command, watch, options=""):
         self.options = options
+        self.watch = watch
         self.scenario = scenario
         self.wire = Wire(scenario)
         self.lines = []
@@ -193,7 +124,7 @@ class Run:
 
     def ask(self, host, command):
         """Has a stack do something, and sees to what came of it."""
-        answer, happened = self.hosts[host].ask(f"{self.now} {command}")
+        answer, happened = self.hosts[host].ask(command.split(" ", 1)[0], f"{self.now} {command}")
         for word, rest in happened:
             if word == "expired":
                 local, remote, timer = rest.split()
@@ -277,8 +208,6 @@ class Run:
         """Tries an open call. Whether it was answered."""
         step, host, command = thread.open
         answer = self.ask(host, command) if command else "badsocket"
-        if answer == "cannot":
-            raise Cannot(f"{step.word} at host {host}")
         number = self.names.get(step.args[0]) if step.word not in ("listen", "open") else None
         answer = self.told_again(number, step.word, answer)
         waits = answer == "again" and step.word in ("await", "accept", "send", "recv") and "again" not in step.expected
@@ -381,6 +310,7 @@ class Run:
         moment, ticks = self.next_event()
         if moment is None or moment > limit:
             return False
+        self.watch.left(f"at {moment} µs of its clock")
         self.now = max(self.now, moment)
         if ticks is not None:
             self.ask(ticks, "tick")
@@ -396,7 +326,7 @@ class Run:
 
     def start(self):
         for number in (0,) if self.peer else (0, 1):
-            host = Host(number, self.command, self.scenario.settings)
+            host = Host(number, self.command, self.scenario.settings, self.watch)
             self.hosts.append(host)
             host.hello(self.scenario.seed, self.options)
         for at, thread in enumerate(self.threads):
@@ -407,9 +337,6 @@ class Run:
 
     def run(self):
         """Runs to the end. The event lines are in `lines` then."""
-        watch = threading.Timer(LONGEST_RUN, lambda: [host.kill() for host in self.hosts])
-        watch.daemon = True
-        watch.start()
         try:
             self.start()
             over = None
@@ -417,7 +344,6 @@ class Run:
                 if self.is_over() and over is None:
                     over = min(self.now + self.scenario.linger, self.scenario.until)
         finally:
-            watch.cancel()
             for host in self.hosts:
                 host.end()
         if self.peer:

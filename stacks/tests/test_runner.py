@@ -8,6 +8,7 @@ import re
 import subprocess
 import sys
 import tempfile
+import time
 import unittest
 from types import SimpleNamespace
 from unittest import mock
@@ -17,8 +18,10 @@ sys.path.insert(0, os.path.join(TOP, "runner"))
 sys.dont_write_bytecode = True
 
 import dropping  # noqa: E402
+import host  # noqa: E402
 import judging  # noqa: E402
 import language  # noqa: E402
+import limits  # noqa: E402
 import segments  # noqa: E402
 import simulation  # noqa: E402
 
@@ -192,8 +195,13 @@ class StandIn(judging.Judge):
     def outcome(self):
         """What is said of an empty run, and the cases."""
         outcome = judging.Outcome(SimpleNamespace(keeps=True, name="x"))
-        with mock.patch.object(judging, "call", lambda program, word, text: ("" if word == "remark" else text, 3 if word == "remark" else 0)):
-            return outcome, self.judge(outcome, SimpleNamespace(peer=False, lines=[], odd=[]), judging.USUAL)
+        return outcome, self.judge(outcome, SimpleNamespace(peer=False, lines=[], odd=[]), judging.USUAL)
+
+    def call(self, program, word, text):
+        """A word of `tcpwit` or `tcpwit_lab`: they have no others."""
+        if word not in ("check", "find", "explain"):
+            raise AssertionError(word)
+        return text, 0
 
 
 class TheStrictestWord(unittest.TestCase):
@@ -210,9 +218,36 @@ class TheStrictestWord(unittest.TestCase):
         self.assertEqual((outcome.strictest, list(cases)), ("", ["full"]))
 
     def test_programs_that_know_no_words(self):
-        with mock.patch.object(judging, "call", lambda program, word, text: (text, 0)):
-            self.assertTrue(StandIn("none").knows_words())
-            self.assertFalse(StandIn("", "bad trace 1 0 7 header").knows_words())
+        self.assertTrue(StandIn("none").knows_words())
+        self.assertFalse(StandIn("", "bad trace 1 0 7 header").knows_words())
+
+
+class Answers(unittest.TestCase):
+    def test_what_a_call_may_be_answered(self):
+        for word, answer in (("start", "ok"), ("await", "again"), ("open", "ok 0"), ("send", "ok 12"), ("recv", "data 00ff"), ("recv", "eof"),
+                             ("status", "state FIN-WAIT-1"), ("close", "ok")):
+            self.assertTrue(host.is_answer(word, answer), (word, answer))
+        for word, answer in (("start", ""), ("start", "no"), ("await", "ok 1"), ("open", "ok"), ("send", "ok 0"), ("recv", "data"), ("recv", "data 0"),
+                             ("recv", "data xy"), ("status", "ok"), ("close", "fine"), ("await", "badsocket")):
+            self.assertFalse(host.is_answer(word, answer), (word, answer))
+
+    def test_what_a_stack_may_say(self):
+        syn = "0fa00050000000000000000050020000" + "00000000"
+        for word, rest in (("out", syn), ("expired", "80 4000 rto")):
+            self.assertEqual(host.fault_of(word, rest), "")
+        for word, rest, cause in (("out", syn[:-1], "two for each"), ("out", syn[:-2], "19 bytes, fewer"), ("out", "", "0 bytes, fewer"),
+                                  ("out", syn.upper().replace("F", "G"), "hex"), ("out", syn[:24] + "6" + syn[25:], "header says 24"),
+                                  ("out", syn[:24] + "4" + syn[25:], "header says 16"), ("expired", "80 4000", "timer"), ("expired", "80 4000 RTO", "timer"),
+                                  ("\x00\xff", "", "isn't understood"), ("", "", "isn't understood")):
+            self.assertIn(cause, host.fault_of(word, rest), rest)
+
+
+# An adapter that says the same to everything.
+ADAPTER = """#!{python}
+import sys
+for line in sys.stdin:
+    print({answer!r}, flush=True)
+"""
 
 
 class TheCommand(unittest.TestCase):
@@ -226,6 +261,63 @@ class TheCommand(unittest.TestCase):
         done = subprocess.run([sys.executable, os.path.join(TOP, "run"), *words], capture_output=True, text=True, timeout=60)
         self.assertNotIn("Traceback", done.stderr)
         return done.returncode, done.stdout, done.stderr
+
+    def adapter(self, text=ADAPTER, **values):
+        """A program that stands for a stack."""
+        path = f"{self.folder}/adapter"
+        with open(path, "w") as file:
+            file.write(text.format(python=sys.executable, **values))
+        os.chmod(path, 0o755)
+        return path
+
+    def programs(self):
+        """Options for programs that judge: a `tcpwit` that has a yes for all."""
+        path = f"{self.folder}/judge"
+        with open(path, "w") as file:
+            file.write("#!/bin/sh\necho yes 1 1\n")
+        os.chmod(path, 0o755)
+        return "--check", path, "--lab", path
+
+    def test_skipped_by_the_word_cannot_alone(self):
+        status, out, error = self.run_it(self.adapter(answer="= - cannot"), "open-plain", "data-bulk", *self.programs())
+        self.assertEqual((status, "nothing was judged" in error), (2, True))
+        self.assertIn("nothing was judged\nnot among them: 2 of 2 skipped", out)
+        for answer in ("= - banana", "= x ok", "=", "banana", "out 00", "expired 1", "= - again"):
+            status, out, error = self.run_it(self.adapter(answer=answer), "open-plain", *self.programs())
+            self.assertEqual((status, "1 broken" in out, error), (1, True, ""), answer)
+            self.assertIn(f"{answer!r}, to: start 0 1", out)
+
+    def test_only_trace_is_no_yes(self):
+        status, out, error = self.run_it(self.adapter(answer="= - ok"), "hostile-closed-ack", "--only-trace", "--junit", f"{self.folder}/report.xml")
+        self.assertEqual((status, error), (1, "nothing was judged: --only-trace\n"))
+        self.assertRegex(out, "hostile-closed-ack +recorded ")
+        self.assertNotIn("yes,", out)
+        with open(f"{self.folder}/report.xml") as file:
+            self.assertIn('failures="0" skipped="1"', file.read())
+        self.assertEqual(self.run_it("true", "--only-trace", "--against", "/nowhere")[0], 2)
+
+    def test_a_whole_name_is_one_scenario(self):
+        def names(*words):
+            return [os.path.basename(path)[:-9] for path in command.paths_of(words)]
+        folder = os.path.join(TOP, "scenarios")
+        self.assertEqual(names("data-bulk"), ["data-bulk"])
+        self.assertEqual(names("data-bulk.scenario"), ["data-bulk"])
+        self.assertEqual(names("data-bulk", f"{folder}/data-bulk.scenario"), ["data-bulk"])
+        self.assertEqual(names("data-bulk-"), ["data-bulk-large-segments", "data-bulk-tiny-segments"])
+        self.assertEqual(len(names()), len(os.listdir(folder)))
+
+    def test_a_profile_that_cannot_be_used(self):
+        for text, cause in (("mls 5", "profile: mls is no word of a profile"), ("msl fast", "profile: msl 'fast' is no number"),
+                            ("msl", "profile: msl '' is no number"), ("msl 5", "even a trace without lines is answered 'bad trace 3'")):
+            with open(f"{self.folder}/profile", "w") as file:
+                file.write(text)
+            judge = f"{self.folder}/judge"
+            with open(judge, "w") as file:
+                file.write("#!/bin/sh\ntext=$(cat)\ncase $1$text in check*'msl 5'*) echo bad trace 3 ;; check*) echo yes 1 1 ;; *) echo \"$text\" ;; esac\n")
+            os.chmod(judge, 0o755)
+            status, out, error = self.run_it(self.adapter(answer="= - ok"), "--profile", f"{self.folder}/profile", "--check", judge, "--lab", judge)
+            self.assertEqual((status, out), (2, ""))
+            self.assertIn(cause, error)
 
     def outcome(self, verdict, strictest, name="x"):
         return judging.Outcome(SimpleNamespace(keeps=True, name=name, show="a", by="b"), verdict, strictest)
@@ -243,6 +335,7 @@ class TheCommand(unittest.TestCase):
     def test_the_column(self):
         status, out = self.reported()
         self.assertEqual((status, [line[66:74].strip() for line in out.split("\n")[:4]]), (1, ["yes at", "full", "recovery", "-"]))
+        self.assertEqual(out.split("\n")[0].split(), ["scenario", "verdict", "yes", "at", "missing", "open"])
         self.assertIn("of the no, 1 are a yes at recovery", out)
 
     def test_the_status_goes_by_the_least_word(self):
@@ -286,16 +379,92 @@ class TheCommand(unittest.TestCase):
         command.judge_and_keep(self.outcome("", ""), None, None, judge, self.folder)
         self.assertEqual(sorted(os.listdir(self.folder)), ["x.case", "x.none.case"])
 
+    def shell(self, text):
+        """A shell script that stands for a stack, and a file for the numbers of its processes."""
+        return self.adapter("#!/bin/sh\n{script}\n", script=text.replace("PIDS", f"{self.folder}/pids"))
+
+    def broken(self, text, *words):
+        """What the table says of a scenario if this script is the stack."""
+        status, out, error = self.run_it(self.shell(text), "hostile-closed-ack", *words, *self.programs())
+        self.assertEqual((status, error, out.strip().split("\n")[-1]), (1, "", "1 broken"))
+        return out
+
+    def assert_none_is_left(self):
+        """Whether the processes of the file end; one that nobody has waited for yet has ended."""
+        with open(f"{self.folder}/pids") as file:
+            numbers = file.read().split()
+        until = time.monotonic() + 30
+        while any(map(self.runs, numbers)):
+            self.assertLess(time.monotonic(), until, numbers)
+            time.sleep(0.01)
+
+    def runs(self, number):
+        try:
+            with open(f"/proc/{number}/stat") as file:
+                return file.read().rsplit(")", 1)[1].split()[0] != "Z"
+        except OSError:
+            return False
+
+    HANGS = "read x; sleep 1000 & echo $$ $! > PIDS; echo '= - ok'; wait"
+
+    def test_a_stack_that_hangs(self):
+        self.assertIn("host 0 said nothing for 2 s, to: 20500 in ", self.broken(self.HANGS, "--command-limit", "2"))
+        self.assert_none_is_left()
+
+    def test_a_stack_that_dies(self):
+        out = self.broken("read x; echo what went wrong >&2; printf 'a\\033b\\n' >&2; exit 7")
+        self.assertIn("broken host 0 ended with status 7, to: start 0 1 536 0", out)
+        self.assertIn("    host 0, standard error: what went wrong\n    host 0, standard error: a\\x1bb\n", out)
+        self.assertIn("was ended by the signal SIGSEGV", self.broken("read x; kill -SEGV $$"))
+        self.assertIn("ended with status 3 after b'= - o'", self.broken("read x; printf '= - o'; exit 3"))
+        self.assertIn("host 0 closed its output", self.broken("echo $$ > PIDS; exec >&-; exec sleep 1000"))
+        self.assert_none_is_left()
+
+    def test_a_stack_that_says_rubbish(self):
+        self.assertIn("said what isn't understood: '\\\\xff", self.broken("read x; printf '\\377\\001\\n'; read x"))
+        self.assertIn("two for each: 'out 0fa'", self.broken("read x; echo out 0fa; read x"))
+        self.assertIn("said 20000 lines without an answer", self.broken("while echo expired 80 4000 rto; do :; done"))
+        self.assertIn("said a line of more than 1048576 bytes", self.broken("exec tr '\\000' a < /dev/zero"))
+
+    def test_a_scenario_and_a_run_end_in_time(self):
+        slow = "while read x; do echo '= 0 ok'; sleep 0.1; done"
+        self.assertIn("broken the scenario took more than 1 s", self.broken(slow, "--scenario-limit", "1"))
+        status, out, _ = self.run_it(self.shell(slow), "hostile-closed-ack", "hostile-closed-syn", "--run-limit", "1", "--jobs", "1", *self.programs())
+        self.assertEqual((status, out.count("broken the run took more than 1 s, "), "2 broken" in out), (1, 2, True))
+
     def test_a_program_that_takes_too_long(self):
-        outcome = self.outcome("", "")
-        judge = SimpleNamespace(judge=mock.Mock(side_effect=subprocess.TimeoutExpired(["/usr/bin/tcpwit_lab", "find"], 120)))
-        command.judge_and_keep(outcome, None, None, judge, None)
-        self.assertEqual((outcome.verdict, outcome.word()), ("broken tcpwit_lab find took more than 120 seconds", "broken"))
+        with self.assertRaises(limits.Broken) as caught:
+            judging.Judge(["sleep"], [], limits.Watch(limits.Limits(scenario=0.2), float("inf"))).call(["sleep"], "1000", "")
+        self.assertEqual(str(caught.exception), "the scenario took more than 0.2 s, in sleep 1000")
+
+    def test_no_process_is_left_after_a_signal(self):
+        stack = self.shell(self.HANGS.replace("> PIDS", "> PIDS.tmp; mv PIDS.tmp PIDS"))
+        run = subprocess.Popen([sys.executable, os.path.join(TOP, "run"), stack, "hostile-closed-ack", *self.programs()], stdout=subprocess.PIPE,
+                               stderr=subprocess.STDOUT, text=True)
+        while not os.path.exists(f"{self.folder}/pids") and run.poll() is None:
+            time.sleep(0.01)
+        run.terminate()
+        self.assertEqual((run.communicate(timeout=60)[0], run.returncode), ("", 143))
+        self.assert_none_is_left()
+
+    def test_results_are_told_as_they_come(self):
+        def outcomes():
+            yield self.outcome("yes 5 3", "full", "one")
+            self.assertIn("one   ", out.getvalue())
+            with open(report) as file:
+                self.assertEqual((file.read().count("<testcase"), file.tell() > 0), (1, True))
+            yield self.outcome("yes 5 3", "full", "two")
+        report = f"{self.folder}/report.xml"
+        with mock.patch.object(sys, "argv", ["run", "lwip", "--junit", report]):
+            words = command.arguments()
+        with contextlib.redirect_stdout(io.StringIO()) as out:
+            self.assertEqual(command.report(words, "a stack", outcomes()), 0)
 
     def test_what_cannot_be_run(self):
         self.assertEqual(self.run_it("lwip", "--least", "cubic")[0], 2)
         for words, cause in ((["/nowhere"], "neither a folder"), (["true", "--profile", "/nowhere", "data-bulk"], "/nowhere: No such file"),
-                             (["true", "data-bluk"], "data-bluk is neither a file"), (["true", "data-bulk", "data-bluk"], "data-bluk is neither"),
+                             (["true", "data-bluk"], "'data-bluk' is neither a file"), (["true", "data-bulk", ""], "'' is neither"),
+                             (["runner"], "runner/build"), (["scenarios/../scenarios"], "build"),
                              (["true", "--jobs", "0"], "'0' is no number"), (["true", "--jobs", "x"], "'x' is no number"),
                              (["true", "data-bulk", "--check", "/nowhere"], "tcpwit isn't found"),
                              (["true", "data-bulk", "--check", "true", "--lab", "true"], "version 4")):

@@ -1,0 +1,35 @@
+"""How much of the machine's time a run may take."""
+import time
+from dataclasses import dataclass
+
+
+class Broken(Exception):
+    """A scenario that can't be judged, by the fault of the stack's process or of its time; with the last lines of standard error."""
+
+    def __init__(self, cause, errors=()):
+        super().__init__(cause)
+        self.errors = list(errors)
+
+
+@dataclass
+class Limits:
+    """Seconds for a command, a scenario and the run, and the events of a scenario."""
+    command: float = 5
+    scenario: float = 60
+    run: float = 3600
+
+
+class Watch:
+    """The time that is left for a scenario: its own, or that of the run, which ends at `run_end`."""
+
+    def __init__(self, limits, run_end):
+        self.limits = limits
+        self.until = min(time.monotonic() + limits.scenario, run_end)
+        self.cause = f"the run took more than {limits.run:g} s" if self.until == run_end else f"the scenario took more than {limits.scenario:g} s"
+
+    def left(self, where):
+        """How many seconds are left; none is Broken. `where`: what is being done."""
+        left = self.until - time.monotonic()
+        if left <= 0:
+            raise Broken(f"{self.cause}, {where}")
+        return left
