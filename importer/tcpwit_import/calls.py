@@ -116,8 +116,7 @@ class HostCalls:
         """All endpoints, each with its calls."""
         for event in events:
             if isinstance(event, Exit):
-                for socket in self.processes.end(event.process):
-                    self.close_socket(event, ("exit", event.process), socket)
+                self.close_at_once(event, self.processes.end(event.process))
                 continue
             handler = getattr(self, "on_" + ALIASES.get(event.name, event.name), None)
             if handler:
@@ -189,11 +188,12 @@ class HostCalls:
         words = arguments(event.text)
         first, last = whole_number(words[0]), whole_number(words[1])
         table = self.processes.table(event.process)
-        for number in [number for number in sorted(table.entries) if first <= number <= last]:
-            if "CLOEXEC" in event.text:
+        numbers = [number for number in sorted(table.entries) if first <= number <= last]
+        if "CLOEXEC" in event.text:
+            for number in numbers:
                 self.processes.mark(event.process, number, True)
-            elif socket := self.processes.drop(event.process, number):
-                self.close_socket(event, event.process, socket)
+        else:
+            self.close_at_once(event, filter(None, [self.processes.drop(event.process, number) for number in numbers]))
 
     def on_clone(self, event):
         if event.result and event.result > 0:
@@ -201,8 +201,7 @@ class HostCalls:
 
     def on_execve(self, event):
         if event.result == 0:
-            for socket in self.processes.execute(event.process):
-                self.close_socket(event, event.process, socket)
+            self.close_at_once(event, self.processes.execute(event.process))
 
     def on_io_uring_setup(self, event):
         if event.result is not None and event.result >= 0:
@@ -542,6 +541,12 @@ class HostCalls:
             endpoint.gone = True
         else:
             self.notes.leave_out("shutdowns of a listener that change nothing", event.place)
+
+    def close_at_once(self, event, sockets):
+        """An exit or a call closes several sockets. The log doesn't show when each is closed, so each has a thread of its own
+        and may be closed at any moment of the event."""
+        for number, socket in enumerate(sockets):
+            self.close_socket(event, (event.process, "closes", number), socket)
 
     def close_socket(self, event, thread, socket):
         """The last descriptor of a socket is closed."""

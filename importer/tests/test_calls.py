@@ -15,6 +15,13 @@ SOCKET = "socket(AF_INET, SOCK_STREAM, IPPROTO_TCP) = 3"
 CONNECT = f"connect(3, {address(ONE)}, 16) = 0"
 
 
+def both_of(one, two):
+    """Two connections in the same captures."""
+    for host in (0, 1):
+        one.frames[host] = sorted(one.frames[host] + two.frames[host], key=lambda frame: frame[0])
+    return one
+
+
 class Calls(unittest.TestCase):
     def told(self, lines, host=0, talk=None, step=2 * 10**7):
         """The texts of the calls that a log's lines make: the connection's SYN comes at the moment AT."""
@@ -134,6 +141,16 @@ class Calls(unittest.TestCase):
         self.assertEqual(self.client("--- SIGTERM {si_signo=SIGTERM} ---", "+++ killed by SIGTERM +++"), ["B close 1", "E ok"])
         self.assertEqual(self.client("close_range(3, 4294967295, 0) = 0"), ["B close 1", "E ok"])
 
+    def test_sockets_that_are_closed_at_once_do_not_wait_for_each_other(self):
+        step = 2 * 10**7
+        talk = both_of(Talk(at=AT + step), Talk(zero=("10.9.0.1", 4001), at=AT + 3 * step))
+        opening = ["socket(AF_INET, SOCK_STREAM|SOCK_CLOEXEC, IPPROTO_TCP) = 3", CONNECT,
+                   "socket(AF_INET, SOCK_STREAM|SOCK_CLOEXEC, IPPROTO_TCP) = 4", CONNECT.replace("(3", "(4")]
+        for closing in (["exit_group(0) = ?", "+++ exited with 0 +++"], ["close_range(3, 4294967295, 0) = 0"], ['execve("a", ["a"], 0x7f) = 0']):
+            with self.subTest(closing=closing):
+                self.assertEqual(self.told([*opening, *closing], talk=talk)[8:], ["B close 1", "B close 2", "E ok", "E ok"])
+                self.assertEqual(len(set(self.threads[8:10])), 2)
+
     def test_descriptors_count(self):
         last = "close(3) = 0"
         for before, after in (("dup(3) = 5", "close(5) = 0"), ("dup2(3, 5) = 5", "close(5) = 0"), ("dup3(3, 5, O_CLOEXEC) = 5", "close(5) = 0"),
@@ -170,10 +187,7 @@ class Calls(unittest.TestCase):
             self.client("io_uring_setup(8, {flags=0}) = 5")
 
     def test_accepts_of_two_threads_begin_in_the_order_of_the_queue(self):
-        talks = [Talk(zero=("10.9.0.1", port), at=AT + number * 10**6) for number, port in enumerate((4000, 4001))]
-        whole = talks[0]
-        for host in (0, 1):
-            whole.frames[host] = sorted(whole.frames[host] + talks[1].frames[host], key=lambda frame: frame[0])
+        whole = both_of(*[Talk(zero=("10.9.0.1", port), at=AT + number * 10**6) for number, port in enumerate((4000, 4001))])
         lines = [SOCKET, f"bind(3, {address(ONE)}, 16) = 0", "listen(3, 5) = 0", "fork() = 8", "accept(3,  <unfinished ...>",
                  (8, f"accept(3, {address(ZERO)}, [16]) = 4"),
                  f"<... accept resumed>{address(('10.9.0.1', 4001))}, [16]) = 5"]
