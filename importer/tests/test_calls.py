@@ -175,6 +175,14 @@ class Calls(unittest.TestCase):
         self.assertEqual(self.client(passed, "close(3) = 0", came, (8, 'write(9, "a", 1) = 1'), (8, "close(9) = 0")),
                          ["B send 1 61", "E ok 1", "B close 1", "E ok"])
 
+    def test_a_descriptor_that_is_received_before_its_sending_has_ended(self):
+        begun = "sendmsg(6, {msg_iov=[{iov_base=\"x\", iov_len=1}], msg_iovlen=1, " \
+            "msg_control=[{cmsg_len=20, cmsg_level=SOL_SOCKET, cmsg_type=SCM_RIGHTS, cmsg_data=[3]}], msg_controllen=24, msg_flags=0}, 0"
+        came = begun.replace("sendmsg(6", "recvmsg(5").replace("[3]", "[9]")
+        self.assertEqual(self.client(f"{begun} <unfinished ...>", (8, f"{came}) = 1"), "<... sendmsg resumed>) = 1", "close(3) = 0",
+                                     (8, 'write(9, "a", 1) = 1'), (8, "close(9) = 0")),
+                         ["B send 1 61", "E ok 1", "B close 1", "E ok"])
+
     def test_what_did_not_end_has_no_answer(self):
         self.assertEqual(self.client("read(3,  <unfinished ...>"), ["B recv 1 65535"])
 
