@@ -24,7 +24,8 @@ class Data(NamedTuple):
 
 
 class Action(NamedTuple):
-    """A call of the trace. A word may be an endpoint, whose number is written, or data. Without an answer the call didn't end."""
+    """A call of the trace. A word may be an endpoint, whose number is written, or data. Without an answer the call didn't end.
+    `order` is its place among the calls; `turn` that of its begin, which may be moved to just after another call's."""
     begin: int
     end: int | None
     thread: Any
@@ -34,6 +35,7 @@ class Action(NamedTuple):
     answer: tuple | None
     place: str
     order: int
+    turn: tuple
 
 
 @dataclass(eq=False)
@@ -131,14 +133,14 @@ class HostCalls:
         places = [place for place, action in enumerate(listener.actions)
                   if action.verb == "accept" and action.answer and action.answer[0] == "ok" and action.answer[1].connection]
         places.sort(key=lambda place: self.completed(listener.actions[place].answer[1].connection) or 0)
-        begin, order = 0, 0
+        begin, turn = 0, (0, 0)
         for place in places:
             action = listener.actions[place]
-            if begin > action.end:
+            if begin >= action.end:
                 return
-            if (action.begin, action.order) < (begin, order):
-                action = listener.actions[place] = action._replace(begin=begin, order=order)
-            begin, order = action.begin, action.order
+            if (action.begin, action.turn) < (begin, turn):
+                action = listener.actions[place] = action._replace(begin=begin, turn=(turn[0], turn[1] + 1))
+            begin, turn = action.begin, action.turn
 
     # Descriptors.
 
@@ -218,8 +220,9 @@ class HostCalls:
         if end is not None:
             end = max(begin, end)
         self.free_at[thread] = begin if end is None else end
+        order = next(self.orders)
         endpoint.actions.append(Action(begin, end, thread, verb, endpoint, words, answer if end is not None else None, event.place,
-                                       next(self.orders)))
+                                       order, (order, 0)))
 
     def host_of(self, role):
         """The host of an endpoint: in a log of both hosts those that connect are host 0's."""

@@ -86,9 +86,9 @@ class Writer:
     def call(self, action: Action):
         """The two lines of a call, or its beginning alone. At one moment calls stand in their order."""
         host = action.endpoint.host
-        yield Line(self.moment(host, action.begin), (action.order, 0), action.thread, "B " + self.begin_text(action))
+        yield Line(self.moment(host, action.begin), (*action.turn, 0), action.thread, "B " + self.begin_text(action))
         if action.answer:
-            yield Line(self.moment(host, action.end), (action.order, 1), action.thread, "E " + " ".join(map(self.word, action.answer)))
+            yield Line(self.moment(host, action.end), (action.order, 0, 1), action.thread, "E " + " ".join(map(self.word, action.answer)))
 
     def begin_text(self, action):
         """A call's words."""

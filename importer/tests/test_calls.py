@@ -202,6 +202,16 @@ class Calls(unittest.TestCase):
         self.assertEqual(self.told(lines, host=1, talk=whole)[2:], ["B accept 1", "B accept 1", "E ok 2", "E ok 3"])
         self.assertEqual(self.threads[2:4], ["12", "11"])
 
+    def test_accepts_that_begin_at_one_moment_keep_the_order_of_the_queue(self):
+        first, second = (Talk(zero=("10.9.0.1", port), at=AT + number * 10**6) for number, port in enumerate((4000, 4001)))
+        lines = [SOCKET, f"bind(3, {address(ONE)}, 16) = 0", "listen(3, 5) = 0", "fork() = 8", (8, "accept(3,  <unfinished ...>"),
+                 "accept(3,  <unfinished ...>", (8, f"<... accept resumed>{address(('10.9.0.1', 4001))}, [16]) = 5"),
+                 f"<... accept resumed>{address(ZERO)}, [16]) = 4", (8, 'read(5, "a", 1) = 1')]
+        self.assertEqual(self.told(lines, host=1, talk=both_of(first, second))[2:],
+                         ["B accept 1", "B accept 1", "E ok 2", "E ok 3", "B recv 2 1", "E data 61"])
+        # The thread whose connection was completed first begins first.
+        self.assertEqual(self.threads[2:6], ["11", "12", "12", "11"])
+
 
 if __name__ == "__main__":
     unittest.main()
