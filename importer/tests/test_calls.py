@@ -8,7 +8,7 @@ from tcpwit_import.clocks import SAME
 from tcpwit_import.connections import connections_of
 from tcpwit_import.problem import Notes, Problem
 
-from .wire import ONE, SECOND, ZERO, Talk, address, events, packets
+from .wire import ONE, RST, SECOND, ZERO, Talk, address, events, packets
 
 AT = 100 * SECOND
 SOCKET = "socket(AF_INET, SOCK_STREAM, IPPROTO_TCP) = 3"
@@ -88,6 +88,19 @@ class Calls(unittest.TestCase):
         self.assertTrue(any("taken from the capture" in line for line in self.notes.lines()))
         with self.assertRaises(Problem):
             self.client("sendfile(3, 5, NULL, 9) = 9", talk=talk)
+
+    def test_bytes_that_a_reset_left_unsent_are_zeros(self):
+        talk = Talk(at=AT + 2 * 10**7)
+        talk.send(0, payload=b"hello")
+        with self.assertRaisesRegex(Problem, "(?s)byte 6 of 10.9.0.1:4000 is neither in the log nor in the capture.*until the connection has ended"):
+            self.client("sendfile(3, 5, NULL, 7) = 7", talk=talk)
+        talk.send(1, flags=RST)
+        self.assertEqual(self.client("sendfile(3, 5, NULL, 7) = 7", "splice(6, NULL, 3, NULL, 2, 0) = 2", talk=talk),
+                         ["B send 1 68656c6c6f0000", "E ok 7", "B send 1 0000", "E ok 2"])
+        self.assertTrue(any("never sent" in line for line in self.notes.lines()))
+        # What was received came in a segment: if none has it, the capture lost it.
+        with self.assertRaisesRegex(Problem, "byte 1 of 10.9.0.2:80 is neither"):
+            self.client("splice(3, NULL, 6, NULL, 6, 0) = 4", talk=talk)
 
     def test_large_calls_are_told_in_parts(self):
         text = "\\x61" * 100000
