@@ -12,7 +12,7 @@ from .. import header as headers
 from .. import judging
 from ..problem import Notes, Problem, status_of
 from .carrier import Carrier
-from .namespaces import ADDRESSES, Namespace, joined_pair
+from .namespaces import ADDRESSES, ADDRESSES_6, Namespace, joined_pair
 from .running import Capture, Traced
 
 DESCRIPTION = f"""Records a program's TCP, makes a trace of it, and judges it.
@@ -174,8 +174,9 @@ class Recording:
             carrier.stop()
         if carrier.fault:
             raise Problem(carrier.fault, "use --kernel plain")
-        return [word for number in (0, 1) for word in ("--capture", str(number), self.file(f"host{number}.pcap"),
-                                                       "--calls", str(number), self.file(f"host{number}.log"))]
+        return [word for number, option in enumerate(("--zero", "--one"))
+                for word in ("--capture", str(number), self.file(f"host{number}.pcap"), "--calls", str(number), self.file(f"host{number}.log"),
+                             option, ADDRESSES[number], option, ADDRESSES_6[number])]
 
     def alone(self):
         """One program, with both hosts in a namespace, or its peer elsewhere; the importer's words."""
