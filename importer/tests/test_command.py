@@ -240,6 +240,16 @@ class Command(WithFiles):
             self.assertNotIn("Traceback", error)
         self.assertEqual(run("--help", command=recording)[0], 0)
 
+    def test_options_that_only_a_pair_has(self):
+        for given in (["--loss", "0.1"], ["--delay", "2"], ["--kernel", "plain"], ["--lose", "3"], ["--double", "0"], ["--reorder", "1"], ["--seed", "1"],
+                      ["--wait", "9"]):
+            for form in (["--namespace"], ["--serve"], []):
+                status, out, error = run(*form, *given, "--", "a", command=recording)
+                self.assertEqual((status, out), (2, ""), given)
+                self.assertIn(f"{given[0]} is for two hosts: give --pair or --transfer too", error)
+        with mock.patch("os.geteuid", return_value=1000):
+            self.refused(["--transfer", "5", "--loss", "0.1", "--kernel", "shipped"], "need root", recording)
+
     def test_a_recorder_without_what_it_needs(self):
         with mock.patch("os.geteuid", return_value=1000):
             self.refused(["--transfer", "5"], "need root", recording)
