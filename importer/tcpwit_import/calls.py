@@ -24,7 +24,8 @@ class Data(NamedTuple):
 
 
 class Action(NamedTuple):
-    """A call of the trace. A word may be an endpoint, whose number is written, or data. Without an answer the call didn't end."""
+    """A call of the trace. A word may be an endpoint, whose number is written, or data. Without an answer the call didn't end.
+    `order` is its place among the calls; `turn` that of its begin, which may be moved to just after another call's."""
     begin: int
     end: int | None
     thread: Any
@@ -34,6 +35,7 @@ class Action(NamedTuple):
     answer: tuple | None
     place: str
     order: int
+    turn: tuple
 
 
 @dataclass(eq=False)
@@ -116,8 +118,7 @@ class HostCalls:
         """All endpoints, each with its calls."""
         for event in events:
             if isinstance(event, Exit):
-                for socket in self.processes.end(event.process):
-                    self.close_socket(event, ("exit", event.process), socket)
+                self.close_at_once(event, self.processes.end(event.process))
                 continue
             handler = getattr(self, "on_" + ALIASES.get(event.name, event.name), None)
             if handler:
@@ -132,14 +133,14 @@ class HostCalls:
         places = [place for place, action in enumerate(listener.actions)
                   if action.verb == "accept" and action.answer and action.answer[0] == "ok" and action.answer[1].connection]
         places.sort(key=lambda place: self.completed(listener.actions[place].answer[1].connection) or 0)
-        begin, order = 0, 0
+        begin, turn = 0, (0, 0)
         for place in places:
             action = listener.actions[place]
-            if begin > action.end:
+            if begin >= action.end:
                 return
-            if (action.begin, action.order) < (begin, order):
-                action = listener.actions[place] = action._replace(begin=begin, order=order)
-            begin, order = action.begin, action.order
+            if (action.begin, action.turn) < (begin, turn):
+                action = listener.actions[place] = action._replace(begin=begin, turn=(turn[0], turn[1] + 1))
+            begin, turn = action.begin, action.turn
 
     # Descriptors.
 
@@ -189,11 +190,12 @@ class HostCalls:
         words = arguments(event.text)
         first, last = whole_number(words[0]), whole_number(words[1])
         table = self.processes.table(event.process)
-        for number in [number for number in sorted(table.entries) if first <= number <= last]:
-            if "CLOEXEC" in event.text:
+        numbers = [number for number in sorted(table.entries) if first <= number <= last]
+        if "CLOEXEC" in event.text:
+            for number in numbers:
                 self.processes.mark(event.process, number, True)
-            elif socket := self.processes.drop(event.process, number):
-                self.close_socket(event, event.process, socket)
+        else:
+            self.close_at_once(event, filter(None, [self.processes.drop(event.process, number) for number in numbers]))
 
     def on_clone(self, event):
         if event.result and event.result > 0:
@@ -201,8 +203,7 @@ class HostCalls:
 
     def on_execve(self, event):
         if event.result == 0:
-            for socket in self.processes.execute(event.process):
-                self.close_socket(event, event.process, socket)
+            self.close_at_once(event, self.processes.execute(event.process))
 
     def on_io_uring_setup(self, event):
         if event.result is not None and event.result >= 0:
@@ -219,8 +220,9 @@ class HostCalls:
         if end is not None:
             end = max(begin, end)
         self.free_at[thread] = begin if end is None else end
+        order = next(self.orders)
         endpoint.actions.append(Action(begin, end, thread, verb, endpoint, words, answer if end is not None else None, event.place,
-                                       next(self.orders)))
+                                       order, (order, 0)))
 
     def host_of(self, role):
         """The host of an endpoint: in a log of both hosts those that connect are host 0's."""
@@ -542,6 +544,12 @@ class HostCalls:
             endpoint.gone = True
         else:
             self.notes.leave_out("shutdowns of a listener that change nothing", event.place)
+
+    def close_at_once(self, event, sockets):
+        """An exit or a call closes several sockets. The log doesn't show when each is closed, so each has a thread of its own
+        and may be closed at any moment of the event."""
+        for number, socket in enumerate(sockets):
+            self.close_socket(event, (event.process, "closes", number), socket)
 
     def close_socket(self, event, thread, socket):
         """The last descriptor of a socket is closed."""

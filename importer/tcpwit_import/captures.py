@@ -60,18 +60,23 @@ class Packet:
         return self.segment[13] & 0x12 == 0x02
 
 
-def read_capture(name, notes):
+def read_capture(name, notes, may_be_empty=False):
     """The TCP packets of a capture, in the order of the file."""
     if dpkt is None:
         raise Problem("the Python library dpkt is not installed", "install it: apt-get install python3-dpkt")
     try:
         with open(name, "rb") as file:
-            return _packets(name, file, notes)
+            packets, count = _packets(name, file, notes)
     except OSError as error:
         raise Problem(f"{name}: {error.strerror}", "name a capture that can be read") from error
+    if count == 0 and not may_be_empty:
+        raise Problem(f"{name}: the capture is empty", "start the capture before the programs, at the interface that they use; "
+                      "if all segments were lost in transit, name that host's address by --zero or --one")
+    return packets
 
 
 def _packets(name, file, notes):
+    """The TCP packets, and how many frames the file has."""
     progress = Progress(name, os.fstat(file.fileno()).st_size)
     packets, count = [], 0
     try:
@@ -85,9 +90,7 @@ def _packets(name, file, notes):
         raise Problem(f"{name}: ends within packet {count + 1}", "stop tcpdump by SIGINT or SIGTERM and wait until it has ended") from error
     finally:
         progress.done()
-    if count == 0:
-        raise Problem(f"{name}: the capture is empty", "start the capture before the programs, at the interface that they use")
-    return packets
+    return packets, count
 
 
 def _frames(name, file):

@@ -86,9 +86,9 @@ class Writer:
     def call(self, action: Action):
         """The two lines of a call, or its beginning alone. At one moment calls stand in their order."""
         host = action.endpoint.host
-        yield Line(self.moment(host, action.begin), (action.order, 0), action.thread, "B " + self.begin_text(action))
+        yield Line(self.moment(host, action.begin), (*action.turn, 0), action.thread, "B " + self.begin_text(action))
         if action.answer:
-            yield Line(self.moment(host, action.end), (action.order, 1), action.thread, "E " + " ".join(map(self.word, action.answer)))
+            yield Line(self.moment(host, action.end), (action.order, 0, 1), action.thread, "E " + " ".join(map(self.word, action.answer)))
 
     def begin_text(self, action):
         """A call's words."""
@@ -98,26 +98,31 @@ class Writer:
         if action.verb == "open":
             connection = endpoint.connection
             return f"open {endpoint.host} {connection.client[1]} {connection.server[1]}"
-        return " ".join([action.verb, str(self.numbers[id(endpoint)]), *map(self.word, action.words)])
+        words = (self.bytes_of(word, endpoint.connection).hex() if isinstance(word, Data) else str(word) for word in action.words)
+        return " ".join([action.verb, str(self.numbers[id(endpoint)]), *words])
 
     def word(self, word):
-        """A word of a call or an answer."""
+        """A word of an answer."""
         if isinstance(word, Endpoint):
             return str(self.numbers[id(word)])
         return self.bytes_of(word).hex() if isinstance(word, Data) else str(word)
 
-    def bytes_of(self, data):
-        """The bytes of a call: from the log, and what it lacks from the captures."""
+    def bytes_of(self, data, sender=None):
+        """The bytes of a call: from the log, and what it lacks from the captures. A call that sends names its connection: if that
+        was reset, bytes may never have been sent, and are zeros."""
         if len(data.known) >= data.length:
             return data.known[:data.length]
         at = data.offset + len(data.known)
         # A call that is refused names bytes that no capture has.
         found = self.stream(data.end, at, data.length - len(data.known))
         self.notes.change("calls whose bytes the log lacks, taken from the capture", f"byte {at + 1} of {shown(data.end)}")
-        if len(data.known) + len(found) < data.length:
-            raise Problem(f"byte {at + len(found) + 1} that {shown(data.end)} sent stands neither in the log nor in the capture",
-                          "record the calls with strace -s 1048576 -xx, and the whole connection")
-        return data.known + found
+        missing = data.length - len(data.known) - len(found)
+        if missing and not (sender and sender.was_reset()):
+            raise Problem(f"byte {at + len(found) + 1} of {shown(data.end)} is neither in the log nor in the capture",
+                          "record until the connection has ended, and with strace -s 1048576 -xx; no log has the bytes of sendfile and splice")
+        if missing:
+            self.notes.change("calls with bytes that were never sent before a reset, written as zeros", f"byte {at + len(found) + 1} of {shown(data.end)}")
+        return data.known + found + bytes(missing)
 
     def stream(self, end, offset, length):
         """Bytes that an end sent."""

@@ -2,6 +2,7 @@
 import argparse
 import os
 import sys
+from ipaddress import ip_address
 
 from . import header as headers
 from . import judging
@@ -61,6 +62,14 @@ def number_within(least, greatest):
 HOSTS = {"0": 0, "1": 1, "both": None}
 
 
+def packed(address):
+    """An address as its bytes."""
+    try:
+        return ip_address(address).packed
+    except ValueError as error:
+        raise Problem(f"{address} is no address", "give --zero and --one an IPv4 or IPv6 address") from error
+
+
 def files_by_host(pairs, option):
     """The files of each host."""
     found = {}
@@ -73,11 +82,16 @@ def files_by_host(pairs, option):
     return found
 
 
-def read_captures(files, notes):
-    """The packets by host: several captures of a host are taken together."""
+def addresses_of(options, host):
+    """The addresses of a host that the user named."""
+    return {0: options.zero, 1: options.one}.get(host, [])
+
+
+def read_captures(options, files, notes):
+    """The packets by host: several captures of a host are taken together. A host with a known address may have received nothing."""
     found = {}
     for host, names in files.items():
-        packets = [packet for name in names for packet in read_capture(name, notes)]
+        packets = [packet for name in names for packet in read_capture(name, notes, bool(addresses_of(options, host)))]
         if len(names) > 1:
             packets.sort(key=lambda packet: packet.moment)
         found[host] = packets
@@ -97,7 +111,7 @@ def run(options, notes):
         captures.pop(1, None)
     if None not in captures and set(captures) != set(logs):
         raise Problem("a host has a log and no capture", "give --capture and --calls of the same hosts, or --capture both")
-    packets = read_captures(captures, notes)
+    packets = read_captures(options, captures, notes)
     names = {host: ", ".join(files) for host, files in captures.items()}
     connections = connections_of({names[host]: of_host for host, of_host in packets.items()})
     if not connections:
@@ -150,7 +164,7 @@ def chosen_connections(options, notes, connections, endpoints, hosts, names):
     for endpoint in endpoints:
         if endpoint.role == "listener":
             listening.setdefault(endpoint.host, set()).add(endpoint.local[1])
-    addresses = {0: set(), 1: set()}
+    addresses = {host: {packed(address) for address in addresses_of(options, host)} for host in (0, 1)}
     for connection in connections:
         for end, host in connection.hosts.items():
             addresses[host].add(end[0])
@@ -198,7 +212,7 @@ def assign_hosts(connection, listening, addresses):
 def wanted(options, connection):
     """Whether --zero and --one permit the connection."""
     for end, host in connection.hosts.items():
-        named = options.zero if host == 0 else options.one
+        named = addresses_of(options, host)
         if named and shown(end).rsplit(":", 1)[0].strip("[]") not in named:
             return False
     return True

@@ -56,6 +56,10 @@ class Connection:
         moments = [packet.moment for packet in self.packets() if packet.source == self.server and packet.flags & SYN]
         return min(moments, default=None)
 
+    def was_reset(self):
+        """Whether an end reset the connection: what the program had given to the system by then may never have been sent."""
+        return any(packet.flags & RST for packet in self.packets())
+
     def bytes_of(self, end, offset, length):
         """What this end sent from an offset of its stream on, as far as a capture has it."""
         if end not in self._streams:

@@ -33,8 +33,9 @@ class SystemCall(NamedTuple):
 
     @property
     def when(self):
-        """When the call counts: what gives descriptors at its end, all else at its begin."""
-        gives = self.name in GIVING or "F_DUPFD" in self.text or "SCM_RIGHTS" in self.text
+        """When the call counts: what gives descriptors at its end, all else at its begin. A message that passes descriptors may
+        be received before the log has the end of its sending, but not before the begin."""
+        gives = self.name in GIVING or "F_DUPFD" in self.text or (self.name == "recvmsg" and "SCM_RIGHTS" in self.text)
         return self.end if gives and self.end is not None else self.begin
 
 

@@ -8,11 +8,18 @@ from tcpwit_import.clocks import SAME
 from tcpwit_import.connections import connections_of
 from tcpwit_import.problem import Notes, Problem
 
-from .wire import ONE, SECOND, ZERO, Talk, address, events, packets
+from .wire import ONE, RST, SECOND, ZERO, Talk, address, events, packets
 
 AT = 100 * SECOND
 SOCKET = "socket(AF_INET, SOCK_STREAM, IPPROTO_TCP) = 3"
 CONNECT = f"connect(3, {address(ONE)}, 16) = 0"
+
+
+def both_of(one, two):
+    """Two connections in the same captures."""
+    for host in (0, 1):
+        one.frames[host] = sorted(one.frames[host] + two.frames[host], key=lambda frame: frame[0])
+    return one
 
 
 class Calls(unittest.TestCase):
@@ -82,6 +89,19 @@ class Calls(unittest.TestCase):
         with self.assertRaises(Problem):
             self.client("sendfile(3, 5, NULL, 9) = 9", talk=talk)
 
+    def test_bytes_that_a_reset_left_unsent_are_zeros(self):
+        talk = Talk(at=AT + 2 * 10**7)
+        talk.send(0, payload=b"hello")
+        with self.assertRaisesRegex(Problem, "(?s)byte 6 of 10.9.0.1:4000 is neither in the log nor in the capture.*until the connection has ended"):
+            self.client("sendfile(3, 5, NULL, 7) = 7", talk=talk)
+        talk.send(1, flags=RST)
+        self.assertEqual(self.client("sendfile(3, 5, NULL, 7) = 7", "splice(6, NULL, 3, NULL, 2, 0) = 2", talk=talk),
+                         ["B send 1 68656c6c6f0000", "E ok 7", "B send 1 0000", "E ok 2"])
+        self.assertTrue(any("never sent" in line for line in self.notes.lines()))
+        # What was received came in a segment: if none has it, the capture lost it.
+        with self.assertRaisesRegex(Problem, "byte 1 of 10.9.0.2:80 is neither"):
+            self.client("splice(3, NULL, 6, NULL, 6, 0) = 4", talk=talk)
+
     def test_large_calls_are_told_in_parts(self):
         text = "\\x61" * 100000
         found = self.client(f'write(3, "{text}", 100000) = 100000', f'read(3, "{text}", 100000) = 100000')
@@ -134,6 +154,16 @@ class Calls(unittest.TestCase):
         self.assertEqual(self.client("--- SIGTERM {si_signo=SIGTERM} ---", "+++ killed by SIGTERM +++"), ["B close 1", "E ok"])
         self.assertEqual(self.client("close_range(3, 4294967295, 0) = 0"), ["B close 1", "E ok"])
 
+    def test_sockets_that_are_closed_at_once_do_not_wait_for_each_other(self):
+        step = 2 * 10**7
+        talk = both_of(Talk(at=AT + step), Talk(zero=("10.9.0.1", 4001), at=AT + 3 * step))
+        opening = ["socket(AF_INET, SOCK_STREAM|SOCK_CLOEXEC, IPPROTO_TCP) = 3", CONNECT,
+                   "socket(AF_INET, SOCK_STREAM|SOCK_CLOEXEC, IPPROTO_TCP) = 4", CONNECT.replace("(3", "(4")]
+        for closing in (["exit_group(0) = ?", "+++ exited with 0 +++"], ["close_range(3, 4294967295, 0) = 0"], ['execve("a", ["a"], 0x7f) = 0']):
+            with self.subTest(closing=closing):
+                self.assertEqual(self.told([*opening, *closing], talk=talk)[8:], ["B close 1", "B close 2", "E ok", "E ok"])
+                self.assertEqual(len(set(self.threads[8:10])), 2)
+
     def test_descriptors_count(self):
         last = "close(3) = 0"
         for before, after in (("dup(3) = 5", "close(5) = 0"), ("dup2(3, 5) = 5", "close(5) = 0"), ("dup3(3, 5, O_CLOEXEC) = 5", "close(5) = 0"),
@@ -158,6 +188,14 @@ class Calls(unittest.TestCase):
         self.assertEqual(self.client(passed, "close(3) = 0", came, (8, 'write(9, "a", 1) = 1'), (8, "close(9) = 0")),
                          ["B send 1 61", "E ok 1", "B close 1", "E ok"])
 
+    def test_a_descriptor_that_is_received_before_its_sending_has_ended(self):
+        begun = "sendmsg(6, {msg_iov=[{iov_base=\"x\", iov_len=1}], msg_iovlen=1, " \
+            "msg_control=[{cmsg_len=20, cmsg_level=SOL_SOCKET, cmsg_type=SCM_RIGHTS, cmsg_data=[3]}], msg_controllen=24, msg_flags=0}, 0"
+        came = begun.replace("sendmsg(6", "recvmsg(5").replace("[3]", "[9]")
+        self.assertEqual(self.client(f"{begun} <unfinished ...>", (8, f"{came}) = 1"), "<... sendmsg resumed>) = 1", "close(3) = 0",
+                                     (8, 'write(9, "a", 1) = 1'), (8, "close(9) = 0")),
+                         ["B send 1 61", "E ok 1", "B close 1", "E ok"])
+
     def test_what_did_not_end_has_no_answer(self):
         self.assertEqual(self.client("read(3,  <unfinished ...>"), ["B recv 1 65535"])
 
@@ -170,15 +208,22 @@ class Calls(unittest.TestCase):
             self.client("io_uring_setup(8, {flags=0}) = 5")
 
     def test_accepts_of_two_threads_begin_in_the_order_of_the_queue(self):
-        talks = [Talk(zero=("10.9.0.1", port), at=AT + number * 10**6) for number, port in enumerate((4000, 4001))]
-        whole = talks[0]
-        for host in (0, 1):
-            whole.frames[host] = sorted(whole.frames[host] + talks[1].frames[host], key=lambda frame: frame[0])
+        whole = both_of(*[Talk(zero=("10.9.0.1", port), at=AT + number * 10**6) for number, port in enumerate((4000, 4001))])
         lines = [SOCKET, f"bind(3, {address(ONE)}, 16) = 0", "listen(3, 5) = 0", "fork() = 8", "accept(3,  <unfinished ...>",
                  (8, f"accept(3, {address(ZERO)}, [16]) = 4"),
                  f"<... accept resumed>{address(('10.9.0.1', 4001))}, [16]) = 5"]
         self.assertEqual(self.told(lines, host=1, talk=whole)[2:], ["B accept 1", "B accept 1", "E ok 2", "E ok 3"])
         self.assertEqual(self.threads[2:4], ["12", "11"])
+
+    def test_accepts_that_begin_at_one_moment_keep_the_order_of_the_queue(self):
+        first, second = (Talk(zero=("10.9.0.1", port), at=AT + number * 10**6) for number, port in enumerate((4000, 4001)))
+        lines = [SOCKET, f"bind(3, {address(ONE)}, 16) = 0", "listen(3, 5) = 0", "fork() = 8", (8, "accept(3,  <unfinished ...>"),
+                 "accept(3,  <unfinished ...>", (8, f"<... accept resumed>{address(('10.9.0.1', 4001))}, [16]) = 5"),
+                 f"<... accept resumed>{address(ZERO)}, [16]) = 4", (8, 'read(5, "a", 1) = 1')]
+        self.assertEqual(self.told(lines, host=1, talk=both_of(first, second))[2:],
+                         ["B accept 1", "B accept 1", "E ok 2", "E ok 3", "B recv 2 1", "E data 61"])
+        # The thread whose connection was completed first begins first.
+        self.assertEqual(self.threads[2:6], ["11", "12", "12", "11"])
 
 
 if __name__ == "__main__":

@@ -173,6 +173,18 @@ class Command(WithFiles):
                 file.write(whole[:size])
             self.refused(["--capture", "0", f"{self.folder}/short.pcap", *self.logs[:3]], "ends within packet")
 
+    def test_a_connection_that_times_out(self):
+        lost = talk()
+        lost.frames = {0: lost.frames[0][:1], 1: []}
+        timeout = [CLIENT[0], (*CLIENT[1][:2], CLIENT[1][2].replace("= 0", "= -1 ETIMEDOUT (x)")), *CLIENT[3:]]
+        words = [*lost.write(self.folder), *self.write_logs(timeout, SERVER[:3])]
+        self.refused(words, "c1.pcap: the capture is empty")
+        status, out, error = run(*words, "--zero", ZERO[0], "--one", ONE[0])
+        self.assertEqual(status, 0, error)
+        self.assertEqual([line.split(" ", 2)[2][:9] for line in out.splitlines()[7:]],
+                         ["B listen ", "E ok 2", "B open 0 ", "E ok 1", "B await 1", "O 0 0fa00", "E timeout", "B close 1", "E ok"])
+        self.refused([*words, "--one", "host"], "host is no address")
+
     def test_a_capture_without_segments(self):
         udp = bytearray(ip_packet(ZERO, ONE, segment(ZERO, ONE, 1, 2, ACK)))
         udp[9] = 17
@@ -227,6 +239,16 @@ class Command(WithFiles):
             self.assertEqual((status, out), (2, ""), words)
             self.assertNotIn("Traceback", error)
         self.assertEqual(run("--help", command=recording)[0], 0)
+
+    def test_options_that_only_a_pair_has(self):
+        for given in (["--loss", "0.1"], ["--delay", "2"], ["--kernel", "plain"], ["--lose", "3"], ["--double", "0"], ["--reorder", "1"], ["--seed", "1"],
+                      ["--wait", "9"]):
+            for form in (["--namespace"], ["--serve"], []):
+                status, out, error = run(*form, *given, "--", "a", command=recording)
+                self.assertEqual((status, out), (2, ""), given)
+                self.assertIn(f"{given[0]} is for two hosts: give --pair or --transfer too", error)
+        with mock.patch("os.geteuid", return_value=1000):
+            self.refused(["--transfer", "5", "--loss", "0.1", "--kernel", "shipped"], "need root", recording)
 
     def test_a_recorder_without_what_it_needs(self):
         with mock.patch("os.geteuid", return_value=1000):

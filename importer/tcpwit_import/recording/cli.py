@@ -12,7 +12,7 @@ from .. import header as headers
 from .. import judging
 from ..problem import Notes, Problem, status_of
 from .carrier import Carrier
-from .namespaces import ADDRESSES, Namespace, joined_pair
+from .namespaces import ADDRESSES, ADDRESSES_6, Namespace, joined_pair
 from .running import Capture, Traced
 
 DESCRIPTION = f"""Records a program's TCP, makes a trace of it, and judges it.
@@ -29,6 +29,10 @@ tcpwit-record prints the lines of tcpwit_lab judge: how much of congestion contr
 goes to standard error. Captures, logs, trace, case and picture stay in the folder --out.
 
 The status is 0 for a yes at the word of --congestion (else full) or a stricter one, 1 if no such word has a yes, 2 for an error."""
+
+
+# What only a pair has, with the defaults.
+OF_A_PAIR = {"kernel": headers.KERNEL, "wait": 10, "delay": 2, "loss": 0, "lose": frozenset(), "double": 0, "reorder": 0, "seed": 1}
 
 
 class Chances(NamedTuple):
@@ -76,21 +80,21 @@ def parser():
     words.add_argument("--out", metavar="DIR", help="the folder of all files (default: a new one, tcpwit-TIME)")
     words.add_argument("--no-check", action="store_true", help="record and import only")
     words.add_argument("--lab", metavar="PATH", help="the program tcpwit_lab, which judges")
-    words.add_argument("--kernel", choices=("plain", "shipped"), default=headers.KERNEL,
+    words.add_argument("--kernel", choices=("plain", "shipped"),
                        help=f"a pair's kernel settings: without what other RFCs add (plain), or as they are (default: {headers.KERNEL})")
     words.add_argument("--congestion", choices=headers.WORDS["congestion"], help=headers.HELP["congestion"])
     words.add_argument("--version", type=int, choices=sorted(headers.LINES),
                        help="of the texts (default: 2 for two hosts, 3 for one; 4 with --congestion)")
     words.add_argument("--as", dest="user", metavar="USER", help="whose the programs are (default: who called sudo)")
-    words.add_argument("--wait", type=within(0.1, 600), default=10, metavar="N", help="seconds until the server has to listen")
+    words.add_argument("--wait", type=within(0.1, 600), metavar="N", help="seconds until a pair's server has to listen (default: 10)")
     words.add_argument("--linger", type=within(0, 600), default=1, metavar="N", help="seconds that a server lasts after the client")
     way = words.add_argument_group("the way between a pair")
-    way.add_argument("--delay", type=within(0, 10000), default=2, metavar="MS", help="of each frame (default: 2)")
-    way.add_argument("--loss", type=within(0, 1), default=0, metavar="SHARE", help="of segments that are lost, by chance")
-    way.add_argument("--lose", type=numbers, default=frozenset(), metavar="LIST", help="the client's segments with data that are lost, from 1, as 3,7")
-    way.add_argument("--double", type=within(0, 1), default=0, metavar="SHARE", help="of segments that come twice")
-    way.add_argument("--reorder", type=within(0, 1), default=0, metavar="SHARE", help="of segments that take twice the time")
-    way.add_argument("--seed", type=importing.number_within(0, 2**63), default=1, metavar="N", help="of the chances")
+    way.add_argument("--delay", type=within(0, 10000), metavar="MS", help="of each frame (default: 2)")
+    way.add_argument("--loss", type=within(0, 1), metavar="SHARE", help="of segments that are lost, by chance")
+    way.add_argument("--lose", type=numbers, metavar="LIST", help="the client's segments with data that are lost, from 1, as 3,7")
+    way.add_argument("--double", type=within(0, 1), metavar="SHARE", help="of segments that come twice")
+    way.add_argument("--reorder", type=within(0, 1), metavar="SHARE", help="of segments that take twice the time")
+    way.add_argument("--seed", type=importing.number_within(0, 2**63), metavar="N", help="of the chances")
     own = words.add_argument_group("--transfer")
     own.add_argument("--chunk", type=importing.number_within(1, 10**8), default=60000, metavar="N", help="how many bytes are sent at once")
     own.add_argument("--echo", action="store_true", help="the server sends back what it gets")
@@ -99,7 +103,7 @@ def parser():
 
 
 def check_words(words, options):
-    """What argparse can't say of the words."""
+    """What argparse can't say of the words; then the defaults of what only a pair has."""
     if bool(options.program) == bool(options.transfer):
         words.error("give --transfer, or a program after --")
     if options.serve and (options.pair or options.transfer or options.namespace):
@@ -109,6 +113,11 @@ def check_words(words, options):
             words.error("--pair names no server")
     except ValueError:
         words.error(f"--pair {options.pair!r} has a quotation mark without its second")
+    for name, default in OF_A_PAIR.items():
+        if getattr(options, name) is None:
+            setattr(options, name, default)
+        elif options.pair is None and not options.transfer:
+            words.error(f"--{name} is for two hosts: give --pair or --transfer too")
 
 
 class Recording:
@@ -174,8 +183,9 @@ class Recording:
             carrier.stop()
         if carrier.fault:
             raise Problem(carrier.fault, "use --kernel plain")
-        return [word for number in (0, 1) for word in ("--capture", str(number), self.file(f"host{number}.pcap"),
-                                                       "--calls", str(number), self.file(f"host{number}.log"))]
+        return [word for number, option in enumerate(("--zero", "--one"))
+                for word in ("--capture", str(number), self.file(f"host{number}.pcap"), "--calls", str(number), self.file(f"host{number}.log"),
+                             option, ADDRESSES[number], option, ADDRESSES_6[number])]
 
     def alone(self):
         """One program, with both hosts in a namespace, or its peer elsewhere; the importer's words."""
