@@ -17,6 +17,7 @@ class Limits:
     command: float = 5
     scenario: float = 60
     run: float = 3600
+    events: int = 20_000
 
 
 class Watch:

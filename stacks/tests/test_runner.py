@@ -129,6 +129,21 @@ class Segments(unittest.TestCase):
         self.assertNotEqual(text[:100], segments.stream(0, 100, 1))
 
 
+class Storms(unittest.TestCase):
+    def lines(self, *kinds):
+        made = {"ack": segment(segments.ACK), "data": segment(segments.ACK, payload=b"x"), "fin": segment(segments.ACK | segments.FIN)}
+        return [f"5 90 O 0 {segments.write(made[kind]).hex()}" if kind in made else kind for kind in kinds]
+
+    def test_where_a_storm_begins(self):
+        begin = self.lines("ack", "data", "5 1 B status 5", "fin")
+        for more in (self.lines("ack") * 300, self.lines("ack") * 150 + self.lines("data") + self.lines("ack") * 150):
+            self.assertEqual(simulation.storm(begin + more), 4)
+
+    def test_what_is_no_storm(self):
+        for lines in ([], self.lines("ack") * 50, self.lines("data", "ack") * 300, self.lines("ack") * 300 + self.lines("data") * 300):
+            self.assertIsNone(simulation.storm(lines))
+
+
 class Dropping(unittest.TestCase):
     HEADER = judging.header_of(judging.USUAL, False)
     LINES = ["10 90 O 0 aa", "20 93 I 1 aa", "30 90 O 0 bb", "40 93 I 1 bb", "50 91 O 1 cc"]
@@ -431,6 +446,24 @@ class TheCommand(unittest.TestCase):
         self.assertIn("broken the scenario took more than 1 s", self.broken(slow, "--scenario-limit", "1"))
         status, out, _ = self.run_it(self.shell(slow), "hostile-closed-ack", "hostile-closed-syn", "--run-limit", "1", "--jobs", "1", *self.programs())
         self.assertEqual((status, out.count("broken the run took more than 1 s, "), "2 broken" in out), (1, 2, True))
+
+    def test_a_storm_ends_a_scenario(self):
+        ack = segments.write(segment(segments.ACK)).hex()
+        stack = self.adapter("""#!{python}
+import sys
+for line in sys.stdin:
+    print("out {ack}\\n= - ok" + " 0" * ("listen" in line), flush=True)
+""", ack=ack)
+        scenario = f"{self.folder}/storm.scenario"
+        with open(scenario, "w") as file:
+            file.write(HEAD + "delay 0.001\nthread 1 host 0\n  listen 80 as door\n  wait 100\n")
+        status, out, _ = self.run_it(stack, scenario, "--events", "400", "--out", self.folder, *self.programs())
+        self.assertEqual((status, "1 yes, but" in out), (1, True), out)
+        self.assertIn("run: ended after 400 events: a storm of acknowledgments from line 11 of the trace on, of which 100 lines are kept", out)
+        self.assertIn(f"line 11: 2000 93 I 1 {ack}", out)
+        with open(f"{self.folder}/storm.trace") as file:
+            lines = file.read().split("\n")
+        self.assertEqual((lines[10], len(lines)), (f"2000 93 I 1 {ack}", 10 + 100 + 1))
 
     def test_a_program_that_takes_too_long(self):
         with self.assertRaises(limits.Broken) as caught:
