@@ -270,6 +270,9 @@ class TheCommand(unittest.TestCase):
         folder = tempfile.TemporaryDirectory()
         self.addCleanup(folder.cleanup)
         self.folder = folder.name
+        caches = mock.patch.dict(os.environ, {"XDG_CACHE_HOME": self.folder})
+        caches.start()
+        self.addCleanup(caches.stop)
 
     def run_it(self, *words):
         """Status, output and errors of stacks/run."""
@@ -335,7 +338,7 @@ class TheCommand(unittest.TestCase):
             self.assertIn(cause, error)
 
     def outcome(self, verdict, strictest, name="x"):
-        return judging.Outcome(SimpleNamespace(keeps=True, name=name, show="a", by="b"), verdict, strictest)
+        return judging.Outcome(SimpleNamespace(keeps=True, name=name, path=name, show="a", by="b"), verdict, strictest)
 
     def reported(self, *words, outcomes=None):
         """Status and output of a report of these outcomes, or of three."""
@@ -367,10 +370,50 @@ class TheCommand(unittest.TestCase):
         _, out = self.reported("--least", "recovery", "--junit", f"{self.folder}/report.xml", outcomes=[less, lacking, long])
         with open(f"{self.folder}/report.xml") as file:
             shown = re.findall(r'<failure message="([^"]*)"', file.read())
-        self.assertEqual(shown, ["no 9 0 congestion (yes at: none)", "yes 5 3, but (yes at: full)",
+        self.assertEqual(shown, ["no 9 0 congestion (yes at: none)", "yes 5 3, but: 7 bytes were accepted and never read (yes at: full)",
                                  "broken the stack of host 0 ended with status 1 (yes at: -)"])
         for message in shown:
-            self.assertIn(message.split(" (")[0], out)
+            self.assertIn(message.split(": 7 bytes")[0].split(" (")[0], out)
+        self.assertIn("\n    7 bytes were accepted and never read\n", out)
+        self.assertEqual((out.count("\nyes, but: "), self.reported()[1].count("yes, but: ")), (1, 0))
+
+    def test_the_compared_values_are_shown(self):
+        refused = self.outcome("no 9 0 congestion", "", "one")
+        refused.why, refused.seconds = "the step: 1 M\n  sending: una 1\n\nends at 2681", 1.5
+        _, out = self.reported("--junit", f"{self.folder}/report.xml", outcomes=[refused])
+        self.assertIn("    the step: 1 M\n      sending: una 1\n    ends at 2681\n", out)
+        with open(f"{self.folder}/report.xml") as file:
+            report = file.read()
+        self.assertIn("\nthe step: 1 M\n  sending: una 1\nends at 2681</failure>", report)
+        self.assertEqual(report.count('time="1.500"'), 2)
+
+    def test_the_report_knows_against(self):
+        file = f"{self.folder}/expected"
+        with open(file, "w") as lines:
+            lines.write("one: no congestion [none]\ntwo: no congestion [recovery]\nthree: skipped\n")
+        status, out = self.reported("--against", file, "--junit", f"{self.folder}/report.xml")
+        with open(f"{self.folder}/report.xml") as lines:
+            report = lines.read()
+        self.assertEqual((status, re.findall(r'(?:failure|skipped) message="([^"]*)"', report)),
+                         (1, ["one: yes [full] (before: one: no congestion [none])", "skipped"]))
+        self.assertIn('failures="1" skipped="1"', report)
+
+    def test_what_failed_runs_again(self):
+        stack = self.adapter(answer="banana")
+        self.assertIn("no run of", self.run_it(stack, "--failed", *self.programs())[2])
+        self.assertEqual(self.run_it(stack, "open-plain", "hostile-closed-ack", *self.programs())[0], 1)
+        self.adapter(answer="= - ok")
+        status, out, _ = self.run_it(stack, "--failed", *self.programs())
+        self.assertEqual((status, out.count("open-plain "), "hostile-closed-ack  " in out, "1 broken" in out), (1, 1, True, True), out)
+        self.adapter(answer="= - cannot")
+        self.run_it(stack, "open-plain", *self.programs())
+        self.assertIn("nothing failed", self.run_it(stack, "--failed", *self.programs())[2])
+        self.assertEqual(self.run_it(stack, "--failed", "open-plain")[0], 2)
+
+    def test_more_is_shown(self):
+        _, out = self.reported("-v")
+        self.assertIn("    shows: a\n    by: b\n    0 lines in 0.00 s\n", out)
+        self.assertNotIn("shows: ", self.reported()[1])
 
     def test_the_page_has_every_option(self):
         with open(os.path.join(TOP, "README.md")) as file:
