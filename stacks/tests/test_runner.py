@@ -449,8 +449,10 @@ class TheCommand(unittest.TestCase):
 
     def assert_none_is_left(self):
         """Whether the processes of the file end; one that nobody has waited for yet has ended."""
-        with open(f"{self.folder}/pids") as file:
-            numbers = file.read().split()
+        numbers = []
+        if os.path.exists(f"{self.folder}/pids"):
+            with open(f"{self.folder}/pids") as file:
+                numbers = file.read().split()
         until = time.monotonic() + 30
         while any(map(self.runs, numbers)):
             self.assertLess(time.monotonic(), until, numbers)
@@ -466,7 +468,7 @@ class TheCommand(unittest.TestCase):
     HANGS = "read x; sleep 1000 & echo $$ $! > PIDS; echo '= - ok'; wait"
 
     def test_a_stack_that_hangs(self):
-        self.assertIn("host 0 said nothing for 2 s, to: 20500 in ", self.broken(self.HANGS, "--command-limit", "2"))
+        self.assertRegex(self.broken(self.HANGS, "--command-limit", "2"), "host 0 said nothing for 2 s, to: (20500 in|start) ")
         self.assert_none_is_left()
 
     def test_a_stack_that_dies(self):
@@ -515,7 +517,8 @@ for line in sys.stdin:
 
     def test_no_process_is_left_after_a_signal(self):
         stack = self.shell(self.HANGS.replace("> PIDS", "> PIDS.tmp; mv PIDS.tmp PIDS"))
-        run = subprocess.Popen([sys.executable, os.path.join(TOP, "run"), stack, "hostile-closed-ack", *self.programs()], stdout=subprocess.PIPE,
+        run = subprocess.Popen([sys.executable, os.path.join(TOP, "run"), stack, "hostile-closed-ack", "--command-limit", "1000", "--scenario-limit",
+                                "1000", *self.programs()], stdout=subprocess.PIPE,
                                stderr=subprocess.STDOUT, text=True)
         while not os.path.exists(f"{self.folder}/pids") and run.poll() is None:
             time.sleep(0.01)
@@ -535,6 +538,17 @@ for line in sys.stdin:
             words = command.arguments()
         with contextlib.redirect_stdout(io.StringIO()) as out:
             self.assertEqual(command.report(words, "a stack", outcomes()), 0)
+
+    def test_files_that_are_no_text(self):
+        path = f"{self.folder}/x.scenario"
+        with open(path, "wb") as file:
+            file.write(b"\xff\xfe")
+        for words in ([path], ["open-plain", "--profile", path], ["open-plain", "--against", path]):
+            self.assertEqual(self.run_it("true", *words), (2, "", f"{path} is no text\n"))
+
+    def test_a_stack_that_cannot_be_started(self):
+        status, _, error = self.run_it(self.adapter("nothing to run"), "open-plain", *self.programs())
+        self.assertEqual((status, error), (2, f"{self.folder}/adapter: Exec format error\n"))
 
     def test_what_cannot_be_run(self):
         self.assertEqual(self.run_it("lwip", "--least", "cubic")[0], 2)
