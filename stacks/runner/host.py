@@ -89,7 +89,7 @@ class Host:
         until = time.monotonic() + GRACE / 4
         while time.monotonic() < until and self.process.stderr in [key.fileobj for key in self.selector.get_map().values()]:
             self.move(until - time.monotonic())
-        return Broken(f"host {self.number} {cause}, to: {command[:60].rstrip()}", self.tail())
+        return Broken(f"host {self.number} {cause}, to: {command[:60].rstrip()}")
 
     # ---- commands ----
 

@@ -29,7 +29,9 @@ class Outcome:
     unexpected: list = field(default_factory=list)
     missing: int = 0            # bytes that were accepted and never read
     waiting: list = field(default_factory=list)
-    errors: list = field(default_factory=list)   # the last lines of standard error, if the stack's process is at fault
+    notes: list = field(default_factory=list)    # what else is shown: the line where a storm began
+    said: list = field(default_factory=list)     # the last lines of the stack's standard error
+    seconds: float = 0
     lines: int = 0
 
     def is_yes(self, least):

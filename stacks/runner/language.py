@@ -43,6 +43,7 @@ class Thread:
 @dataclass
 class Scenario:
     name: str
+    path: str = ""
     show: str = ""
     by: str = ""
     seed: int = 1

@@ -4,11 +4,7 @@ from dataclasses import dataclass
 
 
 class Broken(Exception):
-    """A scenario that can't be judged, by the fault of the stack's process or of its time; with the last lines of standard error."""
-
-    def __init__(self, cause, errors=()):
-        super().__init__(cause)
-        self.errors = list(errors)
+    """A scenario that can't be judged, by the fault of the stack's process or of its time."""
 
 
 @dataclass
@@ -17,6 +13,7 @@ class Limits:
     command: float = 5
     scenario: float = 60
     run: float = 3600
+    events: int = 20_000
 
 
 class Watch:

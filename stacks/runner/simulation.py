@@ -14,7 +14,8 @@ FAULTS = ("refused", "reset", "timeout")
 # Threads of the lines that no call writes, for host 0 and host 1.
 OUT_THREAD, IN_THREAD, TIMER_THREAD = 90, 92, 94
 LONGEST_CALL = 60000
-MOST_EVENTS = 200_000
+# A storm: how many acknowledgments weigh as much as one other segment, and how many of its lines are judged.
+WEIGHT, KEPT = 20, 100
 
 
 class Wire:
@@ -69,6 +70,24 @@ class Wire:
         return copies if lost else [delay, *copies]
 
 
+def is_acknowledgment(line):
+    """Whether a line of the trace shows a segment that does nothing but acknowledge."""
+    words = line.split(" ")
+    if words[2] not in ("O", "I"):
+        return False
+    return words[4][26:28] in ("10", "18") and len(words[4]) // 2 == int(words[4][24], 16) * 4
+
+
+def storm(lines):
+    """The place from which on almost all lines to the end are acknowledgments; None if they are only a few."""
+    most, weight, began = KEPT, 0, None
+    for at in range(len(lines) - 1, -1, -1):
+        weight += 1 if is_acknowledgment(lines[at]) else -WEIGHT
+        if weight > most:
+            most, began = weight, at
+    return began
+
+
 class Runner:
     """A thread of the scenario, and where it stands."""
 
@@ -110,6 +129,8 @@ class Run:
         self.unexpected = []
         self.peer = Peer(self) if scenario.peer else None
         self.count = 0
+        self.early = False       # ended for too many events
+        self.storm = None        # the place in `lines` where a storm of acknowledgments began
 
     # ---- the trace ----
 
@@ -320,9 +341,18 @@ class Run:
                 self.come(*what)
         self.serve()
         self.count += 1
-        if self.count == MOST_EVENTS:
-            self.unexpected.append(f"run: ended after {MOST_EVENTS} events")
-        return self.count < MOST_EVENTS
+        if self.count < self.watch.limits.events:
+            return True
+        self.end_early()
+        return False
+
+    def end_early(self):
+        """After too many events: keeps of a storm of acknowledgments only its first lines."""
+        self.early = True
+        self.storm = storm(self.lines)
+        if self.storm is not None:
+            del self.lines[self.storm + KEPT:]
+            self.odd = {at for at in self.odd if at < len(self.lines)}
 
     def start(self):
         for number in (0,) if self.peer else (0, 1):

@@ -129,6 +129,21 @@ class Segments(unittest.TestCase):
         self.assertNotEqual(text[:100], segments.stream(0, 100, 1))
 
 
+class Storms(unittest.TestCase):
+    def lines(self, *kinds):
+        made = {"ack": segment(segments.ACK), "data": segment(segments.ACK, payload=b"x"), "fin": segment(segments.ACK | segments.FIN)}
+        return [f"5 90 O 0 {segments.write(made[kind]).hex()}" if kind in made else kind for kind in kinds]
+
+    def test_where_a_storm_begins(self):
+        begin = self.lines("ack", "data", "5 1 B status 5", "fin")
+        for more in (self.lines("ack") * 300, self.lines("ack") * 150 + self.lines("data") + self.lines("ack") * 150):
+            self.assertEqual(simulation.storm(begin + more), 4)
+
+    def test_what_is_no_storm(self):
+        for lines in ([], self.lines("ack") * 50, self.lines("data", "ack") * 300, self.lines("ack") * 300 + self.lines("data") * 300):
+            self.assertIsNone(simulation.storm(lines))
+
+
 class Dropping(unittest.TestCase):
     HEADER = judging.header_of(judging.USUAL, False)
     LINES = ["10 90 O 0 aa", "20 93 I 1 aa", "30 90 O 0 bb", "40 93 I 1 bb", "50 91 O 1 cc"]
@@ -255,6 +270,9 @@ class TheCommand(unittest.TestCase):
         folder = tempfile.TemporaryDirectory()
         self.addCleanup(folder.cleanup)
         self.folder = folder.name
+        caches = mock.patch.dict(os.environ, {"XDG_CACHE_HOME": self.folder})
+        caches.start()
+        self.addCleanup(caches.stop)
 
     def run_it(self, *words):
         """Status, output and errors of stacks/run."""
@@ -320,7 +338,7 @@ class TheCommand(unittest.TestCase):
             self.assertIn(cause, error)
 
     def outcome(self, verdict, strictest, name="x"):
-        return judging.Outcome(SimpleNamespace(keeps=True, name=name, show="a", by="b"), verdict, strictest)
+        return judging.Outcome(SimpleNamespace(keeps=True, name=name, path=name, show="a", by="b"), verdict, strictest)
 
     def reported(self, *words, outcomes=None):
         """Status and output of a report of these outcomes, or of three."""
@@ -352,10 +370,50 @@ class TheCommand(unittest.TestCase):
         _, out = self.reported("--least", "recovery", "--junit", f"{self.folder}/report.xml", outcomes=[less, lacking, long])
         with open(f"{self.folder}/report.xml") as file:
             shown = re.findall(r'<failure message="([^"]*)"', file.read())
-        self.assertEqual(shown, ["no 9 0 congestion (yes at: none)", "yes 5 3, but (yes at: full)",
+        self.assertEqual(shown, ["no 9 0 congestion (yes at: none)", "yes 5 3, but: 7 bytes were accepted and never read (yes at: full)",
                                  "broken the stack of host 0 ended with status 1 (yes at: -)"])
         for message in shown:
-            self.assertIn(message.split(" (")[0], out)
+            self.assertIn(message.split(": 7 bytes")[0].split(" (")[0], out)
+        self.assertIn("\n    7 bytes were accepted and never read\n", out)
+        self.assertEqual((out.count("\nyes, but: "), self.reported()[1].count("yes, but: ")), (1, 0))
+
+    def test_the_compared_values_are_shown(self):
+        refused = self.outcome("no 9 0 congestion", "", "one")
+        refused.why, refused.seconds = "the step: 1 M\n  sending: una 1\n\nends at 2681", 1.5
+        _, out = self.reported("--junit", f"{self.folder}/report.xml", outcomes=[refused])
+        self.assertIn("    the step: 1 M\n      sending: una 1\n    ends at 2681\n", out)
+        with open(f"{self.folder}/report.xml") as file:
+            report = file.read()
+        self.assertIn("\nthe step: 1 M\n  sending: una 1\nends at 2681</failure>", report)
+        self.assertEqual(report.count('time="1.500"'), 2)
+
+    def test_the_report_knows_against(self):
+        file = f"{self.folder}/expected"
+        with open(file, "w") as lines:
+            lines.write("one: no congestion [none]\ntwo: no congestion [recovery]\nthree: skipped\n")
+        status, out = self.reported("--against", file, "--junit", f"{self.folder}/report.xml")
+        with open(f"{self.folder}/report.xml") as lines:
+            report = lines.read()
+        self.assertEqual((status, re.findall(r'(?:failure|skipped) message="([^"]*)"', report)),
+                         (1, ["one: yes [full] (before: one: no congestion [none])", "skipped"]))
+        self.assertIn('failures="1" skipped="1"', report)
+
+    def test_what_failed_runs_again(self):
+        stack = self.adapter(answer="banana")
+        self.assertIn("no run of", self.run_it(stack, "--failed", *self.programs())[2])
+        self.assertEqual(self.run_it(stack, "open-plain", "hostile-closed-ack", *self.programs())[0], 1)
+        self.adapter(answer="= - ok")
+        status, out, _ = self.run_it(stack, "--failed", *self.programs())
+        self.assertEqual((status, out.count("open-plain "), "hostile-closed-ack  " in out, "1 broken" in out), (1, 1, True, True), out)
+        self.adapter(answer="= - cannot")
+        self.run_it(stack, "open-plain", *self.programs())
+        self.assertIn("nothing failed", self.run_it(stack, "--failed", *self.programs())[2])
+        self.assertEqual(self.run_it(stack, "--failed", "open-plain")[0], 2)
+
+    def test_more_is_shown(self):
+        _, out = self.reported("-v")
+        self.assertIn("    shows: a\n    by: b\n    0 lines in 0.00 s\n", out)
+        self.assertNotIn("shows: ", self.reported()[1])
 
     def test_the_page_has_every_option(self):
         with open(os.path.join(TOP, "README.md")) as file:
@@ -391,8 +449,10 @@ class TheCommand(unittest.TestCase):
 
     def assert_none_is_left(self):
         """Whether the processes of the file end; one that nobody has waited for yet has ended."""
-        with open(f"{self.folder}/pids") as file:
-            numbers = file.read().split()
+        numbers = []
+        if os.path.exists(f"{self.folder}/pids"):
+            with open(f"{self.folder}/pids") as file:
+                numbers = file.read().split()
         until = time.monotonic() + 30
         while any(map(self.runs, numbers)):
             self.assertLess(time.monotonic(), until, numbers)
@@ -408,7 +468,7 @@ class TheCommand(unittest.TestCase):
     HANGS = "read x; sleep 1000 & echo $$ $! > PIDS; echo '= - ok'; wait"
 
     def test_a_stack_that_hangs(self):
-        self.assertIn("host 0 said nothing for 2 s, to: 20500 in ", self.broken(self.HANGS, "--command-limit", "2"))
+        self.assertRegex(self.broken(self.HANGS, "--command-limit", "2"), "host 0 said nothing for 2 s, to: (20500 in|start) ")
         self.assert_none_is_left()
 
     def test_a_stack_that_dies(self):
@@ -432,6 +492,24 @@ class TheCommand(unittest.TestCase):
         status, out, _ = self.run_it(self.shell(slow), "hostile-closed-ack", "hostile-closed-syn", "--run-limit", "1", "--jobs", "1", *self.programs())
         self.assertEqual((status, out.count("broken the run took more than 1 s, "), "2 broken" in out), (1, 2, True))
 
+    def test_a_storm_ends_a_scenario(self):
+        ack = segments.write(segment(segments.ACK)).hex()
+        stack = self.adapter("""#!{python}
+import sys
+for line in sys.stdin:
+    print("out {ack}\\n= - ok" + " 0" * ("listen" in line), flush=True)
+""", ack=ack)
+        scenario = f"{self.folder}/storm.scenario"
+        with open(scenario, "w") as file:
+            file.write(HEAD + "delay 0.001\nthread 1 host 0\n  listen 80 as door\n  wait 100\n")
+        status, out, _ = self.run_it(stack, scenario, "--events", "400", "--out", self.folder, *self.programs())
+        self.assertEqual((status, "1 yes, but" in out), (1, True), out)
+        self.assertIn("run: ended after 400 events: a storm of acknowledgments from line 11 of the trace on, of which 100 lines are kept", out)
+        self.assertIn(f"line 11: 2000 93 I 1 {ack}", out)
+        with open(f"{self.folder}/storm.trace") as file:
+            lines = file.read().split("\n")
+        self.assertEqual((lines[10], len(lines)), (f"2000 93 I 1 {ack}", 10 + 100 + 1))
+
     def test_a_program_that_takes_too_long(self):
         with self.assertRaises(limits.Broken) as caught:
             judging.Judge(["sleep"], [], limits.Watch(limits.Limits(scenario=0.2), float("inf"))).call(["sleep"], "1000", "")
@@ -439,7 +517,8 @@ class TheCommand(unittest.TestCase):
 
     def test_no_process_is_left_after_a_signal(self):
         stack = self.shell(self.HANGS.replace("> PIDS", "> PIDS.tmp; mv PIDS.tmp PIDS"))
-        run = subprocess.Popen([sys.executable, os.path.join(TOP, "run"), stack, "hostile-closed-ack", *self.programs()], stdout=subprocess.PIPE,
+        run = subprocess.Popen([sys.executable, os.path.join(TOP, "run"), stack, "hostile-closed-ack", "--command-limit", "1000", "--scenario-limit",
+                                "1000", *self.programs()], stdout=subprocess.PIPE,
                                stderr=subprocess.STDOUT, text=True)
         while not os.path.exists(f"{self.folder}/pids") and run.poll() is None:
             time.sleep(0.01)
@@ -459,6 +538,17 @@ class TheCommand(unittest.TestCase):
             words = command.arguments()
         with contextlib.redirect_stdout(io.StringIO()) as out:
             self.assertEqual(command.report(words, "a stack", outcomes()), 0)
+
+    def test_files_that_are_no_text(self):
+        path = f"{self.folder}/x.scenario"
+        with open(path, "wb") as file:
+            file.write(b"\xff\xfe")
+        for words in ([path], ["open-plain", "--profile", path], ["open-plain", "--against", path]):
+            self.assertEqual(self.run_it("true", *words), (2, "", f"{path} is no text\n"))
+
+    def test_a_stack_that_cannot_be_started(self):
+        status, _, error = self.run_it(self.adapter("nothing to run"), "open-plain", *self.programs())
+        self.assertEqual((status, error), (2, f"{self.folder}/adapter: Exec format error\n"))
 
     def test_what_cannot_be_run(self):
         self.assertEqual(self.run_it("lwip", "--least", "cubic")[0], 2)
