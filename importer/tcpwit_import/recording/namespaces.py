@@ -79,6 +79,15 @@ def setting(name, value):
         pass
 
 
+def congestion_control():
+    """The kernel's congestion control in the namespace of this thread; None if the system doesn't say."""
+    try:
+        with open("/proc/sys/net/ipv4/tcp_congestion_control", encoding="ascii") as file:
+            return file.read().strip()
+    except OSError:
+        return None
+
+
 def offloads_off(name):
     """Switches off what enlarges segments or leaves checksums unfinished."""
     with socket.socket(socket.AF_INET, socket.SOCK_DGRAM) as probe:

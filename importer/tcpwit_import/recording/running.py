@@ -100,6 +100,13 @@ class Traced:
             return False
         return True
 
+    def failure(self):
+        """How the program, which has ended, failed, in words; None if it didn't. strace ends as the program did."""
+        status = self.process.returncode
+        if status == 0:
+            return None
+        return f"{self.words[0]} was ended by {signal.Signals(-status).name}" if status < 0 else f"{self.words[0]} ended with status {status}"
+
     def refuse_failed_start(self):
         """A program that strace could not begin left no log."""
         if not self.logged():
