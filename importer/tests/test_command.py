@@ -1,13 +1,16 @@
 """The commands: what they print, and how they fail."""
 import contextlib
+import fnmatch
 import io
 import os
 import subprocess
 import tempfile
+import time
 import unittest
 from unittest import mock
 
 from tcpwit_import.cli import main as importing
+from tcpwit_import.recording.cli import FOLDER
 from tcpwit_import.recording.cli import main as recording
 
 from .wire import ACK, FIN, ONE, PSH, SECOND, ZERO, Talk, address, ethernet, ip_packet, log, pcap, segment
@@ -249,6 +252,11 @@ class Command(WithFiles):
                 self.assertIn(f"{given[0]} is for two hosts: give --pair or --transfer too", error)
         with mock.patch("os.geteuid", return_value=1000):
             self.refused(["--transfer", "5", "--loss", "0.1", "--kernel", "shipped"], "need root", recording)
+
+    def test_git_ignores_the_folders_of_recordings(self):
+        with open(os.path.join(os.path.dirname(TOP), ".gitignore"), encoding="ascii") as file:
+            patterns = file.read().split()
+        self.assertTrue(any(fnmatch.fnmatchcase(time.strftime(FOLDER) + "/", pattern) for pattern in patterns))
 
     def test_a_recorder_without_what_it_needs(self):
         with mock.patch("os.geteuid", return_value=1000):

@@ -32,6 +32,8 @@ goes to standard error. Captures, logs, trace, case and picture stay in the fold
 The status is 0 for a yes at the word of --congestion (else full) or a stricter one, 1 if no such word has a yes, 2 for an error."""
 
 
+# The name of a new folder, which .gitignore knows.
+FOLDER = "tcpwit-%Y%m%d-%H%M%S"
 # What only a pair has, with the defaults.
 OF_A_PAIR = {"kernel": headers.KERNEL, "wait": 10, "delay": 2, "loss": 0, "lose": frozenset(), "double": 0, "reorder": 0, "seed": 1}
 
@@ -126,7 +128,7 @@ class Recording:
 
     def __init__(self, options):
         self.options = options
-        self.folder = options.out or time.strftime("tcpwit-%Y%m%d-%H%M%S")
+        self.folder = options.out or time.strftime(FOLDER)
         try:
             os.makedirs(self.folder, exist_ok=True)
         except OSError as error:
