@@ -266,6 +266,15 @@ class Command(WithFiles):
             self.refused(["--congestion", "none", "--version", "2", "--transfer", "5"], "version 2 of the texts has no line congestion", recording)
             self.refused(["--version", "3", "--transfer", "5"], "version 3 of the texts is for one recorded host", recording)
 
+    def test_all_that_is_missing_is_named_at_once(self):
+        install = "install them: apt-get install strace tcpdump iproute2 python3-dpkt"
+        with mock.patch("os.geteuid", return_value=0), mock.patch.dict(os.environ, {"PATH": self.folder}), \
+                mock.patch("tcpwit_import.recording.cli.dpkt", None):
+            self.refused(["--no-check", "--transfer", "5"], "not installed: strace, tcpdump, ip, the Python library dpkt\n  " + install + "\n", recording)
+            self.refused(["--no-check", "--pair", "a b", "--", "c", "d"], "dpkt, a, c\n  " + install + "; install a, c, or name", recording)
+            self.refused(["--no-check", "--", "c", "d"], "not installed: strace, tcpdump, the Python library dpkt, c\n", recording)
+        self.assertEqual([name for name in os.listdir(self.folder) if name.startswith("tcpwit-")], [])
+
     def test_the_programs_themselves(self):
         done = subprocess.run([os.path.join(TOP, "tcpwit-import")], capture_output=True, text=True, timeout=100, check=False)
         self.assertEqual((done.returncode, done.stdout), (2, ""))

@@ -107,7 +107,8 @@ class Judging(test_command.WithFiles):
 
     def recorded(self, *words):
         """A recording of the same files."""
-        with mock.patch("os.geteuid", return_value=0), mock.patch("tcpwit_import.recording.cli.recorded", return_value=self.captures + self.logs):
+        with mock.patch("os.geteuid", return_value=0), mock.patch("tcpwit_import.recording.cli.refuse_missing"), \
+                mock.patch("tcpwit_import.recording.cli.recorded", return_value=self.captures + self.logs):
             return run("--transfer", "5", "--out", f"{self.folder}/kept", *words, command=recording)
 
     def test_a_recording_is_judged(self):

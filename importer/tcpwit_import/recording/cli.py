@@ -3,6 +3,7 @@ import argparse
 import contextlib
 import os
 import shlex
+import shutil
 import signal
 import sys
 import time
@@ -12,7 +13,7 @@ from .. import cli as importing
 from .. import header as headers
 from .. import judging
 from ..problem import Notes, Problem, status_of
-from .carrier import Carrier
+from .carrier import Carrier, dpkt
 from .namespaces import ADDRESSES, ADDRESSES_6, Namespace, congestion_control, joined_pair
 from .running import Capture, Traced
 
@@ -34,6 +35,8 @@ The status is 0 for a yes at the word of --congestion (else full) or a stricter 
 
 # The name of a new folder, which .gitignore knows.
 FOLDER = "tcpwit-%Y%m%d-%H%M%S"
+# Programs that the recorder runs, with their packages.
+PACKAGES = {"strace": "strace", "tcpdump": "tcpdump", "ip": "iproute2"}
 # What only a pair has, with the defaults.
 OF_A_PAIR = {"kernel": headers.KERNEL, "wait": 10, "delay": 2, "loss": 0, "lose": frozenset(), "double": 0, "reorder": 0, "seed": 1}
 
@@ -239,6 +242,20 @@ def header_words(options):
     return [word for name in ("version", "congestion") if (value := getattr(options, name)) for word in ("--" + name, str(value))]
 
 
+def refuse_missing(options):
+    """All packages and programs that the recording needs and that aren't installed are named at once."""
+    has_namespaces = options.pair or options.transfer or options.namespace
+    missing = {name: package for name, package in PACKAGES.items() if shutil.which(name) is None and (has_namespaces or name != "ip")}
+    if dpkt is None:
+        missing["the Python library dpkt"] = "python3-dpkt"
+    commands = pair_words(options) if options.pair or options.transfer else [options.program]
+    unknown = [name for name in dict.fromkeys(words[0] for words in commands) if shutil.which(name) is None]
+    remedies = [f"install them: apt-get install {' '.join(missing.values())}"] if missing else []
+    remedies += [f"install {', '.join(unknown)}, or name the program as in a shell"] if unknown else []
+    if remedies:
+        raise Problem(f"not installed: {', '.join([*missing, *unknown])}", "; ".join(remedies))
+
+
 def recorded(options, recording):
     """Records; the importer's words for the files."""
     try:
@@ -266,6 +283,7 @@ def record(options):
         raise Problem("captures and network namespaces need root", "sudo tcpwit-record ..: the program itself runs as you")
     words = header_words(options)
     program = None if options.no_check else judging.lab(options.lab)
+    refuse_missing(options)
     recording = Recording(options)
     notes = Notes()
     files = recorded(options, recording)
