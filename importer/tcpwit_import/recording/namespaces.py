@@ -15,6 +15,7 @@ SIOCETHTOOL = 0x8946
 OFFLOADS = (0x17, 0x1F, 0x24, 0x2C)
 ADDRESSES = ("10.9.0.1", "10.9.0.2")
 ADDRESSES_6 = ("fd09::1", "fd09::2")
+LINK_ADDRESSES = ("02:00:00:00:00:01", "02:00:00:00:00:02")
 # What RFC 9293, 6298 and 5681 alone describe: no recovery by SACK or RACK, no probes, no undo, acknowledgments at once.
 PLAIN = {
     "tcp_sack": 0, "tcp_timestamps": 0, "tcp_ecn": 0, "tcp_congestion_control": "reno", "tcp_early_retrans": 0, "tcp_recovery": 0,
@@ -103,7 +104,7 @@ def joined_pair(kernel, version):
     between, hosts = Namespace(), (Namespace(), Namespace())
     for number, host in enumerate(hosts):
         with between.inside():
-            run("ip", "link", "add", f"w{number}", "type", "veth", "peer", "name", f"c{number}")
+            run("ip", "link", "add", f"w{number}", "address", LINK_ADDRESSES[number], "type", "veth", "peer", "name", f"c{number}")
             run("ip", "link", "set", f"w{number}", "netns", f"/proc/self/fd/{host.file}", files=(host.file,))
             run("ip", "link", "set", f"c{number}", "up")
             if kernel == "plain":
@@ -119,6 +120,9 @@ def interface(number, kernel, version):
     run("ip", "address", "add", ADDRESSES[number] + "/24", "dev", name)
     run("ip", "-6", "address", "add", ADDRESSES_6[number] + "/64", "dev", name, "nodad")
     run("ip", "link", "set", name, "up")
+    # A question for the neighbour would delay the first segment, and not the one that repeats it.
+    for addresses in (ADDRESSES, ADDRESSES_6):
+        run("ip", "neighbor", "replace", addresses[1 - number], "lladdr", LINK_ADDRESSES[1 - number], "dev", name, "nud", "permanent")
     if kernel != "plain":
         return
     for key, value in (PLAIN | ({"tcp_window_scaling": 0} if version == 1 else {})).items():
