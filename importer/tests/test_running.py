@@ -1,10 +1,12 @@
 """What the recorder knows of the programs that it runs."""
 import contextlib
+import os
 import unittest
 from unittest import mock
 
 from tcpwit_import.problem import Problem
 from tcpwit_import.recording import running
+from tcpwit_import.recording.namespaces import Namespace
 
 HEAD = "  sl  local_address rem_address   st tx_queue rx_queue tr tm->when retrnsmt   uid  timeout inode\n"
 CONNECTED = "   0: 0209000A:0050 0109000A:0FA0 01 00000000:00000000 00:00000000 00000000     0        0 4711 1 0000000000000000 20 4 30 10 -1\n"
@@ -30,6 +32,25 @@ class Running(unittest.TestCase):
                 self.server(tables, log).wait_for_listener(0)
         for tables in ({"tcp": HEAD + LISTENER, "tcp6": ""}, {"tcp": HEAD, "tcp6": HEAD + LISTENER}):
             self.server(tables, log).wait_for_listener(0)
+
+    def test_daemons_of_the_namespace_are_ended_too(self):
+        server = self.server({}, b"")
+        server.process.pid = 5
+        server.namespace.processes = lambda: [5, 6, 7, 8]
+        # The recorder began strace (5), whose program is 6, and tcpdump (7). The parent of 8 has ended.
+        with mock.patch.object(running, "children", side_effect={os.getpid(): [5, 7], 5: [6], 6: []}.get):
+            self.assertEqual(server.running(), {6, 8})
+            server.namespace = None
+            self.assertEqual(server.running(), {6})
+
+    def test_the_processes_of_a_namespace(self):
+        own = Namespace.__new__(Namespace)
+        with open("/proc/self/ns/net", encoding="ascii") as file:
+            own.file = file.fileno()
+            self.assertIn(os.getpid(), own.processes())
+        with open(os.devnull, encoding="ascii") as file:
+            own.file = file.fileno()
+            self.assertEqual(own.processes(), [])
 
 
 if __name__ == "__main__":

@@ -49,6 +49,17 @@ class Namespace:
         """Moves this thread into the namespace."""
         _checked(LIBC.setns(self.file, NEW_NETWORK), "no entry into a network namespace")
 
+    def processes(self):
+        """All processes in the namespace."""
+        return [int(name) for name in os.listdir("/proc") if name.isdigit() and self._has(name)]
+
+    def _has(self, process):
+        try:
+            return os.path.samestat(os.stat(f"/proc/{process}/ns/net"), os.fstat(self.file))
+        except OSError:
+            # It has ended.
+            return False
+
     @contextlib.contextmanager
     def inside(self):
         """Does something in the namespace, and comes back."""

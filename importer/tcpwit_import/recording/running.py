@@ -118,12 +118,17 @@ class Traced:
         if not self.logged():
             raise Problem(f"{self.words[0]} could not be started", "see whether it is installed, and name it as in a shell")
 
+    def running(self):
+        """The program's processes, with the daemons that it left: all of its namespace but what the recorder itself began."""
+        in_namespace = self.namespace.processes() if self.namespace else []
+        return set(descendants(self.process.pid)) | set(in_namespace) - set(children(os.getpid()))
+
     def stop(self, seconds):
         """Ends what still runs: by SIGTERM, and by SIGKILL if that is not enough."""
         for number in (signal.SIGTERM, signal.SIGKILL):
             if self.wait(seconds if number == signal.SIGTERM else 0):
                 return
-            for process in descendants(self.process.pid):
+            for process in self.running():
                 try:
                     os.kill(process, number)
                 except ProcessLookupError:
@@ -148,11 +153,16 @@ def has_listener(table):
     return any(line.split()[STATE] == LISTENS for line in table.splitlines()[1:])
 
 
-def descendants(process):
-    """All children of a process, and theirs."""
+def children(process):
+    """All children of a process."""
     try:
         with open(f"/proc/{process}/task/{process}/children", encoding="ascii") as file:
-            children = [int(child) for child in file.read().split()]
+            return [int(child) for child in file.read().split()]
     except OSError:
         return []
-    return children + [each for child in children for each in descendants(child)]
+
+
+def descendants(process):
+    """All children of a process, and theirs."""
+    found = children(process)
+    return found + [each for child in found for each in descendants(child)]
