@@ -57,6 +57,18 @@ class Judging(test_command.WithFiles):
         self.assertIn("judge --least recovery ", self.text("words"))
         self.assertEqual(self.text("run.trace").splitlines()[8], "congestion recovery")
 
+    def test_a_no_is_printed_once_and_an_error_has_another_status(self):
+        for act in (self.importing, self.recorded):
+            status, out, error = act(*self.lab(LINES, "exit 1"))
+            self.assertEqual((status, out), (1, LINES))
+            self.assertNotIn("congestion\n", error)
+        words = [*self.captures, *self.logs, "--out", f"{self.folder}/run.trace", *self.lab(LINES, "exit 1")]
+        with mock.patch("tcpwit_import.cli.read_log", side_effect=ValueError("some fault")):
+            self.refused(words, "tcpwit-import: ValueError: some fault (")
+            status, out, error = self.recorded(*self.lab(LINES, "exit 1"))
+        self.assertEqual((status, out), (2, ""))
+        self.assertRegex(error, r"tcpwit-record: ValueError: some fault \(mock.py, line \d+\)\n  this is a fault of tcpwit-record: report it")
+
     def test_several_traces_are_named(self):
         two = [test_command.talk(zero=("10.9.0.1", port)) for port in (4000, 4001)]
         for host in (0, 1):
