@@ -2,6 +2,7 @@
 import os
 import subprocess
 import sys
+import traceback
 
 
 class Problem(Exception):
@@ -33,7 +34,17 @@ def status_of(command, act):
         print(f"{command}: {error}\n  see whether the programs can be run", file=sys.stderr)
     except KeyboardInterrupt:
         return 130
+    except Exception as error:
+        # Python's own status for it would be that of a no.
+        print(f"{command}: {type(error).__name__}: {error} ({place_of(error)})\n  this is a fault of {command}: report it with the command and its files",
+              file=sys.stderr)
     return 2
+
+
+def place_of(error):
+    """The line of the program at which an error arose."""
+    last = traceback.extract_tb(error.__traceback__)[-1]
+    return f"{os.path.basename(last.filename)}, line {last.lineno}"
 
 
 class Notes:

@@ -1,13 +1,16 @@
 """The commands: what they print, and how they fail."""
 import contextlib
+import fnmatch
 import io
 import os
 import subprocess
 import tempfile
+import time
 import unittest
 from unittest import mock
 
 from tcpwit_import.cli import main as importing
+from tcpwit_import.recording.cli import FOLDER
 from tcpwit_import.recording.cli import main as recording
 
 from .wire import ACK, FIN, ONE, PSH, SECOND, ZERO, Talk, address, ethernet, ip_packet, log, pcap, segment
@@ -250,6 +253,11 @@ class Command(WithFiles):
         with mock.patch("os.geteuid", return_value=1000):
             self.refused(["--transfer", "5", "--loss", "0.1", "--kernel", "shipped"], "need root", recording)
 
+    def test_git_ignores_the_folders_of_recordings(self):
+        with open(os.path.join(os.path.dirname(TOP), ".gitignore"), encoding="ascii") as file:
+            patterns = file.read().split()
+        self.assertTrue(any(fnmatch.fnmatchcase(time.strftime(FOLDER) + "/", pattern) for pattern in patterns))
+
     def test_a_recorder_without_what_it_needs(self):
         with mock.patch("os.geteuid", return_value=1000):
             self.refused(["--transfer", "5"], "need root", recording)
@@ -257,6 +265,15 @@ class Command(WithFiles):
             self.refused(["--lab", "/nowhere", "--transfer", "5"], "/nowhere is no program", recording)
             self.refused(["--congestion", "none", "--version", "2", "--transfer", "5"], "version 2 of the texts has no line congestion", recording)
             self.refused(["--version", "3", "--transfer", "5"], "version 3 of the texts is for one recorded host", recording)
+
+    def test_all_that_is_missing_is_named_at_once(self):
+        install = "install them: apt-get install strace tcpdump iproute2 python3-dpkt"
+        with mock.patch("os.geteuid", return_value=0), mock.patch.dict(os.environ, {"PATH": self.folder}), \
+                mock.patch("tcpwit_import.recording.cli.dpkt", None):
+            self.refused(["--no-check", "--transfer", "5"], "not installed: strace, tcpdump, ip, the Python library dpkt\n  " + install + "\n", recording)
+            self.refused(["--no-check", "--pair", "a b", "--", "c", "d"], "dpkt, a, c\n  " + install + "; install a, c, or name", recording)
+            self.refused(["--no-check", "--", "c", "d"], "not installed: strace, tcpdump, the Python library dpkt, c\n", recording)
+        self.assertEqual([name for name in os.listdir(self.folder) if name.startswith("tcpwit-")], [])
 
     def test_the_programs_themselves(self):
         done = subprocess.run([os.path.join(TOP, "tcpwit-import")], capture_output=True, text=True, timeout=100, check=False)

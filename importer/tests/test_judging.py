@@ -1,10 +1,13 @@
 """What both commands do with `tcpwit_lab judge`: a script that answers as told takes its part."""
 import errno
 import os
+import subprocess
 from unittest import mock
 
 from tcpwit_import import judging
+from tcpwit_import.recording.cli import Recording
 from tcpwit_import.recording.cli import main as recording
+from tcpwit_import.recording.running import Traced
 
 from . import test_command
 from .test_command import run
@@ -53,6 +56,18 @@ class Judging(test_command.WithFiles):
         self.assertEqual((status, out), (1, LINES))
         self.assertIn("judge --least recovery ", self.text("words"))
         self.assertEqual(self.text("run.trace").splitlines()[8], "congestion recovery")
+
+    def test_a_no_is_printed_once_and_an_error_has_another_status(self):
+        for act in (self.importing, self.recorded):
+            status, out, error = act(*self.lab(LINES, "exit 1"))
+            self.assertEqual((status, out), (1, LINES))
+            self.assertNotIn("congestion\n", error)
+        words = [*self.captures, *self.logs, "--out", f"{self.folder}/run.trace", *self.lab(LINES, "exit 1")]
+        with mock.patch("tcpwit_import.cli.read_log", side_effect=ValueError("some fault")):
+            self.refused(words, "tcpwit-import: ValueError: some fault (")
+            status, out, error = self.recorded(*self.lab(LINES, "exit 1"))
+        self.assertEqual((status, out), (2, ""))
+        self.assertRegex(error, r"tcpwit-record: ValueError: some fault \(mock.py, line \d+\)\n  this is a fault of tcpwit-record: report it")
 
     def test_several_traces_are_named(self):
         two = [test_command.talk(zero=("10.9.0.1", port)) for port in (4000, 4001)]
@@ -104,7 +119,8 @@ class Judging(test_command.WithFiles):
 
     def recorded(self, *words):
         """A recording of the same files."""
-        with mock.patch("os.geteuid", return_value=0), mock.patch("tcpwit_import.recording.cli.recorded", return_value=self.captures + self.logs):
+        with mock.patch("os.geteuid", return_value=0), mock.patch("tcpwit_import.recording.cli.refuse_missing"), \
+                mock.patch("tcpwit_import.recording.cli.recorded", return_value=self.captures + self.logs):
             return run("--transfer", "5", "--out", f"{self.folder}/kept", *words, command=recording)
 
     def test_a_recording_is_judged(self):
@@ -115,6 +131,27 @@ class Judging(test_command.WithFiles):
         self.assertEqual((self.text("kept/run.case"), self.text("kept/run.svg")), ("a case\n", "<svg/>\n"))
         self.assertEqual(self.recorded(*self.lab(LINES, "exit 1"))[:2], (1, LINES))
         self.assertEqual(self.text("kept/run.trace")[:8], "trace 2\n")
+
+    def test_a_program_that_failed_is_named_with_the_verdict(self):
+        for status, said in ((0, None), (22, "curl ended with status 22"), (-11, "curl was ended by SIGSEGV")):
+            program = Traced.__new__(Traced)
+            program.words, program.process = ["curl", "http://10.9.0.2/"], mock.Mock(returncode=status)
+            with mock.patch.object(Traced, "logged", return_value=b"a call"), \
+                    mock.patch("tcpwit_import.recording.cli.congestion_control", return_value="cubic"):
+                kept = Recording(mock.Mock(out=f"{self.folder}/kept", seconds=None))
+                kept.remark_on_kernel()
+                kept.finish(program)
+            kernel = "the kernel's congestion control is cubic"
+            self.assertEqual(kept.remarks, [kernel, said] if said else [kernel])
+            with mock.patch("tcpwit_import.recording.cli.Recording", return_value=kept):
+                error = self.recorded(*self.lab(LINES))[2]
+            self.assertEqual([line for line in kept.remarks if f"tcpwit-record: {line}\n" in error], kept.remarks)
+        # A program that --seconds ended didn't fail.
+        program.process.wait.side_effect = subprocess.TimeoutExpired("curl", 1)
+        with mock.patch.object(Traced, "logged", return_value=b"a call"):
+            kept.remarks = []
+            kept.finish(program)
+        self.assertEqual(kept.remarks, [])
 
     def test_a_recording_that_fails(self):
         status, out, error = self.recorded(*self.lab("bad trace 9 12 13 number\n", "exit 2"))

@@ -7,7 +7,10 @@ import socket
 import threading
 import time
 
-import dpkt
+try:
+    import dpkt
+except ImportError:
+    dpkt = None
 
 ALL = 3
 OUTGOING = 4

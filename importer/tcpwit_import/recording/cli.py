@@ -1,7 +1,9 @@
 """The command tcpwit-record."""
 import argparse
+import contextlib
 import os
 import shlex
+import shutil
 import signal
 import sys
 import time
@@ -11,8 +13,8 @@ from .. import cli as importing
 from .. import header as headers
 from .. import judging
 from ..problem import Notes, Problem, status_of
-from .carrier import Carrier
-from .namespaces import ADDRESSES, ADDRESSES_6, Namespace, joined_pair
+from .carrier import Carrier, dpkt
+from .namespaces import ADDRESSES, ADDRESSES_6, Namespace, congestion_control, joined_pair
 from .running import Capture, Traced
 
 DESCRIPTION = f"""Records a program's TCP, makes a trace of it, and judges it.
@@ -31,6 +33,10 @@ goes to standard error. Captures, logs, trace, case and picture stay in the fold
 The status is 0 for a yes at the word of --congestion (else full) or a stricter one, 1 if no such word has a yes, 2 for an error."""
 
 
+# The name of a new folder, which .gitignore knows.
+FOLDER = "tcpwit-%Y%m%d-%H%M%S"
+# Programs that the recorder runs, with their packages.
+PACKAGES = {"strace": "strace", "tcpdump": "tcpdump", "ip": "iproute2"}
 # What only a pair has, with the defaults.
 OF_A_PAIR = {"kernel": headers.KERNEL, "wait": 10, "delay": 2, "loss": 0, "lose": frozenset(), "double": 0, "reorder": 0, "seed": 1}
 
@@ -125,12 +131,12 @@ class Recording:
 
     def __init__(self, options):
         self.options = options
-        self.folder = options.out or time.strftime("tcpwit-%Y%m%d-%H%M%S")
+        self.folder = options.out or time.strftime(FOLDER)
         try:
             os.makedirs(self.folder, exist_ok=True)
         except OSError as error:
             raise Problem(f"{self.folder}: {error.strerror}", "name another folder by --out") from error
-        self.captures, self.programs = [], []
+        self.captures, self.programs, self.remarks = [], [], []
 
     def file(self, name):
         """The path of a file of the recording."""
@@ -146,6 +152,18 @@ class Recording:
         other = user if os.geteuid() == 0 and user != "root" else None
         self.programs.append(Traced(words, self.file(name), namespace, other, sys.stderr))
         return self.programs[-1]
+
+    def finish(self, program):
+        """Waits for a program's end, or for --seconds; a program that failed is remarked on."""
+        ended = program.wait(self.options.seconds)
+        program.refuse_failed_start()
+        if ended and (failure := program.failure()):
+            self.remarks.append(failure)
+
+    def remark_on_kernel(self):
+        """The congestion control in the namespace of this thread."""
+        if name := congestion_control():
+            self.remarks.append(f"the kernel's congestion control is {name}")
 
     def end(self, seconds=0.0):
         """Ends the programs, then the captures."""
@@ -169,14 +187,15 @@ class Recording:
         between, hosts = joined_pair(options.kernel, options.version)
         carrier = Carrier(between, Chances(options.delay, options.loss, options.lose, options.double, options.reorder, options.seed))
         try:
+            with hosts[0].inside():
+                self.remark_on_kernel()
             for number, host in enumerate(hosts):
                 self.capture(f"w{number}", f"host{number}.pcap", host)
             server_words, client_words = pair_words(options)
             server = self.program(server_words, "host1.log", hosts[1])
             server.wait_for_listener(options.wait)
             client = self.program(client_words, "host0.log", hosts[0])
-            client.wait(options.seconds)
-            client.refuse_failed_start()
+            self.finish(client)
             client.stop(0)
             self.end(options.linger)
         finally:
@@ -190,18 +209,17 @@ class Recording:
     def alone(self):
         """One program, with both hosts in a namespace, or its peer elsewhere; the importer's words."""
         options = self.options
-        namespace = None
-        if options.namespace:
-            namespace = Namespace()
+        namespace = Namespace() if options.namespace else None
+        with namespace.inside() if namespace else contextlib.nullcontext():
+            self.remark_on_kernel()
         self.capture("lo" if options.namespace else options.interface, "run.pcap", namespace)
         program = self.program(options.program, "run.log", namespace)
         if options.serve:
             print("tcpwit-record: recording until interrupted", file=sys.stderr)
         try:
-            program.wait(options.seconds)
+            self.finish(program)
         except KeyboardInterrupt:
-            pass
-        program.refuse_failed_start()
+            program.refuse_failed_start()
         self.end(0 if options.serve else min(options.linger, 0.1))
         host = "both" if options.namespace else "0"
         return ["--capture", host, self.file("run.pcap"), "--calls", host, self.file("run.log")]
@@ -222,6 +240,20 @@ def header_words(options):
     hosts = 2 if options.pair or options.transfer or options.namespace else 1
     headers.header(hosts, 0, {"congestion": options.congestion} if options.congestion else {}, options.version)
     return [word for name in ("version", "congestion") if (value := getattr(options, name)) for word in ("--" + name, str(value))]
+
+
+def refuse_missing(options):
+    """All packages and programs that the recording needs and that aren't installed are named at once."""
+    has_namespaces = options.pair or options.transfer or options.namespace
+    missing = {name: package for name, package in PACKAGES.items() if shutil.which(name) is None and (has_namespaces or name != "ip")}
+    if dpkt is None:
+        missing["the Python library dpkt"] = "python3-dpkt"
+    commands = pair_words(options) if options.pair or options.transfer else [options.program]
+    unknown = [name for name in dict.fromkeys(words[0] for words in commands) if shutil.which(name) is None]
+    remedies = [f"install them: apt-get install {' '.join(missing.values())}"] if missing else []
+    remedies += [f"install {', '.join(unknown)}, or name the program as in a shell"] if unknown else []
+    if remedies:
+        raise Problem(f"not installed: {', '.join([*missing, *unknown])}", "; ".join(remedies))
 
 
 def recorded(options, recording):
@@ -251,9 +283,14 @@ def record(options):
         raise Problem("captures and network namespaces need root", "sudo tcpwit-record ..: the program itself runs as you")
     words = header_words(options)
     program = None if options.no_check else judging.lab(options.lab)
+    refuse_missing(options)
     recording = Recording(options)
     notes = Notes()
-    traces = importing.run(importing.parser().parse_args(recorded(options, recording) + words), notes)
+    files = recorded(options, recording)
+    # A program that failed may be why the import fails.
+    for remark in recording.remarks:
+        print(f"tcpwit-record: {remark}", file=sys.stderr)
+    traces = importing.run(importing.parser().parse_args(files + words), notes)
     for line in notes.lines():
         print(f"tcpwit-record: {line}", file=sys.stderr)
     files = written(recording, traces)

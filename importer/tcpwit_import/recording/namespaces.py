@@ -15,6 +15,7 @@ SIOCETHTOOL = 0x8946
 OFFLOADS = (0x17, 0x1F, 0x24, 0x2C)
 ADDRESSES = ("10.9.0.1", "10.9.0.2")
 ADDRESSES_6 = ("fd09::1", "fd09::2")
+LINK_ADDRESSES = ("02:00:00:00:00:01", "02:00:00:00:00:02")
 # What RFC 9293, 6298 and 5681 alone describe: no recovery by SACK or RACK, no probes, no undo, acknowledgments at once.
 PLAIN = {
     "tcp_sack": 0, "tcp_timestamps": 0, "tcp_ecn": 0, "tcp_congestion_control": "reno", "tcp_early_retrans": 0, "tcp_recovery": 0,
@@ -48,6 +49,17 @@ class Namespace:
         """Moves this thread into the namespace."""
         _checked(LIBC.setns(self.file, NEW_NETWORK), "no entry into a network namespace")
 
+    def processes(self):
+        """All processes in the namespace."""
+        return [int(name) for name in os.listdir("/proc") if name.isdigit() and self._has(name)]
+
+    def _has(self, process):
+        try:
+            return os.path.samestat(os.stat(f"/proc/{process}/ns/net"), os.fstat(self.file))
+        except OSError:
+            # It has ended.
+            return False
+
     @contextlib.contextmanager
     def inside(self):
         """Does something in the namespace, and comes back."""
@@ -79,6 +91,15 @@ def setting(name, value):
         pass
 
 
+def congestion_control():
+    """The kernel's congestion control in the namespace of this thread; None if the system doesn't say."""
+    try:
+        with open("/proc/sys/net/ipv4/tcp_congestion_control", encoding="ascii") as file:
+            return file.read().strip()
+    except OSError:
+        return None
+
+
 def offloads_off(name):
     """Switches off what enlarges segments or leaves checksums unfinished."""
     with socket.socket(socket.AF_INET, socket.SOCK_DGRAM) as probe:
@@ -94,7 +115,7 @@ def joined_pair(kernel, version):
     between, hosts = Namespace(), (Namespace(), Namespace())
     for number, host in enumerate(hosts):
         with between.inside():
-            run("ip", "link", "add", f"w{number}", "type", "veth", "peer", "name", f"c{number}")
+            run("ip", "link", "add", f"w{number}", "address", LINK_ADDRESSES[number], "type", "veth", "peer", "name", f"c{number}")
             run("ip", "link", "set", f"w{number}", "netns", f"/proc/self/fd/{host.file}", files=(host.file,))
             run("ip", "link", "set", f"c{number}", "up")
             if kernel == "plain":
@@ -110,6 +131,9 @@ def interface(number, kernel, version):
     run("ip", "address", "add", ADDRESSES[number] + "/24", "dev", name)
     run("ip", "-6", "address", "add", ADDRESSES_6[number] + "/64", "dev", name, "nodad")
     run("ip", "link", "set", name, "up")
+    # A question for the neighbour would delay the first segment, and not the one that repeats it.
+    for addresses in (ADDRESSES, ADDRESSES_6):
+        run("ip", "neighbor", "replace", addresses[1 - number], "lladdr", LINK_ADDRESSES[1 - number], "dev", name, "nud", "permanent")
     if kernel != "plain":
         return
     for key, value in (PLAIN | ({"tcp_window_scaling": 0} if version == 1 else {})).items():

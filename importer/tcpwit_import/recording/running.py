@@ -15,7 +15,8 @@ CALLS = ("%network,read,write,readv,writev,?preadv2,?pwritev2,close,?close_range
 STRACE = ["strace", "-f", "--seccomp-bpf", "--absolute-timestamps=format:unix,precision:ns", "-xx", "-s", "1048576", "-e", "trace=" + CALLS]
 # All three flags of the buffer together: with fewer packets are lost, or are still in a buffer at the end.
 TCPDUMP = ["tcpdump", "-n", "-s", "0", "-B", "65536", "--immediate-mode", "-U", "--time-stamp-precision=nano"]
-LISTENS = re.compile(rb" listen\([^\n]*\) += 0|<\.\.\. listen resumed>[^\n]*\) += 0")
+# The columns of /proc/net/tcp, and the state of a socket that listens.
+STATE, LISTENS = 3, "0A"
 
 
 def started(words, install, **options):
@@ -66,7 +67,7 @@ class Traced:
     """A program under strace."""
 
     def __init__(self, words, log, namespace=None, user=None, output=None):
-        self.words, self.log = words, log
+        self.words, self.log, self.namespace = words, log, namespace
         # The log of an earlier recording in this folder says nothing about this program.
         with contextlib.suppress(FileNotFoundError):
             os.remove(log)
@@ -75,14 +76,19 @@ class Traced:
                                stdin=subprocess.DEVNULL if namespace else None, preexec_fn=namespace.enter if namespace else None)
 
     def wait_for_listener(self, seconds):
-        """Waits until the program listens."""
+        """Waits until the program, which is alone in its namespace, listens for TCP."""
         until = time.monotonic() + seconds
-        while not LISTENS.search(self.logged()):
+        while not self.listens():
             if self.process.poll() is not None:
-                raise Problem(f"{self.words[0]} ended with status {self.process.returncode} before it listened", f"see {self.log}, and try the program alone")
+                raise Problem(f"{self.words[0]} ended with status {self.process.returncode} before it listened for TCP", f"see {self.log}, and try the program alone")
             if time.monotonic() > until:
-                raise Problem(f"{self.words[0]} did not listen within {seconds:g} seconds", f"see {self.log}; --wait gives it more time")
+                raise Problem(f"{self.words[0]} did not listen for TCP within {seconds:g} seconds", f"see {self.log}; --wait gives it more time")
             time.sleep(0.02)
+
+    def listens(self):
+        """Whether a TCP socket of the namespace listens."""
+        with self.namespace.inside():
+            return any(has_listener(table_of_sockets(name)) for name in ("tcp", "tcp6"))
 
     def logged(self):
         """The log so far."""
@@ -100,17 +106,29 @@ class Traced:
             return False
         return True
 
+    def failure(self):
+        """How the program, which has ended, failed, in words; None if it didn't. strace ends as the program did."""
+        status = self.process.returncode
+        if status == 0:
+            return None
+        return f"{self.words[0]} was ended by {signal.Signals(-status).name}" if status < 0 else f"{self.words[0]} ended with status {status}"
+
     def refuse_failed_start(self):
         """A program that strace could not begin left no log."""
         if not self.logged():
             raise Problem(f"{self.words[0]} could not be started", "see whether it is installed, and name it as in a shell")
+
+    def running(self):
+        """The program's processes, with the daemons that it left: all of its namespace but what the recorder itself began."""
+        in_namespace = self.namespace.processes() if self.namespace else []
+        return set(descendants(self.process.pid)) | set(in_namespace) - set(children(os.getpid()))
 
     def stop(self, seconds):
         """Ends what still runs: by SIGTERM, and by SIGKILL if that is not enough."""
         for number in (signal.SIGTERM, signal.SIGKILL):
             if self.wait(seconds if number == signal.SIGTERM else 0):
                 return
-            for process in descendants(self.process.pid):
+            for process in self.running():
                 try:
                     os.kill(process, number)
                 except ProcessLookupError:
@@ -121,11 +139,30 @@ class Traced:
         self.process.wait()
 
 
-def descendants(process):
-    """All children of a process, and theirs."""
+def table_of_sockets(name):
+    """The kernel's table of the sockets in the namespace of this thread; an empty one if the kernel lacks the protocol."""
+    try:
+        with open("/proc/thread-self/net/" + name, encoding="ascii") as file:
+            return file.read()
+    except FileNotFoundError:
+        return ""
+
+
+def has_listener(table):
+    """Whether a socket of a table in the form of /proc/net/tcp listens."""
+    return any(line.split()[STATE] == LISTENS for line in table.splitlines()[1:])
+
+
+def children(process):
+    """All children of a process."""
     try:
         with open(f"/proc/{process}/task/{process}/children", encoding="ascii") as file:
-            children = [int(child) for child in file.read().split()]
+            return [int(child) for child in file.read().split()]
     except OSError:
         return []
-    return children + [each for child in children for each in descendants(child)]
+
+
+def descendants(process):
+    """All children of a process, and theirs."""
+    found = children(process)
+    return found + [each for child in found for each in descendants(child)]

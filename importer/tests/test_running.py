@@ -1,0 +1,57 @@
+"""What the recorder knows of the programs that it runs."""
+import contextlib
+import os
+import unittest
+from unittest import mock
+
+from tcpwit_import.problem import Problem
+from tcpwit_import.recording import running
+from tcpwit_import.recording.namespaces import Namespace
+
+HEAD = "  sl  local_address rem_address   st tx_queue rx_queue tr tm->when retrnsmt   uid  timeout inode\n"
+CONNECTED = "   0: 0209000A:0050 0109000A:0FA0 01 00000000:00000000 00:00000000 00000000     0        0 4711 1 0000000000000000 20 4 30 10 -1\n"
+LISTENER = "   1: 00000000:0050 00000000:0000 0A 00000000:00000000 00:00000000 00000000     0        0 4712 1 0000000000000000 100 0 0 10 0\n"
+
+
+class Running(unittest.TestCase):
+    def server(self, tables, log):
+        """A server that still runs, in a namespace with these tables of sockets."""
+        server = running.Traced.__new__(running.Traced)
+        server.words, server.log, server.process = ["server"], "host1.log", mock.Mock(**{"poll.return_value": None})
+        server.namespace = mock.Mock(inside=contextlib.nullcontext)
+        for patch in (mock.patch.object(server, "logged", return_value=log), mock.patch.object(running, "table_of_sockets", side_effect=tables.get)):
+            patch.start()
+            self.addCleanup(patch.stop)
+        return server
+
+    def test_only_a_tcp_listener_counts(self):
+        self.assertEqual([running.has_listener(table) for table in ("", HEAD, HEAD + CONNECTED, HEAD + CONNECTED + LISTENER)], [False, False, False, True])
+        log = b"7 5.000000001 socket(AF_UNIX, SOCK_STREAM, 0) = 3\n7 5.000000002 listen(3, 5) = 0\n"
+        for tables in ({"tcp": HEAD, "tcp6": ""}, {"tcp": HEAD + CONNECTED, "tcp6": HEAD}):
+            with self.assertRaisesRegex(Problem, "server did not listen for TCP within 0 seconds"):
+                self.server(tables, log).wait_for_listener(0)
+        for tables in ({"tcp": HEAD + LISTENER, "tcp6": ""}, {"tcp": HEAD, "tcp6": HEAD + LISTENER}):
+            self.server(tables, log).wait_for_listener(0)
+
+    def test_daemons_of_the_namespace_are_ended_too(self):
+        server = self.server({}, b"")
+        server.process.pid = 5
+        server.namespace.processes = lambda: [5, 6, 7, 8]
+        # The recorder began strace (5), whose program is 6, and tcpdump (7). The parent of 8 has ended.
+        with mock.patch.object(running, "children", side_effect={os.getpid(): [5, 7], 5: [6], 6: []}.get):
+            self.assertEqual(server.running(), {6, 8})
+            server.namespace = None
+            self.assertEqual(server.running(), {6})
+
+    def test_the_processes_of_a_namespace(self):
+        own = Namespace.__new__(Namespace)
+        with open("/proc/self/ns/net", encoding="ascii") as file:
+            own.file = file.fileno()
+            self.assertIn(os.getpid(), own.processes())
+        with open(os.devnull, encoding="ascii") as file:
+            own.file = file.fileno()
+            self.assertEqual(own.processes(), [])
+
+
+if __name__ == "__main__":
+    unittest.main()
