@@ -1,7 +1,8 @@
-/* A small TCP by RFC 9293, 6298 and 5681, with window scaling (RFC 7323, 2). It acknowledges each segment at once.
+/* A small TCP by RFC 9293, 6298 and 5681, with window scaling (RFC 7323, 2). It acknowledges each segment at once, and it has room
+ * for 64 connections, which it never frees.
  *
- * The variable TOY_DEFECT names one of the faults below, which `defects` lists with the scenario that finds it. Without it the
- * stack is correct.
+ * The variable TOY_DEFECT gives it one of the defects below; the file `defects` lists each with the scenario that finds it. Without
+ * the variable the stack is correct.
  */
 #define _POSIX_C_SOURCE 200809L
 #include "../tcpwit_stack.h"
@@ -195,7 +196,6 @@ static uint32_t sendable(struct connection *c)
     uint32_t edge = c->una + least(window, c->cwnd), left = end_of(c) - c->nxt;
     if (!before(c->nxt, edge)) return 0;
     uint32_t count = least(least(left, c->mss), edge - c->nxt);
-    if (before(c->nxt, c->max)) count = least(count, c->max - c->nxt);
     return count == c->mss || count == left || count >= c->widest / 2 || before(c->nxt, c->max) || c->overridden ? count : 0;
 }
 
