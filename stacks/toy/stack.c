@@ -11,9 +11,10 @@
 #include <string.h>
 
 enum { FIN = 1, SYN = 2, RST = 4, PSH = 8, ACK = 16 };
-enum { CONNECTIONS = 64, SEND_ROOM = 1 << 16, OWN_WINDOW = 1 << 17, OWN_SHIFT = 7, HEADER = 20, LONGEST = 66000, USUAL_MSS = 536 };
+enum { CONNECTIONS = 64, SEND_ROOM = 1 << 16, OWN_WINDOW = 1 << 17, OWN_SHIFT = 10, HEADER = 20, LONGEST = 66000, USUAL_MSS = 536 };
 enum { SECOND = 1000000, GRAIN = 1000, OVERRIDE = SECOND / 2 };
-static const uint64_t NEVER = UINT64_MAX, LONGEST_RTO = 60 * (uint64_t)SECOND, GIVE_UP = 180 * (uint64_t)SECOND, TIME_WAIT_LASTS = 60 * (uint64_t)SECOND;
+static const uint64_t NEVER = UINT64_MAX;
+static const uint64_t LONGEST_RTO = 60 * (uint64_t)SECOND, GIVE_UP = 180 * (uint64_t)SECOND, TIME_WAIT_LASTS = 60 * (uint64_t)SECOND;
 
 enum state { CLOSED, LISTEN, SYN_SENT, SYN_RECEIVED, ESTABLISHED, FIN_WAIT_1, FIN_WAIT_2, CLOSE_WAIT, CLOSING, LAST_ACK, TIME_WAIT };
 
@@ -157,7 +158,8 @@ static void acknowledge(struct connection *c) { reply(c, 0, c->max, 0); }
 
 static void send_syn(struct connection *c)
 {
-    unsigned char options[8] = { 2, 4, (unsigned char)(config.mss >> 8), (unsigned char)config.mss, 1, 3, 3, (unsigned char)c->rcv_shift };
+    unsigned char options[8] = { 2, 4, 0, 0, 1, 3, 3, (unsigned char)c->rcv_shift };
+    put_short(options + 2, config.mss);
     int answers = c->state == SYN_RECEIVED, scaling = !answers || c->send_shift >= 0;
     leave(c->local, c->remote, c->iss, answers ? c->rcv_nxt : 0, SYN | (answers ? ACK : 0), offer(c, 1), options, scaling ? 8 : 4, NULL, 0);
 }
