@@ -1,0 +1,61 @@
+"""The suite finds each defect of the toy stack by the scenario that toy/defects names. Needs TCPWIT and TCPWIT_LAB, and a C compiler."""
+import concurrent.futures
+import os
+import re
+import subprocess
+import sys
+import tempfile
+import unittest
+
+TOP = os.path.dirname(os.path.dirname(os.path.abspath(__file__)))
+TOY = os.path.join(TOP, "toy")
+
+
+def rows():
+    """The lines of toy/defects: a defect, its scenario, and the outcome's line."""
+    with open(os.path.join(TOY, "defects")) as file:
+        for line in file:
+            if not line.startswith("#"):
+                defect, outcome = line.rstrip("\n").split(maxsplit=1)
+                yield defect, outcome.partition(":")[0], outcome
+
+
+class Toy(unittest.TestCase):
+    @classmethod
+    def setUpClass(cls):
+        cls.folder = tempfile.TemporaryDirectory()
+        cls.addClassCleanup(cls.folder.cleanup)
+        subprocess.run([os.path.join(TOY, "build"), cls.folder.name], check=True)
+
+    def run_one(self, defect, scenario, outcome):
+        """Runs a scenario with a defect; what is printed if the outcome is another, else nothing."""
+        against = os.path.join(self.folder.name, defect)
+        with open(against, "w") as file:
+            file.write(outcome + "\n")
+        command = [sys.executable, os.path.join(TOP, "run"), os.path.join(self.folder.name, "stack"), "--profile", os.path.join(TOY, "profile"),
+                   "--against", against, "--", os.path.join(TOP, "scenarios", scenario + ".scenario")]
+        done = subprocess.run(command, env={**os.environ, "TOY_DEFECT": defect}, capture_output=True, text=True)
+        return "" if done.returncode == 0 else f"{defect}: status {done.returncode}\n{done.stdout}{done.stderr}"
+
+    def test_each_defect_is_found(self):
+        wanted = list(rows())
+        with concurrent.futures.ThreadPoolExecutor(2) as workers:
+            found = list(workers.map(lambda row: self.run_one(*row), wanted))
+        self.assertEqual([text for text in found if text], [])
+
+    def test_an_outcome_of_a_defect_is_no_plain_yes(self):
+        self.assertEqual([outcome for _, _, outcome in rows() if re.search(r": yes \[", outcome)], [])
+
+    def test_each_defect_of_the_stack_has_a_row(self):
+        with open(os.path.join(TOY, "stack.c")) as file:
+            names = re.search(r"defect_names\[DEFECTS\] = \{(.*?)\}", file.read(), re.DOTALL).group(1)
+        self.assertEqual(sorted(re.findall(r'"([a-z-]+)"', names)), sorted(["none", *(defect for defect, _, _ in rows())]))
+
+    def test_an_unknown_defect_ends_the_stack(self):
+        done = subprocess.run([os.path.join(self.folder.name, "stack")], input="start 0 1 536 0 \n", capture_output=True, text=True,
+                              env={**os.environ, "TOY_DEFECT": "none-such"})
+        self.assertEqual((done.returncode, done.stderr), (2, "the toy stack has no defect none-such\n"))
+
+
+if __name__ == "__main__":
+    unittest.main()

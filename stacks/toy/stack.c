@@ -1,0 +1,764 @@
+/* A small TCP by RFC 9293, 6298 and 5681, with window scaling (RFC 7323, 2). It acknowledges each segment at once, and it has room
+ * for 64 connections, which it never frees.
+ *
+ * The variable TOY_DEFECT gives it one of the defects below; the file `defects` lists each with the scenario that finds it. Without
+ * the variable the stack is correct.
+ */
+#define _POSIX_C_SOURCE 200809L
+#include "../tcpwit_stack.h"
+#include <stdio.h>
+#include <stdlib.h>
+#include <string.h>
+
+enum { FIN = 1, SYN = 2, RST = 4, PSH = 8, ACK = 16 };
+enum { CONNECTIONS = 64, SEND_ROOM = 1 << 16, OWN_WINDOW = 1 << 17, OWN_SHIFT = 10, HEADER = 20, LONGEST = 66000, USUAL_MSS = 536 };
+enum { SECOND = 1000000, GRAIN = 1000, OVERRIDE = SECOND / 2 };
+static const uint64_t NEVER = UINT64_MAX;
+static const uint64_t LONGEST_RTO = 60 * (uint64_t)SECOND, GIVE_UP = 180 * (uint64_t)SECOND, TIME_WAIT_LASTS = 60 * (uint64_t)SECOND;
+
+enum state { CLOSED, LISTEN, SYN_SENT, SYN_RECEIVED, ESTABLISHED, FIN_WAIT_1, FIN_WAIT_2, CLOSE_WAIT, CLOSING, LAST_ACK, TIME_WAIT };
+
+enum defect {
+    NONE, WINDOW_IGNORED, RTO_NOT_DOUBLED, RTO_TOO_EARLY, NO_SLOW_START, NO_COLLAPSE, FIN_NOT_RESENT, DUPLICATES_DELIVERED, HOLES_DELIVERED,
+    ACK_BEYOND, ACK_OF_UNSENT, DATA_AFTER_FIN, ANY_RESET, NO_TIME_WAIT, MSS_IGNORED, NO_RETRANSMISSION, NO_PROBES, WINDOW_SHRUNK,
+    KARN_IGNORED, SYN_NOT_BACKED_OFF, SCALE_IGNORED, DEFECTS
+};
+static const char *const defect_names[DEFECTS] = {
+    "none", "window-ignored", "rto-not-doubled", "rto-too-early", "no-slow-start", "no-collapse", "fin-not-resent", "duplicates-delivered",
+    "holes-delivered", "ack-beyond", "ack-of-unsent", "data-after-fin", "any-reset", "no-time-wait", "mss-ignored", "no-retransmission",
+    "no-probes", "window-shrunk", "karn-ignored", "syn-not-backed-off", "scale-ignored"
+};
+static enum defect defect;
+
+struct connection {
+    enum state state;
+    unsigned local, remote;
+    long fault;                            /* 0, or STACK_REFUSED .. */
+    struct connection *listener;           /* of a child: where it waits until it is accepted */
+    unsigned backlog;                      /* of a listener */
+    int passive, dropped;                  /* opened by a listener; its socket was closed */
+    /* Sending: `out` has what was not acknowledged, from `out_seq` on. A FIN follows once `shut`. */
+    uint32_t iss, una, nxt, max;           /* `max`: the greatest number that was sent, and one more */
+    uint32_t window, wl1, wl2, widest;     /* the peer's window, and the greatest it offered */
+    uint32_t mss, cwnd, ssthresh, recover; /* no fast recovery before `recover` is acknowledged */
+    unsigned char *out;
+    uint32_t out_seq, queued;
+    int shut, duplicates, fast, send_shift, overridden;
+    /* Receiving: `in` begins with the `unread` bytes; `have` marks which bytes behind them came. */
+    uint32_t irs, rcv_nxt, edge, room;     /* `edge`: the end of the window that was offered */
+    unsigned char *in, *have;
+    uint32_t unread, fin_at, farthest;     /* `farthest`: the end of the bytes that came, whatever is missing before */
+    int fin_seen, fin_taken, rcv_shift, ack_due;
+    /* Timers: the moments when they expire. */
+    uint64_t rto_at, persist_at, override_at, end_at;
+    uint64_t rto, srtt, rttvar, persist, timed_at, stuck_since;
+    uint32_t timed;                        /* the number whose acknowledgment is a sample */
+    int timing, expiries, sampled;
+};
+
+static struct connection connections[CONNECTIONS];
+static int opened;
+static struct stack_config config;
+
+static int before(uint32_t a, uint32_t b) { return (int32_t)(a - b) < 0; }
+static uint32_t least(uint32_t a, uint32_t b) { return a < b ? a : b; }
+static uint32_t most_of(uint32_t a, uint32_t b) { return a > b ? a : b; }
+static uint32_t number_at(const unsigned char *at) { return (uint32_t)at[0] << 24 | (uint32_t)at[1] << 16 | (uint32_t)at[2] << 8 | at[3]; }
+static void put_number(unsigned char *at, uint32_t n) { for (int i = 0; i < 4; i++) at[i] = (unsigned char)(n >> (24 - 8 * i)); }
+static void put_short(unsigned char *at, unsigned n) { at[0] = (unsigned char)(n >> 8); at[1] = (unsigned char)n; }
+
+/* ---- Segments ---- */
+
+struct segment {
+    unsigned from, to, flags, window;
+    uint32_t seq, ack, count, mss;
+    int shift;                             /* -1: no such option */
+    const unsigned char *bytes;
+};
+
+static void read_options(struct segment *segment, const unsigned char *at, const unsigned char *end)
+{
+    while (at < end && *at) {
+        if (*at == 1) { at++; continue; }
+        if (at + 1 >= end || at[1] < 2 || at + at[1] > end) return;
+        if (at[0] == 2 && at[1] == 4) segment->mss = (uint32_t)(at[2] << 8 | at[3]);
+        if (at[0] == 3 && at[1] == 3) segment->shift = at[2] < 14 ? at[2] : 14;
+        at += at[1];
+    }
+}
+
+static int read_segment(struct segment *segment, const unsigned char *at, size_t count)
+{
+    if (count < HEADER || (size_t)(at[12] >> 4) * 4 > count || at[12] >> 4 < 5) return 0;
+    unsigned offset = (at[12] >> 4) * 4u;
+    *segment = (struct segment){ .from = at[0] << 8u | at[1], .to = at[2] << 8u | at[3], .seq = number_at(at + 4), .ack = number_at(at + 8),
+        .flags = at[13], .window = at[14] << 8u | at[15], .shift = -1, .bytes = at + offset, .count = (uint32_t)(count - offset) };
+    read_options(segment, at + HEADER, at + offset);
+    if (!segment->mss) segment->mss = USUAL_MSS;
+    return 1;
+}
+
+static uint32_t length_of(const struct segment *s) { return s->count + !!(s->flags & SYN) + !!(s->flags & FIN); }
+
+static void leave(unsigned local, unsigned remote, uint32_t seq, uint32_t ack, unsigned flags, unsigned window,
+                  const unsigned char *options, unsigned option_bytes, const unsigned char *bytes, uint32_t count)
+{
+    static unsigned char segment[LONGEST];
+    memset(segment, 0, HEADER);
+    put_short(segment, local);
+    put_short(segment + 2, remote);
+    put_number(segment + 4, seq);
+    put_number(segment + 8, ack);
+    segment[12] = (unsigned char)((HEADER + option_bytes) / 4 << 4);
+    segment[13] = (unsigned char)flags;
+    put_short(segment + 14, window);
+    if (option_bytes) memcpy(segment + HEADER, options, option_bytes);
+    if (count) memcpy(segment + HEADER + option_bytes, bytes, count);
+    stack_out(segment, HEADER + option_bytes + count);
+}
+
+/* RFC 9293, 3.10.7.1: a segment that finds no connection is answered by a reset. */
+static void refuse(const struct segment *s)
+{
+    if (s->flags & RST) return;
+    if (s->flags & ACK) leave(s->to, s->from, s->ack, 0, RST, 0, NULL, 0, NULL, 0);
+    else leave(s->to, s->from, 0, s->seq + length_of(s), RST | ACK, 0, NULL, 0, NULL, 0);
+}
+
+/* ---- The window that is offered ---- */
+
+/* The field of a segment. The edge moves by a segment or half of the room at least (RFC 9293, 3.8.6.2.2), and never back. */
+static unsigned offer(struct connection *c, int in_syn)
+{
+    uint32_t edge = c->rcv_nxt + c->room - c->unread;
+    if (defect == WINDOW_SHRUNK && c->unread) edge = c->rcv_nxt + (c->room - c->unread) / 8;
+    if (defect == WINDOW_SHRUNK || edge - c->edge >= least(config.mss, c->room / 2)) c->edge = edge;
+    uint32_t window = before(c->rcv_nxt, c->edge) ? c->edge - c->rcv_nxt : 0;
+    return least(in_syn ? window : window >> c->rcv_shift, 65535);
+}
+
+/* ---- Sending ---- */
+
+static uint32_t end_of(const struct connection *c) { return c->out_seq + c->queued; }
+static int fin_was_sent(const struct connection *c) { return c->shut && c->max == end_of(c) + 1; }
+
+static uint32_t acknowledged_by(const struct connection *c)
+{
+    if (defect == ACK_BEYOND && before(c->rcv_nxt, c->farthest)) return c->farthest;
+    return c->rcv_nxt + (defect == ACK_OF_UNSENT && c->unread ? 1000 : 0);
+}
+
+static void reply(struct connection *c, unsigned flags, uint32_t seq, uint32_t count)
+{
+    c->ack_due = 0;
+    leave(c->local, c->remote, seq, acknowledged_by(c), flags | ACK, offer(c, 0), NULL, 0, count ? c->out + (seq - c->out_seq) : NULL, count);
+}
+
+static void acknowledge(struct connection *c) { reply(c, 0, c->max, 0); }
+
+static void send_syn(struct connection *c)
+{
+    unsigned char options[8] = { 2, 4, 0, 0, 1, 3, 3, (unsigned char)c->rcv_shift };
+    put_short(options + 2, config.mss);
+    int answers = c->state == SYN_RECEIVED, scaling = !answers || c->send_shift >= 0;
+    leave(c->local, c->remote, c->iss, answers ? c->rcv_nxt : 0, SYN | (answers ? ACK : 0), offer(c, 1), options, scaling ? 8 : 4, NULL, 0);
+}
+
+static void start_rto(struct connection *c)
+{
+    uint64_t after = defect == RTO_TOO_EARLY ? c->rto / 4 : c->rto;
+    c->rto_at = defect == NO_RETRANSMISSION ? NEVER : stack_now() + after;
+}
+
+/* Sends bytes from `seq` on, and a FIN after the last. A second transmission gives no sample (Karn's rule). */
+static void send_piece(struct connection *c, uint32_t seq, uint32_t count)
+{
+    int fin = c->shut && seq + count == end_of(c);
+    uint32_t next = seq + count + (uint32_t)fin;
+    int again = before(seq, c->max);
+    if (again && defect != KARN_IGNORED) c->timing = 0;
+    else if (again || !c->timing) {
+        c->timing = 1;
+        c->timed = seq;
+        c->timed_at = stack_now();
+    }
+    if (before(c->nxt, next)) c->nxt = next;
+    if (before(c->max, next)) c->max = next;
+    if (c->rto_at == NEVER) {
+        c->stuck_since = stack_now();
+        start_rto(c);
+    }
+    reply(c, (fin ? FIN : 0) | (count ? PSH : 0), seq, count);
+}
+
+/* How many bytes may go now from `nxt` on; RFC 9293, 3.8.6.2.1: a small segment only if it is the last, or half of the window. */
+static uint32_t sendable(struct connection *c)
+{
+    uint32_t window = defect == WINDOW_IGNORED ? SEND_ROOM : c->window;
+    uint32_t edge = c->una + least(window, c->cwnd), left = end_of(c) - c->nxt;
+    if (!before(c->nxt, edge)) return 0;
+    uint32_t count = least(least(left, c->mss), edge - c->nxt);
+    return count == c->mss || count == left || count >= c->widest / 2 || before(c->nxt, c->max) || c->overridden ? count : 0;
+}
+
+static void output(struct connection *c)
+{
+    int may_send = c->state >= ESTABLISHED && c->state != FIN_WAIT_2 && c->state != TIME_WAIT;
+    while (may_send && before(c->nxt, end_of(c))) {
+        uint32_t count = sendable(c);
+        if (!count) break;
+        send_piece(c, c->nxt, count);
+    }
+    if (may_send && c->shut && c->nxt == end_of(c)) send_piece(c, c->nxt, 0);
+    c->overridden = 0;
+    int waits = may_send && before(c->nxt, end_of(c)) && c->nxt == c->una;
+    if (!waits || c->window) c->persist_at = NEVER;
+    else if (c->persist_at == NEVER && defect != NO_PROBES) c->persist_at = stack_now() + (c->persist = c->rto);
+    if (!waits || !c->window) c->override_at = NEVER;
+    else if (c->override_at == NEVER) c->override_at = stack_now() + OVERRIDE;
+    if (c->ack_due) acknowledge(c);
+}
+
+/* ---- The timeout (RFC 6298), and congestion (RFC 5681) ---- */
+
+static void sample(struct connection *c, uint64_t rtt)
+{
+    uint64_t off = rtt > c->srtt ? rtt - c->srtt : c->srtt - rtt;
+    c->rttvar = c->sampled ? (3 * c->rttvar + off) / 4 : rtt / 2;
+    c->srtt = c->sampled ? (7 * c->srtt + rtt) / 8 : rtt;
+    c->sampled = 1;
+    uint64_t rto = c->srtt + (4 * c->rttvar > GRAIN ? 4 * c->rttvar : GRAIN);
+    c->rto = rto < SECOND ? SECOND : rto > LONGEST_RTO ? LONGEST_RTO : rto;
+}
+
+static void back_off(struct connection *c)
+{
+    int in_syn = c->state == SYN_SENT || c->state == SYN_RECEIVED;
+    if (defect != (in_syn ? SYN_NOT_BACKED_OFF : RTO_NOT_DOUBLED)) c->rto = c->rto * 2 < LONGEST_RTO ? c->rto * 2 : LONGEST_RTO;
+    c->expiries++;
+}
+
+static uint32_t half_of_flight(const struct connection *c) { return most_of((c->max - c->una) / 2, 2 * c->mss); }
+
+/* The first window: RFC 5681, 3.1; one segment if a SYN was lost. */
+static void begin_congestion(struct connection *c)
+{
+    c->cwnd = c->mss * (c->expiries ? 1 : c->mss > 2190 ? 2 : c->mss > 1095 ? 3 : 4);
+    if (defect == NO_SLOW_START) c->cwnd = SEND_ROOM;
+    c->ssthresh = UINT32_MAX;
+    if (c->expiries && c->rto < 3 * SECOND) c->rto = 3 * SECOND;
+    c->recover = c->iss;
+}
+
+static void grow(struct connection *c, uint32_t acked)
+{
+    if (c->fast) c->cwnd = c->ssthresh;
+    else if (c->cwnd < c->ssthresh) c->cwnd += least(acked, c->mss);
+    else c->cwnd += most_of(c->mss * c->mss / c->cwnd, 1);
+    c->fast = c->duplicates = 0;
+}
+
+/* The earliest segment goes again, with the FIN if it went with it. */
+static void resend(struct connection *c) { send_piece(c, c->una, least(least(c->mss, end_of(c) - c->una), c->max - c->una)); }
+
+static void duplicate(struct connection *c)
+{
+    c->duplicates++;
+    if (c->fast) c->cwnd += c->mss;
+    if (c->duplicates != 3 || c->fast || before(c->una, c->recover) || defect == NO_RETRANSMISSION) return;
+    c->ssthresh = half_of_flight(c);
+    c->cwnd = c->ssthresh + 3 * c->mss;
+    c->fast = 1;
+    c->recover = c->max;
+    resend(c);
+}
+
+/* ---- Ends ---- */
+
+static void stop_timers(struct connection *c) { c->rto_at = c->persist_at = c->override_at = c->end_at = NEVER; }
+
+static void end(struct connection *c, long fault)
+{
+    c->state = CLOSED;
+    c->fault = fault;
+    c->listener = NULL;
+    stop_timers(c);
+}
+
+static void reset(struct connection *c)
+{
+    leave(c->local, c->remote, c->max, 0, RST, 0, NULL, 0, NULL, 0);
+    end(c, 0);
+}
+
+static void wait_out(struct connection *c)
+{
+    if (defect == NO_TIME_WAIT) {
+        end(c, 0);
+        return;
+    }
+    c->state = TIME_WAIT;
+    stop_timers(c);
+    c->end_at = stack_now() + TIME_WAIT_LASTS;
+}
+
+/* ---- What comes in ---- */
+
+static struct connection *find(unsigned local, unsigned remote)
+{
+    for (int i = 0; i < opened; i++) {
+        struct connection *c = &connections[i];
+        if (c->local == local && c->remote == remote && c->state > LISTEN) return c;
+    }
+    return NULL;
+}
+
+static struct connection *listener_at(unsigned local)
+{
+    for (int i = 0; i < opened; i++)
+        if (connections[i].local == local && connections[i].state == LISTEN) return &connections[i];
+    return NULL;
+}
+
+static struct connection *new_connection(enum state state, unsigned local, unsigned remote)
+{
+    if (opened == CONNECTIONS) return NULL;
+    struct connection *c = &connections[opened++];
+    *c = (struct connection){ .state = state, .local = local, .remote = remote, .rto = SECOND, .send_shift = -1 };
+    c->room = config.window ? config.window : OWN_WINDOW;
+    c->rcv_shift = c->room > 65535 ? OWN_SHIFT : 0;
+    c->iss = config.seed * 2654435761u + local * 40503u + remote * 7919u + (uint32_t)(stack_now() / 4);
+    c->una = c->nxt = c->max = c->iss;
+    stop_timers(c);
+    if (state == LISTEN) return c;
+    c->out_seq = c->iss + 1;
+    c->out = malloc(SEND_ROOM);
+    c->in = malloc(c->room);
+    c->have = calloc(c->room, 1);
+    if (!c->out || !c->in || !c->have) abort();
+    return c;
+}
+
+static void begin_syn(struct connection *c)
+{
+    send_syn(c);
+    c->nxt = c->max = c->iss + 1;
+    c->timing = 1;
+    c->timed = c->iss;
+    c->timed_at = c->stuck_since = stack_now();
+    start_rto(c);
+}
+
+static void take_syn(struct connection *c, const struct segment *s)
+{
+    c->irs = s->seq;
+    c->rcv_nxt = c->edge = c->farthest = s->seq + 1;
+    c->mss = defect == MSS_IGNORED ? most_of(config.mss, USUAL_MSS) : s->mss;
+    c->send_shift = s->shift;
+    if (s->shift < 0) c->rcv_shift = 0;
+}
+
+static void take_window(struct connection *c, const struct segment *s)
+{
+    int shift = s->flags & SYN || c->send_shift < 0 || defect == SCALE_IGNORED ? 0 : c->send_shift;
+    c->window = (uint32_t)s->window << shift;
+    c->widest = most_of(c->widest, c->window);
+    c->wl1 = s->seq;
+    c->wl2 = s->ack;
+}
+
+static void take_acknowledged(struct connection *c, uint32_t ack)
+{
+    uint32_t acked = ack - c->una, bytes = before(c->out_seq, ack) ? least(ack - c->out_seq, c->queued) : 0;
+    if (c->timing && before(c->timed, ack)) {
+        sample(c, stack_now() - c->timed_at);
+        c->timing = 0;
+    }
+    if (bytes) memmove(c->out, c->out + bytes, c->queued - bytes);
+    c->queued -= bytes;
+    c->out_seq += bytes;
+    c->una = ack;
+    if (before(c->nxt, ack)) c->nxt = ack;
+    if (c->cwnd) grow(c, acked);
+    if (c->cwnd) c->expiries = 0;
+    c->rto_at = NEVER;
+    c->stuck_since = stack_now();
+    if (c->una != c->max) start_rto(c);
+}
+
+static void listen_for(struct connection *listener, const struct segment *s)
+{
+    if (s->flags & RST) return;
+    if (s->flags & ACK) { refuse(s); return; }
+    if (!(s->flags & SYN)) return;
+    unsigned waiting = 0;
+    for (int i = 0; i < opened; i++) waiting += connections[i].listener == listener;
+    struct connection *c = waiting < listener->backlog ? new_connection(SYN_RECEIVED, s->to, s->from) : NULL;
+    if (!c) return;
+    c->listener = listener;
+    c->passive = 1;
+    take_syn(c, s);
+    begin_syn(c);
+}
+
+static void establish(struct connection *c, const struct segment *s)
+{
+    take_acknowledged(c, s->ack);
+    begin_congestion(c);
+    c->expiries = 0;
+    take_window(c, s);
+    c->state = !c->shut ? ESTABLISHED : FIN_WAIT_1;
+}
+
+static void come_in_syn_sent(struct connection *c, const struct segment *s)
+{
+    int acks = s->flags & ACK;
+    if (acks && s->ack != c->max) { refuse(s); return; }
+    if (s->flags & RST) {
+        if (acks) end(c, STACK_REFUSED);
+        return;
+    }
+    if (!(s->flags & SYN)) return;
+    take_syn(c, s);
+    if (acks) {
+        establish(c, s);
+        c->ack_due = 1;
+        output(c);
+    } else {
+        c->state = SYN_RECEIVED;
+        send_syn(c);
+    }
+}
+
+static int is_acceptable(const struct connection *c, const struct segment *s)
+{
+    uint32_t length = length_of(s), window = before(c->rcv_nxt, c->edge) ? c->edge - c->rcv_nxt : 0;
+    if (s->seq == c->rcv_nxt) return 1;
+    if (s->seq - c->rcv_nxt < window) return 1;
+    return window && length && s->seq + length - 1 - c->rcv_nxt < window;
+}
+
+/* A reset, or a SYN, of a connection that stands: RFC 9293, 3.10.7.4, second and fourth. */
+static void come_reset(struct connection *c, const struct segment *s)
+{
+    if (s->seq != c->rcv_nxt && defect != ANY_RESET) acknowledge(c);
+    else if (c->state == SYN_RECEIVED) end(c, c->passive ? 0 : STACK_REFUSED);
+    else end(c, c->state < CLOSING ? STACK_RESET : 0);
+}
+
+static void come_syn(struct connection *c)
+{
+    if (c->state == SYN_RECEIVED) send_syn(c);
+    else acknowledge(c);
+}
+
+/* The fifth check. Whether the segment is to be looked at further. */
+static int come_acknowledgment(struct connection *c, const struct segment *s)
+{
+    if (!(s->flags & ACK)) return 0;
+    if (c->state == SYN_RECEIVED) {
+        if (s->ack != c->max) { refuse(s); return 0; }
+        establish(c, s);
+        return 1;
+    }
+    if (before(c->max, s->ack)) {
+        acknowledge(c);
+        return 0;
+    }
+    /* Older than any window: RFC 5961, 5.2. */
+    if (before(s->ack, c->una - c->widest)) {
+        acknowledge(c);
+        return 0;
+    }
+    uint32_t window = c->window;
+    int fin_sent = fin_was_sent(c), takes = !before(s->ack, c->una);
+    if (takes && (before(c->wl1, s->seq) || (c->wl1 == s->seq && !before(s->ack, c->wl2)))) take_window(c, s);
+    if (before(c->una, s->ack)) take_acknowledged(c, s->ack);
+    else if (s->ack == c->una && c->max != c->una && !length_of(s) && window == c->window && window) duplicate(c);
+    if (!fin_sent || c->una != c->max) return 1;
+    if (c->state == FIN_WAIT_1) c->state = FIN_WAIT_2;
+    else if (c->state == CLOSING) wait_out(c);
+    else if (c->state == LAST_ACK) end(c, 0);
+    return c->state != CLOSED;
+}
+
+static void keep_bytes(struct connection *c, const struct segment *s)
+{
+    if (defect == HOLES_DELIVERED && before(c->rcv_nxt, s->seq)) c->rcv_nxt = s->seq;
+    for (uint32_t i = 0; i < s->count; i++) {
+        uint32_t at = s->seq + i, place = at - c->rcv_nxt + c->unread;
+        int inside = !before(at, c->rcv_nxt) && before(at, c->edge);
+        if (!inside || place >= c->room || c->have[place]) continue;
+        c->in[place] = s->bytes[i];
+        c->have[place] = 1;
+        if (before(c->farthest, at + 1)) c->farthest = at + 1;
+    }
+    while (c->unread < c->room && c->have[c->unread]) {
+        c->unread++;
+        c->rcv_nxt++;
+    }
+}
+
+static void deliver_again(struct connection *c, const struct segment *s)
+{
+    if (c->unread + s->count > c->room) return;
+    memcpy(c->in + c->unread, s->bytes, s->count);
+    memset(c->have + c->unread, 1, s->count);
+    c->unread += s->count;
+}
+
+static void come_fin(struct connection *c)
+{
+    c->fin_taken = 1;
+    c->rcv_nxt++;
+    if (c->state == ESTABLISHED) c->state = CLOSE_WAIT;
+    else if (c->state == FIN_WAIT_1) c->state = CLOSING;
+    else if (c->state == FIN_WAIT_2) { wait_out(c); if (c->state == CLOSED) acknowledge(c); }
+}
+
+/* The seventh and eighth check. A host that closed for good answers bytes by a reset (RFC 9293, 3.6.1). */
+static void come_text(struct connection *c, const struct segment *s)
+{
+    if (!s->count && !(s->flags & FIN)) return;
+    c->ack_due = 1;
+    if (c->fin_taken && defect != DATA_AFTER_FIN) return;
+    if (s->count && c->dropped) { reset(c); return; }
+    keep_bytes(c, s);
+    if (s->flags & FIN) {
+        c->fin_seen = 1;
+        c->fin_at = s->seq + s->count;
+    }
+    if (c->fin_seen && !c->fin_taken && c->fin_at == c->rcv_nxt) come_fin(c);
+}
+
+static void come(struct connection *c, const struct segment *given)
+{
+    struct segment segment = *given, *s = &segment;
+    if (c->state == SYN_SENT) { come_in_syn_sent(c, s); return; }
+    if (c->state == SYN_RECEIVED && s->flags & SYN && s->seq == c->irs) {
+        if (!(s->flags & ACK)) { send_syn(c); return; }
+        s->flags &= ~(unsigned)SYN;
+        s->seq++;
+    }
+    if (s->flags & RST) {
+        if (is_acceptable(c, s) || defect == ANY_RESET) come_reset(c, s);
+        return;
+    }
+    if (s->flags & SYN) { come_syn(c); return; }
+    if (!is_acceptable(c, s)) {
+        if (defect == DUPLICATES_DELIVERED) deliver_again(c, s);
+        if (c->state == TIME_WAIT && s->flags & FIN) wait_out(c);
+        acknowledge(c);
+        return;
+    }
+    if (!come_acknowledgment(c, s)) return;
+    come_text(c, s);
+    if (c->state != CLOSED) output(c);
+}
+
+void stack_input(const void *bytes, size_t count)
+{
+    struct segment s;
+    if (!read_segment(&s, bytes, count)) return;
+    struct connection *c = find(s.to, s.from), *listener = listener_at(s.to);
+    if (c) come(c, &s);
+    else if (listener) listen_for(listener, &s);
+    else refuse(&s);
+}
+
+/* ---- Timers ---- */
+
+static void expire_rto(struct connection *c)
+{
+    if (stack_now() - c->stuck_since >= GIVE_UP) {
+        stack_expired(c->local, c->remote, "giveup");
+        end(c, STACK_TIMEOUT);
+        return;
+    }
+    stack_expired(c->local, c->remote, "rto");
+    if (c->cwnd && !c->expiries) c->ssthresh = half_of_flight(c);
+    back_off(c);
+    start_rto(c);
+    if (c->state == SYN_SENT || c->state == SYN_RECEIVED) {
+        c->timing = c->timing && defect == KARN_IGNORED;
+        send_syn(c);
+        return;
+    }
+    if (defect != NO_COLLAPSE) c->cwnd = c->mss;
+    c->fast = c->duplicates = 0;
+    c->recover = c->max;
+    if (c->una == end_of(c) && defect == FIN_NOT_RESENT) return;
+    c->nxt = c->una;
+    resend(c);
+    output(c);
+}
+
+/* A window of 0 is probed by a byte (RFC 9293, 3.8.6.1). It stays unsent as far as the rest is concerned. */
+static void expire_persist(struct connection *c)
+{
+    stack_expired(c->local, c->remote, "persist");
+    c->persist = c->persist * 2 < LONGEST_RTO ? c->persist * 2 : LONGEST_RTO;
+    c->persist_at = stack_now() + c->persist;
+    c->timing = 0;
+    reply(c, PSH, c->una, 1);
+    if (before(c->max, c->una + 1)) c->max = c->una + 1;
+}
+
+void stack_tick(void)
+{
+    uint64_t now = stack_now();
+    for (int i = 0; i < opened; i++) {
+        struct connection *c = &connections[i];
+        if (c->rto_at <= now) expire_rto(c);
+        if (c->persist_at <= now) expire_persist(c);
+        if (c->override_at <= now) {
+            c->overridden = 1;
+            c->override_at = NEVER;
+            output(c);
+        }
+        if (c->end_at <= now) {
+            stack_expired(c->local, c->remote, "2msl");
+            end(c, 0);
+        }
+    }
+}
+
+uint64_t stack_next(void)
+{
+    uint64_t next = NEVER;
+    for (int i = 0; i < opened; i++) {
+        const uint64_t timers[] = { connections[i].rto_at, connections[i].persist_at, connections[i].override_at, connections[i].end_at };
+        for (int t = 0; t < 4; t++)
+            if (timers[t] < next) next = timers[t];
+    }
+    return next;
+}
+
+/* ---- Calls ---- */
+
+long stack_start(const struct stack_config *wanted)
+{
+    const char *name = getenv("TOY_DEFECT");
+    config = *wanted;
+    if (!name || !*name) return STACK_OK;
+    for (int i = 1; i < DEFECTS; i++)
+        if (!strcmp(name, defect_names[i])) defect = (enum defect)i;
+    if (defect) return STACK_OK;
+    fprintf(stderr, "the toy stack has no defect %s\n", name);
+    exit(2);
+}
+
+long stack_listen(unsigned port, unsigned backlog)
+{
+    if (listener_at(port)) return STACK_INUSE;
+    struct connection *c = new_connection(LISTEN, port, 0);
+    if (!c) return STACK_CANNOT;
+    c->backlog = backlog;
+    return c - connections;
+}
+
+long stack_open(unsigned local, unsigned remote)
+{
+    if (find(local, remote)) return STACK_INUSE;
+    struct connection *c = new_connection(SYN_SENT, local, remote);
+    if (!c) return STACK_CANNOT;
+    begin_syn(c);
+    return c - connections;
+}
+
+long stack_await(long socket)
+{
+    struct connection *c = &connections[socket];
+    if (c->state == LISTEN) return STACK_NOTCONN;
+    if (c->fault) return c->fault;
+    if (c->state == SYN_SENT || c->state == SYN_RECEIVED) return STACK_AGAIN;
+    return c->cwnd ? STACK_OK : STACK_CLOSED;
+}
+
+long stack_accept(long socket)
+{
+    if (connections[socket].state != LISTEN) return STACK_NOTCONN;
+    for (int i = 0; i < opened; i++) {
+        struct connection *c = &connections[i];
+        if (c->listener != &connections[socket] || c->state < ESTABLISHED) continue;
+        c->listener = NULL;
+        return i;
+    }
+    return STACK_AGAIN;
+}
+
+long stack_send(long socket, const void *bytes, size_t count)
+{
+    struct connection *c = &connections[socket];
+    if (c->state == LISTEN) return STACK_NOTCONN;
+    if (c->fault) return c->fault;
+    if (c->shut) return STACK_CLOSED;
+    if (c->state == SYN_SENT || c->state == SYN_RECEIVED) return STACK_AGAIN;
+    if (c->state != ESTABLISHED && c->state != CLOSE_WAIT) return STACK_CLOSED;
+    if (count > SEND_ROOM - c->queued) count = SEND_ROOM - c->queued;
+    if (!count) return STACK_AGAIN;
+    memcpy(c->out + c->queued, bytes, count);
+    c->queued += (uint32_t)count;
+    output(c);
+    return (long)count;
+}
+
+long stack_recv(long socket, void *bytes, size_t most)
+{
+    struct connection *c = &connections[socket];
+    if (c->state == LISTEN) return STACK_NOTCONN;
+    if (!c->unread) {
+        if (c->fin_taken) return STACK_EOF;
+        if (c->fault) return c->fault;
+        return c->state == CLOSED ? STACK_NOTCONN : STACK_AGAIN;
+    }
+    uint32_t count = least(c->unread, (uint32_t)most), edge = c->edge;
+    memcpy(bytes, c->in, count);
+    memmove(c->in, c->in + count, c->room - count);
+    memmove(c->have, c->have + count, c->room - count);
+    memset(c->have + c->room - count, 0, count);
+    c->unread -= count;
+    offer(c, 0);
+    if (c->edge != edge && c->state >= ESTABLISHED && !c->fin_taken) acknowledge(c);
+    return (long)count;
+}
+
+long stack_shut(long socket)
+{
+    struct connection *c = &connections[socket];
+    if (c->fault) return c->fault;
+    if (c->state == CLOSED || c->state == LISTEN || c->state == SYN_SENT) return STACK_NOTCONN;
+    c->shut = 1;
+    if (c->state == ESTABLISHED) c->state = FIN_WAIT_1;
+    else if (c->state == CLOSE_WAIT) c->state = LAST_ACK;
+    output(c);
+    return STACK_OK;
+}
+
+long stack_abort(long socket)
+{
+    struct connection *c = &connections[socket];
+    if (c->state == LISTEN)
+        for (int i = 0; i < opened; i++)
+            if (connections[i].listener == c) stack_abort(i);
+    if (c->state >= SYN_RECEIVED && c->state <= CLOSE_WAIT) reset(c);
+    else end(c, 0);
+    return STACK_OK;
+}
+
+/* RFC 9293, 3.6.1: who closes with bytes unread resets. */
+long stack_close(long socket)
+{
+    struct connection *c = &connections[socket];
+    if (c->unread || c->state <= SYN_SENT) return stack_abort(socket);
+    c->dropped = 1;
+    stack_shut(socket);
+    return STACK_OK;
+}
+
+const char *stack_state(long socket)
+{
+    static const char *const names[] = { "CLOSED", "LISTEN", "SYN-SENT", "SYN-RECEIVED", "ESTABLISHED", "FIN-WAIT-1", "FIN-WAIT-2",
+                                         "CLOSE-WAIT", "CLOSING", "LAST-ACK", "TIME-WAIT" };
+    return names[connections[socket].state];
+}
