@@ -1,5 +1,5 @@
-//! The program `tcpwit`: `cli::run_all` on the process's words, its standard input and its standard output; or, where
-//! the words name two files, `cli::run_files` on these.
+//! The program `tcpwit`: `cli::run_all` on the process's words, its standard input and its standard output; or, if the
+//! words name two files, `cli::run_files` on these. If the words ask for help or for the version, it prints that.
 #![tactic(auto)]
 
 ghost use Rattle.std.specs.Prelude.{◌≡◌, ◌<◌, ◌^◌, OnErr};
@@ -7,6 +7,7 @@ ghost use Rattle.counted.specs.Counting.{failures_of};
 
 use cli::{answer_bad_device, answer_bad_memory, file_names, given_words, run_all, run_files};
 use counted::Counted;
+use help::{Program, help_text, print_help};
 use std::alloc::{AllocError, Global};
 use std::env::Args;
 use std::fs;
@@ -50,6 +51,9 @@ fn run_given<R: BufRead, W: Write, H: Files + Threads + Wait + Sync>(
     let mut words = Vec::new(alloc);
     for word in given.iter().skip(1) {
         words.push(word.as_str())?;
+    }
+    if let Some(text) = help_text(alloc, Program::Tcpwit, words.as_slice())? {
+        return Ok(print_help(w, text.as_str()));
     }
     let status = match file_names(alloc, words.as_slice())? {
         Some((trace, witness)) => run_named(rt, alloc, &trace, &witness, w),

@@ -1,9 +1,9 @@
 //! How much of a run keeps the RFCs, and the case that shows it.
 
-use crate::running::{DEVICE, DONE, MEMORY, NO, say, say_fault};
+use crate::saying::{DONE, NO, say, say_bad_device, say_bad_memory, say_fault};
 use checker::CaseFault;
 use counted::Counted;
-use judging::{Judgement, Options, judge};
+use judging::{Options, judge};
 use std::alloc::Global;
 use std::fs;
 use std::io::{Eprint, Write};
@@ -18,35 +18,21 @@ pub(crate) fn write_judgement<H: Files + Eprint, W: Write>(
     text: &[u8],
     w: &mut Counted<W>,
 ) -> u8 {
-    match judge(alloc, text) {
-        Ok(judgement) => {
-            if !is_kept(rt, options, &judgement) {
-                return say(w, b"bad device\n", DEVICE);
-            }
-            let status = if judgement.meets(options.least) {
-                DONE
-            } else {
-                NO
-            };
-            say(w, judgement.text.as_slice(), status)
-        }
-        Err(CaseFault::Trace(fault)) => say_fault(alloc, "bad trace ", &fault, w),
-        Err(CaseFault::Witness(fault)) => say_fault(alloc, "bad witness ", &fault, w),
-        Err(CaseFault::Read | CaseFault::OutOfMemory) => say(w, b"bad memory\n", MEMORY),
-    }
-}
-
-// Keeps the case in the file that is named for it, if one is. The answer is whether no write failed; if one did,
-// standard error has the reason.
-fn is_kept<H: Files + Eprint>(rt: &H, options: Options<'_>, judgement: &Judgement) -> bool {
-    let Some(name) = options.case else {
-        return true;
+    let judgement = match judge(alloc, text) {
+        Ok(judgement) => judgement,
+        Err(CaseFault::Trace(fault)) => return say_fault(rt, alloc, "bad trace ", &fault, w),
+        Err(CaseFault::Witness(fault)) => return say_fault(rt, alloc, "bad witness ", &fault, w),
+        Err(CaseFault::Read | CaseFault::OutOfMemory) => return say_bad_memory(rt, w),
     };
-    match fs::write(rt, name, judgement.case.as_slice()) {
-        Ok(()) => true,
-        Err(error) => {
-            let _ = eprintln!(rt; "{name}: {error}");
-            false
+    if let Some(name) = options.case {
+        if let Err(error) = fs::write(rt, name, judgement.case.as_slice()) {
+            return say_bad_device(rt, w, name, &error);
         }
     }
+    let status = if judgement.meets(options.least) {
+        DONE
+    } else {
+        NO
+    };
+    say(rt, w, judgement.text.as_slice(), status)
 }

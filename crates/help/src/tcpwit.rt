@@ -1,0 +1,162 @@
+//! The command line of `tcpwit`, as its help shows it.
+
+use crate::texts::VERSION;
+use clap::{Arg, ArgAction, Command};
+use std::alloc::{AllocError, Global};
+
+const AFTER: &str = "\
+Each answer is one line on standard output. Nothing is written on standard error.
+
+Status:
+  0  yes; the segment, the help or the version was printed; all rounds of the recording ended
+  1  no; a recording met a limit
+  2  a trace, a witness or a segment is refused
+  3  bad usage
+  4  bad memory: memory ran out
+  5  bad device: a file or a stream couldn't be opened, read or written
+
+Examples:
+  tcpwit check < run.case
+  tcpwit check --trace run.trace --witness run.witness
+  tcpwit many --workers 4 < runs.cases
+  tcpwit record --rounds 2 --lose 3 > run.case
+
+The texts are described in tcpwit-case(5) and docs/FORMATS.md, the rules in docs/RULES.md. If you
+have a trace and no witness, `tcpwit_lab find` looks for one.";
+
+const CHECK: &str = "\
+Without options, standard input is the case: the trace, then the witness. With both options, each
+has a file of its own. Both files are read while they are judged, so they may be pipes. F (the trace)
+is opened first, then G (the witness).
+
+Fill two pipes from two processes or threads. If one thread fills both, it opens F, then G, before it
+writes anything; then it writes to whichever pipe has room, as poll(2) reports. If it waits for one
+pipe alone, it and the checker may wait for each other forever.
+
+Output, one line:
+  yes LINES HIDDEN                 the witness explains the trace, with so many hidden steps
+  no W T RULE                      line W of the witness, for line T of the trace, breaks RULE
+  bad trace LINE START STOP KIND   the trace is refused for these bytes of a line
+  bad witness LINE START STOP KIND
+
+Status:
+  0  yes
+  1  no
+  2  bad trace, bad witness
+  3  bad usage
+  4  bad memory
+  5  bad device";
+
+const MANY: &str = "\
+Standard input has the cases, each ended by a line `end`. The answers come in the order of the cases,
+one line for each, as `tcpwit check` prints it. They are the same for any number of threads.
+
+Status: the greatest status of a case, as `tcpwit check` has it; 0 if there is no case.";
+
+const SEGMENT: &str = "\
+Nothing is read. The line begins with `ok`, or is `bad segment` and what is wrong.
+
+Status:
+  0  the segment was printed
+  2  the bytes are no segment
+  3  bad usage";
+
+const RECORD: &str = "\
+Two hosts in one process talk. What they recorded is printed as a case, whose verdict is yes if its
+numbers keep to the limits of the texts.
+
+Status:
+  0  all rounds ended
+  1  a limit was met first";
+
+/// The whole command line.
+pub(crate) fn tcpwit<'a>(alloc: Global) -> Result<Command<'a>, AllocError> {
+    Command::new(alloc, "tcpwit")
+        .no_binary_name(true)
+        .version(VERSION)
+        .about(
+            "Checks an explanation of a recorded run of two TCP hosts by RFC 9293, 6298 and 5681",
+        )
+        .subcommand_required(true)
+        .subcommand(check(alloc)?)?
+        .subcommand(many(alloc)?)?
+        .subcommand(segment(alloc)?)?
+        .subcommand(record(alloc)?)
+        .map(|command| command.after_help(AFTER))
+}
+
+fn check<'a>(alloc: Global) -> Result<Command<'a>, AllocError> {
+    let trace = Arg::new(alloc, "trace").long("trace").value_name("F").help(
+        "The file or pipe of the trace; only together with --witness",
+    );
+    let witness = Arg::new(alloc, "witness")
+        .long("witness")
+        .value_name("G")
+        .help("The file or pipe of the witness");
+    Ok(
+        Command::new(alloc, "check")
+            .about("Judges a case: a trace and its witness")
+            .override_usage("tcpwit check < CASE\n       tcpwit check --trace F --witness G")
+            .after_help(CHECK)
+            .arg(trace)?
+            .arg(witness)?,
+    )
+}
+
+fn many<'a>(alloc: Global) -> Result<Command<'a>, AllocError> {
+    let workers = Arg::new(alloc, "workers")
+        .long("workers")
+        .value_name("N")
+        .required(true)
+        .help("How many threads check, 1 to 64");
+    Ok(
+        Command::new(alloc, "many")
+            .about("Judges many cases with several threads")
+            .override_usage("tcpwit many --workers N < CASES")
+            .after_help(MANY)
+            .arg(workers)?,
+    )
+}
+
+fn segment<'a>(alloc: Global) -> Result<Command<'a>, AllocError> {
+    let hex = Arg::new(alloc, "hex")
+        .value_name("HEX")
+        .required(true)
+        .action(ArgAction::Set)
+        .help("The segment from its TCP header on, two hex digits for each byte");
+    Ok(
+        Command::new(alloc, "segment")
+            .about("Prints the fields of a segment")
+            .override_usage("tcpwit segment HEX")
+            .after_help(SEGMENT)
+            .arg(hex)?,
+    )
+}
+
+fn record<'a>(alloc: Global) -> Result<Command<'a>, AllocError> {
+    let rounds = Arg::new(alloc, "rounds")
+        .long("rounds")
+        .value_name("N")
+        .required(true)
+        .help(
+            "How many rounds, 1 to 1000; in each, host 0 sends 64 bytes and host 1 receives them",
+        );
+    let lose = Arg::new(alloc, "lose")
+        .long("lose")
+        .value_name("K")
+        .required(true)
+        .help("Each K-th segment of a host is lost, 2 to 1000; 0: none is");
+    let format = Arg::new(alloc, "format")
+        .long("format")
+        .value_name("V")
+        .help("The version of the texts, 1 or 2 [default: 1]");
+    Ok(
+        Command::new(alloc, "record")
+            .about("Records two TCP hosts that talk, and prints the case")
+            .override_usage("tcpwit record --rounds N --lose K [--format V] > CASE")
+            .after_help(RECORD)
+            .arg(rounds)?
+            .arg(lose)?
+            .arg(format)?,
+    )
+}

@@ -1,0 +1,128 @@
+//! The command line of `tcpwit_lab`, as its help shows it.
+
+use crate::texts::VERSION;
+use clap::{Arg, ArgAction, Command};
+use std::alloc::{AllocError, Global};
+
+const AFTER: &str = "\
+Each subcommand reads its text from standard input and writes to standard output. If a file or a
+stream can't be opened, read or written, standard error has its name and the reason.
+
+Status:
+  0  done; explain: yes; judge: the least word or a stricter one has a yes
+  1  explain: no; judge: no such word has a yes
+  2  bad trace, bad witness: the text is refused
+  3  bad usage
+  4  bad memory: memory ran out
+  5  bad device: a file or a stream couldn't be opened, read or written
+
+Examples:
+  tcpwit_lab judge < run.trace
+  tcpwit_lab find < run.trace > run.case
+  tcpwit_lab explain < run.case
+  tcpwit_lab draw < run.case > run.svg
+
+The answers of `tcpwit` don't depend on this program.";
+
+const FIND: &str = "\
+Input: a trace. Output: a case. If no permitted step is found, the case ends with a step that
+`tcpwit check` refuses.";
+
+const EXPLAIN: &str = "\
+Input: a case. Output: the line of `tcpwit check`. For a no, the refused step, the endpoint before it,
+what the rule compares and what usually causes it follow.";
+
+const SHOW: &str = "\
+Input: a case, or a trace alone. Output: text, one event a line.";
+
+const DRAW: &str = "\
+Input: a case, or a trace alone. Output: a picture (SVG). Time goes down, segments are arrows, a
+refused step is red.";
+
+const JUDGE: &str = "\
+Input: a trace. A witness is looked for with `congestion full`, then `recovery`, then `none`, up to
+the first yes. Output: a line for each word that was tried, what the yes means, and what `full`
+refused first.
+
+Status: 0 if WORD or a stricter word has a yes, 1 if none has.";
+
+/// The whole command line.
+pub(crate) fn tcpwit_lab<'a>(alloc: Global) -> Result<Command<'a>, AllocError> {
+    Command::new(alloc, "tcpwit_lab")
+        .no_binary_name(true)
+        .version(VERSION)
+        .about("Finds witnesses, judges traces, explains and draws cases")
+        .subcommand_required(true)
+        .subcommand(find(alloc))?
+        .subcommand(explain(alloc)?)?
+        .subcommand(show(alloc))?
+        .subcommand(draw(alloc)?)?
+        .subcommand(judge(alloc)?)
+        .map(|command| command.after_help(AFTER))
+}
+
+fn find<'a>(alloc: Global) -> Command<'a> {
+    Command::new(alloc, "find")
+        .about("Looks for a witness of a trace, and prints the case")
+        .override_usage("tcpwit_lab find < TRACE > CASE")
+        .after_help(FIND)
+}
+
+fn explain<'a>(alloc: Global) -> Result<Command<'a>, AllocError> {
+    let simulated = Arg::new(alloc, "simulated")
+        .long("simulated")
+        .action(ArgAction::SetTrue)
+        .help("The segments crossed a simulated wire: name no cause that only captures have");
+    Ok(
+        Command::new(alloc, "explain")
+            .about("Explains the verdict on a case in plain words")
+            .override_usage("tcpwit_lab explain [--simulated] < CASE")
+            .after_help(EXPLAIN)
+            .arg(simulated)?,
+    )
+}
+
+fn show<'a>(alloc: Global) -> Command<'a> {
+    Command::new(alloc, "show")
+        .about("Prints a case or a trace with words for its numbers")
+        .override_usage("tcpwit_lab show < CASE")
+        .after_help(SHOW)
+}
+
+fn draw<'a>(alloc: Global) -> Result<Command<'a>, AllocError> {
+    let from = Arg::new(alloc, "from")
+        .long("from")
+        .value_name("N")
+        .help("The first line of the trace that is drawn");
+    let to = Arg::new(alloc, "to")
+        .long("to")
+        .value_name("M")
+        .help("The last line of the trace that is drawn");
+    Ok(
+        Command::new(alloc, "draw")
+            .about("Draws a case or a trace as a picture")
+            .override_usage("tcpwit_lab draw [--from N] [--to M] < CASE > PICTURE")
+            .after_help(DRAW)
+            .arg(from)?
+            .arg(to)?,
+    )
+}
+
+fn judge<'a>(alloc: Global) -> Result<Command<'a>, AllocError> {
+    let least = Arg::new(alloc, "least")
+        .long("least")
+        .value_name("WORD")
+        .help("The word that is enough for the status 0: full, recovery or none [default: full]");
+    let case = Arg::new(alloc, "case")
+        .long("case")
+        .value_name("FILE")
+        .help("Keeps the case of the last word that was tried");
+    Ok(
+        Command::new(alloc, "judge")
+            .about("Says how much of congestion control a recorded run keeps")
+            .override_usage("tcpwit_lab judge [--least WORD] [--case FILE] < TRACE")
+            .after_help(JUDGE)
+            .arg(least)?
+            .arg(case)?,
+    )
+}

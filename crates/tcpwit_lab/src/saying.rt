@@ -1,0 +1,75 @@
+//! What is written, and the status with which the program then ends.
+
+use counted::Counted;
+use line_fields::{FaultKind, TextFault};
+use std::alloc::Global;
+use std::io;
+use std::io::{Eprint, Write};
+use why::fault_line;
+
+/// Done.
+pub(crate) const DONE: u8 = 0;
+
+/// The answer is no.
+pub(crate) const NO: u8 = 1;
+
+/// The text is refused.
+const REFUSED: u8 = 2;
+
+/// The words ask for nothing that the program does.
+pub(crate) const USAGE: u8 = 3;
+
+/// Memory ran out.
+const MEMORY: u8 = 4;
+
+/// A file or a stream can't be opened, read or written.
+const DEVICE: u8 = 5;
+
+/// Writes a text. The status is this one, or 5 if a write failed; standard error then has the reason.
+pub(crate) fn say<H: Eprint, W: Write>(rt: &H, w: &mut Counted<W>, text: &[u8], status: u8) -> u8 {
+    match write_whole(w, text) {
+        Ok(()) => status,
+        Err(error) => {
+            let _ = eprintln!(rt; "standard output: {error}");
+            DEVICE
+        }
+    }
+}
+
+fn write_whole<W: Write>(w: &mut Counted<W>, text: &[u8]) -> io::Result<()> {
+    w.write_all(text)?;
+    w.flush()
+}
+
+/// Writes that a file or a stream can't be used, with its name and the reason on standard error.
+pub(crate) fn say_bad_device<H: Eprint, W: Write>(
+    rt: &H,
+    w: &mut Counted<W>,
+    name: &str,
+    error: &io::Error,
+) -> u8 {
+    let _ = eprintln!(rt; "{name}: {error}");
+    say(rt, w, b"bad device\n", DEVICE)
+}
+
+/// Writes that memory ran out.
+pub(crate) fn say_bad_memory<H: Eprint, W: Write>(rt: &H, w: &mut Counted<W>) -> u8 {
+    say(rt, w, b"bad memory\n", MEMORY)
+}
+
+/// Writes the fault of a text as a line that begins with these words.
+pub(crate) fn say_fault<H: Eprint, W: Write>(
+    rt: &H,
+    alloc: Global,
+    refusal: &str,
+    fault: &TextFault,
+    w: &mut Counted<W>,
+) -> u8 {
+    match fault.kind {
+        FaultKind::OutOfMemory => say_bad_memory(rt, w),
+        _ => match fault_line(alloc, refusal, fault) {
+            Ok(line) => say(rt, w, line.as_slice(), REFUSED),
+            Err(_) => say_bad_memory(rt, w),
+        },
+    }
+}
