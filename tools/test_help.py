@@ -1,0 +1,106 @@
+#!/usr/bin/python3
+"""What both programs print if they are asked for help or for their version, and what tcpwit_lab says of files that it can't use."""
+import os
+import re
+import shlex
+import subprocess
+import tempfile
+import unittest
+
+TOP = os.path.dirname(os.path.dirname(os.path.abspath(__file__)))
+TCPWIT = shlex.split(os.environ.get("TCPWIT", f"{TOP}/tcpwit"))
+LAB = shlex.split(os.environ.get("TCPWIT_LAB", f"{TOP}/tcpwit_lab"))
+# The subcommands of each program.
+WORDS = {"tcpwit": (TCPWIT, "check many segment record".split()), "tcpwit_lab": (LAB, "find explain show draw judge".split())}
+DEVICE = 5
+
+
+def run(program, *words, **ends):
+    """Output, standard error and status."""
+    ran = subprocess.run([*program, *words], stdin=ends.pop("stdin", subprocess.DEVNULL), capture_output="stdout" not in ends, text=True,
+                         check=False, timeout=60, **ends)
+    return ran.stdout, ran.stderr, ran.returncode
+
+
+class Help(unittest.TestCase):
+    def help_of(self, program, *words):
+        """The text that the words ask for; nothing stands on standard error, and the status is 0."""
+        told, said, status = run(program, *words)
+        self.assertEqual((said, status), ("", 0), words)
+        return told
+
+    def test_the_whole_program(self):
+        for name, (program, subcommands) in WORDS.items():
+            text = self.help_of(program, "--help")
+            self.assertIn(f"\nUsage: {name} <COMMAND>\n", text)
+            for subcommand in subcommands:
+                self.assertRegex(text, f"(?m)^  {subcommand} +[A-Z]")
+            for status in range(6):
+                self.assertRegex(text, f"(?m)^  {status}  [a-z]")
+            self.assertEqual([self.help_of(program, word) for word in ("-h", "help")], [text, text])
+
+    def test_each_subcommand(self):
+        for name, (program, subcommands) in WORDS.items():
+            for subcommand in subcommands:
+                text = self.help_of(program, subcommand, "--help")
+                self.assertIn(f"\nUsage: {name} {subcommand} ", text)
+                self.assertEqual([self.help_of(program, subcommand, "-h"), self.help_of(program, "help", subcommand)], [text, text])
+
+    def test_no_line_is_wide(self):
+        for program, subcommands in WORDS.values():
+            for words in (["--help"], *([subcommand, "--help"] for subcommand in subcommands)):
+                self.assertLessEqual(max(map(len, self.help_of(program, *words).split("\n"))), 100, words)
+
+    def test_the_order_in_which_pipes_are_filled(self):
+        text = self.help_of(TCPWIT, "check", "--help")
+        self.assertRegex(text, r"F \(the trace\)\s+is opened first, then G")
+
+    def test_the_version_is_that_of_the_readme(self):
+        with open(f"{TOP}/README.md", encoding="utf-8") as file:
+            version = re.match(r"# tcpwit ([0-9.]+)\n", file.read())[1]
+        for name, (program, _) in WORDS.items():
+            for word in ("--version", "-V"):
+                self.assertEqual(self.help_of(program, word), f"{name} {version}\n")
+
+    def test_other_words_are_bad_usage(self):
+        for program, subcommands in WORDS.values():
+            rest = (["--help", subcommands[0]], ["--help", "--help"], [subcommands[0], "--help", "-h"], ["help", "help"], ["help", "nothing"],
+                    ["--Help"], ["-?"], ["nothing", "--help"], [subcommands[0], "--version"], [""], [])
+            for words in rest:
+                self.assertEqual(run(program, *words), ("bad usage\n", "", 3), words)
+
+    def test_help_that_cannot_be_written(self):
+        for program, _ in WORDS.values():
+            with open("/dev/full", "w", encoding="ascii") as full:
+                self.assertEqual(run(program, "--help", stdout=full, stderr=subprocess.PIPE), (None, "", DEVICE))
+
+
+class Files(unittest.TestCase):
+    """tcpwit_lab names what it can't use, with the system's reason; tcpwit says nothing on standard error."""
+
+    def test_input_that_cannot_be_read(self):
+        with open("/", encoding="ascii", opener=lambda path, _: os.open(path, os.O_RDONLY)) as folder:
+            for word in WORDS["tcpwit_lab"][1]:
+                told, said, status = run(LAB, word, stdin=folder)
+                self.assertEqual((told, status), ("bad device\n", DEVICE))
+                self.assertRegex(said, r"^standard input: Is a directory \(os error 21\)\n$")
+            self.assertEqual(run(TCPWIT, "check", stdin=folder), ("bad device\n", "", DEVICE))
+
+    def test_a_case_that_cannot_be_kept(self):
+        with open(f"{TOP}/examples/handshake.case", encoding="ascii") as file:
+            trace = file.read().split("witness")[0]
+        with tempfile.TemporaryDirectory() as folder, open(f"{folder}/trace", "w+", encoding="ascii") as file:
+            file.write(trace)
+            file.seek(0)
+            told, said, status = run(LAB, "judge", "--case", f"{folder}/missing/case", stdin=file)
+            self.assertEqual((told, status), ("bad device\n", DEVICE))
+            self.assertEqual(said, f"{folder}/missing/case: No such file or directory (os error 2)\n")
+
+    def test_output_that_cannot_be_written(self):
+        with open(f"{TOP}/examples/handshake.case", encoding="ascii") as case, open("/dev/full", "w", encoding="ascii") as full:
+            said, status = run(LAB, "show", stdin=case, stdout=full, stderr=subprocess.PIPE)[1:]
+            self.assertEqual((said, status), ("standard output: No space left on device (os error 28)\n", DEVICE))
+
+
+if __name__ == "__main__":
+    unittest.main()
