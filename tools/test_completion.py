@@ -78,6 +78,14 @@ class Completion(unittest.TestCase):
                       ["tcpwit_lab", "draw", "--to"]):
             self.assertEqual(self.completed(*words, ""), [])
 
+    def test_the_manual_has_the_same_words(self):
+        for name in ("tcpwit", "tcpwit_lab"):
+            with open(f"{TOP}/packaging/man/{name}.1", encoding="utf-8") as file:
+                page = file.read().replace("\\-", "-")
+            for word in self.completed(name, ""):
+                for found in [word, *self.completed(name, word, "")]:
+                    self.assertRegex(page, rf"(?<![\w-]){found}(?![\w-])")
+
     def test_files(self):
         for words in (["tcpwit", "check", "--trace"], ["tcpwit", "check", "--trace", "F", "--witness"], ["tcpwit_lab", "judge", "--case"]):
             self.assertEqual(sorted(self.completed(*words, "")), ["one.case", "two.trace"])
