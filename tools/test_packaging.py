@@ -29,14 +29,22 @@ run)
   exit "$(cat status 2>/dev/null || echo 0)" ;;
 esac
 """
-# What both runs of the toolchain record if both programs are missing.
-RUNS = ["tcpwit run -- check trace 1", "tcpwit_lab run -- explain trace 1"]
 
 
 def read(path):
     """The bytes of a file."""
     with open(path, "rb") as file:
         return file.read()
+
+
+def lines_of(path):
+    """The lines of a file of the repository."""
+    return read(f"{TOP}/{path}").decode().splitlines()
+
+
+# How `rt run` is called for each program, and what is recorded of that.
+CALLS = {name: f"run -- {' '.join(lines_of(f'crates/{name}/args'))}" for name in ("tcpwit", "tcpwit_lab")}
+RUNS = [f"{name} {call} {lines_of(f'crates/{name}/stdin')[0]}" for name, call in CALLS.items()]
 
 
 @unittest.skipUnless(all(map(shutil.which, TOOLS)), f"needs {', '.join(TOOLS)}")
@@ -128,7 +136,7 @@ class Build(unittest.TestCase):
         status, lines, error = self.build()
         self.assertEqual(status, 0, error)
         self.assertEqual(self.runs(), RUNS)
-        for words in ("tcpwit && rt run -- check < stdin", "tcpwit_lab && rt run -- explain < stdin", "about an hour"):
+        for words in (*(f"{name} && rt {call} < stdin" for name, call in CALLS.items()), "about an hour"):
             self.assertIn(words, error)
         names = list(self.packages())
         self.assertEqual([re.sub(r"_.*_amd64", "", name) for name in names], ["SHA256SUMS", "tcpwit.deb", "tcpwit.tar.xz"])
@@ -180,7 +188,7 @@ class Build(unittest.TestCase):
 
     def test_a_program_that_prints_something_else(self):
         self.toolchain("mkdir -p out; cp /bin/true out/$name; exit 0")
-        self.refused("`cd crates/tcpwit && rt run -- check < stdin`")
+        self.refused(f"`cd crates/tcpwit && rt {CALLS['tcpwit']} < stdin` doesn't end")
 
     def test_a_change_without_a_commit(self):
         for name in ("clone/new", "clone/README.md"):
