@@ -1,0 +1,232 @@
+#!/usr/bin/python3
+"""What packaging/build runs, packs and refuses. No toolchain is needed: a script replaces it, and /bin/true replaces both programs."""
+import gzip
+import os
+import re
+import shutil
+import subprocess
+import tempfile
+import unittest
+
+TOP = os.path.dirname(os.path.dirname(os.path.abspath(__file__)))
+# What the package has files of.
+FOLDERS = ("docs", "examples", "importer", "packaging", "stacks")
+FILES = (".gitignore", "CHANGELOG.md", "README.md", "tools/unproved.py", "crates/verdict/src/rule.rt")
+TOOLS = ("dpkg-deb", "git", "objdump", "strip", "xz")
+# Replaces the toolchain. It records each `rt run` with the first line that it reads. It builds the program once, and leaves it as it is after that, since
+# no source changes. Then it prints what the program should print.
+RT = """#!/bin/sh
+name=$(basename "$PWD")
+case $1 in
+version) echo a toolchain ;;
+run)
+  echo "$name $* $(head -n 1)" >> {folder}/runs
+  {instead}
+  mkdir -p out
+  [ -e "out/$name" ] || cp /bin/true "out/$name"
+  echo a message
+  cat stdout
+  exit "$(cat status 2>/dev/null || echo 0)" ;;
+esac
+"""
+
+
+def read(path):
+    """The bytes of a file."""
+    with open(path, "rb") as file:
+        return file.read()
+
+
+def lines_of(path):
+    """The lines of a file of the repository."""
+    return read(f"{TOP}/{path}").decode().splitlines()
+
+
+# How `rt run` is called for each program, and what is recorded of that.
+CALLS = {name: f"run -- {' '.join(lines_of(f'crates/{name}/args'))}" for name in ("tcpwit", "tcpwit_lab")}
+RUNS = [f"{name} {call} {lines_of(f'crates/{name}/stdin')[0]}" for name, call in CALLS.items()]
+
+
+@unittest.skipUnless(all(map(shutil.which, TOOLS)), f"needs {', '.join(TOOLS)}")
+class Build(unittest.TestCase):
+    def setUp(self):
+        folder = tempfile.TemporaryDirectory()
+        self.addCleanup(folder.cleanup)
+        self.folder, self.top, self.out = folder.name, f"{folder.name}/clone", f"{folder.name}/packages"
+        for name in FOLDERS:
+            shutil.copytree(f"{TOP}/{name}", f"{self.top}/{name}", ignore=shutil.ignore_patterns("__pycache__", "out", ".built"))
+        for name in FILES + tuple(self.crate_files()):
+            os.makedirs(os.path.dirname(f"{self.top}/{name}"), exist_ok=True)
+            shutil.copy(f"{TOP}/{name}", f"{self.top}/{name}")
+        for name in ("tcpwit", "tcpwit_lab"):
+            self.write(f"clone/crates/{name}/src/main.rt", "")
+        self.write("clone/crates.txt", "tcpwit:\ntcpwit_lab:\n")
+        self.toolchain()
+        self.git("init", "--quiet")
+        self.commit()
+
+    @staticmethod
+    def crate_files():
+        """The files that say how a program is run."""
+        names = [f"crates/{crate}/{name}" for crate in ("tcpwit", "tcpwit_lab") for name in ("args", "stdin", "stdout", "status")]
+        return [name for name in names if os.path.exists(f"{TOP}/{name}")]
+
+    def write(self, name, text):
+        """Writes a file or a program."""
+        path = f"{self.folder}/{name}"
+        os.makedirs(os.path.dirname(path), exist_ok=True)
+        with open(path, "w", encoding="ascii") as file:
+            file.write(text)
+        os.chmod(path, 0o755)
+
+    def toolchain(self, instead=""):
+        """Puts a script in its place, which may do something else instead of building."""
+        self.write("bin/rt", RT.format(folder=self.folder, instead=instead))
+
+    def environment(self):
+        """The variables of each command: PATH leads to the script, and to no toolchain of this machine."""
+        user = {f"GIT_{role}_{key}": value for role in ("AUTHOR", "COMMITTER") for key, value in (("NAME", "Someone"), ("EMAIL", "someone@example.org"))}
+        return {"PATH": f"{self.folder}/bin:/usr/bin:/bin", "HOME": self.folder, "PYTHONDONTWRITEBYTECODE": "1", "LC_ALL": "C.UTF-8", **user}
+
+    def git(self, *words):
+        """Output of a git command."""
+        return subprocess.run(["git", *words], cwd=self.top, env=self.environment(), check=True, capture_output=True, text=True).stdout.strip()
+
+    def commit(self):
+        """Commits everything."""
+        self.git("add", "--all")
+        self.git("commit", "--quiet", "--message", "a commit")
+
+    def build(self, *words):
+        """Status, lines of output and errors of packaging/build."""
+        done = subprocess.run(["packaging/build", "--out", self.out, *words], cwd=self.top, env=self.environment(), capture_output=True, text=True,
+                              timeout=120, check=False)
+        return done.returncode, done.stdout.splitlines(), done.stderr
+
+    def runs(self):
+        """What the toolchain was called for since the last look."""
+        path = f"{self.folder}/runs"
+        if not os.path.exists(path):
+            return []
+        lines = read(path).decode().splitlines()
+        os.remove(path)
+        return lines
+
+    def packages(self):
+        """The files that were left, by their names."""
+        return {name: read(f"{self.out}/{name}") for name in sorted(os.listdir(self.out))} if os.path.exists(self.out) else {}
+
+    def unpacked(self):
+        """The folder of the package's files."""
+        root = f"{self.folder}/root"
+        shutil.rmtree(root, ignore_errors=True)
+        package = next(name for name in self.packages() if name.endswith(".deb"))
+        subprocess.run(["dpkg-deb", "--extract", f"{self.out}/{package}", root], check=True)
+        return root
+
+    def refused(self, cause, *words):
+        """Checks that nothing is packed, for this cause."""
+        status, lines, error = self.build(*words)
+        self.assertEqual((status, lines, self.packages()), (2, [], {}), error)
+        self.assertRegex(error, cause)
+        self.assertIn("Nothing is packed", error)
+        self.assertNotIn("Traceback", error)
+
+    def test_missing_programs_are_proved_and_packed(self):
+        status, lines, error = self.build()
+        self.assertEqual(status, 0, error)
+        self.assertEqual(self.runs(), RUNS)
+        for words in (*(f"{name} && rt {call} < stdin" for name, call in CALLS.items()), "about an hour"):
+            self.assertIn(words, error)
+        names = list(self.packages())
+        self.assertEqual([re.sub(r"_.*_amd64", "", name) for name in names], ["SHA256SUMS", "tcpwit.deb", "tcpwit.tar.xz"])
+        wanted = [f"{self.out}/{name}" for name in (*names[1:], names[0])]
+        self.assertEqual(lines, [*wanted, f"commit    {self.git('rev-parse', 'HEAD')}", "toolchain a toolchain"])
+        subprocess.run(["sha256sum", "--check", "--strict", "--quiet", "SHA256SUMS"], cwd=self.out, check=True)
+        self.assertEqual([line.split("  ")[1] for line in read(f"{self.out}/SHA256SUMS").decode().splitlines()], names[1:])
+
+    def test_what_the_package_says(self):
+        self.build()
+        root = self.unpacked()
+        built = read(f"{root}/usr/share/doc/tcpwit/BUILT").decode()
+        self.assertIn(f"commit    {self.git('rev-parse', 'HEAD')}\ntoolchain a toolchain\nproofs    proved\n", built)
+        for name in ("tcpwit", "tcpwit_lab"):
+            subprocess.run([f"{root}/usr/bin/{name}"], check=True)
+            self.assertIn(f"/usr/bin/{name}\n", built)
+        with gzip.open(f"{root}/usr/share/man/man1/tcpwit-record.1.gz", "rt") as file:
+            self.assertIn(r".B \-\-kernel {plain,shipped}", file.read())
+
+    @unittest.skipUnless(shutil.which("groff"), "needs groff")
+    def test_the_manual_has_no_faults(self):
+        self.build()
+        for folder, _, names in os.walk(f"{self.unpacked()}/usr/share/man"):
+            for name in names:
+                page = gzip.decompress(read(f"{folder}/{name}"))
+                done = subprocess.run(["groff", "-man", "-ww", "-z", "-Tutf8", "-Kutf8"], input=page, capture_output=True, check=True)
+                self.assertEqual((name, done.stderr), (name, b""))
+                self.assertNotRegex(page, b"@[A-Z]+@")
+
+    def test_current_programs_are_packed_again(self):
+        self.build()
+        self.runs()
+        before = self.packages()
+        self.assertEqual(self.build()[0], 0)
+        self.assertEqual((self.runs(), self.packages()), ([], before))
+
+    def test_an_old_program_is_proved(self):
+        self.build()
+        self.runs()
+        os.utime(f"{self.top}/crates/tcpwit_lab/out/tcpwit_lab", (1, 1))
+        for runs in (RUNS[1:], []):
+            self.assertEqual(self.build()[0], 0)
+            self.assertEqual(self.runs(), runs)
+
+    def test_a_failed_proof(self):
+        self.toolchain("echo error: a proof fails >&2; exit 1")
+        self.refused("a proof fails")
+        self.assertEqual(self.runs(), RUNS[:1])
+
+    def test_a_program_that_prints_something_else(self):
+        self.toolchain("mkdir -p out; cp /bin/true out/$name; exit 0")
+        self.refused(f"`cd crates/tcpwit && rt {CALLS['tcpwit']} < stdin` doesn't end")
+
+    def test_a_change_without_a_commit(self):
+        for name in ("clone/new", "clone/README.md"):
+            self.write(name, "# tcpwit 1.0\n")
+            self.refused(f"(?s)git status.*{os.path.basename(name)}")
+            self.assertEqual(self.runs(), [])
+            self.commit()
+
+    def test_a_change_during_the_proofs(self):
+        self.toolchain(f"echo > {self.top}/new")
+        self.refused("(?s)git status.*new")
+        self.toolchain("git add --all; git commit --quiet --message later --allow-empty")
+        shutil.rmtree(f"{self.top}/crates/tcpwit/out")
+        self.commit()
+        self.refused("another commit")
+
+    def test_without_the_toolchain(self):
+        os.remove(f"{self.folder}/bin/rt")
+        for words in ([], ["--unproved"]):
+            self.refused("rt isn't in PATH: it belongs to the Rattle toolchain", *words)
+
+    def test_a_folder_that_cannot_be_written(self):
+        self.write("packages", "")
+        status, lines, error = self.build()
+        self.assertEqual((status, lines, self.runs()), (2, [], []), error)
+        self.assertIn(f"{self.out}: File exists", error)
+
+    def test_unproved_programs(self):
+        for name in ("tcpwit", "tcpwit_lab"):
+            os.makedirs(f"{self.top}/.built", exist_ok=True)
+            shutil.copy("/bin/true", f"{self.top}/.built/{name}")
+        self.write("clone/new", "")
+        status, lines, error = self.build("--unproved")
+        self.assertEqual((status, self.runs()), (0, []), error)
+        self.assertEqual([re.sub(r"_.*_amd64", "", name) for name in self.packages()], ["SHA256SUMS", "tcpwit-unproved.deb", "tcpwit-unproved.tar.xz"])
+        self.assertEqual(lines[3], f"commit    {self.git('rev-parse', 'HEAD')} and changes that have no commit")
+        self.assertIn("proofs    NOT PROVED", read(f"{self.unpacked()}/usr/share/doc/tcpwit-unproved/BUILT").decode())
+
+
+if __name__ == "__main__":
+    unittest.main()
