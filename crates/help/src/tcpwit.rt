@@ -26,8 +26,8 @@ have a trace and no witness, `tcpwit_lab find` looks for one.";
 
 const CHECK: &str = "\
 Without options, standard input is the case: the trace, then the witness. With both options, each
-has a file of its own. Both files are read while they are judged, so they may be pipes. F (the trace)
-is opened first, then G (the witness).
+has a file of its own. Both files are read while they are judged, so they may be pipes. F, the
+trace, is opened first, then G, the witness.
 
 Fill two pipes from two processes or threads. If one thread fills both, it opens F, then G, before it
 writes anything; then it writes to whichever pipe has room, as poll(2) reports. If it waits for one
@@ -48,8 +48,8 @@ Status:
   5  bad device";
 
 const MANY: &str = "\
-Standard input has the cases, each ended by a line `end`. The answers come in the order of the cases,
-one line for each, as `tcpwit check` prints it. They are the same for any number of threads.
+Standard input has the cases, each ended by a line `end`. The answers come in the order of the
+cases, one line for each, as `tcpwit check` prints it. They are the same for any number of threads.
 
 Status: the greatest status of a case, as `tcpwit check` has it; 0 if there is no case.";
 

@@ -29,8 +29,8 @@ Input: a trace. Output: a case. If no permitted step is found, the case ends wit
 `tcpwit check` refuses.";
 
 const EXPLAIN: &str = "\
-Input: a case. Output: the line of `tcpwit check`. For a no, the refused step, the endpoint before it,
-what the rule compares and what usually causes it follow.";
+Input: a case. Output: the line of `tcpwit check`. For a no, the refused step, the endpoint before
+it, what the rule compares and what usually causes it follow.";
 
 const SHOW: &str = "\
 Input: a case, or a trace alone. Output: text, one event a line.";
