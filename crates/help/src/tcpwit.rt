@@ -29,9 +29,9 @@ Without options, standard input is the case: the trace, then the witness. With b
 has a file of its own. Both files are read while they are judged, so they may be pipes. F, the
 trace, is opened first, then G, the witness.
 
-Fill two pipes from two processes or threads. If one thread fills both, it opens F, then G, before it
-writes anything; then it writes to whichever pipe has room, as poll(2) reports. If it waits for one
-pipe alone, it and the checker may wait for each other forever.
+Fill two pipes from two processes or threads. If one thread fills both, it opens F, then G, before
+it writes anything; then it writes to whichever pipe has room, as poll(2) reports. If it waits for
+one pipe alone, it and the checker may wait for each other forever.
 
 Output, one line:
   yes LINES HIDDEN                 the witness explains the trace, with so many hidden steps
