@@ -6,6 +6,7 @@ from dataclasses import dataclass, field
 import dropping
 import processes
 from limits import Broken
+from texts import shown
 
 # How much of congestion control is judged, the strictest first.
 WORDS = ("full", "recovery", "none")
@@ -90,14 +91,14 @@ class Judge:
 
     def call(self, program, word, text):
         """A program's output and status."""
-        where = f"in {' '.join(map(os.path.basename, program))} {word}"
+        where = shown(f"in {' '.join(map(os.path.basename, program))} {word}")
         told, status = processes.call([*program, word], text, self.watch.left(where) if self.watch else LIMIT)
         if told is None:
             raise Broken(f"{self.watch.cause if self.watch else f'more than {LIMIT} s went by'}, {where}")
         return told, status
 
     def answer(self, case):
-        return self.call(self.check, "check", case)[0].strip()
+        return shown(self.call(self.check, "check", case)[0].strip())
 
     def knows_words(self):
         """Whether both programs read version 4 of the texts."""
@@ -150,8 +151,7 @@ class Judge:
             outcome.strictest = FULL
         else:
             told, _ = self.call(self.lab, "explain", case)
-            kept = [line for line in told.split("\n")[1:] if line.strip()]
-            outcome.why = "\n".join(kept)
+            outcome.why = "\n".join(shown(line) for line in told.split("\n")[1:] if line.strip())
         if outcome.verdict.startswith("no"):
             self.judge_less(outcome, run, values, cases)
         return cases

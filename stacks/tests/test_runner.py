@@ -10,6 +10,7 @@ import sys
 import tempfile
 import time
 import unittest
+import xml.etree.ElementTree
 from types import SimpleNamespace
 from unittest import mock
 
@@ -24,6 +25,7 @@ import language  # noqa: E402
 import limits  # noqa: E402
 import segments  # noqa: E402
 import simulation  # noqa: E402
+import texts  # noqa: E402
 
 LOADER = importlib.machinery.SourceFileLoader("command", os.path.join(TOP, "run"))
 command = importlib.util.module_from_spec(importlib.util.spec_from_loader("command", LOADER))
@@ -257,6 +259,14 @@ class Answers(unittest.TestCase):
             self.assertIn(cause, host.fault_of(word, rest), rest)
 
 
+class Texts(unittest.TestCase):
+    def test_what_cannot_be_printed_is_escaped(self):
+        for text, shown in (("plain \u00e9 \u65e5", "plain \u00e9 \u65e5"), ("\x1b[2J", "\\x1b[2J"), ("a\tb\nc\x7f\x9b", "a\\x09b\\x0ac\\x7f\\x9b"),
+                            (b"\xc3\xa9\xff\x00", "\u00e9\\xff\\x00"), ("\udcfe", "\\xfe"), ("\u202e\ufffe", "\\u202e\\ufffe"), ("\U000e0001", "\\U000e0001")):
+            self.assertEqual(texts.shown(text), shown)
+        self.assertEqual(texts.shown("a\n\t\r", "\n\t"), "a\n\t\\x0d")
+
+
 # An adapter that says the same to everything.
 ADAPTER = """#!{python}
 import sys
@@ -476,21 +486,76 @@ class TheCommand(unittest.TestCase):
         self.assertIn("broken host 0 ended with status 7, to: start 0 1 536 0", out)
         self.assertIn("    host 0, standard error: what went wrong\n    host 0, standard error: a\\x1bb\n", out)
         self.assertIn("was ended by the signal SIGSEGV", self.broken("read x; kill -SEGV $$"))
-        self.assertIn("ended with status 3 after b'= - o'", self.broken("read x; printf '= - o'; exit 3"))
+        self.assertIn("ended with status 3 after '= - o'", self.broken("read x; printf '= - o'; exit 3"))
         self.assertIn("host 0 closed its output", self.broken("echo $$ > PIDS; exec >&-; exec sleep 1000"))
         self.assert_none_is_left()
 
     def test_a_stack_that_says_rubbish(self):
-        self.assertIn("said what isn't understood: '\\\\xff", self.broken("read x; printf '\\377\\001\\n'; read x"))
+        self.assertIn("said what isn't understood: '\\xff\\x01'", self.broken("read x; printf '\\377\\001\\n'; read x"))
         self.assertIn("two for each: 'out 0fa'", self.broken("read x; echo out 0fa; read x"))
         self.assertIn("said 20000 lines without an answer", self.broken("while echo expired 80 4000 rto; do :; done"))
         self.assertIn("said a line of more than 1048576 bytes", self.broken("exec tr '\\000' a < /dev/zero"))
+
+    def assert_clean(self, *words, status):
+        """Runs stacks/run: neither output has a control byte, and each shows what stands for one."""
+        done = subprocess.run([sys.executable, os.path.join(TOP, "run"), *words], capture_output=True, timeout=60)
+        said = (done.stdout + done.stderr).decode()
+        self.assertEqual((done.returncode, re.findall("[\x00-\x09\x0b-\x1f\x7f-\x9f]|Traceback", said)), (status, []), said)
+        self.assertIn("\\x1b[2J", said)
+        return said
+
+    def test_control_bytes_of_a_stack_are_escaped(self):
+        for text in ("read x; printf '= - \\033[2J\\n'; read x", "read x; printf '\\033[2J'; exit 3", "printf '\\033[2J\\233\\n' >&2; exit 3",
+                     "printf '\\033[2J x\\n'; read x"):
+            report = f"{self.folder}/report.xml"
+            self.assert_clean(self.shell(text), "hostile-closed-ack", "-v", "--junit", report, *self.programs(), status=1)
+            self.assertIn("\\x1b[2J", xml.etree.ElementTree.parse(report).find("testcase/failure").text)
+
+    def test_control_bytes_of_a_program_are_escaped(self):
+        judge = f"{self.folder}/judge\x1b[2J"
+        with open(judge, "w") as file:
+            file.write("#!/bin/sh\ncase $1 in find) cat;; explain) printf 'x\\nmade \\033[2J\\n';; esac\n"
+                       "case $1$(cat) in check*'congestion none'*) echo yes 1 1;; check*) printf 'no 9 0 \\033[2J\\n';; esac\n")
+        os.chmod(judge, 0o755)
+        report = f"{self.folder}/report.xml"
+        out = self.assert_clean(self.adapter(answer="= - ok"), "hostile-closed-ack", "--junit", report, "--check", judge, "--lab", judge, status=1)
+        self.assertIn("no 9 0 \\x1b[2J", out)
+        self.assertIn("    made \\x1b[2J\n", out)
+        self.assertIn("\\x1b[2J", xml.etree.ElementTree.parse(report).find("testcase/failure").get("message"))
+
+    def test_control_bytes_of_names_and_files_are_escaped(self):
+        odd = f"{self.folder}/\x1b[2J\udc9b"
+        os.rename(self.adapter(answer="= - ok"), odd)
+        for words in ((odd + "x", "open-plain"), (odd, odd + ".scenario"), (odd, "open-plain", "--profile", odd + "x"), (odd, "open-plain", "--\x1b[2J"),
+                      (odd, "open-plain", "--against", odd + "x")):
+            self.assert_clean(*words, status=2)
+        with open(f"{odd}.scenario", "w") as file:
+            file.write("show a \x1b[2J\nby b \x1b[2J\nthread 1 host 0\n  open 4000 80 as \x1b[2J\n  await \x1b[2J is \x1b[2J\n")
+        with open(f"{self.folder}/profile", "w") as file:
+            file.write("name \x1b[2J\noptions \x1b[2J")
+        report = f"{self.folder}/report.xml"
+        again = f"{self.folder}/against"
+        words = (odd, odd + ".scenario", "--profile", f"{self.folder}/profile", "--junit", report, *self.programs())
+        self.assert_clean(*words, "-v", "--write-against", again, "--out", self.folder, status=1)
+        self.assertEqual(xml.etree.ElementTree.parse(report).getroot().get("name"), "\\x1b[2J")
+        self.assert_clean(*words, "--against", again, status=0)
+        self.assert_clean(odd, "--failed", "--profile", f"{self.folder}/profile", *self.programs(), status=2)
+        with open(again, "w") as file:
+            file.write("\\x1b[2J\\x9b: \x1b[2J\n")
+        self.assert_clean(*words, "--against", again, status=1)
 
     def test_a_scenario_and_a_run_end_in_time(self):
         slow = "while read x; do echo '= 0 ok'; sleep 0.1; done"
         self.assertIn("broken the scenario took more than 1 s", self.broken(slow, "--scenario-limit", "1"))
         status, out, _ = self.run_it(self.shell(slow), "hostile-closed-ack", "hostile-closed-syn", "--run-limit", "1", "--jobs", "1", *self.programs())
         self.assertEqual((status, out.count("broken the run took more than 1 s, "), "2 broken" in out), (1, 2, True))
+
+    def scenario(self, steps, whole=""):
+        """A file of a scenario with one thread."""
+        path = f"{self.folder}/own.scenario"
+        with open(path, "w") as file:
+            file.write(f"{HEAD}{whole}thread 1 host 0\n{steps}")
+        return path
 
     def test_a_storm_ends_a_scenario(self):
         ack = segments.write(segment(segments.ACK)).hex()
@@ -499,14 +564,12 @@ import sys
 for line in sys.stdin:
     print("out {ack}\\n= - ok" + " 0" * ("listen" in line), flush=True)
 """, ack=ack)
-        scenario = f"{self.folder}/storm.scenario"
-        with open(scenario, "w") as file:
-            file.write(HEAD + "delay 0.001\nthread 1 host 0\n  listen 80 as door\n  wait 100\n")
+        scenario = self.scenario("  listen 80 as door\n  wait 100\n", "delay 0.001\n")
         status, out, _ = self.run_it(stack, scenario, "--events", "400", "--out", self.folder, *self.programs())
         self.assertEqual((status, "1 yes, but" in out), (1, True), out)
         self.assertIn("run: ended after 400 events: a storm of acknowledgments from line 11 of the trace on, of which 100 lines are kept", out)
         self.assertIn(f"line 11: 2000 93 I 1 {ack}", out)
-        with open(f"{self.folder}/storm.trace") as file:
+        with open(f"{self.folder}/own.trace") as file:
             lines = file.read().split("\n")
         self.assertEqual((lines[10], len(lines)), (f"2000 93 I 1 {ack}", 10 + 100 + 1))
 
