@@ -98,11 +98,17 @@ class Judge:
         return told, status
 
     def answer(self, case):
-        return shown(self.call(self.check, "check", case)[0].strip())
+        told, status = self.call(self.check, "check", case)
+        if not told.strip():
+            raise Broken(shown(f"{' '.join(self.check)} check printed nothing and ended with status {status}"))
+        return shown(told.strip())
 
-    def knows_words(self):
-        """Whether both programs read version 4 of the texts."""
-        return self.empty(USUAL).startswith("yes")
+    def unfit(self):
+        """The program that doesn't read version 4 of the texts; empty if both do."""
+        case, _ = self.call(self.lab, "find", trace_of(USUAL, False, [], WORDS[-1]))
+        if not case.startswith(f"trace {BY_WORD}\n"):
+            return " ".join(self.lab)
+        return "" if self.answer(case).startswith("yes") else " ".join(self.check)
 
     def empty(self, values):
         """The verdict on a trace that is only a header, with these values of a profile."""

@@ -202,7 +202,7 @@ class StandIn(judging.Judge):
     """Programs that have a yes from one word on: what `find` makes of a trace is the trace, and `check` reads the word in it."""
 
     def __init__(self, strictest, fault="no 9 0 congestion"):
-        super().__init__([], [])
+        super().__init__(["the", "check"], ["the", "lab"])
         self.yes, self.fault = judging.WORDS[judging.WORDS.index(strictest):] if strictest else (), fault
 
     def answer(self, case):
@@ -235,8 +235,10 @@ class TheStrictestWord(unittest.TestCase):
         self.assertEqual((outcome.strictest, list(cases)), ("", ["full"]))
 
     def test_programs_that_know_no_words(self):
-        self.assertTrue(StandIn("none").knows_words())
-        self.assertFalse(StandIn("", "bad trace 1 0 7 header").knows_words())
+        self.assertEqual(StandIn("none").unfit(), "")
+        self.assertEqual(StandIn("", "bad trace 1 0 7 header").unfit(), "the check")
+        with mock.patch.object(StandIn, "call", lambda *words: ("bad trace 1 0 7 header", 1)):
+            self.assertEqual(StandIn("none").unfit(), "the lab")
 
 
 class Answers(unittest.TestCase):
@@ -299,10 +301,10 @@ class TheCommand(unittest.TestCase):
         return path
 
     def programs(self):
-        """Options for programs that judge: a `tcpwit` that has a yes for all."""
+        """Options for programs that judge: a `tcpwit` that has a yes for all, and a `tcpwit_lab` that finds a trace in a trace."""
         path = f"{self.folder}/judge"
         with open(path, "w") as file:
-            file.write("#!/bin/sh\necho yes 1 1\n")
+            file.write("#!/bin/sh\n[ $1 = check ] && echo yes 1 1 || exec cat\n")
         os.chmod(path, 0o755)
         return "--check", path, "--lab", path
 
@@ -609,6 +611,64 @@ for line in sys.stdin:
         for words in ([path], ["open-plain", "--profile", path], ["open-plain", "--against", path]):
             self.assertEqual(self.run_it("true", *words), (2, "", f"{path} is no text\n"))
 
+    def test_a_file_that_fails_is_named(self):
+        stack, there, full = self.adapter(answer="= - ok"), f"{self.folder}/adapter/report.xml", f"{self.folder}/full"
+        for name, target in (("full", "/dev/full"), ("memory.scenario", "/proc/self/mem"), ("hostile-closed-ack.trace", "/dev/full")):
+            os.symlink(target, f"{self.folder}/{name}")
+        memory, gone = f"{self.folder}/memory.scenario", "/nowhere/report.xml"
+        for words, name, cause in ((["--junit", gone], gone, "No such file or directory"), (["--junit", there], there, "Not a directory"),
+                                   (["--junit", self.folder], self.folder, "Is a directory"), (["--write-against", gone], gone, "No such file or directory"),
+                                   (["--write-against", self.folder], self.folder, "Is a directory"), (["--against", self.folder], self.folder, "Is a directory"),
+                                   (["--against", gone], gone, "No such file or directory"), (["--against", memory], memory, "Input/output error"),
+                                   (["--profile", self.folder], self.folder, "Is a directory"), (["--profile", memory], memory, "Input/output error"),
+                                   (["--out", there], f"{self.folder}/adapter/report.xml", "Not a directory"), (["--out", stack], stack, "File exists")):
+            self.assertEqual(self.run_it(stack, "hostile-closed-ack", *words, *self.programs()), (2, "", f"{name}: {cause}\n"))
+        self.assertRegex(self.run_it(stack, memory)[2], "^/proc/[0-9]+/mem: Input/output error\n$")
+        os.mkfifo(f"{self.folder}/pipe")
+        for words, cause in (([stack, "/nowhere/x"], "/nowhere/x: No such file or directory"), ([stack, self.folder], f"{self.folder}: Is a directory"),
+                             ([stack, f"{self.folder}/pipe"], f"{self.folder}/pipe: no ordinary file")):
+            self.assertEqual(self.run_it(*words), (2, "", f"{cause}\n"))
+        for words, name in ((["--junit", full], full), (["--write-against", full], full), (["--out", self.folder], f"{self.folder}/hostile-closed-ack.trace")):
+            status, _, error = self.run_it(stack, "hostile-closed-ack", *words, *self.programs())
+            self.assertEqual((status, error), (2, f"{name}: No space left on device\n"))
+
+    def test_standard_output_that_fails_is_named(self):
+        for words in ((self.adapter(answer="= - ok"), "hostile-closed-ack", *self.programs()), ("--help",)):
+            with open("/dev/full", "w") as full:
+                done = subprocess.run([sys.executable, os.path.join(TOP, "run"), *words], stdout=full, stderr=subprocess.PIPE, text=True, timeout=60)
+            self.assertEqual((done.returncode, done.stderr), (2, "standard output: No space left on device\n"))
+
+    def test_a_program_that_is_missing_is_named(self):
+        os.chmod(self.adapter(answer="= - ok"), 0o644)
+        file = f"{self.folder}/adapter"
+        nor = f"is neither a folder beside {TOP}/run nor a program: "
+        for words, cause in ((["/nowhere/x", "open-plain"], f"/nowhere/x {nor}No such file or directory"), ([file, "open-plain"], f"{file} {nor}Permission denied"),
+                             (["no-such-stack", "open-plain"], f"no-such-stack {nor}PATH has no such program"),
+                             (["true", "open-plain", "--check", file], f"tcpwit isn't found: --check {file}: Permission denied"),
+                             (["true", "open-plain", "--check", "true", "--lab", "/nowhere"], "tcpwit_lab isn't found: --lab /nowhere: No such file or directory"),
+                             (["true", "open-plain", "--check", "true", "--lab", self.folder], f"tcpwit_lab isn't found: --lab {self.folder}: Is a directory")):
+            self.assertEqual(self.run_it(*words), (2, "", cause + "\n"))
+        with mock.patch.dict(os.environ, {"TCPWIT": "/nowhere"}):
+            self.assertEqual(self.run_it("true", "open-plain"), (2, "", "tcpwit isn't found: TCPWIT=/nowhere: No such file or directory\n"))
+
+    def test_the_two_programs_are_named_apart(self):
+        with mock.patch.dict(os.environ, {"PATH": self.folder, "TCPWIT": "", "TCPWIT_LAB": ""}), mock.patch.object(command, "kept", lambda name: None):
+            self.assertEqual(self.told_of_programs(), "tcpwit and tcpwit_lab aren't found. The package tcpwit has both (packaging/README.md). "
+                                                      "Otherwise give --check and --lab, or set TCPWIT and TCPWIT_LAB.\n")
+            for there, lacking, option, variable in (("tcpwit", "tcpwit_lab", "--lab", "TCPWIT_LAB"), ("tcpwit_lab", "tcpwit", "--check", "TCPWIT")):
+                path = f"{self.folder}/{there}"
+                os.symlink("/bin/true", path)
+                self.assertEqual(self.told_of_programs(), f"{lacking} isn't found, but {there} is: {path}. The package tcpwit has both (packaging/README.md). "
+                                                          f"Otherwise give {option}, or set {variable}.\n")
+                os.remove(path)
+
+    def told_of_programs(self):
+        """What is printed if a program is missing."""
+        with contextlib.redirect_stderr(io.StringIO()) as error, self.assertRaises(SystemExit) as ended:
+            command.programs(SimpleNamespace(check=None, lab=None))
+        self.assertEqual(ended.exception.code, 2)
+        return error.getvalue()
+
     def test_a_stack_that_cannot_be_started(self):
         status, _, error = self.run_it(self.adapter("nothing to run"), "open-plain", *self.programs())
         self.assertEqual((status, error), (2, f"{self.folder}/adapter: Exec format error\n"))
@@ -619,8 +679,9 @@ for line in sys.stdin:
                              (["true", "data-bluk"], "'data-bluk' is neither a file"), (["true", "data-bulk", ""], "'' is neither"),
                              (["runner"], "runner/build"), (["scenarios/../scenarios"], "build"),
                              (["true", "--jobs", "0"], "'0' is no number"), (["true", "--jobs", "x"], "'x' is no number"),
-                             (["true", "data-bulk", "--check", "/nowhere"], "tcpwit isn't found"),
-                             (["true", "data-bulk", "--check", "true", "--lab", "true"], "version 4")):
+                             (["true", "data-bulk", "--check", "true", "--lab", "true"], "true doesn't read version 4"),
+                             (["true", "data-bulk", "--check", "true", *self.programs()[2:]], "true check printed nothing and ended with status 0"),
+                             (["true", "data-bulk", "--junit", ""], "--junit: the name is empty")):
             status, out, error = self.run_it(*words)
             self.assertEqual((status, out), (2, ""), error)
             self.assertIn(cause, error)
