@@ -34,6 +34,8 @@ class Outcome:
     said: list = field(default_factory=list)     # the last lines of the stack's standard error
     seconds: float = 0
     lines: int = 0
+    resent: bool = False        # a tick had something sent again
+    expired: bool = False       # the stack reported that a timer expired
 
     def is_yes(self, least):
         """Whether this word or a stricter one has a yes."""

@@ -131,6 +131,18 @@ class Segments(unittest.TestCase):
         self.assertNotEqual(text[:100], segments.stream(0, 100, 1))
 
 
+class Again(unittest.TestCase):
+    def test_what_was_sent_before(self):
+        sent = simulation.Sent()
+        syn, fin = segments.SYN, segments.FIN | segments.ACK
+        for made, again in ((segment(syn, 2**32 - 1), False), (segment(syn, 2**32 - 1), True), (segment(segments.ACK, 0), False),
+                            (segment(segments.ACK, 0, b"abc"), False), (segment(segments.ACK, 0, b"ab"), True), (segment(segments.ACK, 2, b"cd"), False),
+                            (segment(segments.RST, 0, b"abc"), False), (segment(fin, 4), False), (segment(fin, 4), True), (segment(syn, 2**31 + 9), False),
+                            (segment(syn, 2**31 + 9), True)):
+            self.assertEqual(sent.is_again(0, made), again, made)
+        self.assertFalse(sent.is_again(1, segment(syn, 2**31 + 9)))
+
+
 class Storms(unittest.TestCase):
     def lines(self, *kinds):
         made = {"ack": segment(segments.ACK), "data": segment(segments.ACK, payload=b"x"), "fin": segment(segments.ACK | segments.FIN)}
@@ -558,6 +570,41 @@ class TheCommand(unittest.TestCase):
         with open(path, "w") as file:
             file.write(f"{HEAD}{whole}thread 1 host 0\n{steps}")
         return path
+
+    # Sends a SYN, and again at the word {again}; says {expired} before.
+    RESENDS = """#!{python}
+import sys
+syn = "0fa00050" + "00000001" + "00000000" + "5002ffff00000000"
+for line in sys.stdin:
+    moment, word = line.split()[:2]
+    if word == "open":
+        print("out", syn)
+    elif word == {again!r} and int(moment) > 9000:
+        print({expired!r} + "out", syn)
+    print("=", int(moment) + 1000000 if word == "open" else "-", "ok" + " 0" * (word in ("open", "listen")), flush=True)
+"""
+
+    def warned(self, again, expired):
+        """How often it is warned of missing expiries on standard error, and in the report."""
+        scenario, report = self.scenario("  open 4000 80 as c\n  wait 10\n"), f"{self.folder}/report.xml"
+        stack = self.adapter(self.RESENDS, again=again, expired=expired)
+        status, out, error = self.run_it(stack, scenario, "hostile-closed-ack", "--junit", report, *self.programs())
+        self.assertIn("yes 1 1 ", out)
+        said = xml.etree.ElementTree.parse(report).findall("system-out")
+        self.assertEqual(error, "".join(each.text + "\n" for each in said))
+        return error
+
+    def test_missing_expiries_are_told_once(self):
+        error = self.warned("tick", "")
+        self.assertEqual(error.count("warning: the stack sent something again at a tick in 1 of 2 scenarios, and the adapter reported no timer"), 1)
+        self.assertTrue(error.endswith("stacks/README.md, section 1.\n"))
+        self.assertEqual((self.warned("tick", "expired 4000 80 rto\n"), self.warned("in", "")), ("", ""))
+
+    def test_one_reported_expiry_is_enough(self):
+        more = {"resent": True}, {"resent": True, "expired": True}, {"expired": True}, {}
+        outcomes = [SimpleNamespace(**{"resent": False, "expired": False, **each}) for each in more]
+        self.assertEqual([bool(command.warning(some)) for some in (outcomes[:1], outcomes[:2], outcomes[2:], [outcomes[0], outcomes[2]])],
+                         [True, False, False, True])
 
     def test_a_storm_ends_a_scenario(self):
         ack = segments.write(segment(segments.ACK)).hex()
