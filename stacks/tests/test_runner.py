@@ -5,6 +5,7 @@ import importlib.util
 import io
 import os
 import re
+import signal
 import subprocess
 import sys
 import tempfile
@@ -626,6 +627,24 @@ for line in sys.stdin:
         with self.assertRaises(limits.Broken) as caught:
             judging.Judge(["sleep"], [], limits.Watch(limits.Limits(scenario=0.2), float("inf"))).call(["sleep"], "1000", "")
         self.assertEqual(str(caught.exception), "the scenario took more than 0.2 s, in sleep 1000")
+
+    LEAVES = "setsid sh -c 'echo $$ > PIDS; exec sleep 100' > /dev/null 2>&1 < /dev/null & until [ -s PIDS ]; do sleep 0.01; done"
+
+    def test_a_process_that_left_its_group_is_ended(self):
+        for text in (f"read x; {self.LEAVES}; exit 3", f"read x; ({self.LEAVES}); exit 3", f"({self.LEAVES}); while read x; do echo '= - ok'; done",
+                     f"read x; {self.LEAVES}; sleep 100", f"read x; {self.LEAVES.replace('setsid', 'env -i setsid')}; exit 3"):
+            self.run_it(self.shell(text), "hostile-closed-ack", "--command-limit", "3", *self.programs())
+            self.assert_none_is_left()
+            os.remove(f"{self.folder}/pids")
+
+    def test_children_that_the_runner_had_before_are_kept(self):
+        words = [sys.executable, os.path.join(TOP, "run"), self.shell(f"read x; ({self.LEAVES}); exit 3"), "hostile-closed-ack", *self.programs()]
+        done = subprocess.run(["sh", "-c", "sleep 100 > /dev/null & echo $!; exec \"$@\"", "sh", *words], stdout=subprocess.PIPE, text=True, timeout=60)
+        before = int(done.stdout.split()[0])
+        self.assertTrue(self.runs(before))
+        os.kill(before, signal.SIGKILL)
+        self.assertEqual(done.returncode, 1)
+        self.assert_none_is_left()
 
     def test_no_process_is_left_after_a_signal(self):
         stack = self.shell(self.HANGS.replace("> PIDS", "> PIDS.tmp; mv PIDS.tmp PIDS"))
