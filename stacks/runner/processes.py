@@ -89,7 +89,7 @@ def end_left(find, is_left):
             try:
                 os.kill(number, signal.SIGKILL)
                 os.waitpid(number, 0)
-            except (PermissionError, ChildProcessError):
+            except OSError:
                 spared.add(number)
 
 
@@ -100,7 +100,8 @@ def status(process):
         return ""
     if found.si_code == os.CLD_EXITED:
         return f"ended with status {found.si_status}"
-    return f"was ended by the signal {signal.Signals(found.si_status).name}"
+    names = {each.value: each.name for each in signal.Signals}
+    return f"was ended by the signal {names.get(found.si_status, found.si_status)}"
 
 
 def status_within(process, seconds):

@@ -501,6 +501,7 @@ class TheCommand(unittest.TestCase):
         self.assertIn("broken host 0 ended with status 7, to: start 0 1 536 0", out)
         self.assertIn("    host 0, standard error: what went wrong\n    host 0, standard error: a\\x1bb\n", out)
         self.assertIn("was ended by the signal SIGSEGV", self.broken("read x; kill -SEGV $$"))
+        self.assertIn("was ended by the signal 40", self.broken("read x; kill -40 $$"))
         self.assertIn("ended with status 3 after '= - o'", self.broken("read x; printf '= - o'; exit 3"))
         self.assertIn("host 0 closed its output", self.broken("echo $$ > PIDS; exec >&-; exec sleep 1000"))
         self.assert_none_is_left()
