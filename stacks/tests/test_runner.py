@@ -73,6 +73,19 @@ class Language(unittest.TestCase):
         self.fault("peer 80 to 4000\n  expect pong\n", "pong is no kind")
         self.fault("whatever\n", "whatever is not understood")
 
+    def test_values_that_have_no_room_are_faults(self):
+        for step, told in (("put A seq 5x", "5x is no sequence"), ("put A ack foo", "foo is no sequence"), ("put A win 65536", "65536 is above 65535"),
+                           ("put S mss 99999", "99999 is above 65535"), ("put A fill 256", "256 is above 255"), ("put A len x", "x is no number"),
+                           ("put A times -1", "-1 is no number"), ("put A raw 0101", "0101 is not 4 to 40 bytes"), ("put A raw " + "01" * 44, "is not 4 to 40"),
+                           ("put A each x", "x is no time"), ("expect ack seq 1+", "1+ is no sequence"), ("never ack within soon", "soon is no time"),
+                           ("window 65536", "65536 is above")):
+            self.fault(f"peer 80 to 4000\n  {step}\n", told)
+        for step, told in (("send c many", "many is no number"), ("recv c all", "all is no number"), ("open 4000 70000 as c", "70000 is above 65535"),
+                           ("listen \u0663 as d", "\u0663 is no number")):
+            self.fault(f"thread 1 host 0\n  {step}\n", told)
+        self.fault("peer 80 to 65536\n", "65536 is above 65535")
+        self.fault("mss 0 65536\n", "65536 is above 65535")
+
     def test_show_and_by_are_wanted(self):
         with self.assertRaises(language.Fault):
             language.read("x", "show a\n")
