@@ -240,10 +240,10 @@ class StandIn(judging.Judge):
         outcome = judging.Outcome(SimpleNamespace(keeps=True, name="x"))
         return outcome, self.judge(outcome, SimpleNamespace(peer=False, lines=[], odd=[]), judging.USUAL)
 
-    def call(self, program, word, text):
-        """A word of `tcpwit` or `tcpwit_lab`: they have no others."""
-        if word not in ("check", "find", "explain"):
-            raise AssertionError(word)
+    def call(self, program, words, text):
+        """What `tcpwit` or `tcpwit_lab` is asked: nothing else."""
+        if words not in (["check"], ["find"], ["explain", "--simulated"]):
+            raise AssertionError(words)
         return text, 0
 
 
@@ -264,6 +264,8 @@ class TheStrictestWord(unittest.TestCase):
         self.assertEqual(StandIn("none").unfit(), "")
         self.assertEqual(StandIn("", "bad trace 1 0 7 header").unfit(), "the check")
         with mock.patch.object(StandIn, "call", lambda *words: ("bad trace 1 0 7 header", 1)):
+            self.assertEqual(StandIn("none").unfit(), "the lab")
+        with mock.patch.object(StandIn, "call", lambda self, program, words, text: ("bad usage\n", 3) if words[0] == "explain" else (text, 0)):
             self.assertEqual(StandIn("none").unfit(), "the lab")
 
 
@@ -639,7 +641,7 @@ for line in sys.stdin:
 
     def test_a_program_that_takes_too_long(self):
         with self.assertRaises(limits.Broken) as caught:
-            judging.Judge(["sleep"], [], limits.Watch(limits.Limits(scenario=0.2), float("inf"))).call(["sleep"], "1000", "")
+            judging.Judge(["sleep"], [], limits.Watch(limits.Limits(scenario=0.2), float("inf"))).call(["sleep"], ["1000"], "")
         self.assertEqual(str(caught.exception), "the scenario took more than 0.2 s, in sleep 1000")
 
     LEAVES = "setsid sh -c 'echo $$ > PIDS; exec sleep 100' > /dev/null 2>&1 < /dev/null & until [ -s PIDS ]; do sleep 0.01; done"
@@ -749,6 +751,16 @@ for line in sys.stdin:
         self.assertEqual(ended.exception.code, 2)
         return error.getvalue()
 
+    def test_a_no_is_explained_as_of_a_simulated_wire(self):
+        judge = f"{self.folder}/judge"
+        with open(judge, "w") as file:
+            file.write("#!/bin/sh\n[ $1 = find ] && exec cat\n[ $1 = explain ] && printf 'no\\nasked: %s\\n' \"$*\" && exit\n"
+                       "case $(cat) in *'congestion none'*) echo yes 1 1;; *) echo no 9 0 size;; esac\n")
+        os.chmod(judge, 0o755)
+        status, out, _ = self.run_it(self.adapter(answer="= - ok"), "hostile-closed-ack", "--check", judge, "--lab", judge)
+        self.assertEqual(status, 1)
+        self.assertIn("\n    asked: explain --simulated\n", out)
+
     def test_a_stack_that_cannot_be_started(self):
         status, _, error = self.run_it(self.adapter("nothing to run"), "open-plain", *self.programs())
         self.assertEqual((status, error), (2, f"{self.folder}/adapter: Exec format error\n"))
@@ -759,7 +771,7 @@ for line in sys.stdin:
                              (["true", "data-bluk"], "'data-bluk' is neither a file"), (["true", "data-bulk", ""], "'' is neither"),
                              (["runner"], "runner/build"), (["scenarios/../scenarios"], "build"),
                              (["true", "--jobs", "0"], "'0' is no number"), (["true", "--jobs", "x"], "'x' is no number"),
-                             (["true", "data-bulk", "--check", "true", "--lab", "true"], "true doesn't read version 4"),
+                             (["true", "data-bulk", "--check", "true", "--lab", "true"], "true is older than this suite"),
                              (["true", "data-bulk", "--check", "true", *self.programs()[2:]], "true check printed nothing and ended with status 0"),
                              (["true", "data-bulk", "--junit", ""], "--junit: the name is empty")):
             status, out, error = self.run_it(*words)
