@@ -38,7 +38,8 @@ struct stack_config {
 uint64_t stack_now(void);
 /* A segment leaves the host: from the first byte of the TCP header to the last of the payload. */
 void stack_out(const void *segment, size_t bytes);
-/* A timer expired, said before what goes out for it: "rto", "persist", "2msl" or "giveup". A stack that can't tell says nothing. */
+/* A timer expired, said before what goes out for it: "rto", "persist", "2msl" or "giveup". A stack that can't tell says nothing; then
+   stacks/run warns, since what it judges is less certain. */
 void stack_expired(unsigned local_port, unsigned remote_port, const char *timer);
 
 /* ---- Written for each stack ---- */

@@ -6,6 +6,7 @@ import time
 
 import processes
 from limits import Broken
+from texts import shown
 
 SHORTEST = 20   # bytes of a TCP header without options
 # What a call may be answered, besides by the words below.
@@ -78,9 +79,8 @@ class Host:
             self.selector.unregister(self.process.stderr)
 
     def tail(self):
-        """The last lines of standard error, without control bytes."""
-        lines = self.errors.decode(errors="backslashreplace").split("\n")
-        lines = ["".join(c if c.isprintable() else repr(c)[1:-1] for c in line)[:TAIL_WIDTH] for line in lines if line.strip()]
+        """The last lines of standard error."""
+        lines = [shown(line)[:TAIL_WIDTH] for line in self.errors.split(b"\n") if line.strip()]
         return [f"host {self.number}, standard error: {line}" for line in lines[-TAIL_LINES:]]
 
     def broken(self, cause, command):
@@ -107,7 +107,7 @@ class Host:
                 return self.answer(word, command, line), happened
             fault = fault_of(first, rest)
             if fault:
-                raise self.broken(f"{fault}: {line[:60]!r}", command)
+                raise self.broken(f"{fault}: '{line[:60]}'", command)
             happened.append((first, rest))
         raise self.broken(f"said {MOST_LINES} lines without an answer", command)
 
@@ -118,12 +118,12 @@ class Host:
                 raise self.broken(f"said a line of more than {LONGEST_LINE} bytes", command)
             if self.closed:
                 cause = processes.status_within(self.process, GRACE) or "closed its output"
-                raise self.broken(f"{cause} after {self.said[-60:]!r}" if self.said else cause, command)
+                raise self.broken(f"{cause} after '{shown(self.said[-60:])}'" if self.said else cause, command)
             if time.monotonic() >= until or not self.move(until - time.monotonic()):
                 self.watch.left(f"while host {self.number} was asked: {command[:60].rstrip()}")
                 raise self.broken(processes.status(self.process) or f"said nothing for {self.watch.limits.command:g} s", command)
         line, _, self.said = self.said.partition(b"\n")
-        return line.decode("ascii", "backslashreplace")
+        return shown(line.decode("ascii", "backslashreplace"))
 
     def answer(self, word, command, line):
         """What the line `= NEXT ANSWER` answers; notes when a tick is wanted."""
@@ -132,9 +132,9 @@ class Host:
         if answer == "cannot":
             raise Cannot(f"{word} at host {self.number}")
         if not re.fullmatch(NEXT, wanted) or not is_answer(word, answer):
-            raise self.broken(f"answered what is no answer: {line[:60]!r}", command)
+            raise self.broken(f"answered what is no answer: '{line[:60]}'", command)
         if self.pending:
-            raise self.broken(f"answered before it read the command: {line[:60]!r}", command)
+            raise self.broken(f"answered before it read the command: '{line[:60]}'", command)
         self.next = None if wanted == "-" else int(wanted)
         return answer
 

@@ -6,6 +6,7 @@ from dataclasses import dataclass, field
 import dropping
 import processes
 from limits import Broken
+from texts import shown
 
 # How much of congestion control is judged, the strictest first.
 WORDS = ("full", "recovery", "none")
@@ -15,6 +16,8 @@ BOTH_HOSTS, ONE_HOST, BY_WORD = 2, 3, 4
 HEADER = ("msl", "grain", "minrto", "extra", "initial")
 # What a stack is taken for where its profile says nothing.
 USUAL = {"name": "a stack", "msl": "120000000", "grain": "1000", "minrto": "0", "extra": "65535", "initial": "5681", "options": ""}
+# What explains a no. The segments came over a simulated wire, so no capture can have changed them.
+EXPLAIN = ["explain", "--simulated"]
 # Seconds for a program that is tried before the first scenario.
 LIMIT = 60
 
@@ -33,6 +36,8 @@ class Outcome:
     said: list = field(default_factory=list)     # the last lines of the stack's standard error
     seconds: float = 0
     lines: int = 0
+    resent: bool = False        # a tick had something sent again
+    expired: bool = False       # the stack reported that a timer expired
 
     def is_yes(self, least):
         """Whether this word or a stricter one has a yes."""
@@ -88,28 +93,34 @@ class Judge:
     def __init__(self, check, lab, watch=None):
         self.check, self.lab, self.watch = check, lab, watch
 
-    def call(self, program, word, text):
-        """A program's output and status."""
-        where = f"in {' '.join(map(os.path.basename, program))} {word}"
-        told, status = processes.call([*program, word], text, self.watch.left(where) if self.watch else LIMIT)
+    def call(self, program, words, text):
+        """A program's output and status, with these words after its name."""
+        where = shown(f"in {' '.join([*map(os.path.basename, program), *words])}")
+        told, status = processes.call([*program, *words], text, self.watch.left(where) if self.watch else LIMIT)
         if told is None:
             raise Broken(f"{self.watch.cause if self.watch else f'more than {LIMIT} s went by'}, {where}")
         return told, status
 
     def answer(self, case):
-        return self.call(self.check, "check", case)[0].strip()
+        told, status = self.call(self.check, ["check"], case)
+        if not told.strip():
+            raise Broken(shown(f"{' '.join(self.check)} check printed nothing and ended with status {status}"))
+        return shown(told.strip())
 
-    def knows_words(self):
-        """Whether both programs read version 4 of the texts."""
-        return self.empty(USUAL).startswith("yes")
+    def unfit(self):
+        """The program that is older than the suite, which needs version 4 of the texts and `explain --simulated`; empty if none is."""
+        case, _ = self.call(self.lab, ["find"], trace_of(USUAL, False, [], WORDS[-1]))
+        if not case.startswith(f"trace {BY_WORD}\n") or self.call(self.lab, EXPLAIN, case)[0].startswith("bad usage"):
+            return " ".join(self.lab)
+        return "" if self.answer(case).startswith("yes") else " ".join(self.check)
 
     def empty(self, values):
         """The verdict on a trace that is only a header, with these values of a profile."""
-        return self.answer(self.call(self.lab, "find", trace_of(values, False, [], WORDS[-1]))[0])
+        return self.answer(self.call(self.lab, ["find"], trace_of(values, False, [], WORDS[-1]))[0])
 
     def found(self, run, values, word):
         """A case and its verdict: the first that is a yes, or that of the whole trace."""
-        first, _ = self.call(self.lab, "find", trace_of(values, run.peer, run.lines, word))
+        first, _ = self.call(self.lab, ["find"], trace_of(values, run.peer, run.lines, word))
         verdict = self.answer(first)
         if not verdict.startswith("no"):
             return first, verdict
@@ -123,7 +134,7 @@ class Judge:
     def without(self, run, values, word, left):
         """A case in which the arrivals in these places are dropped, and its verdict; the witness is of the rest alone where that is no yes."""
         rest = [line for at, line in enumerate(run.lines) if at not in left]
-        case, _ = self.call(self.lab, "find", trace_of(values, run.peer, rest, word))
+        case, _ = self.call(self.lab, ["find"], trace_of(values, run.peer, rest, word))
         answer = self.answer(case)
         if not answer.startswith("yes"):
             return case, answer
@@ -134,7 +145,7 @@ class Judge:
         """Drops, again and again, what acknowledgments show that the stack didn't keep."""
         left = set()
         for _ in range(dropping.MOST_TRIES):
-            told, _ = self.call(self.lab, "explain", case)
+            told, _ = self.call(self.lab, EXPLAIN, case)
             more = dropping.not_acknowledged(verdict, told, case, run.lines) - left
             if not more:
                 break
@@ -149,9 +160,8 @@ class Judge:
         if outcome.verdict.startswith("yes"):
             outcome.strictest = FULL
         else:
-            told, _ = self.call(self.lab, "explain", case)
-            kept = [line for line in told.split("\n")[1:] if line.strip()]
-            outcome.why = "\n".join(kept)
+            told, _ = self.call(self.lab, EXPLAIN, case)
+            outcome.why = "\n".join(shown(line) for line in told.split("\n")[1:] if line.strip())
         if outcome.verdict.startswith("no"):
             self.judge_less(outcome, run, values, cases)
         return cases

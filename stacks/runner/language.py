@@ -67,10 +67,36 @@ def seconds(text):
     return int(whole) * 1_000_000 + int((part + "000000")[:6])
 
 
-def number(text):
-    if not re.fullmatch(r"\d+", text):
+def number(text, most=2**32 - 1):
+    """A number, at most the greatest that has room where it is used."""
+    if not re.fullmatch(r"[0-9]+", text):
         raise ValueError(f"{text} is no number")
+    if int(text) > most:
+        raise ValueError(f"{text} is above {most}")
     return int(text)
+
+
+def half(text):
+    """A number of 16 bits: a port, a window, an MSS, how many bytes."""
+    return number(text, 2**16 - 1)
+
+
+def place(text):
+    """A sequence number of a script: a name or a number, perhaps with more or less."""
+    if not re.fullmatch(r"(nxt|iss|una|rcv|irs|edge|[0-9]+)([+-][0-9]+)?", text):
+        raise ValueError(f"{text} is no sequence number")
+
+
+def tcp_options(text):
+    """The options of a segment as hex."""
+    if not re.fullmatch(r"([0-9a-f]{8}){1,10}", text):
+        raise ValueError(f"{text} is not 4 to 40 bytes of options in small hex digits, a multiple of 4")
+
+
+# What the words of a script's steps may have as values.
+PUT = {"seq": place, "ack": place, "len": half, "win": half, "mss": half, "fill": lambda text: number(text, 255), "times": number, "each": seconds,
+       "raw": tcp_options}
+EXPECT = {"within": seconds, "seq": place, "ack": place, "len": half}
 
 
 def host(text):
@@ -106,11 +132,13 @@ def rule(words):
 
 
 def options(words, known):
-    """Pairs of a word and its value."""
+    """Pairs of a word and its value. `known`: the words, perhaps with what tries their values."""
     found = {}
     while words:
         if words[0] not in known or len(words) < 2:
             raise ValueError(f"{words[0]} is not understood here")
+        if isinstance(known, dict):
+            known[words[0]](words[1])
         found[words[0]], words = words[1], words[2:]
     return found
 
@@ -144,6 +172,10 @@ def call(line, words):
             made.options[name] = seconds(made.options[name])
     if len(need) < {"listen": 1, "open": 2}.get(word, count):
         raise ValueError("a word is missing")
+    if word == "send" or word == "recv" and need[1] != "eof":
+        number(need[1])
+    for port in need if word in ("listen", "open") else ():
+        half(port)
     return made
 
 
@@ -155,13 +187,13 @@ def act(line, words):
     if word == "put":
         if not re.fullmatch(r"[SFRPAU]+|-", args[0]):
             raise ValueError(f"{args[0]} are no flags")
-        return Do(line, word, [args[0]], options(args[1:], ("seq", "ack", "len", "win", "mss", "fill", "times", "each", "raw")))
+        return Do(line, word, [args[0]], options(args[1:], PUT))
     if word in ("expect", "never"):
         if args[0] not in KINDS:
             raise ValueError(f"{args[0]} is no kind of segment")
-        return Do(line, word, [args[0]], options(args[1:], ("within", "seq", "ack", "len")))
+        return Do(line, word, [args[0]], options(args[1:], EXPECT))
     if word == "window":
-        return Do(line, word, [number(args[0])])
+        return Do(line, word, [half(args[0])])
     if word == "acks" and args[0] in ("on", "off"):
         return Do(line, word, [args[0]])
     raise ValueError(f"{word} is no word of a script")
@@ -203,7 +235,7 @@ def top(scenario, words, line):
     elif word in ("lose", "double", "hold"):
         scenario.rules.append(rule(words))
     elif word in ("mss", "window"):
-        scenario.settings[host(args[0]), word] = number(args[1])
+        scenario.settings[host(args[0]), word] = half(args[1]) if word == "mss" else number(args[1])
     elif word == "bytes-may-be-lost":
         scenario.keeps = False
     elif word == "thread":
@@ -215,7 +247,7 @@ def top(scenario, words, line):
     elif word == "peer":
         if args[1] != "to":
             raise ValueError("peer PORT to PORT")
-        scenario.peer = (number(args[0]), number(args[2]))
+        scenario.peer = (half(args[0]), half(args[2]))
         return lambda at, words: scenario.script.append(act(at, words))
     else:
         raise ValueError(f"{word} is not understood")

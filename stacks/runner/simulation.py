@@ -8,7 +8,7 @@ import random
 
 from host import Host
 from peer import Peer
-from segments import read, stream
+from segments import RST, SYN, read, stream
 
 FAULTS = ("refused", "reset", "timeout")
 # Threads of the lines that no call writes, for host 0 and host 1.
@@ -70,6 +70,27 @@ class Wire:
         return copies if lost else [delay, *copies]
 
 
+class Sent:
+    """What was sent so far."""
+
+    def __init__(self):
+        self.first = {}      # (host, ports): the number of its last SYN
+        self.after = {}      # (host, ports): the number after the last one that was sent
+
+    def is_again(self, host, segment):
+        """Whether all of a segment was sent before. It counts as sent from now on."""
+        key, count = (host, segment.src, segment.dst), segment.length()
+        if not count or segment.has(RST):
+            return False
+        after = (segment.seq + count) % 2**32
+        if segment.has(SYN) and self.first.get(key) != segment.seq:
+            self.first[key] = segment.seq
+        elif (self.after.get(key, segment.seq) - after) % 2**32 < 2**31:
+            return True
+        self.after[key] = after
+        return False
+
+
 def is_acknowledgment(line):
     """Whether a line of the trace shows a segment that does nothing but acknowledge."""
     words = line.split(" ")
@@ -129,6 +150,9 @@ class Run:
         self.unexpected = []
         self.peer = Peer(self) if scenario.peer else None
         self.count = 0
+        self.sent_so_far = Sent()
+        self.resent = False      # a tick had something sent again
+        self.expired = False     # the stack reported that a timer expired
         self.early = False       # ended for too many events
         self.storm = None        # the place in `lines` where a storm of acknowledgments began
 
@@ -145,19 +169,22 @@ class Run:
 
     def ask(self, host, command):
         """Has a stack do something, and sees to what came of it."""
-        answer, happened = self.hosts[host].ask(command.split(" ", 1)[0], f"{self.now} {command}")
+        call = command.split(" ", 1)[0]
+        answer, happened = self.hosts[host].ask(call, f"{self.now} {command}")
         for word, rest in happened:
             if word == "expired":
                 local, remote, timer = rest.split()
                 self.say(TIMER_THREAD + host, f"T {host} {local} {remote} {timer}")
+                self.expired = True
             else:
-                self.leave(host, rest)
+                self.leave(host, rest, call)
         return answer
 
-    def leave(self, host, text):
-        """A segment went out at a host."""
+    def leave(self, host, text, call):
+        """A segment went out at a host, which was asked for `call`."""
         self.say(OUT_THREAD + host, f"O {host} {text}")
         segment = read(bytes.fromhex(text))
+        self.resent |= self.sent_so_far.is_again(host, segment) and call == "tick"
         for delay in self.wire.delays(host, segment, self.now):
             self.at(self.now + delay, "come", 1 - host, text)
 

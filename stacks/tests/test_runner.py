@@ -5,11 +5,13 @@ import importlib.util
 import io
 import os
 import re
+import signal
 import subprocess
 import sys
 import tempfile
 import time
 import unittest
+import xml.etree.ElementTree
 from types import SimpleNamespace
 from unittest import mock
 
@@ -24,6 +26,7 @@ import language  # noqa: E402
 import limits  # noqa: E402
 import segments  # noqa: E402
 import simulation  # noqa: E402
+import texts  # noqa: E402
 
 LOADER = importlib.machinery.SourceFileLoader("command", os.path.join(TOP, "run"))
 command = importlib.util.module_from_spec(importlib.util.spec_from_loader("command", LOADER))
@@ -69,6 +72,19 @@ class Language(unittest.TestCase):
         self.fault("peer 80 to 4000\n  put XY\n", "XY are no flags")
         self.fault("peer 80 to 4000\n  expect pong\n", "pong is no kind")
         self.fault("whatever\n", "whatever is not understood")
+
+    def test_values_that_have_no_room_are_faults(self):
+        for step, told in (("put A seq 5x", "5x is no sequence"), ("put A ack foo", "foo is no sequence"), ("put A win 65536", "65536 is above 65535"),
+                           ("put S mss 99999", "99999 is above 65535"), ("put A fill 256", "256 is above 255"), ("put A len x", "x is no number"),
+                           ("put A times -1", "-1 is no number"), ("put A raw 0101", "0101 is not 4 to 40 bytes"), ("put A raw " + "01" * 44, "is not 4 to 40"),
+                           ("put A each x", "x is no time"), ("expect ack seq 1+", "1+ is no sequence"), ("never ack within soon", "soon is no time"),
+                           ("window 65536", "65536 is above")):
+            self.fault(f"peer 80 to 4000\n  {step}\n", told)
+        for step, told in (("send c many", "many is no number"), ("recv c all", "all is no number"), ("open 4000 70000 as c", "70000 is above 65535"),
+                           ("listen \u0663 as d", "\u0663 is no number")):
+            self.fault(f"thread 1 host 0\n  {step}\n", told)
+        self.fault("peer 80 to 65536\n", "65536 is above 65535")
+        self.fault("mss 0 65536\n", "65536 is above 65535")
 
     def test_show_and_by_are_wanted(self):
         with self.assertRaises(language.Fault):
@@ -127,6 +143,18 @@ class Segments(unittest.TestCase):
         text = segments.stream(0, 3000, 0)
         self.assertEqual(text[500:700], segments.stream(500, 200, 0))
         self.assertNotEqual(text[:100], segments.stream(0, 100, 1))
+
+
+class Again(unittest.TestCase):
+    def test_what_was_sent_before(self):
+        sent = simulation.Sent()
+        syn, fin = segments.SYN, segments.FIN | segments.ACK
+        for made, again in ((segment(syn, 2**32 - 1), False), (segment(syn, 2**32 - 1), True), (segment(segments.ACK, 0), False),
+                            (segment(segments.ACK, 0, b"abc"), False), (segment(segments.ACK, 0, b"ab"), True), (segment(segments.ACK, 2, b"cd"), False),
+                            (segment(segments.RST, 0, b"abc"), False), (segment(fin, 4), False), (segment(fin, 4), True), (segment(syn, 2**31 + 9), False),
+                            (segment(syn, 2**31 + 9), True)):
+            self.assertEqual(sent.is_again(0, made), again, made)
+        self.assertFalse(sent.is_again(1, segment(syn, 2**31 + 9)))
 
 
 class Storms(unittest.TestCase):
@@ -200,7 +228,7 @@ class StandIn(judging.Judge):
     """Programs that have a yes from one word on: what `find` makes of a trace is the trace, and `check` reads the word in it."""
 
     def __init__(self, strictest, fault="no 9 0 congestion"):
-        super().__init__([], [])
+        super().__init__(["the", "check"], ["the", "lab"])
         self.yes, self.fault = judging.WORDS[judging.WORDS.index(strictest):] if strictest else (), fault
 
     def answer(self, case):
@@ -212,10 +240,10 @@ class StandIn(judging.Judge):
         outcome = judging.Outcome(SimpleNamespace(keeps=True, name="x"))
         return outcome, self.judge(outcome, SimpleNamespace(peer=False, lines=[], odd=[]), judging.USUAL)
 
-    def call(self, program, word, text):
-        """A word of `tcpwit` or `tcpwit_lab`: they have no others."""
-        if word not in ("check", "find", "explain"):
-            raise AssertionError(word)
+    def call(self, program, words, text):
+        """What `tcpwit` or `tcpwit_lab` is asked: nothing else."""
+        if words not in (["check"], ["find"], ["explain", "--simulated"]):
+            raise AssertionError(words)
         return text, 0
 
 
@@ -233,8 +261,12 @@ class TheStrictestWord(unittest.TestCase):
         self.assertEqual((outcome.strictest, list(cases)), ("", ["full"]))
 
     def test_programs_that_know_no_words(self):
-        self.assertTrue(StandIn("none").knows_words())
-        self.assertFalse(StandIn("", "bad trace 1 0 7 header").knows_words())
+        self.assertEqual(StandIn("none").unfit(), "")
+        self.assertEqual(StandIn("", "bad trace 1 0 7 header").unfit(), "the check")
+        with mock.patch.object(StandIn, "call", lambda *words: ("bad trace 1 0 7 header", 1)):
+            self.assertEqual(StandIn("none").unfit(), "the lab")
+        with mock.patch.object(StandIn, "call", lambda self, program, words, text: ("bad usage\n", 3) if words[0] == "explain" else (text, 0)):
+            self.assertEqual(StandIn("none").unfit(), "the lab")
 
 
 class Answers(unittest.TestCase):
@@ -255,6 +287,14 @@ class Answers(unittest.TestCase):
                                   ("out", syn[:24] + "4" + syn[25:], "header says 16"), ("expired", "80 4000", "timer"), ("expired", "80 4000 RTO", "timer"),
                                   ("\x00\xff", "", "isn't understood"), ("", "", "isn't understood")):
             self.assertIn(cause, host.fault_of(word, rest), rest)
+
+
+class Texts(unittest.TestCase):
+    def test_what_cannot_be_printed_is_escaped(self):
+        for text, shown in (("plain \u00e9 \u65e5", "plain \u00e9 \u65e5"), ("\x1b[2J", "\\x1b[2J"), ("a\tb\nc\x7f\x9b", "a\\x09b\\x0ac\\x7f\\x9b"),
+                            (b"\xc3\xa9\xff\x00", "\u00e9\\xff\\x00"), ("\udcfe", "\\xfe"), ("\u202e\ufffe", "\\u202e\\ufffe"), ("\U000e0001", "\\U000e0001")):
+            self.assertEqual(texts.shown(text), shown)
+        self.assertEqual(texts.shown("a\n\t\r", "\n\t"), "a\n\t\\x0d")
 
 
 # An adapter that says the same to everything.
@@ -289,10 +329,10 @@ class TheCommand(unittest.TestCase):
         return path
 
     def programs(self):
-        """Options for programs that judge: a `tcpwit` that has a yes for all."""
+        """Options for programs that judge: a `tcpwit` that has a yes for all, and a `tcpwit_lab` that finds a trace in a trace."""
         path = f"{self.folder}/judge"
         with open(path, "w") as file:
-            file.write("#!/bin/sh\necho yes 1 1\n")
+            file.write("#!/bin/sh\n[ $1 = check ] && echo yes 1 1 || exec cat\n")
         os.chmod(path, 0o755)
         return "--check", path, "--lab", path
 
@@ -476,21 +516,112 @@ class TheCommand(unittest.TestCase):
         self.assertIn("broken host 0 ended with status 7, to: start 0 1 536 0", out)
         self.assertIn("    host 0, standard error: what went wrong\n    host 0, standard error: a\\x1bb\n", out)
         self.assertIn("was ended by the signal SIGSEGV", self.broken("read x; kill -SEGV $$"))
-        self.assertIn("ended with status 3 after b'= - o'", self.broken("read x; printf '= - o'; exit 3"))
+        self.assertIn("was ended by the signal 40", self.broken("read x; kill -40 $$"))
+        self.assertIn("ended with status 3 after '= - o'", self.broken("read x; printf '= - o'; exit 3"))
         self.assertIn("host 0 closed its output", self.broken("echo $$ > PIDS; exec >&-; exec sleep 1000"))
         self.assert_none_is_left()
 
     def test_a_stack_that_says_rubbish(self):
-        self.assertIn("said what isn't understood: '\\\\xff", self.broken("read x; printf '\\377\\001\\n'; read x"))
+        self.assertIn("said what isn't understood: '\\xff\\x01'", self.broken("read x; printf '\\377\\001\\n'; read x"))
         self.assertIn("two for each: 'out 0fa'", self.broken("read x; echo out 0fa; read x"))
         self.assertIn("said 20000 lines without an answer", self.broken("while echo expired 80 4000 rto; do :; done"))
         self.assertIn("said a line of more than 1048576 bytes", self.broken("exec tr '\\000' a < /dev/zero"))
+
+    def assert_clean(self, *words, status):
+        """Runs stacks/run: neither output has a control byte, and each shows what stands for one."""
+        done = subprocess.run([sys.executable, os.path.join(TOP, "run"), *words], capture_output=True, timeout=60)
+        said = (done.stdout + done.stderr).decode()
+        self.assertEqual((done.returncode, re.findall("[\x00-\x09\x0b-\x1f\x7f-\x9f]|Traceback", said)), (status, []), said)
+        self.assertIn("\\x1b[2J", said)
+        return said
+
+    def test_control_bytes_of_a_stack_are_escaped(self):
+        for text in ("read x; printf '= - \\033[2J\\n'; read x", "read x; printf '\\033[2J'; exit 3", "printf '\\033[2J\\233\\n' >&2; exit 3",
+                     "printf '\\033[2J x\\n'; read x"):
+            report = f"{self.folder}/report.xml"
+            self.assert_clean(self.shell(text), "hostile-closed-ack", "-v", "--junit", report, *self.programs(), status=1)
+            self.assertIn("\\x1b[2J", xml.etree.ElementTree.parse(report).find("testcase/failure").text)
+
+    def test_control_bytes_of_a_program_are_escaped(self):
+        judge = f"{self.folder}/judge\x1b[2J"
+        with open(judge, "w") as file:
+            file.write("#!/bin/sh\ncase $1 in find) cat;; explain) printf 'x\\nmade \\033[2J\\n';; esac\n"
+                       "case $1$(cat) in check*'congestion none'*) echo yes 1 1;; check*) printf 'no 9 0 \\033[2J\\n';; esac\n")
+        os.chmod(judge, 0o755)
+        report = f"{self.folder}/report.xml"
+        out = self.assert_clean(self.adapter(answer="= - ok"), "hostile-closed-ack", "--junit", report, "--check", judge, "--lab", judge, status=1)
+        self.assertIn("no 9 0 \\x1b[2J", out)
+        self.assertIn("    made \\x1b[2J\n", out)
+        self.assertIn("\\x1b[2J", xml.etree.ElementTree.parse(report).find("testcase/failure").get("message"))
+
+    def test_control_bytes_of_names_and_files_are_escaped(self):
+        odd = f"{self.folder}/\x1b[2J\udc9b"
+        os.rename(self.adapter(answer="= - ok"), odd)
+        for words in ((odd + "x", "open-plain"), (odd, odd + ".scenario"), (odd, "open-plain", "--profile", odd + "x"), (odd, "open-plain", "--\x1b[2J"),
+                      (odd, "open-plain", "--against", odd + "x")):
+            self.assert_clean(*words, status=2)
+        with open(f"{odd}.scenario", "w") as file:
+            file.write("show a \x1b[2J\nby b \x1b[2J\nthread 1 host 0\n  open 4000 80 as \x1b[2J\n  await \x1b[2J is \x1b[2J\n")
+        with open(f"{self.folder}/profile", "w") as file:
+            file.write("name \x1b[2J\noptions \x1b[2J")
+        report = f"{self.folder}/report.xml"
+        again = f"{self.folder}/against"
+        words = (odd, odd + ".scenario", "--profile", f"{self.folder}/profile", "--junit", report, *self.programs())
+        self.assert_clean(*words, "-v", "--write-against", again, "--out", self.folder, status=1)
+        self.assertEqual(xml.etree.ElementTree.parse(report).getroot().get("name"), "\\x1b[2J")
+        self.assert_clean(*words, "--against", again, status=0)
+        self.assert_clean(odd, "--failed", "--profile", f"{self.folder}/profile", *self.programs(), status=2)
+        with open(again, "w") as file:
+            file.write("\\x1b[2J\\x9b: \x1b[2J\n")
+        self.assert_clean(*words, "--against", again, status=1)
 
     def test_a_scenario_and_a_run_end_in_time(self):
         slow = "while read x; do echo '= 0 ok'; sleep 0.1; done"
         self.assertIn("broken the scenario took more than 1 s", self.broken(slow, "--scenario-limit", "1"))
         status, out, _ = self.run_it(self.shell(slow), "hostile-closed-ack", "hostile-closed-syn", "--run-limit", "1", "--jobs", "1", *self.programs())
         self.assertEqual((status, out.count("broken the run took more than 1 s, "), "2 broken" in out), (1, 2, True))
+
+    def scenario(self, steps, whole=""):
+        """A file of a scenario with one thread."""
+        path = f"{self.folder}/own.scenario"
+        with open(path, "w") as file:
+            file.write(f"{HEAD}{whole}thread 1 host 0\n{steps}")
+        return path
+
+    # Sends a SYN, and again at the word {again}; says {expired} before.
+    RESENDS = """#!{python}
+import sys
+syn = "0fa00050" + "00000001" + "00000000" + "5002ffff00000000"
+for line in sys.stdin:
+    moment, word = line.split()[:2]
+    if word == "open":
+        print("out", syn)
+    elif word == {again!r} and int(moment) > 9000:
+        print({expired!r} + "out", syn)
+    print("=", int(moment) + 1000000 if word == "open" else "-", "ok" + " 0" * (word in ("open", "listen")), flush=True)
+"""
+
+    def warned(self, again, expired):
+        """How often it is warned of missing expiries on standard error, and in the report."""
+        scenario, report = self.scenario("  open 4000 80 as c\n  wait 10\n"), f"{self.folder}/report.xml"
+        stack = self.adapter(self.RESENDS, again=again, expired=expired)
+        status, out, error = self.run_it(stack, scenario, "hostile-closed-ack", "--junit", report, *self.programs())
+        self.assertIn("yes 1 1 ", out)
+        said = xml.etree.ElementTree.parse(report).findall("system-out")
+        self.assertEqual(error, "".join(each.text + "\n" for each in said))
+        return error
+
+    def test_missing_expiries_are_told_once(self):
+        error = self.warned("tick", "")
+        self.assertEqual(error.count("warning: the stack sent something again at a tick in 1 of 2 scenarios, and the adapter reported no timer"), 1)
+        self.assertTrue(error.endswith("stacks/README.md, section 1.\n"))
+        self.assertEqual((self.warned("tick", "expired 4000 80 rto\n"), self.warned("in", "")), ("", ""))
+
+    def test_one_reported_expiry_is_enough(self):
+        more = {"resent": True}, {"resent": True, "expired": True}, {"expired": True}, {}
+        outcomes = [SimpleNamespace(**{"resent": False, "expired": False, **each}) for each in more]
+        self.assertEqual([bool(command.warning(some)) for some in (outcomes[:1], outcomes[:2], outcomes[2:], [outcomes[0], outcomes[2]])],
+                         [True, False, False, True])
 
     def test_a_storm_ends_a_scenario(self):
         ack = segments.write(segment(segments.ACK)).hex()
@@ -499,21 +630,37 @@ import sys
 for line in sys.stdin:
     print("out {ack}\\n= - ok" + " 0" * ("listen" in line), flush=True)
 """, ack=ack)
-        scenario = f"{self.folder}/storm.scenario"
-        with open(scenario, "w") as file:
-            file.write(HEAD + "delay 0.001\nthread 1 host 0\n  listen 80 as door\n  wait 100\n")
+        scenario = self.scenario("  listen 80 as door\n  wait 100\n", "delay 0.001\n")
         status, out, _ = self.run_it(stack, scenario, "--events", "400", "--out", self.folder, *self.programs())
         self.assertEqual((status, "1 yes, but" in out), (1, True), out)
         self.assertIn("run: ended after 400 events: a storm of acknowledgments from line 11 of the trace on, of which 100 lines are kept", out)
         self.assertIn(f"line 11: 2000 93 I 1 {ack}", out)
-        with open(f"{self.folder}/storm.trace") as file:
+        with open(f"{self.folder}/own.trace") as file:
             lines = file.read().split("\n")
         self.assertEqual((lines[10], len(lines)), (f"2000 93 I 1 {ack}", 10 + 100 + 1))
 
     def test_a_program_that_takes_too_long(self):
         with self.assertRaises(limits.Broken) as caught:
-            judging.Judge(["sleep"], [], limits.Watch(limits.Limits(scenario=0.2), float("inf"))).call(["sleep"], "1000", "")
+            judging.Judge(["sleep"], [], limits.Watch(limits.Limits(scenario=0.2), float("inf"))).call(["sleep"], ["1000"], "")
         self.assertEqual(str(caught.exception), "the scenario took more than 0.2 s, in sleep 1000")
+
+    LEAVES = "setsid sh -c 'echo $$ > PIDS; exec sleep 100' > /dev/null 2>&1 < /dev/null & until [ -s PIDS ]; do sleep 0.01; done"
+
+    def test_a_process_that_left_its_group_is_ended(self):
+        for text in (f"read x; {self.LEAVES}; exit 3", f"read x; ({self.LEAVES}); exit 3", f"({self.LEAVES}); while read x; do echo '= - ok'; done",
+                     f"read x; {self.LEAVES}; sleep 100", f"read x; {self.LEAVES.replace('setsid', 'env -i setsid')}; exit 3"):
+            self.run_it(self.shell(text), "hostile-closed-ack", "--command-limit", "3", *self.programs())
+            self.assert_none_is_left()
+            os.remove(f"{self.folder}/pids")
+
+    def test_children_that_the_runner_had_before_are_kept(self):
+        words = [sys.executable, os.path.join(TOP, "run"), self.shell(f"read x; ({self.LEAVES}); exit 3"), "hostile-closed-ack", *self.programs()]
+        done = subprocess.run(["sh", "-c", "sleep 100 > /dev/null & echo $!; exec \"$@\"", "sh", *words], stdout=subprocess.PIPE, text=True, timeout=60)
+        before = int(done.stdout.split()[0])
+        self.assertTrue(self.runs(before))
+        os.kill(before, signal.SIGKILL)
+        self.assertEqual(done.returncode, 1)
+        self.assert_none_is_left()
 
     def test_no_process_is_left_after_a_signal(self):
         stack = self.shell(self.HANGS.replace("> PIDS", "> PIDS.tmp; mv PIDS.tmp PIDS"))
@@ -546,6 +693,74 @@ for line in sys.stdin:
         for words in ([path], ["open-plain", "--profile", path], ["open-plain", "--against", path]):
             self.assertEqual(self.run_it("true", *words), (2, "", f"{path} is no text\n"))
 
+    def test_a_file_that_fails_is_named(self):
+        stack, there, full = self.adapter(answer="= - ok"), f"{self.folder}/adapter/report.xml", f"{self.folder}/full"
+        for name, target in (("full", "/dev/full"), ("memory.scenario", "/proc/self/mem"), ("hostile-closed-ack.trace", "/dev/full")):
+            os.symlink(target, f"{self.folder}/{name}")
+        memory, gone = f"{self.folder}/memory.scenario", "/nowhere/report.xml"
+        for words, name, cause in ((["--junit", gone], gone, "No such file or directory"), (["--junit", there], there, "Not a directory"),
+                                   (["--junit", self.folder], self.folder, "Is a directory"), (["--write-against", gone], gone, "No such file or directory"),
+                                   (["--write-against", self.folder], self.folder, "Is a directory"), (["--against", self.folder], self.folder, "Is a directory"),
+                                   (["--against", gone], gone, "No such file or directory"), (["--against", memory], memory, "Input/output error"),
+                                   (["--profile", self.folder], self.folder, "Is a directory"), (["--profile", memory], memory, "Input/output error"),
+                                   (["--out", there], f"{self.folder}/adapter/report.xml", "Not a directory"), (["--out", stack], stack, "File exists")):
+            self.assertEqual(self.run_it(stack, "hostile-closed-ack", *words, *self.programs()), (2, "", f"{name}: {cause}\n"))
+        self.assertRegex(self.run_it(stack, memory)[2], "^/proc/[0-9]+/mem: Input/output error\n$")
+        os.mkfifo(f"{self.folder}/pipe")
+        for words, cause in (([stack, "/nowhere/x"], "/nowhere/x: No such file or directory"), ([stack, self.folder], f"{self.folder}: Is a directory"),
+                             ([stack, f"{self.folder}/pipe"], f"{self.folder}/pipe: no ordinary file")):
+            self.assertEqual(self.run_it(*words), (2, "", f"{cause}\n"))
+        for words, name in ((["--junit", full], full), (["--write-against", full], full), (["--out", self.folder], f"{self.folder}/hostile-closed-ack.trace")):
+            status, _, error = self.run_it(stack, "hostile-closed-ack", *words, *self.programs())
+            self.assertEqual((status, error), (2, f"{name}: No space left on device\n"))
+
+    def test_standard_output_that_fails_is_named(self):
+        for words in ((self.adapter(answer="= - ok"), "hostile-closed-ack", *self.programs()), ("--help",)):
+            with open("/dev/full", "w") as full:
+                done = subprocess.run([sys.executable, os.path.join(TOP, "run"), *words], stdout=full, stderr=subprocess.PIPE, text=True, timeout=60)
+            self.assertEqual((done.returncode, done.stderr), (2, "standard output: No space left on device\n"))
+
+    def test_a_program_that_is_missing_is_named(self):
+        os.chmod(self.adapter(answer="= - ok"), 0o644)
+        file = f"{self.folder}/adapter"
+        nor = f"is neither a folder beside {TOP}/run nor a program: "
+        for words, cause in ((["/nowhere/x", "open-plain"], f"/nowhere/x {nor}No such file or directory"), ([file, "open-plain"], f"{file} {nor}Permission denied"),
+                             (["no-such-stack", "open-plain"], f"no-such-stack {nor}PATH has no such program"),
+                             (["true", "open-plain", "--check", file], f"tcpwit isn't found: --check {file}: Permission denied"),
+                             (["true", "open-plain", "--check", "true", "--lab", "/nowhere"], "tcpwit_lab isn't found: --lab /nowhere: No such file or directory"),
+                             (["true", "open-plain", "--check", "true", "--lab", self.folder], f"tcpwit_lab isn't found: --lab {self.folder}: Is a directory")):
+            self.assertEqual(self.run_it(*words), (2, "", cause + "\n"))
+        with mock.patch.dict(os.environ, {"TCPWIT": "/nowhere"}):
+            self.assertEqual(self.run_it("true", "open-plain"), (2, "", "tcpwit isn't found: TCPWIT=/nowhere: No such file or directory\n"))
+
+    def test_the_two_programs_are_named_apart(self):
+        with mock.patch.dict(os.environ, {"PATH": self.folder, "TCPWIT": "", "TCPWIT_LAB": ""}), mock.patch.object(command, "kept", lambda name: None):
+            self.assertEqual(self.told_of_programs(), "tcpwit and tcpwit_lab aren't found. The package tcpwit has both (packaging/README.md). "
+                                                      "Otherwise give --check and --lab, or set TCPWIT and TCPWIT_LAB.\n")
+            for there, lacking, option, variable in (("tcpwit", "tcpwit_lab", "--lab", "TCPWIT_LAB"), ("tcpwit_lab", "tcpwit", "--check", "TCPWIT")):
+                path = f"{self.folder}/{there}"
+                os.symlink("/bin/true", path)
+                self.assertEqual(self.told_of_programs(), f"{lacking} isn't found, but {there} is: {path}. The package tcpwit has both (packaging/README.md). "
+                                                          f"Otherwise give {option}, or set {variable}.\n")
+                os.remove(path)
+
+    def told_of_programs(self):
+        """What is printed if a program is missing."""
+        with contextlib.redirect_stderr(io.StringIO()) as error, self.assertRaises(SystemExit) as ended:
+            command.programs(SimpleNamespace(check=None, lab=None))
+        self.assertEqual(ended.exception.code, 2)
+        return error.getvalue()
+
+    def test_a_no_is_explained_as_of_a_simulated_wire(self):
+        judge = f"{self.folder}/judge"
+        with open(judge, "w") as file:
+            file.write("#!/bin/sh\n[ $1 = find ] && exec cat\n[ $1 = explain ] && printf 'no\\nasked: %s\\n' \"$*\" && exit\n"
+                       "case $(cat) in *'congestion none'*) echo yes 1 1;; *) echo no 9 0 size;; esac\n")
+        os.chmod(judge, 0o755)
+        status, out, _ = self.run_it(self.adapter(answer="= - ok"), "hostile-closed-ack", "--check", judge, "--lab", judge)
+        self.assertEqual(status, 1)
+        self.assertIn("\n    asked: explain --simulated\n", out)
+
     def test_a_stack_that_cannot_be_started(self):
         status, _, error = self.run_it(self.adapter("nothing to run"), "open-plain", *self.programs())
         self.assertEqual((status, error), (2, f"{self.folder}/adapter: Exec format error\n"))
@@ -556,8 +771,9 @@ for line in sys.stdin:
                              (["true", "data-bluk"], "'data-bluk' is neither a file"), (["true", "data-bulk", ""], "'' is neither"),
                              (["runner"], "runner/build"), (["scenarios/../scenarios"], "build"),
                              (["true", "--jobs", "0"], "'0' is no number"), (["true", "--jobs", "x"], "'x' is no number"),
-                             (["true", "data-bulk", "--check", "/nowhere"], "tcpwit isn't found"),
-                             (["true", "data-bulk", "--check", "true", "--lab", "true"], "version 4")):
+                             (["true", "data-bulk", "--check", "true", "--lab", "true"], "true is older than this suite"),
+                             (["true", "data-bulk", "--check", "true", *self.programs()[2:]], "true check printed nothing and ended with status 0"),
+                             (["true", "data-bulk", "--junit", ""], "--junit: the name is empty")):
             status, out, error = self.run_it(*words)
             self.assertEqual((status, out), (2, ""), error)
             self.assertIn(cause, error)
