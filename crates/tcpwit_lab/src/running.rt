@@ -11,7 +11,7 @@ use line_fields::{FaultKind, TextFault};
 use std::alloc::Global;
 use std::io::{BufRead, Eprint, Write};
 use std::rt::Files;
-use why::{explain, fault_line};
+use why::{Origin, explain, fault_line};
 use witness_search::find;
 
 /// Done.
@@ -67,7 +67,7 @@ fn write_answer<H: Files + Eprint, W: Write>(
         Asked::Find => tell(alloc, find(alloc, text), w),
         Asked::Show => tell(alloc, show(alloc, text), w),
         Asked::Draw(range) => tell(alloc, draw(alloc, text, range), w),
-        Asked::Explain => match explain(alloc, text) {
+        Asked::Explain => match explain(alloc, text, Origin::Captured) {
             Ok(said) => say(w, said.text.as_slice(), said.status),
             Err(_) => say(w, b"bad memory\n", MEMORY),
         },
