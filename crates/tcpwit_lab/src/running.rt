@@ -44,7 +44,7 @@ fn write_answer<H: Files + Eprint, W: Write>(
         Asked::Find => tell(rt, alloc, find(alloc, text), w),
         Asked::Show => tell(rt, alloc, show(alloc, text), w),
         Asked::Draw(range) => tell(rt, alloc, draw(alloc, text, range), w),
-        Asked::Explain => match explain(alloc, text) {
+        Asked::Explain(origin) => match explain(alloc, text, origin) {
             Ok(said) => say(rt, w, said.text.as_slice(), said.status),
             Err(_) => say_bad_memory(rt, w),
         },

@@ -2,12 +2,14 @@
 
 use drawing::Range;
 use judging::{Options, options_of};
+use why::Origin;
 
 /// What the words ask for.
 #[derive(Clone, Copy)]
 pub(crate) enum Asked<'w> {
     Find,
-    Explain,
+    /// Where the segments of the case come from.
+    Explain(Origin),
     Show,
     Draw(Range),
     Judge(Options<'w>),
@@ -18,9 +20,12 @@ pub(crate) fn asked_by<'w>(words: &[&'w str]) -> Option<Asked<'w>> {
     match words {
         [word, options @ ..] if *word == "judge" => Some(Asked::Judge(options_of(options)?)),
         [word, options @ ..] if *word == "draw" => Some(Asked::Draw(range_of(options)?)),
+        [word, option] if *word == "explain" && *option == "--simulated" => {
+            Some(Asked::Explain(Origin::Simulated))
+        }
         [word] => match *word {
             "find" => Some(Asked::Find),
-            "explain" => Some(Asked::Explain),
+            "explain" => Some(Asked::Explain(Origin::Captured)),
             "show" => Some(Asked::Show),
             _ => None,
         },

@@ -3,10 +3,10 @@
 use drawing::{Range, draw, show};
 use std::alloc::{AllocError, Global};
 use std::{fs, io};
-use why::explain;
+use why::{Origin, explain};
 
 /// Asks for each text of a table: a line `== WORD NAME` with the word of `tcpwit_lab` and the name of a case, and after
-/// it the text that is wanted. Answers how many texts there are.
+/// it the text that is wanted. The word `simulated` stands for `explain --simulated`. Answers how many texts there are.
 pub fn ask_told(
     rt: &HostRuntime,
     alloc: Global,
@@ -38,7 +38,8 @@ fn told(alloc: Global, word: &str, case: &[u8]) -> Result<Vec<u8>, AllocError> {
         to: None,
     };
     let told = match word {
-        "explain" => return Ok(explain(alloc, case)?.text),
+        "explain" => return Ok(explain(alloc, case, Origin::Captured)?.text),
+        "simulated" => return Ok(explain(alloc, case, Origin::Simulated)?.text),
         "show" => show(alloc, case),
         "draw" => draw(alloc, case, range),
         _ => return Ok(Vec::new(alloc)),

@@ -1,130 +1,169 @@
-//! What usually causes a rule to be broken.
+//! What usually causes a rule to be broken at a step, by what is known there.
 
-use case_forms::Judged;
+use crate::likely::say_likely;
+use crate::reasons::{Reason, misplaced};
+use crate::scene::Scene;
+use crate::text::{Piece, say};
+use crate::usual::{COARSE_CLOCK, Cause, anywhere, usual_cause};
+use case_forms::{Event, Extras, Judged, Label, OutOfMemory, SegmentPlan, Timer, Wire};
+use endpoint_state::Endpoint;
+use spec_tcp::Emission;
 use verdict::Rule;
 
-/// A sentence on what usually causes it, where so much of congestion control is judged.
-pub(crate) fn cause(rule: Rule, congestion: Judged) -> &'static str {
-    match (rule, congestion) {
-        (Rule::Recovery, Judged::Nothing) => "usually: all was acknowledged before",
+/// Where the segments of a trace come from.
+#[derive(Clone, Copy)]
+pub enum Origin {
+    /// They were captured, perhaps on a network.
+    Captured,
+    /// They went over a simulated wire, where each is recorded as its stack sends it.
+    Simulated,
+}
+
+/// Writes what usually causes it, or what likely does so here.
+pub(crate) fn say_cause(
+    out: &mut Vec<u8>,
+    scene: &Scene<'_>,
+    rule: Rule,
+    origin: Origin,
+) -> Result<(), OutOfMemory> {
+    if say_likely(out, scene, rule)? {
+        return Ok(());
+    }
+    let cause = cause_at(scene, rule);
+    say(out, &[Piece::Word("usually: "), Piece::Word(cause.usual)])?;
+    match origin {
+        Origin::Captured if !cause.captured.is_empty() => say(
+            out,
+            &[Piece::Word("in a capture: "), Piece::Word(cause.captured)],
+        ),
+        Origin::Captured | Origin::Simulated => Ok(()),
+    }
+}
+
+// The causes of a rule at the step that breaks it.
+fn cause_at(scene: &Scene<'_>, rule: Rule) -> Cause {
+    let Some(step) = scene.step() else {
+        return usual_cause(rule);
+    };
+    match (&step.label, rule) {
+        (Label::M { .. }, Rule::NoEndpoint) => anywhere(
+            "the stack sends after a reset, an expiry or a call closed the connection, or before a call opens it",
+        ),
+        (Label::M { host, plan }, _) => match scene.endpoint(*host, plan.lport, plan.rport) {
+            Some(endpoint) => at_sending(endpoint, plan, rule, scene.header.congestion),
+            None => usual_cause(rule),
+        },
+        (Label::T { .. }, Rule::NoEndpoint) => anywhere(
+            "the segment finds no connection, so the witness has to drop it (K) or answer it by a reset (R)",
+        ),
+        (Label::F { .. }, Rule::Recovery) => match scene.header.congestion {
+            Judged::Nothing => anywhere("all was acknowledged before"),
+            Judged::Full | Judged::Recovery => usual_cause(rule),
+        },
+        (Label::L(named), _) => match scene.line(named.number) {
+            Some(line) => at_line(scene, &line.event, named.extras, rule),
+            None => usual_cause(rule),
+        },
         _ => usual_cause(rule),
     }
 }
 
-fn usual_cause(rule: Rule) -> &'static str {
+// The causes at a segment that an endpoint sends.
+fn at_sending(endpoint: &Endpoint, plan: &SegmentPlan, rule: Rule, congestion: Judged) -> Cause {
     match rule {
-        Rule::LineRange
-        | Rule::LineAgain
-        | Rule::ThreadOrder
-        | Rule::MomentFalls
-        | Rule::MomentOff
-        | Rule::Overdue
-        | Rule::Unplaced => of_order(rule),
-        Rule::ThreadBusy
-        | Rule::NoCall
-        | Rule::DoneTwice
-        | Rule::AnswerDiffers
-        | Rule::Socket
-        | Rule::CallAnswer => of_calls(rule),
-        Rule::NoEndpoint
-        | Rule::State
-        | Rule::Iss
-        | Rule::BytesDiffer
-        | Rule::NotMade
-        | Rule::PayloadRange
-        | Rule::AckField
-        | Rule::OldData
-        | Rule::Offered
-        | Rule::Congestion
-        | Rule::Size => of_making(rule),
-        _ => of_taking(rule),
+        Rule::State | Rule::OldData if endpoint.state.is_time_wait() => anywhere(
+            "the stack leaves out TIME-WAIT, or ends it before twice the header's `msl`",
+        ),
+        Rule::OldData => of_old_data(endpoint, plan, congestion),
+        Rule::Congestion if endpoint.control.values.smss < u32::from(plan.len) => {
+            usual_cause(Rule::Size)
+        }
+        _ => usual_cause(rule),
     }
 }
 
-fn of_order(rule: Rule) -> &'static str {
-    match rule {
-        Rule::LineRange =>
-            "usually: the trace was cut or a line was added, and the witness's numbers weren't moved",
-        Rule::LineAgain => "usually: a step was written twice, or a number is one too low",
-        Rule::ThreadOrder =>
-            "usually: two lines of one thread were recorded in another order than they happened",
-        Rule::MomentFalls =>
-            "usually: the witness was written by two threads with no common clock; sort its steps",
-        Rule::MomentOff => "usually: the header's skew is smaller than the clocks were off",
-        Rule::Overdue => "usually: a step for a line was forgotten, or stands too late",
-        _ => "usually: the witness ends too early",
+// The causes at a step that takes a line.
+fn at_line(scene: &Scene<'_>, event: &Event, extras: Extras, rule: Rule) -> Cause {
+    match (event, rule, extras) {
+        (Event::Sent(host, wire), Rule::BytesDiffer, Extras::One(number)) => {
+            match scene.world.made(*host, number) {
+                Some(made) => of_bytes(made.emission(), wire),
+                None => usual_cause(rule),
+            }
+        }
+        (Event::Expired(_, _, _, timer), Rule::TimerEarly, _) => of_early(*timer),
+        (Event::Expired(_, _, _, timer), Rule::TimerOff, _) => of_off(*timer),
+        _ => usual_cause(rule),
     }
 }
 
-fn of_calls(rule: Rule) -> &'static str {
-    match rule {
-        Rule::ThreadBusy =>
-            "usually: two threads were recorded under one number, or the end of a call was lost",
-        Rule::NoCall => "usually: the beginning of a call was lost, or its thread number differs",
-        Rule::DoneTwice => "usually: one call was recorded as two effects",
-        Rule::AnswerDiffers =>
-            "usually: the recorder wrote what the stack did and not what the caller was told, or the effect is missing",
-        Rule::Socket =>
-            "usually: file descriptors were recorded as socket numbers; a number may be given once in a trace",
-        _ =>
-            "usually: the effect stands too early or too late, or the stack answered what the specification doesn't allow there",
+// The causes if a segment begins where it may not.
+fn of_old_data(endpoint: &Endpoint, plan: &SegmentPlan, congestion: Judged) -> Cause {
+    match (misplaced(endpoint, plan), congestion) {
+        (Reason::Gap { .. }, _) => Cause {
+            usual: "the stack skips positions that it hasn't sent yet",
+            captured: "the capture lost the segments before this one",
+        },
+        (Reason::Acknowledged { .. }, _) => anywhere(
+            "the stack sends again what was acknowledged, or the witness has the acknowledgment too early",
+        ),
+        (_, Judged::Nothing) => anywhere(if endpoint.is_up() {
+            "the witness lacks an F step before it; under `none` it may have one at any moment"
+        } else {
+            "the trace lacks the expiry (a `T` line) before it, which a SYN needs under each word"
+        }),
+        _ => usual_cause(Rule::OldData),
     }
 }
 
-fn of_making(rule: Rule) -> &'static str {
-    match rule {
-        Rule::NoEndpoint =>
-            "usually: a call that opens it has its effect later, or a reset or an expiry closed it before",
-        Rule::State =>
-            "usually: the segment was made before or after the call or the arrival that changes the state",
-        Rule::Iss =>
-            "usually: the first SYN of an endpoint lacks its number, or a later one repeats it",
-        Rule::BytesDiffer =>
-            "usually: an offload rewrote the segment, or the made segment of another line is named",
-        Rule::NotMade =>
-            "usually: the numbers of made segments are off by one, or a line was recorded twice",
-        Rule::PayloadRange =>
-            "usually: the effect of the send (or of shut or close) stands behind the segment that carries its bytes",
-        Rule::AckField =>
-            "usually: the segment was made before the peer's SYN was taken, or after it",
-        Rule::OldData =>
-            "usually: data goes out again with no expiry and no fast recovery, as by tail loss probes or SACK recovery",
-        Rule::Offered =>
-            "usually: windows are scaled and the trace is of version 1, or an acknowledgment is taken behind the segment",
-        Rule::Congestion =>
-            "usually: another congestion control than RFC 5681, a window counted in segments, or a larger first window than the trace says",
-        _ => "usually: segmentation offload is on, so that the capture shows many segments as one",
+// The causes if a segment went out otherwise than it was made.
+fn of_bytes(made: &Emission, wire: &Wire) -> Cause {
+    let seg = &wire.seg;
+    let is_same = made.lport == seg.src && made.rport == seg.dst && made.seq == seg.seq;
+    let ahead = seg.ack.0.wrapping_sub(made.ack_seq.0);
+    if !is_same || !made.flags.ack || ahead == 0 {
+        return usual_cause(Rule::BytesDiffer);
+    }
+    if ahead <= u32::MAX / 2 {
+        Cause {
+            usual: "the stack acknowledges what never arrived, skips a gap in what arrived, or accepts data after the \
+FIN",
+            captured: "the capture lost a segment that arrived",
+        }
+    } else {
+        Cause {
+            usual: "the stack doesn't keep data inside the window that it offered: it takes the window back, or drops \
+data (`keep` 0 in the witness)",
+            captured: "the stack processed an arrival later than the capture shows",
+        }
     }
 }
 
-fn of_taking(rule: Rule) -> &'static str {
-    match rule {
-        Rule::NoEmission =>
-            "usually: the capture at the sender lost the segment, or the clocks are off by more than the skew",
-        Rule::CopyDiffers =>
-            "usually: a middlebox or a checksum offload rewrote the segment between the two captures",
-        Rule::Lifetime =>
-            "usually: the header's msl is smaller than the delay, or an older sending with the same bytes is named",
-        Rule::Inbox => "usually: a segment is taken twice, or before it came in",
-        Rule::NotPeer =>
-            "usually: the segment belongs to an older connection on the same ports, and the stack took it",
-        Rule::Number => "usually: a very old copy; its number reads as another position now",
-        Rule::Unacceptable =>
-            "usually: old data came again, which is to be dropped (K), or the sender ignored the window",
-        Rule::AckRange =>
-            "usually: the segment that is acknowledged was made later in the witness, or never",
-        Rule::QueueFull =>
-            "usually: the stack lets more children in than backlog and `extra` say; raise `extra`",
-        Rule::Growth =>
-            "usually: the witness's window grows faster than RFC 5681 lets it; the greatest value may be chosen, or less",
-        Rule::Sample =>
-            "usually: a round trip was measured with data that went out twice (RFC 6298, 3)",
-        Rule::TimerOff =>
-            "usually: all was acknowledged before, so that the timer was off, or the acknowledgment stands too early in the witness",
-        Rule::TimerEarly =>
-            "usually: the stack's least timeout is below the header's `minrto`, or its clock coarser than `grain`",
-        Rule::Recovery =>
-            "usually: fewer than three duplicate acknowledgments were taken before: SACK or early retransmit",
-        _ => "usually: one side took the window scale option from a SYN that the other never took",
+// The causes if a timer expires early.
+fn of_early(timer: Timer) -> Cause {
+    let usual = match timer {
+        Timer::Persist => "the stack probes a closed window before its timeout is over",
+        Timer::Msl2 => "TIME-WAIT is shorter than twice the header's `msl`",
+        Timer::Rto | Timer::Giveup => return usual_cause(Rule::TimerEarly),
+    };
+    Cause {
+        usual,
+        captured: COARSE_CLOCK,
+    }
+}
+
+// The causes if a timer expires that is off.
+fn of_off(timer: Timer) -> Cause {
+    match timer {
+        Timer::Rto => usual_cause(Rule::TimerOff),
+        Timer::Persist => anywhere(
+            "the stack probes though the window is open or nothing is left to send",
+        ),
+        Timer::Msl2 => anywhere(
+            "the witness lacks the arrival that leads to TIME-WAIT, or has it later",
+        ),
+        Timer::Giveup => anywhere(
+            "the stack gives up after fewer than three expiries, or with nothing outstanding",
+        ),
     }
 }

@@ -4,11 +4,11 @@
 //! and the values that a rule compares are read from the world of `endpoint_state` and from the functions that the
 //! rules themselves call. Of each function it is proved that it is safe and returns, and no more.
 //!
-//! - `explain`, `Said`: a case in words; `fault_line`: a fault of a text, as one line
+//! - `explain`, `Said`, `Origin`: a case in words; `fault_line`: a fault of a text, as one line
 //! - `refused_by`, `Refused`, `Reason`: what a verdict refuses, as values
-//! - `text`: lines of plain words; `words`: segments, calls and steps in words; `numbers`: numbers on the wire as
-//!   positions;
-//!   `parts`: the two texts of a case, and their lines. The crate `drawing` uses these four
+//! - `text`: lines of plain words, and bytes of a text escaped; `words`: segments, calls and steps in words;
+//!   `numbers`: numbers on the wire as positions; `parts`: the two texts of a case, and their lines. The crate
+//!   `drawing` uses these four
 //!
 //! Private modules:
 //!
@@ -21,20 +21,28 @@
 //!   compares
 //! - `why_answers`: the answers that a call may have; `why_inbox`: what waits in an inbox; `why_numbers`: numbers read
 //!   as positions
-//! - `causes`: what usually causes a rule to be broken; `unjudged`: the header's word that leaves it unjudged
+//! - `causes`: what usually causes a rule to be broken at a step; `usual`: what does at any step
+//! - `likely`: what likely causes it, computed from the case; `other_windows`, `segment_window`, `changes`: congestion
+//!   windows of other rules, kept while the case is replayed
+//! - `unjudged`: the header's word that leaves a refusal unjudged
 //! - `refusal`: what a verdict refuses, as values
 #![tactic(auto)]
 
 mod causes;
+mod changes;
 mod described;
+mod likely;
 mod marks;
 pub mod numbers;
+mod other_windows;
 pub mod parts;
 mod reasons;
 mod refusal;
 mod scene;
+mod segment_window;
 pub mod text;
 mod unjudged;
+mod usual;
 mod verdict_in_words;
 mod whole;
 mod why_answers;
@@ -49,6 +57,7 @@ mod why_timers;
 mod why_wire;
 pub mod words;
 
+pub use causes::Origin;
 pub use reasons::Reason;
 pub use refusal::{Refused, refused_by};
 pub use text::fault_line;

@@ -1,7 +1,7 @@
 //! A line of a text that can't be read, with a mark under its columns.
 
 use crate::parts::line_at;
-use crate::text::{Piece, add, say};
+use crate::text::{Piece, add, is_shown, say};
 use case_forms::OutOfMemory;
 use line_fields::{FaultKind, TextFault, push_end, push_word};
 use segment::SegFault;
@@ -27,18 +27,39 @@ pub(crate) fn mark(out: &mut Vec<u8>, text: &[u8], fault: &TextFault) -> Result<
     let shown = left.get(..SHOWN).unwrap_or(left);
     say(out, &[Piece::Word("  "), Piece::Raw(shown)])?;
     add(out, &[Piece::Word("  ")])?;
-    for _ in from..fault.span.start {
-        push_word(out, " ")?;
-    }
-    let stop = fault.span.stop.min(from.saturating_add(SHOWN));
-    for _ in fault.span.start..stop {
-        push_word(out, "^")?;
-    }
-    if stop <= fault.span.start {
-        push_word(out, "^")?;
-    }
+    let before = fault.span.start.saturating_sub(from);
+    push_blank(out, shown.get(..before).unwrap_or(shown))?;
+    let marked = fault.span.stop.saturating_sub(fault.span.start);
+    push_marks(out, shown.get(before..).unwrap_or(&[]), marked)?;
     push_end(out)?;
     say(out, &[Piece::Word(meaning(fault.kind))])
+}
+
+// Writes spaces under bytes that are shown, as many as they take columns, and a tab under a tab.
+fn push_blank(out: &mut Vec<u8>, bytes: &[u8]) -> Result<(), OutOfMemory> {
+    for byte in bytes {
+        let blank = if *byte == b'\t' {
+            "\t"
+        } else if is_shown(*byte) {
+            " "
+        } else {
+            "    "
+        };
+        push_word(out, blank)?;
+    }
+    Ok(())
+}
+
+// Writes marks under the first so many of bytes that are shown; one mark if there are none.
+fn push_marks(out: &mut Vec<u8>, bytes: &[u8], count: usize) -> Result<(), OutOfMemory> {
+    let start = out.len();
+    for byte in bytes.iter().take(count) {
+        push_word(out, if is_shown(*byte) { "^" } else { "^^^^" })?;
+    }
+    if out.len() == start {
+        push_word(out, "^")?;
+    }
+    Ok(())
 }
 
 fn meaning(kind: FaultKind) -> &'static str {

@@ -4,6 +4,7 @@ ghost use Rattle.std.specs.Prelude.{◌<◌, IsTrue, OnOk};
 ghost use Rattle.case_forms.specs.Witnesses.{IsWithinLimits};
 ghost use Rattle.spec_tcp.specs.Bounds.{most_steps};
 
+use crate::other_windows::OtherWindows;
 use case_forms::{
     Flags, GREATEST_POSITION, Header, Host, Label, Line, MOST_STEPS, NamedLine, OutOfMemory,
     SegmentPlan, Step,
@@ -37,6 +38,8 @@ pub(crate) struct Scene<'t> {
     pub place: usize,
     /// For each line that was taken, the place of the step that took it.
     pub taken: BTreeMap<u64, usize>,
+    /// If the step makes a segment, other congestion windows of the endpoint that makes it.
+    pub others: Option<OtherWindows>,
 }
 
 impl<'t> Scene<'t> {
@@ -56,6 +59,10 @@ impl<'t> Scene<'t> {
         steps: &'t [Step],
         place: usize,
     ) -> Result<Scene<'t>, OutOfMemory> {
+        let others = match steps.get(place) {
+            Some(step) => OtherWindows::of(alloc, &step.label),
+            None => None,
+        };
         let mut scene = Scene {
             world: World::start(alloc, header),
             header,
@@ -63,6 +70,7 @@ impl<'t> Scene<'t> {
             steps,
             place,
             taken: BTreeMap::new(alloc),
+            others,
         };
         for (at, step) in steps.iter().enumerate().take(place) {
             scene.go_on(at, step)?;
@@ -76,8 +84,15 @@ impl<'t> Scene<'t> {
             label => do_hidden(&mut self.world, step.moment, label),
         };
         match done {
-            Ok(()) | Err(StepFault::Broken(_)) => Ok(()),
+            Ok(()) | Err(StepFault::Broken(_)) => self.follow(),
             Err(StepFault::OutOfMemory) => Err(AllocError),
+        }
+    }
+
+    fn follow(&mut self) -> Result<(), OutOfMemory> {
+        match &mut self.others {
+            Some(others) => others.follow(&self.world),
+            None => Ok(()),
         }
     }
 

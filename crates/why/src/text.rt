@@ -1,4 +1,6 @@
 //! Lines of plain words, as bytes at the end of a `Vec`. If memory runs out a part may have been written.
+//!
+//! Bytes that are quoted from a text are escaped, so that a terminal shows them and doesn't obey them.
 
 use case_forms::{Host, OutOfMemory};
 use line_fields::{TextFault, push_end, push_number, push_space, push_word};
@@ -9,7 +11,7 @@ use std::alloc::Global;
 pub enum Piece<'a> {
     Word(&'a str),
     Number(u64),
-    /// Bytes of a text, of which a long run is cut.
+    /// Bytes of a text, escaped; a long run is cut.
     Raw(&'a [u8]),
     /// The number of a host.
     At(Host),
@@ -17,6 +19,8 @@ pub enum Piece<'a> {
 
 // Of bytes that are shown no more than so many.
 const SHOWN: usize = 160;
+
+const HEX_DIGITS: &[u8] = b"0123456789abcdef";
 
 /// Writes a line of these parts.
 pub fn say(out: &mut Vec<u8>, pieces: &[Piece<'_>]) -> Result<(), OutOfMemory> {
@@ -47,13 +51,38 @@ fn push_piece(out: &mut Vec<u8>, piece: &Piece<'_>) -> Result<(), OutOfMemory> {
 fn push_raw(out: &mut Vec<u8>, bytes: &[u8]) -> Result<(), OutOfMemory> {
     match bytes.get(..SHOWN) {
         Some(first) => {
-            out.extend_from_slice(first)?;
+            push_escaped(out, first)?;
             push_word(out, " .. (")?;
             push_number(out, bytes.len() as u64)?;
             push_word(out, " bytes)")
         }
-        None => out.extend_from_slice(bytes),
+        None => push_escaped(out, bytes),
     }
+}
+
+/// Writes bytes of a text. Printable ASCII and tabs stay as they are; any other byte becomes `\x` and its two hex
+/// digits, such as `\x1b`.
+pub fn push_escaped(out: &mut Vec<u8>, bytes: &[u8]) -> Result<(), OutOfMemory> {
+    for byte in bytes {
+        if is_shown(*byte) {
+            out.push(*byte)?;
+        } else {
+            push_word(out, "\\x")?;
+            out.push(hex_digit(*byte / 16))?;
+            out.push(hex_digit(*byte % 16))?;
+        }
+    }
+    Ok(())
+}
+
+/// Whether `push_escaped` leaves a byte as it is.
+pub(crate) fn is_shown(byte: u8) -> bool {
+    byte == b'\t' || (0x20 <= byte && byte < 0x7f)
+}
+
+// The digit of a value below 16.
+fn hex_digit(value: u8) -> u8 {
+    *HEX_DIGITS.get(usize::from(value)).unwrap_or(&b'?')
 }
 
 /// The line that tells of a text's fault.

@@ -1,6 +1,6 @@
 //! The verdict on a case, and in plain words what it rests on.
 
-use crate::causes::cause;
+use crate::causes::{Origin, say_cause};
 use crate::marks::mark;
 use crate::parts::{Parts, cut, line_at};
 use crate::scene::Scene;
@@ -22,11 +22,11 @@ pub struct Said {
     pub status: u8,
 }
 
-/// Explains the verdict on a case.
-pub fn explain(alloc: Global, text: &[u8]) -> Result<Said, OutOfMemory> {
+/// Explains the verdict on a case whose segments come from there.
+pub fn explain(alloc: Global, text: &[u8], origin: Origin) -> Result<Said, OutOfMemory> {
     let parts = cut(text);
     match check_case(alloc, text) {
-        Ok(verdict) => explain_verdict(alloc, parts, &verdict),
+        Ok(verdict) => explain_verdict(alloc, parts, &verdict, origin),
         Err(CaseFault::Trace(fault)) => {
             let mut text = fault_line(alloc, "bad trace ", &fault)?;
             mark(&mut text, parts.trace, &fault)?;
@@ -45,6 +45,7 @@ fn explain_verdict(
     alloc: Global,
     parts: Parts<'_>,
     verdict: &Verdict,
+    origin: Origin,
 ) -> Result<Said, OutOfMemory> {
     let mut text = Vec::new(alloc);
     print_verdict(verdict, &mut text)?;
@@ -57,7 +58,7 @@ fn explain_verdict(
             rule,
         } => {
             quote(&mut text, parts, *witness_line, *trace_line)?;
-            explain_no(alloc, &mut text, parts, *witness_line, *rule)?;
+            explain_no(alloc, &mut text, parts, (*witness_line, *rule), origin)?;
             Ok(Said { text, status: 1 })
         }
     }
@@ -92,13 +93,14 @@ fn explain_no(
     alloc: Global,
     out: &mut Vec<u8>,
     parts: Parts<'_>,
-    witness_line: u64,
-    rule: Rule,
+    refused: (u64, Rule),
+    origin: Origin,
 ) -> Result<(), OutOfMemory> {
+    let (witness_line, rule) = refused;
     let whole = Whole::read(alloc, parts)?;
     let scene = whole.scene(alloc, witness_line)?;
     explain_rule(alloc, out, &scene, rule)?;
-    say(out, &[Piece::Word(cause(rule, scene.header.congestion))])?;
+    say_cause(out, &scene, rule, origin)?;
     say_unjudged(out, &scene, rule)
 }
 

@@ -27,7 +27,7 @@ pub(crate) fn explain_rule(
                 state(out, endpoint, plan)?;
                 return may_make(out, scene, host, plan);
             }
-            why_at(out, endpoint, plan, rule)
+            why_at(out, endpoint, plan, scene.moment(), rule)
         }
     }
 }
@@ -36,12 +36,13 @@ fn why_at(
     out: &mut Vec<u8>,
     endpoint: &Endpoint,
     plan: &SegmentPlan,
+    moment: u64,
     rule: Rule,
 ) -> Result<(), OutOfMemory> {
     match rule {
         Rule::Offered => offered(out, endpoint, plan),
         Rule::Congestion => congestion(out, endpoint, plan),
-        Rule::OldData => old_data(out, endpoint, plan),
+        Rule::OldData => old_data(out, endpoint, plan, moment),
         Rule::PayloadRange => payload_range(out, endpoint, plan),
         Rule::AckField => ack_field(out, endpoint, plan),
         Rule::Iss => iss(out, endpoint, plan),
@@ -119,7 +120,12 @@ fn congestion(
     say(out, &[])
 }
 
-fn old_data(out: &mut Vec<u8>, endpoint: &Endpoint, plan: &SegmentPlan) -> Result<(), OutOfMemory> {
+fn old_data(
+    out: &mut Vec<u8>,
+    endpoint: &Endpoint,
+    plan: &SegmentPlan,
+    moment: u64,
+) -> Result<(), OutOfMemory> {
     add(
         out,
         &[
@@ -147,17 +153,50 @@ fn old_data(out: &mut Vec<u8>, endpoint: &Endpoint, plan: &SegmentPlan) -> Resul
                 Piece::Word(", so that is acknowledged; an empty segment may begin one below una"),
             ],
         ),
-        Reason::Again { .. } | Reason::Beyond { .. } | Reason::Other => say(
-            out,
-            &[
-                Piece::Word("; segments were made up to "),
-                Piece::Number(endpoint.snd_max()),
-                Piece::Word(", and of that what ends at or below "),
-                Piece::Number(endpoint.recover),
-                Piece::Word(" may be made again: an expiry or fast recovery moves that"),
-            ],
-        ),
+        Reason::Again { .. } | Reason::Beyond { .. } | Reason::Other => {
+            say(
+                out,
+                &[
+                    Piece::Word("; segments were made up to "),
+                    Piece::Number(endpoint.snd_max()),
+                    Piece::Word(", and of that what ends at or below "),
+                    Piece::Number(endpoint.recover),
+                    Piece::Word(" may be made again: an expiry or fast recovery moves that"),
+                ],
+            )?;
+            say_due(out, endpoint, moment)
+        }
     }
+}
+
+// When the retransmission timer is due, and how far that is from the step's moment.
+fn say_due(out: &mut Vec<u8>, endpoint: &Endpoint, moment: u64) -> Result<(), OutOfMemory> {
+    let Some(since) = endpoint.timers.rto_armed else {
+        return say(out, &[Piece::Word("the retransmission timer is off")]);
+    };
+    let due = since.saturating_add(endpoint.timers.rto);
+    let (far, side) = if moment < due {
+        (due.saturating_sub(moment), " us after this step")
+    } else {
+        (
+            moment.saturating_sub(due),
+            " us before this step: the trace may lack its expiry",
+        )
+    };
+    say(
+        out,
+        &[
+            Piece::Word("the retransmission timer is due at "),
+            Piece::Number(due),
+            Piece::Word(" = "),
+            Piece::Number(since),
+            Piece::Word(" + RTO "),
+            Piece::Number(endpoint.timers.rto),
+            Piece::Word(", "),
+            Piece::Number(far),
+            Piece::Word(side),
+        ],
+    )
 }
 
 fn payload_range(

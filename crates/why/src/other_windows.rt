@@ -1,0 +1,121 @@
+//! Congestion windows that grow by other rules than this profile's. They are kept for one endpoint while a case is
+//! replayed, in constant time for each segment that is sent or acknowledged.
+
+use crate::changes::{Change, Values};
+use crate::reasons::end_of;
+use crate::segment_window::SegmentWindow;
+use case_forms::{Host, Label, NamedLine, OutOfMemory, POSITIONS, SegmentPlan};
+use endpoint_state::World;
+use std::alloc::Global;
+use window_rules::{Congestion, congestion_edge, counted_after, may_grow, on_duplicate};
+
+/// The windows of the endpoint that sends the segment of a step.
+#[derive(Drop)]
+pub(crate) struct OtherWindows {
+    host: Host,
+    lport: u16,
+    rport: u16,
+    /// The endpoint's values before the next step.
+    now: Values,
+    /// The greatest window if slow start adds SMSS bytes for each acknowledgment of new data, in bytes (RFC 5681, 3.1).
+    upper: Congestion,
+    segments: SegmentWindow,
+}
+
+impl OtherWindows {
+    /// Those for a step. None: it sends no segment.
+    pub(crate) fn of(alloc: Global, label: &Label<NamedLine>) -> Option<OtherWindows> {
+        match label {
+            Label::M { host, plan } => Some(OtherWindows {
+                host: *host,
+                lport: plan.lport,
+                rport: plan.rport,
+                now: Values::start(),
+                upper: Congestion::start(),
+                segments: SegmentWindow::new(alloc),
+            }),
+            Label::L(_)
+            | Label::D { .. }
+            | Label::T { .. }
+            | Label::K { .. }
+            | Label::R { .. }
+            | Label::F { .. } => None,
+        }
+    }
+
+    /// Follows the world by one step.
+    pub(crate) fn follow(&mut self, world: &World) -> Result<(), OutOfMemory> {
+        let Some(endpoint) = world.body(self.host).endpoint_of(self.lport, self.rport) else {
+            return Ok(());
+        };
+        let after = Values::of(endpoint);
+        self.segments.follow(&self.now, &after)?;
+        self.upper = grown(&self.upper, &self.now, &after);
+        self.now = after;
+        Ok(())
+    }
+
+    /// Whether it has at most SMSS bytes.
+    pub(crate) fn is_segment(&self, plan: &SegmentPlan) -> bool {
+        u32::from(plan.len) <= self.now.congestion.smss
+    }
+
+    /// The window that slow start by SMSS bytes for each acknowledgment gives, in bytes, if the segment fits it.
+    pub(crate) fn upper_for(&self, plan: &SegmentPlan) -> Option<u64> {
+        let una = self.now.una;
+        if POSITIONS <= una {
+            return None;
+        }
+        let window = Congestion {
+            cwnd: self.upper.cwnd,
+            ..self.now.congestion
+        };
+        if end_of(plan) <= congestion_edge(una, &window) {
+            Some(u64::from(window.cwnd))
+        } else {
+            None
+        }
+    }
+
+    /// How many segments are in flight after the step's, and how many a window that counts them allows, if it fits.
+    pub(crate) fn segments_fit(&self) -> Option<(u64, u64)> {
+        let flight = self.segments.flight().saturating_add(1);
+        let allowed = self.segments.allowed(&self.now);
+        if flight <= allowed {
+            Some((flight, allowed))
+        } else {
+            None
+        }
+    }
+}
+
+// The upper window after a step. What doesn't grow it is the endpoint's own.
+fn grown(upper: &Congestion, before: &Values, after: &Values) -> Congestion {
+    let was = Congestion {
+        cwnd: upper.cwnd,
+        counted: upper.counted,
+        ..before.congestion
+    };
+    match before.change(after) {
+        Change::Begins | Change::Timeout | Change::Recovery => after.congestion,
+        Change::Acknowledged(acked) if acked < POSITIONS && was.counted < POSITIONS => Congestion {
+            cwnd: may_grow(&was, as_told(&was, acked)) as u32,
+            counted: counted_after(&was, acked),
+            ..after.congestion
+        },
+        Change::Duplicate => Congestion {
+            cwnd: on_duplicate(&was) as u32,
+            ..was
+        },
+        Change::Acknowledged(_) | Change::Other => was,
+    }
+}
+
+// How much is acknowledged, so that slow start adds SMSS bytes.
+fn as_told(was: &Congestion, acked: u64) -> u64 {
+    if was.cwnd < was.ssthresh {
+        acked.max(u64::from(was.smss))
+    } else {
+        acked
+    }
+}

@@ -1,0 +1,212 @@
+//! What usually causes each rule to be broken, whatever the step.
+
+use verdict::Rule;
+
+/// What usually causes a rule to be broken.
+#[derive(Clone, Copy)]
+pub(crate) struct Cause {
+    /// A fault of a stack, of the program that writes the trace, or of the witness.
+    pub usual: &'static str,
+    /// What else causes it if the segments were captured. Empty: nothing.
+    pub captured: &'static str,
+}
+
+/// A cause that doesn't depend on how segments are recorded.
+pub(crate) fn anywhere(usual: &'static str) -> Cause {
+    Cause {
+        usual,
+        captured: "",
+    }
+}
+
+/// The usual causes of a rule.
+pub(crate) fn usual_cause(rule: Rule) -> Cause {
+    match rule {
+        Rule::LineRange
+        | Rule::LineAgain
+        | Rule::ThreadOrder
+        | Rule::MomentFalls
+        | Rule::MomentOff
+        | Rule::Overdue
+        | Rule::Unplaced => of_order(rule),
+        Rule::ThreadBusy
+        | Rule::NoCall
+        | Rule::DoneTwice
+        | Rule::AnswerDiffers
+        | Rule::Socket
+        | Rule::CallAnswer => of_calls(rule),
+        Rule::NoEndpoint
+        | Rule::State
+        | Rule::Iss
+        | Rule::BytesDiffer
+        | Rule::NotMade
+        | Rule::PayloadRange
+        | Rule::AckField
+        | Rule::OldData
+        | Rule::Offered
+        | Rule::Congestion
+        | Rule::Size => of_sending(rule),
+        Rule::Growth | Rule::Sample | Rule::TimerOff | Rule::TimerEarly | Rule::Recovery => {
+            of_timers(rule)
+        }
+        _ => of_arrivals(rule),
+    }
+}
+
+fn of_order(rule: Rule) -> Cause {
+    match rule {
+        Rule::LineRange => anywhere(
+            "the trace was cut or a line was added, and the witness's numbers weren't moved",
+        ),
+        Rule::LineAgain => anywhere(
+            "the witness has a step twice, or a number that is one too low",
+        ),
+        Rule::ThreadOrder => Cause {
+            usual: "the witness has two lines of one thread in the wrong order",
+            captured: "two lines of one thread were recorded in another order than they happened",
+        },
+        Rule::MomentFalls => Cause {
+            usual: "the witness's steps aren't sorted by their moments",
+            captured: "two threads without a common clock wrote the witness",
+        },
+        Rule::MomentOff => Cause {
+            usual: "the step has another moment than its line",
+            captured: "the header's skew is smaller than the clocks were off",
+        },
+        Rule::Overdue => anywhere("the witness lacks a step for a line, or has it too late"),
+        _ => anywhere("the witness ends too early"),
+    }
+}
+
+fn of_calls(rule: Rule) -> Cause {
+    match rule {
+        Rule::ThreadBusy => anywhere(
+            "the trace lacks the end of a call, or two threads share one number",
+        ),
+        Rule::NoCall => anywhere(
+            "the trace lacks the beginning of the call, or it has another thread number there",
+        ),
+        Rule::DoneTwice => anywhere("the witness has two effects for one call"),
+        Rule::AnswerDiffers => anywhere(
+            "the trace has what the stack did and not what its caller got, or the witness lacks the effect",
+        ),
+        Rule::Socket => anywhere(
+            "the trace has file descriptors as socket numbers; each number may be given once in a trace",
+        ),
+        _ => anywhere(
+            "the stack delivers data twice, obeys a reset outside its window or leaves out TIME-WAIT, or the \
+witness has the effect at the wrong place",
+        ),
+    }
+}
+
+fn of_sending(rule: Rule) -> Cause {
+    match rule {
+        Rule::NoEndpoint => anywhere(
+            "a reset, an expiry or a call closed the connection before, or the witness has the call that opens \
+it later",
+        ),
+        Rule::State => anywhere(
+            "the stack does what this state doesn't allow, such as a reset with ACK, or the witness has the \
+step at the wrong place",
+        ),
+        Rule::Iss => anywhere("the first SYN's step lacks its number, or a later step repeats it"),
+        Rule::BytesDiffer => Cause {
+            usual: "the stack sends other bytes than the application did, or the witness names the made segment \
+of another line",
+            captured: "an offload rewrote the segment",
+        },
+        Rule::NotMade => anywhere(
+            "the witness's numbers of made segments are off by one, or the trace has a line twice",
+        ),
+        Rule::PayloadRange => anywhere(
+            "the stack sends data before the application does or a FIN before the data ends, or the witness has \
+the call's effect too late",
+        ),
+        Rule::AckField => anywhere(
+            "the stack acknowledges a SYN that didn't arrive or sends without ACK after one, or the witness has \
+that arrival at the wrong place",
+        ),
+        Rule::OldData => anywhere(
+            "the stack sends again without an expiry and without fast recovery, or the trace lacks the expiry \
+(an adapter reports it by a `T` line)",
+        ),
+        Rule::Offered => Cause {
+            usual: "the stack ignores the peer's window, doesn't apply its shift, or uses a window that the \
+peer took back",
+            captured: "the trace is of version 1 and windows are scaled, or an acknowledgment was recorded too late",
+        },
+        Rule::Congestion => anywhere(
+            "no slow start, no collapse of the window after an expiry, a first window larger than `initial` \
+allows, or another congestion control than RFC 5681",
+        ),
+        _ => Cause {
+            usual: "the stack ignores the peer's MSS, which is 536 if its SYN has none",
+            captured: "segmentation offload is on, so that the capture shows many segments as one",
+        },
+    }
+}
+
+fn of_arrivals(rule: Rule) -> Cause {
+    match rule {
+        Rule::NoEmission => Cause {
+            usual: "the trace lacks the line where the segment was sent, or the witness names another line",
+            captured: "the capture at the sender lost the segment, or the clocks are off by more than the skew",
+        },
+        Rule::CopyDiffers => Cause {
+            usual: "the wire changed the segment, or the witness names the line of another one",
+            captured: "a middlebox or a checksum offload rewrote the segment between the two captures",
+        },
+        Rule::Lifetime => anywhere(
+            "the header's msl is smaller than the delay, or the witness names an older line with the same bytes",
+        ),
+        Rule::Inbox => anywhere("the witness has the segment's step twice, or before it arrives"),
+        Rule::NotPeer => anywhere(
+            "the stack accepted a segment of an older connection on the same ports",
+        ),
+        Rule::Number => anywhere(
+            "the stack accepted a very old copy; its number reads as another position now",
+        ),
+        Rule::Unacceptable => anywhere(
+            "the stack accepted a segment outside its window, which is to be dropped (K), or the peer ignored \
+the window",
+        ),
+        Rule::AckRange => Cause {
+            usual: "a stack acknowledges what was never sent, or what hasn't been sent yet at this place in the \
+witness",
+            captured: "the capture lost the segment that is acknowledged",
+        },
+        Rule::QueueFull => anywhere(
+            "the stack queues more children than backlog and `extra` allow; raise `extra`",
+        ),
+        _ => anywhere(
+            "one side used the window scale option of a SYN that the other side never used",
+        ),
+    }
+}
+
+fn of_timers(rule: Rule) -> Cause {
+    match rule {
+        Rule::Growth => anywhere(
+            "the window grows faster than RFC 5681 allows; the witness may choose the greatest value, or less",
+        ),
+        Rule::Sample => anywhere(
+            "a round trip was measured with data that was sent twice (RFC 6298, 3)",
+        ),
+        Rule::TimerOff => anywhere(
+            "the stack doesn't stop the timer once all is acknowledged, or the witness has the acknowledgment \
+too early",
+        ),
+        Rule::TimerEarly => Cause {
+            usual: "the timeout wasn't doubled after an expiry, is below `minrto` or RFC 6298's formula, or a \
+round trip was measured with data sent twice",
+            captured: COARSE_CLOCK,
+        },
+        _ => anywhere(
+            "the stack began after fewer than three duplicate acknowledgments, as by SACK or early retransmit",
+        ),
+    }
+}
+
+/// Why a timer may seem early in a capture.
+pub(crate) const COARSE_CLOCK: &str = "the stack's clock is coarser than `grain`";
