@@ -6,7 +6,7 @@ use crate::callers::Callers;
 use crate::fates::Fates;
 use crate::picture::{Point, arrow, begin, begin_text, dot, end, end_text, line};
 use crate::whole::{Refusal, Refused, Whole};
-use case_forms::{Answer, Call, Event, Host, Line, OutOfMemory, Timer, Wire};
+use case_forms::{Answer, Call, Event, Host, Label, Line, OutOfMemory, Timer, Wire};
 use line_fields::{TextFault, timer_name};
 use std::alloc::Global;
 use why::numbers::Numbers;
@@ -26,11 +26,15 @@ const TOP: u64 = 60;
 
 const ROW: u64 = 20;
 
-// How many lines are drawn where the last one is not named.
+// How many lines are drawn if one end of the range is not named.
 const LINES: u64 = 400;
 
-/// Which lines of the trace are drawn, by their numbers, both ends with them. Where one end is None there are at most
-/// 400 lines, from the other end on; where both are, the first 400.
+// How many of them follow the refusal, if the trace has so many and no end of the range is named.
+const AFTER: u64 = 50;
+
+/// Which lines of the trace are drawn, by their numbers, both ends with them. If one end is None, at most 400 lines are
+/// drawn, from the other end on. If both are None, the first 400 are drawn. If a case is refused further on, the 400
+/// end 50 lines after the refusal instead.
 #[derive(Clone, Copy)]
 pub struct Range {
     pub from: Option<u64>,
@@ -44,17 +48,16 @@ struct Drawn {
     to: u64,
 }
 
-// The lines of a trace that are in a range.
-fn drawn_of(range: Range, first: u64, last: u64) -> Drawn {
-    match (range.from, range.to) {
-        (None, Some(to)) => {
-            let to = to.min(last);
-            Drawn {
-                from: to.saturating_sub(LINES - 1).max(first),
-                to,
-            }
+// The lines of a trace that are in a range. `refused` is the line at which the case is refused.
+fn drawn_of(range: Range, refused: Option<u64>, first: u64, last: u64) -> Drawn {
+    match (range.from, range.to, refused) {
+        (None, Some(to), _) => drawn_up_to(to.min(last), first),
+        (None, None, Some(line)) => {
+            let earliest = first.saturating_add(LINES - 1);
+            let to = line.saturating_add(AFTER).max(earliest);
+            drawn_up_to(to.min(last), first)
         }
-        (from, to) => {
+        (from, to, _) => {
             let from = from.unwrap_or(first).max(first);
             let to = to.unwrap_or(from.saturating_add(LINES - 1));
             Drawn {
@@ -62,6 +65,30 @@ fn drawn_of(range: Range, first: u64, last: u64) -> Drawn {
                 to: to.min(last),
             }
         }
+    }
+}
+
+// The last lines up to and including this one, of those from `first` on.
+fn drawn_up_to(to: u64, first: u64) -> Drawn {
+    Drawn {
+        from: to.saturating_sub(LINES - 1).max(first),
+        to,
+    }
+}
+
+// The line at which a case is refused: that of the refused step or, if the step is hidden or its line was taken before,
+// the line before the step. None: the case is not refused.
+fn line_refused(whole: &Whole, fates: &Fates) -> Option<u64> {
+    let refused = match whole.refusal {
+        Refusal::Nowhere => return None,
+        Refusal::Unplaced(number) => return Some(number),
+        Refusal::At(refused) => refused,
+    };
+    let before = fates.refused.unwrap_or(0);
+    let step = whole.steps.as_slice().get(refused.place)?;
+    match &step.label {
+        Label::L(named) if whole.line(named.number).is_some() => Some(named.number.max(before)),
+        _ => Some(before),
     }
 }
 
@@ -90,12 +117,14 @@ pub fn draw(alloc: Global, text: &[u8], range: Range) -> Result<Vec<u8>, TextFau
     let first = whole.trace.header.first_event_line();
     let count = whole.trace.lines.as_slice().len() as u64;
     let last = first.saturating_add(count).saturating_sub(1);
+    let fates = Fates::of(alloc, &whole)?;
+    let refused = line_refused(&whole, &fates);
     let mut drawing = Drawing {
         out: Vec::new(alloc),
-        range: drawn_of(range, first, last),
+        range: drawn_of(range, refused, first, last),
         numbers: Numbers::new(alloc, whole.trace.header.version),
         callers: Callers::new(alloc),
-        fates: Fates::of(alloc, &whole)?,
+        fates,
     };
     drawing.all(&whole)?;
     Ok(drawing.out)

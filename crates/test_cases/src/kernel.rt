@@ -1,5 +1,5 @@
-//! Recordings of the Linux kernel: a witness is found for each trace of `data/kernel/`, and the verdict on both is held
-//! to its line of `data/kernel/expected.txt`.
+//! Traces without a witness: recordings of the Linux kernel in `data/kernel/`, and written traces in `data/found/`. A
+//! witness is found for each, and the verdict on both is held to its line of `expected.txt` in that folder.
 
 use checker::check_case;
 use std::alloc::{AllocError, Global};
@@ -7,20 +7,24 @@ use std::io::ErrorKind;
 use std::{fs, io};
 use witness_search::find;
 
-/// Finds a witness for each recording, and says how many there are.
-pub fn ask_kernel(rt: &HostRuntime, differing: &mut Vec<String>) -> io::Result<usize> {
+/// Finds a witness for each trace of a folder, and says how many there are.
+pub fn ask_folder(
+    rt: &HostRuntime,
+    folder: &str,
+    differing: &mut Vec<String>,
+) -> io::Result<usize> {
     let alloc = rt.alloc();
-    let table = fs::read_to_string(rt, "kernel/expected.txt")?;
+    let table = fs::read_to_string(rt, format!(in alloc; "{folder}/expected.txt")?.as_str())?;
     let mut count = 0usize;
     for row in table.as_str().lines() {
         let Some((name, wanted)) = row.split_once('\t') else {
             return Err(io::Error::new(ErrorKind::InvalidData, "a line without a tab"));
         };
-        let trace = fs::read(rt, format!(in alloc; "kernel/{name}.trace")?.as_str())?;
+        let trace = fs::read(rt, format!(in alloc; "{folder}/{name}.trace")?.as_str())?;
         let found = verdict_found(alloc, trace.as_slice())?;
         if found.as_str() != wanted {
             differing.push(format!(in alloc;
-                "{name}, a recording of the kernel: wanted {wanted:?}, found {found:?}"
+                "{folder}/{name}: wanted {wanted:?}, found {found:?}"
             )?)?;
         }
         count = count.saturating_add(1);

@@ -4,10 +4,10 @@
 //! it (`data/README.md`). Beside the files, each beginning of two of them is asked for, lines of the greatest length,
 //! inputs of several cases, pairs of texts that no case would be cut into, the command lines of
 //! `data/command_lines.txt`, what `tcpwit_lab` says of some cases (`data/told.txt`) and of some traces
-//! (`data/judged.txt`), and the cases that are found for recordings of the Linux kernel (`data/kernel/`). Each case
-//! file is also checked as version 4. Where all is answered as wanted, two lines with the counts are printed. Else each
-//! answer that differs has a line on standard error, with the name of the case, how it was asked, what was wanted and
-//! what was found, and the program ends with status 1.
+//! (`data/judged.txt`), and the cases that are found for recordings of the Linux kernel (`data/kernel/`) and for
+//! written traces (`data/found/`). Each case file is also checked as version 4. Where all is answered as wanted, three
+//! lines with the counts are printed. Else each answer that differs has a line on standard error, with the name of the
+//! case, how it was asked, what was wanted and what was found, and the program ends with status 1.
 //!
 //! - `table`: cases, and those of the files
 //! - `beginnings`: each beginning of a case
@@ -16,7 +16,8 @@
 //! - `asking`: by `check_case`, by the word `check`, as two texts in pieces, and by the words of `many`
 //! - `command_lines`: by words, as the program is given them
 //! - `told`: what `tcpwit_lab` says of a case; `judged`: how much of a run keeps the RFCs
-//! - `kernel`: cases that are found for recordings of the Linux kernel
+//! - `kernel`: cases that are found for recordings of the Linux kernel and for written traces
+//! - `drawn`: which lines of a long case are drawn; `printed`: bytes that no terminal obeys
 //! - `version_four`: rewrites a case as version 4
 //! - `less_judged`: each case file as version 4, with more and less of congestion control judged
 #![tactic(auto)]
@@ -24,11 +25,13 @@
 mod asking;
 mod beginnings;
 mod command_lines;
+mod drawn;
 mod judged;
 mod kernel;
 mod less_judged;
 mod long_lines;
 mod pairs;
+mod printed;
 mod table;
 mod told;
 mod version_four;
@@ -64,7 +67,8 @@ fn main(rt: HostRuntime) -> io::Result<ExitCode> {
     let told = told::ask_told(&rt, alloc, table.as_str(), &mut differing)?;
     let table = fs::read_to_string(&rt, "judged.txt")?;
     let judged = judged::ask_judged(&rt, alloc, table.as_str(), &mut differing)?;
-    let recorded = kernel::ask_kernel(&rt, &mut differing)?;
+    let recorded = kernel::ask_folder(&rt, "kernel", &mut differing)?;
+    let counts = ask_lab(&rt, &mut differing)?;
     for line in &differing {
         eprintln!(rt; "{line}")?;
     }
@@ -78,7 +82,21 @@ fn main(rt: HostRuntime) -> io::Result<ExitCode> {
             judged as wanted, and {recorded} recordings of the kernel explained by what is found"
     )?;
     print_covered(&rt, covered)?;
+    println!(rt; "{counts}")?;
     Ok(ExitCode::SUCCESS)
+}
+
+// Asks what `tcpwit_lab` makes of written traces, of a long case and of texts with ESC, and answers a line with the
+// counts.
+fn ask_lab(rt: &HostRuntime, differing: &mut Vec<String>) -> io::Result<String> {
+    let alloc = rt.alloc();
+    let written = kernel::ask_folder(rt, "found", differing)?;
+    let drawn = drawn::ask_drawn(alloc, differing)?;
+    let changed = printed::ask_printed(rt, "handshake_and_five_bytes", differing)?;
+    Ok(format!(in alloc;
+        "{written} written traces are explained by what is found, {drawn} pictures of a long case show the lines that \
+            are wanted, and of {changed} texts with ESC no control byte is printed"
+    )?)
 }
 
 // Prints how many case files each of the tests of version 4 covered.

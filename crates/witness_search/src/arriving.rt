@@ -234,7 +234,7 @@ impl<'t> Search<'t> {
         if !(m.flags.syn && endpoint.state.is_time_wait()) {
             return Ok(false);
         }
-        self.add_expiry(host, ports, Timer::Msl2)
+        self.add_expiry_after(host, ports, Timer::Msl2)
     }
 
     // Answers what came in by a reset, where the next reset that goes out at its ports is that one.

@@ -70,9 +70,41 @@ impl Search<'_> {
         }
     }
 
-    /// Adds a line that tells of an expiry, if it may be now. The answer is whether it was added.
+    /// Adds a line that tells of an expiry before the line that is looked at, of which no step was written yet, if the
+    /// timer may expire now. The answer is whether the line was added.
     pub(crate) fn add_expiry(
         &mut self,
+        host: Host,
+        ports: Ports,
+        timer: Timer,
+    ) -> Result<bool, StepFault> {
+        let is_added = self.add_expiry_before(self.place, host, ports, timer)?;
+        if is_added {
+            self.number = self.number.saturating_add(1);
+        }
+        Ok(is_added)
+    }
+
+    /// The same after the line that is looked at, whose step was written with its number.
+    pub(crate) fn add_expiry_after(
+        &mut self,
+        host: Host,
+        ports: Ports,
+        timer: Timer,
+    ) -> Result<bool, StepFault> {
+        let written = self.number;
+        self.number = written.saturating_add(1);
+        let is_added = self.add_expiry_before(self.place.saturating_add(1), host, ports, timer)?;
+        if !is_added {
+            self.number = written;
+        }
+        Ok(is_added)
+    }
+
+    // Adds a line of this number, before the event line at a place.
+    fn add_expiry_before(
+        &mut self,
+        before: usize,
         host: Host,
         ports: Ports,
         timer: Timer,
@@ -83,9 +115,8 @@ impl Search<'_> {
             Err(StepFault::Broken(_)) => return Ok(false),
             Err(StepFault::OutOfMemory) => return Err(StepFault::OutOfMemory),
         }
-        self.number = self.number.saturating_add(1);
         self.added.push(Added {
-            before: self.place,
+            before,
             moment: self.moment,
             host,
             ports,

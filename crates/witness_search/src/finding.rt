@@ -90,7 +90,9 @@ pub(crate) fn push_trace(
         rest = behind;
         number = number.saturating_add(1);
     }
-    out.extend_from_slice(rest)
+    out.extend_from_slice(rest)?;
+    push_before(out, left, first, number, thread)?;
+    Ok(())
 }
 
 // Writes the lines that are added before the line of this number, and answers those that are left. The event lines

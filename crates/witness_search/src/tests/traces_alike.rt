@@ -57,6 +57,7 @@ fn former_text(
         out.extend_from_slice(raw)?;
         number = number.saturating_add(1);
     }
+    push_before(&mut out, left, first, number, thread)?;
     Ok(out)
 }
 
