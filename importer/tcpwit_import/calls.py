@@ -122,10 +122,19 @@ class HostCalls:
                 continue
             handler = getattr(self, "on_" + ALIASES.get(event.name, event.name), None)
             if handler:
-                handler(event)
+                self.handle(handler, event)
         for endpoint in self.endpoints:
             self.order_accepts(endpoint)
         return self.endpoints
+
+    @staticmethod
+    def handle(handler, event):
+        """Lets a handler read a call, whose words may be damaged."""
+        try:
+            handler(event)
+        except (AttributeError, LookupError, TypeError, ValueError) as error:
+            raise Problem(f"{event.place}: the words of {event.name} can't be read ({error})",
+                          "record again; if the line is whole, this is a fault of the importer: report it with the line") from error
 
     def order_accepts(self, listener):
         """Lets accepts of several threads at once begin in the order in which their connections were completed: the queue gave

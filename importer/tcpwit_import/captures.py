@@ -86,7 +86,7 @@ def _packets(name, file, notes):
             packet = _packet(moment, link, frame, name, count, notes)
             if packet:
                 packets.append(packet)
-    except (struct.error, dpkt.Error, EOFError) as error:
+    except (struct.error, dpkt.Error, EOFError, IndexError) as error:
         raise Problem(f"{name}: ends within packet {count + 1}", "stop tcpdump by SIGINT or SIGTERM and wait until it has ended") from error
     finally:
         progress.done()

@@ -2,6 +2,7 @@
 import argparse
 import contextlib
 import os
+import pwd
 import shlex
 import shutil
 import signal
@@ -12,7 +13,7 @@ from typing import NamedTuple
 from .. import cli as importing
 from .. import header as headers
 from .. import judging
-from ..problem import Notes, Problem, status_of
+from ..problem import Notes, Parser, Problem, named_file, not_run, say, status_of, write_file
 from .carrier import Carrier, dpkt
 from .namespaces import ADDRESSES, ADDRESSES_6, Namespace, congestion_control, joined_pair
 from .running import Capture, Traced
@@ -33,6 +34,7 @@ goes to standard error. Captures, logs, trace, case and picture stay in the fold
 The status is 0 for a yes at the word of --congestion (else full) or a stricter one, 1 if no such word has a yes, 2 for an error."""
 
 
+NAME = "tcpwit-record"
 # The name of a new folder, which .gitignore knows.
 FOLDER = "tcpwit-%Y%m%d-%H%M%S"
 # Programs that the recorder runs, with their packages.
@@ -74,7 +76,7 @@ def numbers(text):
 
 def parser():
     """The command's words."""
-    words = argparse.ArgumentParser(prog="tcpwit-record", description=DESCRIPTION, formatter_class=argparse.RawDescriptionHelpFormatter,
+    words = Parser(prog=NAME, description=DESCRIPTION, formatter_class=argparse.RawDescriptionHelpFormatter,
                                     usage="tcpwit-record [options] -- PROGRAM WORDS ..")
     form = words.add_mutually_exclusive_group()
     form.add_argument("--pair", metavar="SERVER", help="a server, with its words, in one argument; PROGRAM is the client")
@@ -83,9 +85,9 @@ def parser():
     words.add_argument("--serve", action="store_true", help="PROGRAM is a server: it runs until it is interrupted, or for --seconds")
     words.add_argument("--seconds", type=within(0.1, 86400), metavar="N", help="end the program after this time")
     words.add_argument("--interface", default="any", metavar="IF", help="where a half case is captured (default: any)")
-    words.add_argument("--out", metavar="DIR", help="the folder of all files (default: a new one, tcpwit-TIME)")
+    words.add_argument("--out", type=named_file, metavar="DIR", help="the folder of all files (default: a new one, tcpwit-TIME)")
     words.add_argument("--no-check", action="store_true", help="record and import only")
-    words.add_argument("--lab", metavar="PATH", help="the program tcpwit_lab, which judges")
+    words.add_argument("--lab", type=named_file, metavar="PATH", help="the program tcpwit_lab, which judges")
     words.add_argument("--kernel", choices=("plain", "shipped"),
                        help=f"a pair's kernel settings: without what other RFCs add (plain), or as they are (default: {headers.KERNEL})")
     words.add_argument("--congestion", choices=headers.WORDS["congestion"], help=headers.HELP["congestion"])
@@ -215,7 +217,7 @@ class Recording:
         self.capture("lo" if options.namespace else options.interface, "run.pcap", namespace)
         program = self.program(options.program, "run.log", namespace)
         if options.serve:
-            print("tcpwit-record: recording until interrupted", file=sys.stderr)
+            say(NAME, "recording until interrupted")
         try:
             self.finish(program)
         except KeyboardInterrupt:
@@ -250,10 +252,35 @@ def refuse_missing(options):
         missing["the Python library dpkt"] = "python3-dpkt"
     commands = pair_words(options) if options.pair or options.transfer else [options.program]
     unknown = [name for name in dict.fromkeys(words[0] for words in commands) if shutil.which(name) is None]
+    named = [f"{name}: {not_run(name)}" for name in unknown if "/" in name]
+    unknown = [name for name in unknown if "/" not in name]
+    causes = [f"not installed: {', '.join([*missing, *unknown])}"] if missing or unknown else []
     remedies = [f"install them: apt-get install {' '.join(missing.values())}"] if missing else []
     remedies += [f"install {', '.join(unknown)}, or name the program as in a shell"] if unknown else []
+    remedies += ["name a program that can be run"] if named else []
     if remedies:
-        raise Problem(f"not installed: {', '.join([*missing, *unknown])}", "; ".join(remedies))
+        raise Problem("; ".join(causes + named), "; ".join(remedies))
+
+
+def refuse_unknown_user(options):
+    """A user whom the system doesn't know can't run the programs."""
+    try:
+        pwd.getpwnam(options.user or "root")
+    except KeyError as error:
+        raise Problem(f"--as {options.user}: no such user", "name a user of this system") from error
+
+
+def program_that_judges(options):
+    """The program tcpwit_lab, or None if nothing is judged. What else is missing is named with it, apart."""
+    problems, program = [], None
+    for check in (lambda: refuse_missing(options), lambda: None if options.no_check else judging.lab(options.lab)):
+        try:
+            program = check()
+        except Problem as problem:
+            problems.append(problem)
+    if problems:
+        raise Problem("; ".join(problem.cause for problem in problems), "; ".join(problem.remedy for problem in problems))
+    return program
 
 
 def recorded(options, recording):
@@ -272,8 +299,7 @@ def written(recording, traces):
         folder = recording.folder if len(traces) == 1 else recording.file(importing.file_name(name))
         os.makedirs(folder, exist_ok=True)
         files[name] = os.path.join(folder, "run.trace")
-        with open(files[name], "w", encoding="ascii") as file:
-            file.writelines(lines)
+        write_file(files[name], map(str.encode, lines))
     return files
 
 
@@ -282,22 +308,22 @@ def record(options):
     if os.geteuid() != 0:
         raise Problem("captures and network namespaces need root", "sudo tcpwit-record ..: the program itself runs as you")
     words = header_words(options)
-    program = None if options.no_check else judging.lab(options.lab)
-    refuse_missing(options)
+    refuse_unknown_user(options)
+    program = program_that_judges(options)
     recording = Recording(options)
     notes = Notes()
     files = recorded(options, recording)
     # A program that failed may be why the import fails.
     for remark in recording.remarks:
-        print(f"tcpwit-record: {remark}", file=sys.stderr)
+        say(NAME, remark)
     traces = importing.run(importing.parser().parse_args(files + words), notes)
     for line in notes.lines():
-        print(f"tcpwit-record: {line}", file=sys.stderr)
+        say(NAME, line)
     files = written(recording, traces)
     status = judging.judge_all(program, files, options.congestion) if program else 0
     for trace in files.values() if program else ():
         judging.draw(program, trace)
-    print(f"tcpwit-record: all files are in {recording.folder}", file=sys.stderr)
+    say(NAME, f"all files are in {recording.folder}")
     return status
 
 
@@ -308,4 +334,4 @@ def main(given=None):
     check_words(words, options)
     # Whoever ends this program ends what it started too.
     signal.signal(signal.SIGTERM, lambda *_: sys.exit(143))
-    return status_of("tcpwit-record", lambda: record(options))
+    return status_of(NAME, lambda: record(options))
