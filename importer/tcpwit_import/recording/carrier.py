@@ -48,7 +48,7 @@ class Carrier:
         self.thread.start()
 
     def stop(self):
-        """Ends the thread."""
+        """Ends the thread; frames that are in transit are lost."""
         self.stopped = True
         self.thread.join()
         for end in self.ends:

@@ -167,12 +167,17 @@ class Recording:
         if name := congestion_control():
             self.remarks.append(f"the kernel's congestion control is {name}")
 
-    def end(self, seconds=0.0):
-        """Ends the programs, then the captures."""
+    def end(self, seconds=0.0, carrier=None):
+        """Ends the programs, then the carrier, then the captures: one that ended earlier would lack what the other shows as received."""
         for program in self.programs:
             program.stop(seconds)
+        for capture in self.captures:
+            capture.wait()
+        if carrier:
+            carrier.stop()
         captures, self.captures = self.captures, []
         for capture in captures:
+            capture.wait()
             capture.stop()
 
     def abandon(self):
@@ -199,7 +204,7 @@ class Recording:
             client = self.program(client_words, "host0.log", hosts[0])
             self.finish(client)
             client.stop(0)
-            self.end(options.linger)
+            self.end(options.linger, carrier)
         finally:
             carrier.stop()
         if carrier.fault:

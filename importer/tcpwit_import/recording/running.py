@@ -61,15 +61,17 @@ class Capture:
         return Problem(f"tcpdump says: {said or 'nothing'}", next((remedy for sign, remedy in signs if sign in said), OTHER_REMEDY))
 
     def said(self):
-        """What tcpdump has printed."""
-        self.errors.seek(0)
-        return self.errors.read()
+        """What tcpdump has printed. It shares this file's offset: if that moved, tcpdump would overwrite its own output."""
+        return os.pread(self.errors.fileno(), 1 << 20, 0)
 
-    def stop(self):
-        """Waits until nothing more comes, ends tcpdump, and refuses what it lost."""
+    def wait(self):
+        """Waits until nothing more comes."""
         size = -1
         while size != (size := os.path.getsize(self.file)):
             time.sleep(0.2)
+
+    def stop(self):
+        """Ends tcpdump, and refuses what it lost."""
         if self.process.poll() is not None:
             raise self.problem()
         self.process.send_signal(signal.SIGINT)
