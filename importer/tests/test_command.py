@@ -146,6 +146,20 @@ class Command(WithFiles):
                 text = file.read()
             self.assertEqual((text.count(" B open "), text.count(" B accept ")), (1, 1))
 
+    def test_each_connection_of_a_server_has_its_own_bytes(self):
+        two = []
+        for port, text in ((4000, b"abc"), (4001, b"xyz")):
+            two.append(Talk(zero=("10.9.0.1", port), at=AT))
+            two[-1].send(1, ACK | PSH, text)
+        for host in (0, 1):
+            two[0].frames[host] += two[1].frames[host]
+        server = SERVER[:4] + [(8, AT - SECOND + 4000, f"accept(3, {address(('10.9.0.1', 4001))}, [16]) = 5"),
+                               (8, AT + 10**7, "sendfile(4, 9, [0] => [3], 3) = 3"), (8, AT + 10**7 + 1000, "sendfile(5, 9, [0] => [3], 3) = 3")]
+        client = CLIENT[:2] + [(9, moment, text) for _, moment, text in CLIENT[:2]]
+        status, out, error = run(*two[0].write(self.folder), *self.write_logs(sorted(client, key=lambda line: line[1]), server))
+        self.assertEqual(status, 0, error)
+        self.assertEqual([line.split()[-1] for line in out.splitlines() if " B send " in line], [b"abc".hex(), b"xyz".hex()])
+
     def test_other_connections_are_left_out(self):
         other = Talk(zero=("10.9.0.1", 5000), one=("10.9.0.9", 22), at=AT)
         whole = talk()

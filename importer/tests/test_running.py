@@ -34,6 +34,16 @@ class Running(unittest.TestCase):
         for tables in ({"tcp": HEAD + LISTENER, "tcp6": ""}, {"tcp": HEAD, "tcp6": HEAD + LISTENER}):
             self.server(tables, log).wait_for_listener(0)
 
+    def test_a_program_that_the_system_refuses(self):
+        refused = b'8 execve("\\x61", ["\\x61"], 0x7ffc /* 35 vars */) = -1 ENOEXEC (Exec format error)\n7  5.9 +++ exited with 1 +++\n'
+        # A process has at least five columns, and a space after them.
+        for log in (b"7     5." + refused, b"70000 5." + refused):
+            with self.assertRaisesRegex(Problem, "^server: Exec format error\n"):
+                self.server({}, log).refuse_failed_start()
+        with self.assertRaisesRegex(Problem, "^host1.log: no call of server was logged\n"):
+            self.server({}, b"").refuse_failed_start()
+        self.server({}, b'7     5.8 execve("\\x61", ["\\x61"], 0x7ffc /* 35 vars */) = 0\n').refuse_failed_start()
+
     def test_daemons_of_the_namespace_are_ended_too(self):
         server = self.server({}, b"")
         server.process.pid = 5

@@ -23,7 +23,7 @@ REMEDIES = (("permission to ", "capturing needs root, and in a container the cap
             ("No such device", "tcpdump -D lists the interfaces; name one by --interface, or leave it out"))
 OTHER_REMEDY = "see whether tcpdump can capture there by itself: tcpdump -i INTERFACE -w FILE"
 # The first line of the log of a program that the system refuses, and why it does.
-FAILED_START = re.compile(rb"\d+ [\d.]+ execve\(.*= -1 \w+ \((.*)\)\n")
+FAILED_START = re.compile(rb"\d+ +[\d.]+ execve\(.*= -1 \w+ \((.*)\)\n")
 # The columns of /proc/net/tcp, and the state of a socket that listens.
 STATE, LISTENS = 3, "0A"
 
@@ -99,7 +99,8 @@ class Traced:
         while not self.listens():
             if self.process.poll() is not None:
                 self.refuse_failed_start()
-                raise Problem(f"{self.words[0]} ended with status {self.process.returncode} before it listened for TCP", f"see {self.log}, and try the program alone")
+                raise Problem(f"{self.words[0]} ended with status {self.process.returncode} before it listened for TCP",
+                              f"see {self.log}, and try the program alone")
             if time.monotonic() > until:
                 raise Problem(f"{self.words[0]} did not listen for TCP within {seconds:g} seconds", f"see {self.log}; --wait gives it more time")
             time.sleep(0.02)
