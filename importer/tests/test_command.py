@@ -259,13 +259,21 @@ class Command(WithFiles):
 
     def test_options_that_only_a_pair_has(self):
         for given in (["--loss", "0.1"], ["--delay", "2"], ["--kernel", "plain"], ["--lose", "3"], ["--double", "0"], ["--reorder", "1"], ["--seed", "1"],
-                      ["--wait", "9"]):
+                      ["--wait", "9"], ["--linger", "1"]):
             for form in (["--namespace"], ["--serve"], []):
                 status, out, error = run(*form, *given, "--", "a", command=recording)
                 self.assertEqual((status, out), (2, ""), given)
                 self.assertIn(f"{given[0]} is for two hosts: give --pair or --transfer too", error)
         with mock.patch("os.geteuid", return_value=1000):
-            self.refused(["--transfer", "5", "--loss", "0.1", "--kernel", "shipped"], "need root", recording)
+            self.refused(["--transfer", "5", "--loss", "0.1", "--kernel", "shipped", "--chunk", "2", "--echo"], "need root", recording)
+            self.refused(["--interface", "lo", "--", "a"], "need root", recording)
+
+    def test_options_that_other_forms_have(self):
+        for given in (["--chunk", "5"], ["--echo"]):
+            for form in (["--pair", "b"], ["--namespace"], []):
+                self.assertIn(f"{given[0]} is for --transfer\n", run(*form, *given, "--", "a", command=recording)[2])
+        for form in (["--transfer", "5"], ["--pair", "b", "--", "a"], ["--namespace", "--", "a"]):
+            self.assertIn("--interface is for a program whose peer is elsewhere\n", run("--interface", "lo", *form, command=recording)[2])
 
     def test_git_ignores_the_folders_of_recordings(self):
         with open(os.path.join(os.path.dirname(TOP), ".gitignore"), encoding="ascii") as file:

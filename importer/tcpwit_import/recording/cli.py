@@ -29,7 +29,7 @@ DESCRIPTION = f"""Records a program's TCP, makes a trace of it, and judges it.
 
 Capturing and network namespaces need root; the programs run as the user who called sudo. Nothing outside the namespaces is changed.
 tcpwit-record prints the lines of tcpwit_lab judge: how much of congestion control may be judged for a yes. What the programs print
-goes to standard error. Captures, logs, trace, case and picture stay in the folder --out.
+goes to standard error, unchanged. Captures, logs, trace, case and picture stay in the folder --out.
 
 The status is 0 for a yes at the word of --congestion (else full) or a stricter one, 1 if no such word has a yes, 2 for an error."""
 
@@ -39,8 +39,10 @@ NAME = "tcpwit-record"
 FOLDER = "tcpwit-%Y%m%d-%H%M%S"
 # Programs that the recorder runs, with their packages.
 PACKAGES = {"strace": "strace", "tcpdump": "tcpdump", "ip": "iproute2"}
-# What only a pair has, with the defaults.
-OF_A_PAIR = {"kernel": headers.KERNEL, "wait": 10, "delay": 2, "loss": 0, "lose": frozenset(), "double": 0, "reorder": 0, "seed": 1}
+# What only a pair has, or only --transfer, or only a program whose peer is elsewhere, with the defaults.
+OF_A_PAIR = {"kernel": headers.KERNEL, "wait": 10, "linger": 1, "delay": 2, "loss": 0, "lose": frozenset(), "double": 0, "reorder": 0, "seed": 1}
+OF_A_TRANSFER = {"chunk": 60000, "echo": False}
+OF_ONE_HOST = {"interface": "any"}
 
 
 class Chances(NamedTuple):
@@ -84,7 +86,7 @@ def parser():
     form.add_argument("--namespace", action="store_true", help="PROGRAM is both hosts, on a loopback of its own")
     words.add_argument("--serve", action="store_true", help="PROGRAM is a server: it runs until it is interrupted, or for --seconds")
     words.add_argument("--seconds", type=within(0.1, 86400), metavar="N", help="end the program after this time")
-    words.add_argument("--interface", default="any", metavar="IF", help="where a half case is captured (default: any)")
+    words.add_argument("--interface", metavar="IF", help="where a half case is captured (default: any)")
     words.add_argument("--out", type=named_file, metavar="DIR", help="the folder of all files (default: a new one, tcpwit-TIME)")
     words.add_argument("--no-check", action="store_true", help="record and import only")
     words.add_argument("--lab", type=named_file, metavar="PATH", help="the program tcpwit_lab, which judges")
@@ -95,7 +97,7 @@ def parser():
                        help="of the texts (default: 2 for two hosts, 3 for one; 4 with --congestion)")
     words.add_argument("--as", dest="user", metavar="USER", help="whose the programs are (default: who called sudo)")
     words.add_argument("--wait", type=within(0.1, 600), metavar="N", help="seconds until a pair's server has to listen (default: 10)")
-    words.add_argument("--linger", type=within(0, 600), default=1, metavar="N", help="seconds that a server lasts after the client")
+    words.add_argument("--linger", type=within(0, 600), metavar="N", help="seconds that a pair's server lasts after the client (default: 1)")
     way = words.add_argument_group("the way between a pair")
     way.add_argument("--delay", type=within(0, 10000), metavar="MS", help="of each frame (default: 2)")
     way.add_argument("--loss", type=within(0, 1), metavar="SHARE", help="of segments that are lost, by chance")
@@ -104,14 +106,14 @@ def parser():
     way.add_argument("--reorder", type=within(0, 1), metavar="SHARE", help="of segments that take twice the time")
     way.add_argument("--seed", type=importing.number_within(0, 2**63), metavar="N", help="of the chances")
     own = words.add_argument_group("--transfer")
-    own.add_argument("--chunk", type=importing.number_within(1, 10**8), default=60000, metavar="N", help="how many bytes are sent at once")
-    own.add_argument("--echo", action="store_true", help="the server sends back what it gets")
+    own.add_argument("--chunk", type=importing.number_within(1, 10**8), metavar="N", help="how many bytes are sent at once (default: 60000)")
+    own.add_argument("--echo", action="store_true", default=None, help="the server sends back what it gets")
     words.add_argument("program", nargs="*", help=argparse.SUPPRESS)
     return words
 
 
 def check_words(words, options):
-    """What argparse can't say of the words; then the defaults of what only a pair has."""
+    """What argparse can't say of the words; then the defaults of what only some forms have."""
     if bool(options.program) == bool(options.transfer):
         words.error("give --transfer, or a program after --")
     if options.serve and (options.pair or options.transfer or options.namespace):
@@ -121,11 +123,15 @@ def check_words(words, options):
             words.error("--pair names no server")
     except ValueError:
         words.error(f"--pair {options.pair!r} has a quotation mark without its second")
-    for name, default in OF_A_PAIR.items():
-        if getattr(options, name) is None:
-            setattr(options, name, default)
-        elif options.pair is None and not options.transfer:
-            words.error(f"--{name} is for two hosts: give --pair or --transfer too")
+    is_pair = options.pair is not None or options.transfer
+    for defaults, has, cause in ((OF_A_PAIR, is_pair, "is for two hosts: give --pair or --transfer too"),
+                                 (OF_A_TRANSFER, options.transfer, "is for --transfer"),
+                                 (OF_ONE_HOST, not is_pair and not options.namespace, "is for a program whose peer is elsewhere")):
+        for name, default in defaults.items():
+            if getattr(options, name) is None:
+                setattr(options, name, default)
+            elif not has:
+                words.error(f"--{name} {cause}")
 
 
 class Recording:
