@@ -124,14 +124,18 @@ def check_words(words, options):
     except ValueError:
         words.error(f"--pair {options.pair!r} has a quotation mark without its second")
     is_pair = options.pair is not None or options.transfer
-    for defaults, has, cause in ((OF_A_PAIR, is_pair, "is for two hosts: give --pair or --transfer too"),
-                                 (OF_A_TRANSFER, options.transfer, "is for --transfer"),
-                                 (OF_ONE_HOST, not is_pair and not options.namespace, "is for a program whose peer is elsewhere")):
-        for name, default in defaults.items():
-            if getattr(options, name) is None:
-                setattr(options, name, default)
-            elif not has:
-                words.error(f"--{name} {cause}")
+    complete(words, options, OF_A_PAIR, is_pair, "for two hosts: give --pair or --transfer too")
+    complete(words, options, OF_A_TRANSFER, options.transfer, "for --transfer")
+    complete(words, options, OF_ONE_HOST, not is_pair and not options.namespace, "for a program whose peer is elsewhere")
+
+
+def complete(words, options, defaults, are_used, cause):
+    """Gives options their defaults; those that aren't used may not be given."""
+    for name, default in defaults.items():
+        if getattr(options, name) is None:
+            setattr(options, name, default)
+        elif not are_used:
+            words.error(f"--{name} is {cause}")
 
 
 class Recording:
