@@ -16,11 +16,12 @@ INTERRUPTED = ("EINTR", "ERESTARTSYS", "ERESTARTNOINTR", "ERESTARTNOHAND", "ERES
 
 
 class Data(NamedTuple):
-    """Bytes of a call: those that the log has, and where all of them stand in the stream of the end that sent them."""
+    """Bytes of a call: those that the log has, where all of them stand in the stream of the end that sent them, and whether the call sends."""
     known: bytes
     end: Any
     offset: int
     length: int
+    sends: bool
 
 
 class Action(NamedTuple):
@@ -122,10 +123,19 @@ class HostCalls:
                 continue
             handler = getattr(self, "on_" + ALIASES.get(event.name, event.name), None)
             if handler:
-                handler(event)
+                self.handle(handler, event)
         for endpoint in self.endpoints:
             self.order_accepts(endpoint)
         return self.endpoints
+
+    @staticmethod
+    def handle(handler, event):
+        """Lets a handler read a call, whose words may be damaged."""
+        try:
+            handler(event)
+        except (AttributeError, LookupError, TypeError, ValueError) as error:
+            raise Problem(f"{event.place}: the words of {event.name} can't be read ({error})",
+                          "record again; if the line is whole, this is a fault of the importer: report it with the line") from error
 
     def order_accepts(self, listener):
         """Lets accepts of several threads at once begin in the order in which their connections were completed: the queue gave
@@ -426,13 +436,13 @@ class HostCalls:
             return
         accepted = event.result
         if accepted is None or accepted < 0:
-            data = Data(known[:LONGEST] or b"\0", endpoint.own_end, endpoint.sent, max(1, len(known[:LONGEST])))
+            data = Data(known[:LONGEST] or b"\0", endpoint.own_end, endpoint.sent, max(1, len(known[:LONGEST])), True)
             answer = None if event.error is None else self.failed(event, endpoint)
             if answer or event.error is None:
                 self.tell(event, endpoint, "send", (data,), answer)
             return
         if asked is not None and asked <= LONGEST and len(known) >= asked and accepted:
-            data = Data(known, endpoint.own_end, endpoint.sent, asked)
+            data = Data(known, endpoint.own_end, endpoint.sent, asked, True)
             self.tell(event, endpoint, "send", (data,), ("ok", accepted))
         else:
             self.sent_in_parts(event, endpoint, known, accepted)
@@ -444,7 +454,7 @@ class HostCalls:
             self.notes.change("calls of more than 65,535 bytes, told in parts", event.place)
         for start in range(0, accepted, LONGEST):
             length = min(LONGEST, accepted - start)
-            data = Data(known[start:start + length], endpoint.own_end, endpoint.sent + start, length)
+            data = Data(known[start:start + length], endpoint.own_end, endpoint.sent + start, length, True)
             last = start + length == accepted
             self.tell(event, endpoint, "send", (data,), ("ok", length), end=event.end if last else event.begin)
 
@@ -511,7 +521,7 @@ class HostCalls:
             self.notes.change("calls of more than 65,535 bytes, told in parts", event.place)
         for start in range(0, came, LONGEST):
             length = min(LONGEST, came - start)
-            data = Data(known[start:start + length], endpoint.connection.other(endpoint.own_end), endpoint.received + start, length)
+            data = Data(known[start:start + length], endpoint.connection.other(endpoint.own_end), endpoint.received + start, length, False)
             begin = event.begin if start == 0 else event.end
             self.tell(event, endpoint, "recv", (min(room, LONGEST),), ("data", data), begin=begin)
         endpoint.received += came

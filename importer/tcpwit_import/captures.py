@@ -88,6 +88,8 @@ def _packets(name, file, notes):
                 packets.append(packet)
     except (struct.error, dpkt.Error, EOFError) as error:
         raise Problem(f"{name}: ends within packet {count + 1}", "stop tcpdump by SIGINT or SIGTERM and wait until it has ended") from error
+    except ValueError as error:
+        raise Problem(f"{name}: {error} after packet {count}", "copy the file again, or record again") from error
     finally:
         progress.done()
     return packets, count
@@ -130,8 +132,10 @@ def _pcapng(name, file):
             order, links = ("<" if mark == b"\x4d\x3c\x2b\x1a" else ">"), []
             head += mark
         kind, length = struct.unpack(order + "II", head[:8])
+        if length < 12:
+            raise ValueError(f"a block of {length} bytes")
         block = head + file.read(length - len(head))
-        if length < 12 or len(block) < length:
+        if len(block) < length:
             raise EOFError
         if kind == dpkt.pcapng.PCAPNG_BT_IDB:
             links.append(_interface(name, block, order))
@@ -159,7 +163,7 @@ def _interface(name, block, order):
     """Link type, units of a second, and offset in nanoseconds."""
     link, unit, offset = struct.unpack(order + "H", block[8:10])[0], 10**6, 0
     for code, value in _options(block, 16, order):
-        if code == dpkt.pcapng.PCAPNG_OPT_IF_TSRESOL:
+        if code == dpkt.pcapng.PCAPNG_OPT_IF_TSRESOL and value:
             unit = (2 if value[0] & 0x80 else 10) ** (value[0] & 0x7F)
         elif code == dpkt.pcapng.PCAPNG_OPT_IF_TSOFFSET:
             offset = struct.unpack(order + "q", value)[0] * 10**9

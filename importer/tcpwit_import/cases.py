@@ -88,7 +88,8 @@ class Writer:
         host = action.endpoint.host
         yield Line(self.moment(host, action.begin), (*action.turn, 0), action.thread, "B " + self.begin_text(action))
         if action.answer:
-            yield Line(self.moment(host, action.end), (action.order, 0, 1), action.thread, "E " + " ".join(map(self.word, action.answer)))
+            answer = " ".join(self.word(word, action.endpoint.connection) for word in action.answer)
+            yield Line(self.moment(host, action.end), (action.order, 0, 1), action.thread, "E " + answer)
 
     def begin_text(self, action):
         """A call's words."""
@@ -98,40 +99,43 @@ class Writer:
         if action.verb == "open":
             connection = endpoint.connection
             return f"open {endpoint.host} {connection.client[1]} {connection.server[1]}"
-        words = (self.bytes_of(word, endpoint.connection).hex() if isinstance(word, Data) else str(word) for word in action.words)
+        words = (self.word(word, endpoint.connection) for word in action.words)
         return " ".join([action.verb, str(self.numbers[id(endpoint)]), *words])
 
-    def word(self, word):
-        """A word of an answer."""
+    def word(self, word, connection):
+        """A word of a call or an answer on a connection."""
         if isinstance(word, Endpoint):
             return str(self.numbers[id(word)])
-        return self.bytes_of(word).hex() if isinstance(word, Data) else str(word)
+        return self.bytes_of(word, connection).hex() if isinstance(word, Data) else str(word)
 
-    def bytes_of(self, data, sender=None):
-        """The bytes of a call: from the log, and what it lacks from the captures. A call that sends names its connection: if that
-        was reset, bytes may never have been sent, and are zeros."""
+    def bytes_of(self, data, connection):
+        """The bytes of a call: from the log, and what it lacks from the captures; zeros where neither has them."""
         if len(data.known) >= data.length:
             return data.known[:data.length]
-        at = data.offset + len(data.known)
-        # A call that is refused names bytes that no capture has.
-        found = self.stream(data.end, at, data.length - len(data.known))
+        at, end = data.offset + len(data.known), data.offset + data.length
         self.notes.change("calls whose bytes the log lacks, taken from the capture", f"byte {at + 1} of {shown(data.end)}")
-        missing = data.length - len(data.known) - len(found)
-        if missing and not (sender and sender.was_reset()):
-            raise Problem(f"byte {at + len(found) + 1} of {shown(data.end)} is neither in the log nor in the capture",
-                          "record until the connection has ended, and with strace -s 1048576 -xx; no log has the bytes of sendfile and splice")
-        if missing:
-            self.notes.change("calls with bytes that were never sent before a reset, written as zeros", f"byte {at + len(found) + 1} of {shown(data.end)}")
-        return data.known + found + bytes(missing)
+        found, holes, reached = bytearray(end - at), [], at
+        for start, piece in [*connection.pieces(data.end, at, end - at), (end, b"")]:
+            if start > reached:
+                holes.append((reached, start))
+            found[start - at:start - at + len(piece)] = piece
+            reached = start + len(piece)
+        if holes:
+            self.note_zeros(data, connection, holes)
+        return data.known + bytes(found)
 
-    def stream(self, end, offset, length):
-        """Bytes that an end sent."""
-        for connection in self.case.connections:
-            if end in (connection.client, connection.server):
-                found = connection.bytes_of(end, offset, length)
-                if found:
-                    return found
-        return b""
+    def note_zeros(self, data, connection, holes):
+        """Bytes that no capture has. They may stand in a call that sends on a connection which was reset: some may never have been sent."""
+        place = "byte {} of " + shown(data.end)
+        if not data.sends or not connection.was_reset():
+            raise Problem(f"{place.format(holes[0][0] + 1)} is neither in the log nor in the capture",
+                          "record until the connection has ended, and with strace -s 1048576 -xx; no log has the bytes of sendfile and splice")
+        sent = connection.was_sent(data.end)
+        if holes[0][0] < sent:
+            self.notes.change("calls with bytes that were sent and that the capture lost, written as zeros", place.format(holes[0][0] + 1))
+        if sent < holes[-1][1]:
+            first = max(sent, holes[-1][0]) + 1
+            self.notes.change("calls with bytes that a reset left unsent as far as the captures show, written as zeros", place.format(first))
 
     # Segments.
 

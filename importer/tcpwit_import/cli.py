@@ -11,7 +11,7 @@ from .captures import read_capture, shown
 from .cases import Case, Writer
 from .clocks import SAME, bounds_of, clock_of, refuse_distant, said
 from .connections import connections_of, refuse_gaps
-from .problem import Notes, Problem, status_of
+from .problem import Notes, Parser, Problem, named_file, say, status_of, write_file
 from .strace_log import read_log
 
 DESCRIPTION = """Makes traces for tcpwit of programs that nobody changed, from captures and logs of their system calls.
@@ -28,16 +28,16 @@ The status is 0 for a yes at the word of --congestion (else full) or a stricter 
 
 def parser():
     """The command's words."""
-    words = argparse.ArgumentParser(prog="tcpwit-import", description=DESCRIPTION, formatter_class=argparse.RawDescriptionHelpFormatter)
+    words = Parser(prog="tcpwit-import", description=DESCRIPTION, formatter_class=argparse.RawDescriptionHelpFormatter)
     words.add_argument("--capture", nargs=2, action="append", metavar=("HOST", "FILE"), default=[], help="a capture of a host")
     words.add_argument("--calls", nargs=2, action="append", metavar=("HOST", "FILE"), default=[], help="a log of a host's calls")
     words.add_argument("--zero", action="append", metavar="ADDRESS", default=[], help="only connections of this address of host 0")
     words.add_argument("--one", action="append", metavar="ADDRESS", default=[], help="only connections of this address of host 1")
     words.add_argument("--each", choices=("pair", "connection"), default="pair",
                        help="a trace for each pair of hosts, or for each connection (default: pair)")
-    words.add_argument("--out", metavar="PATH", help="the file of the trace, or a folder for several; they are judged")
+    words.add_argument("--out", type=named_file, metavar="PATH", help="the file of the trace, or a folder for several; they are judged")
     words.add_argument("--no-check", action="store_true", help="write the trace to --out, and judge nothing")
-    words.add_argument("--lab", metavar="PATH", help="the program tcpwit_lab, which judges")
+    words.add_argument("--lab", type=named_file, metavar="PATH", help="the program tcpwit_lab, which judges")
     words.add_argument("--keep-gaps", action="store_true", help="take captures that lost packets, and logs that lack sends")
     words.add_argument("--skip-begun", action="store_true", help="leave out connections whose beginning a capture lacks")
     words.add_argument("--quiet", action="store_true", help="say errors alone")
@@ -120,14 +120,15 @@ def run(options, notes):
     for host in sorted(logs, key=str):
         own = [names[None if None in names else host]] if None in names or host in names else []
         endpoints += HostCalls(host, connections, own, notes).run(read_log(logs[host]))
+    if not endpoints:
+        raise Problem(f"{', '.join(name for files in logs.values() for name in files)}: no TCP call",
+                      "start strace with the programs, with -f, and trace %network, read, write and close too")
     hosts = 2 if len(logs) == 2 or None in logs else 1
     return make_traces(options, notes, names, connections, endpoints, hosts)
 
 
 def make_traces(options, notes, names, connections, endpoints, hosts):
     """The lines of each trace by its name."""
-    if not endpoints:
-        raise Problem("no TCP call is in the logs", "start strace with the programs, with -f, and trace %network, read, write and close too")
     connections = chosen_connections(options, notes, connections, endpoints, hosts, names)
     if not options.keep_gaps:
         refuse_gaps(connections)
@@ -263,8 +264,7 @@ def write(options, traces):
         files = {name: options.out for name in traces if options.out}
     for name, lines in traces.items():
         if name in files:
-            with open(files[name], "w", encoding="ascii") as file:
-                file.writelines(lines)
+            write_file(files[name], map(str.encode, lines))
         else:
             sys.stdout.writelines(lines)
             sys.stdout.flush()
@@ -278,7 +278,7 @@ def import_and_judge(options):
     files = write(options, run(options, notes))
     if not options.quiet:
         for line in notes.lines():
-            print(f"tcpwit-import: {line}", file=sys.stderr)
+            say("tcpwit-import", line)
     return judging.judge_all(program, files, options.congestion) if program else 0
 
 

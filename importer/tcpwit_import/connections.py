@@ -61,27 +61,52 @@ class Connection:
         return any(packet.flags & RST for packet in self.packets())
 
     def bytes_of(self, end, offset, length):
-        """What this end sent from an offset of its stream on, as far as a capture has it."""
-        if end not in self._streams:
-            self._streams[end] = self._stream(end)
-        return bytes(self._streams[end][offset:offset + length])
+        """What this end sent from an offset of its stream on, as far as captures have it without a gap."""
+        start, stream = next(self.spans(end), (0, b""))
+        return bytes(stream[offset:offset + length]) if start == 0 else b""
 
-    def _stream(self, end):
-        """All bytes from the first on that an end sent, up to the first gap."""
+    def pieces(self, end, offset, length):
+        """What captures have of these bytes: the pieces with their offsets, in their order."""
+        for start, stream in self.spans(end):
+            piece = bytes(stream[max(0, offset - start):max(0, offset + length - start)])
+            if piece:
+                yield max(start, offset), piece
+
+    def was_sent(self, end):
+        """Up to where the bytes of an end were sent: the other end acknowledged them, or captures have later ones."""
+        first = self.initial.get(end)
+        seen = max((start + len(stream) for start, stream in self.spans(end)), default=0)
+        acknowledged = 0 if first is None else self._acknowledged(end, first, self.packets())
+        return max(seen, acknowledged if acknowledged < WRAP // 2 else 0)
+
+    def spans(self, end):
+        """All bytes that an end sent, as far as captures have them: the offset and the bytes of each span without a gap."""
+        if end not in self._streams:
+            self._streams[end] = self._spans(end)
+        return iter(self._streams[end])
+
+    def _spans(self, end):
         first = self.initial.get(end)
         if first is None:
-            return b""
+            return []
         pieces = {}
         for packet in self.packets():
-            if packet.source == end and packet.payload:
-                offset = (packet.number + bool(packet.flags & SYN) - first - 1) % WRAP
+            offset = (packet.number + bool(packet.flags & SYN) - first - 1) % WRAP
+            # What begins before the first byte is a keep-alive, or an old duplicate.
+            if packet.source == end and packet.payload and offset < WRAP // 2:
                 pieces[offset] = max(pieces.get(offset, b""), packet.payload, key=len)
-        stream = bytearray()
+        spans = []
         for offset in sorted(pieces):
-            if offset > len(stream):
-                break
-            stream += pieces[offset][len(stream) - offset:]
-        return stream
+            if not spans or offset > spans[-1][0] + len(spans[-1][1]):
+                spans.append((offset, bytearray()))
+            start, stream = spans[-1]
+            stream += pieces[offset][start + len(stream) - offset:]
+        return spans
+
+    def _acknowledged(self, end, first, packets):
+        """Up to where these packets of the other end acknowledge the bytes, and the FIN, of an end. Those of a reset don't count."""
+        return max(((packet.acknowledgment - first - 1) % WRAP for packet in packets
+                    if packet.source == self.other(end) and packet.flags & (ACK | RST) == ACK), default=0)
 
     def gap(self, capture):
         """Which acknowledged bytes a capture doesn't have: the end that sent them, and the first of them; None if it has all."""
@@ -90,8 +115,7 @@ class Connection:
             if first is None:
                 continue
             reached = self._reached(capture, end, first)
-            acknowledged = max(((packet.acknowledgment - first - 1) % WRAP for packet in self.seen[capture]
-                                if packet.source == self.other(end) and packet.flags & (ACK | RST) == ACK), default=0)
+            acknowledged = self._acknowledged(end, first, self.seen[capture])
             if reached < acknowledged < WRAP // 2:
                 return end, reached
         return None

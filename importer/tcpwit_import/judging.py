@@ -5,7 +5,7 @@ import subprocess
 import sys
 
 from .header import FULL
-from .problem import Problem
+from .problem import Problem, decoded, not_run, plain, write_file
 
 TOP = os.path.dirname(os.path.dirname(os.path.dirname(os.path.realpath(__file__))))
 NAME, VARIABLE = "tcpwit_lab", "TCPWIT_LAB"
@@ -16,17 +16,18 @@ YES, NO, FAULTY = range(3)
 def lab(option):
     """The program tcpwit_lab: by the option, the environment's TCPWIT_LAB, the PATH, or the one that ./tcpwit_lab runs."""
     place = option or os.environ.get(VARIABLE)
-    if place and not (os.path.isfile(place) and os.access(place, os.X_OK)):
-        raise Problem(f"{place} is no program that can be run", NAME_IT)
+    if place and (cause := not_run(place)):
+        raise Problem(f"{place}: {cause}", NAME_IT)
     found = place or shutil.which(NAME) or kept()
     if found is None:
         raise Problem(f"{NAME} is not in the PATH, and not built in this repository",
-                      f"install the package (packaging/README.md), or name it by --lab or {VARIABLE}; --no-check judges nothing")
+                      f"install the package tcpwit, which has tcpwit and {NAME} (packaging/README.md), or name {NAME} by --lab or {VARIABLE}; "
+                      "--no-check judges nothing")
     found = os.path.abspath(found)
     # A program without `judge` is refused here, and not after a long recording. To `judge` an empty trace is faulty.
     if on_file([found, "judge"], os.devnull).returncode != FAULTY:
         raise Problem(f"{found} doesn't know the word judge",
-                      f"build it again from these sources (docs/RECORDING.md), or name a newer one by --lab or {VARIABLE}")
+                      f"name {NAME} by --lab or {VARIABLE}, not tcpwit; if it is old, build it again from these sources (docs/RECORDING.md)")
     return found
 
 
@@ -51,7 +52,7 @@ def judge_all(program, traces, least=None):
         lines, status = judge(program, trace, least or FULL)
         if len(traces) > 1:
             lines = [f"{name}:"] + ["  " + line for line in lines]
-        print("\n".join(lines), flush=True)
+        print("\n".join(map(plain, lines)), flush=True)
         worst = max(worst, status)
     return worst
 
@@ -62,9 +63,9 @@ def judge(program, trace, least):
         raise Problem(f"{trace} is no file that can be read again", "name a file by --out, or leave the judging out with --no-check")
     folder, name = os.path.split(case_of(trace))
     done = on_file([program, "judge", "--least", least, "--case", "./" + name], trace, folder or ".")
-    lines = done.stdout.decode(errors="replace").splitlines()
+    lines = decoded(done.stdout).splitlines()
     if done.returncode not in (YES, NO):
-        said = "; ".join(lines[:1] + done.stderr.decode(errors="replace").splitlines()[-1:])
+        said = "; ".join(lines[:1] + decoded(done.stderr).splitlines()[-1:])
         remedy = f"read what {NAME} explain says about it" if done.returncode == FAULTY else f"see whether this works: {program} judge < {trace}"
         raise Problem(f"{trace}: {said or ended(done.returncode)}", remedy)
     return lines, done.returncode
@@ -74,8 +75,7 @@ def draw(program, trace):
     """Draws the case of a trace beside it, if it can be drawn."""
     drawn = on_file([program, "draw"], case_of(trace))
     if drawn.returncode == 0:
-        with open(trace.removesuffix(".trace") + ".svg", "wb") as file:
-            file.write(drawn.stdout)
+        write_file(trace.removesuffix(".trace") + ".svg", [drawn.stdout])
 
 
 def on_file(words, name, folder=None):

@@ -1,4 +1,6 @@
-"""What ends a run with an error, and what is left out of a trace."""
+"""What ends a run with an error, what is left out of a trace, and how both are printed."""
+import argparse
+import errno
 import os
 import subprocess
 import sys
@@ -17,6 +19,53 @@ class Problem(Exception):
         return f"{self.cause}\n  {self.remedy}"
 
 
+def decoded(data):
+    """What a program printed, as text; `plain` escapes what is no UTF-8."""
+    return data.decode(errors="surrogateescape")
+
+
+def one_line(data):
+    """What a program printed, as one line."""
+    return "; ".join(line.strip() for line in decoded(data).splitlines() if line.strip())
+
+
+def plain(text):
+    """A text with everything escaped that a terminal may obey: control characters as `\\x1b`, bytes that are no UTF-8 as `\\xff`."""
+    return "".join(letter if letter.isprintable() else escaped(ord(letter)) for letter in text)
+
+
+def escaped(code):
+    """The escape of a character. Python reads a byte that is no UTF-8 as a character from U+DC80 to U+DCFF."""
+    code -= 0xDC00 if 0xDC80 <= code <= 0xDCFF else 0
+    return f"\\x{code:02x}" if code < 0x100 else f"\\u{code:04x}" if code < 0x10000 else f"\\U{code:08x}"
+
+
+def say(command, *lines):
+    """Prints on standard error what a command says: a line, and those that belong to it with an indent."""
+    print(f"{command}: " + "\n  ".join(map(plain, lines)), file=sys.stderr)
+
+
+class Parser(argparse.ArgumentParser):
+    """The words of a command; errors quote them escaped."""
+
+    def error(self, message):
+        super().error(plain(message))
+
+
+def named_file(text):
+    """A type of argparse: a file, a folder or a program."""
+    if not text:
+        raise argparse.ArgumentTypeError("the name is empty")
+    return text
+
+
+def not_run(name):
+    """Why the system runs no program of this path; None if it does."""
+    if os.path.isfile(name) and os.access(name, os.X_OK):
+        return None
+    return os.strerror(errno.EISDIR if os.path.isdir(name) else errno.EACCES if os.path.exists(name) else errno.ENOENT)
+
+
 def status_of(command, act):
     """What `act` returns, the status of a command of this name, or that of its failure; standard error then has the cause and a remedy."""
     try:
@@ -24,21 +73,29 @@ def status_of(command, act):
             raise Problem("standard output is closed", "leave it open, or send it to a file")
         return act()
     except Problem as problem:
-        print(f"{command}: {problem}", file=sys.stderr)
+        say(command, problem.cause, problem.remedy)
     except BrokenPipeError:
         # The reader of a pipe has gone. Python writes what is left at its end, and would fail again.
         os.dup2(os.open(os.devnull, os.O_WRONLY), 1)
     except OSError as error:
-        print(f"{command}: {error.filename or 'standard output'}: {error.strerror}\n  choose a place that can be written", file=sys.stderr)
+        say(command, f"{error.filename or 'standard output'}: {error.strerror}", "choose a place that can be read and written")
     except subprocess.SubprocessError as error:
-        print(f"{command}: {error}\n  see whether the programs can be run", file=sys.stderr)
+        say(command, str(error), "see whether the programs can be run")
     except KeyboardInterrupt:
         return 130
     except Exception as error:
         # Python's own status for it would be that of a no.
-        print(f"{command}: {type(error).__name__}: {error} ({place_of(error)})\n  this is a fault of {command}: report it with the command and its files",
-              file=sys.stderr)
+        say(command, f"{type(error).__name__}: {error} ({place_of(error)})", f"this is a fault of {command}: report it with the command and its files")
     return 2
+
+
+def write_file(name, parts):
+    """Writes a file of these parts, which are bytes. An error of writing or closing has no name by itself."""
+    try:
+        with open(name, "wb") as file:
+            file.writelines(parts)
+    except OSError as error:
+        raise Problem(f"{name}: {error.strerror}", "choose a place that can be written") from error
 
 
 def place_of(error):
@@ -92,7 +149,7 @@ class Progress:
     """A line on standard error, where it is a terminal, that shows how far a file was read."""
 
     def __init__(self, name, size):
-        self.name, self.size, self.shown = name, max(size, 1), -1
+        self.name, self.size, self.shown = plain(name), max(size, 1), -1
         self.terminal = sys.stderr.isatty()
 
     def at(self, place):

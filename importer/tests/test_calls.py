@@ -97,10 +97,31 @@ class Calls(unittest.TestCase):
         talk.send(1, flags=RST)
         self.assertEqual(self.client("sendfile(3, 5, NULL, 7) = 7", "splice(6, NULL, 3, NULL, 2, 0) = 2", talk=talk),
                          ["B send 1 68656c6c6f0000", "E ok 7", "B send 1 0000", "E ok 2"])
-        self.assertTrue(any("never sent" in line for line in self.notes.lines()))
+        self.assertIn("changed: 2 calls with bytes that a reset left unsent as far as the captures show, written as zeros (first: byte 6 of 10.9.0.1:4000)",
+                      self.notes.lines())
         # What was received came in a segment: if none has it, the capture lost it.
         with self.assertRaisesRegex(Problem, "byte 1 of 10.9.0.2:80 is neither"):
             self.client("splice(3, NULL, 6, NULL, 6, 0) = 4", talk=talk)
+
+    def test_zeros_of_bytes_that_the_capture_lost_are_told_apart(self):
+        lost = "sent and that the capture lost, written as zeros (first: byte 3 of"
+        left = "left unsent as far as the captures show, written as zeros (first: byte {} of"
+        for later, answered, told in ((b"", True, [lost, left.format(6)]), (b"", False, [left.format(3)]), (b"rest", False, [lost, left.format(10)])):
+            talk = Talk(at=AT + 2 * 10**7)
+            talk.send(0, payload=b"he")
+            talk.send(0, payload=b"llo")
+            del talk.frames[0][-1], talk.frames[1][-1]
+            if answered:
+                talk.send(1)
+            if later:
+                talk.send(0, payload=later)
+            talk.send(1, flags=RST)
+            sent = (b"he\0\0\0" + later + b"\0\0").hex()
+            size = len(sent) // 2
+            with self.subTest(told):
+                self.assertEqual(self.client(f"sendfile(3, 5, NULL, {size}) = {size}", talk=talk), [f"B send 1 {sent}", f"E ok {size}"])
+                notes = [line for line in self.notes.lines() if "zeros" in line]
+                self.assertEqual([len(notes), *(text in line for text, line in zip(told, notes))], [len(told), *[True] * len(told)], notes)
 
     def test_large_calls_are_told_in_parts(self):
         text = "\\x61" * 100000

@@ -117,6 +117,7 @@ class Captures(unittest.TestCase):
         self.refused(pcapng([(1, 6)], [(0, 0, ethernet(PACKET))], dropped=106), "lost 106 packets")
         self.refused(pcapng([(1, 6)], [(0, 0, ethernet(PACKET))])[:-20], "ends within packet 2")
         self.refused(pcapng([(147, 6)], []), "link type 147")
+        self.refused(pcapng([(1, 6)], []) + struct.pack("<II", 6, 4), "a block of 4 bytes after packet 0")
         pcap(self.name, [(MOMENT, ethernet(PACKET)[:-3])])
         self.refused(None, "22 of its 25 bytes were captured")
         os.remove(self.name)

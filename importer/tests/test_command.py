@@ -146,6 +146,20 @@ class Command(WithFiles):
                 text = file.read()
             self.assertEqual((text.count(" B open "), text.count(" B accept ")), (1, 1))
 
+    def test_each_connection_of_a_server_has_its_own_bytes(self):
+        two = []
+        for port, text in ((4000, b"abc"), (4001, b"xyz")):
+            two.append(Talk(zero=("10.9.0.1", port), at=AT))
+            two[-1].send(1, ACK | PSH, text)
+        for host in (0, 1):
+            two[0].frames[host] += two[1].frames[host]
+        server = SERVER[:4] + [(8, AT - SECOND + 4000, f"accept(3, {address(('10.9.0.1', 4001))}, [16]) = 5"),
+                               (8, AT + 10**7, "sendfile(4, 9, [0] => [3], 3) = 3"), (8, AT + 10**7 + 1000, "sendfile(5, 9, [0] => [3], 3) = 3")]
+        client = CLIENT[:2] + [(9, moment, text) for _, moment, text in CLIENT[:2]]
+        status, out, error = run(*two[0].write(self.folder), *self.write_logs(sorted(client, key=lambda line: line[1]), server))
+        self.assertEqual(status, 0, error)
+        self.assertEqual([line.split()[-1] for line in out.splitlines() if " B send " in line], [b"abc".hex(), b"xyz".hex()])
+
     def test_other_connections_are_left_out(self):
         other = Talk(zero=("10.9.0.1", 5000), one=("10.9.0.9", 22), at=AT)
         whole = talk()
@@ -245,13 +259,21 @@ class Command(WithFiles):
 
     def test_options_that_only_a_pair_has(self):
         for given in (["--loss", "0.1"], ["--delay", "2"], ["--kernel", "plain"], ["--lose", "3"], ["--double", "0"], ["--reorder", "1"], ["--seed", "1"],
-                      ["--wait", "9"]):
+                      ["--wait", "9"], ["--linger", "1"]):
             for form in (["--namespace"], ["--serve"], []):
                 status, out, error = run(*form, *given, "--", "a", command=recording)
                 self.assertEqual((status, out), (2, ""), given)
                 self.assertIn(f"{given[0]} is for two hosts: give --pair or --transfer too", error)
         with mock.patch("os.geteuid", return_value=1000):
-            self.refused(["--transfer", "5", "--loss", "0.1", "--kernel", "shipped"], "need root", recording)
+            self.refused(["--transfer", "5", "--loss", "0.1", "--kernel", "shipped", "--chunk", "2", "--echo"], "need root", recording)
+            self.refused(["--interface", "lo", "--", "a"], "need root", recording)
+
+    def test_options_that_other_forms_have(self):
+        for given in (["--chunk", "5"], ["--echo"]):
+            for form in (["--pair", "b"], ["--namespace"], []):
+                self.assertIn(f"{given[0]} is for --transfer\n", run(*form, *given, "--", "a", command=recording)[2])
+        for form in (["--transfer", "5"], ["--pair", "b", "--", "a"], ["--namespace", "--", "a"]):
+            self.assertIn("--interface is for a program whose peer is elsewhere\n", run("--interface", "lo", *form, command=recording)[2])
 
     def test_git_ignores_the_folders_of_recordings(self):
         with open(os.path.join(os.path.dirname(TOP), ".gitignore"), encoding="ascii") as file:
@@ -262,7 +284,8 @@ class Command(WithFiles):
         with mock.patch("os.geteuid", return_value=1000):
             self.refused(["--transfer", "5"], "need root", recording)
         with mock.patch("os.geteuid", return_value=0):
-            self.refused(["--lab", "/nowhere", "--transfer", "5"], "/nowhere is no program", recording)
+            self.refused(["--lab", "/nowhere", "--transfer", "5"], "/nowhere: No such file or directory", recording)
+            self.refused(["--as", "n\x1bo", "--transfer", "5"], r"--as n\x1bo: no such user", recording)
             self.refused(["--congestion", "none", "--version", "2", "--transfer", "5"], "version 2 of the texts has no line congestion", recording)
             self.refused(["--version", "3", "--transfer", "5"], "version 3 of the texts is for one recorded host", recording)
 
@@ -273,7 +296,48 @@ class Command(WithFiles):
             self.refused(["--no-check", "--transfer", "5"], "not installed: strace, tcpdump, ip, the Python library dpkt\n  " + install + "\n", recording)
             self.refused(["--no-check", "--pair", "a b", "--", "c", "d"], "dpkt, a, c\n  " + install + "; install a, c, or name", recording)
             self.refused(["--no-check", "--", "c", "d"], "not installed: strace, tcpdump, the Python library dpkt, c\n", recording)
+            with mock.patch("tcpwit_import.judging.TOP", self.folder), mock.patch.dict(os.environ):
+                os.environ.pop("TCPWIT_LAB", None)
+                cause = "not installed: strace, tcpdump, the Python library dpkt, c; tcpwit_lab is not in the PATH, and not built in this repository\n"
+                self.refused(["--", "c"], cause, recording)
+                self.refused(["--", "c"], "or name the program as in a shell; install the package tcpwit, which has tcpwit and tcpwit_lab", recording)
         self.assertEqual([name for name in os.listdir(self.folder) if name.startswith("tcpwit-")], [])
+
+    def test_programs_that_cannot_be_run(self):
+        os.mkdir(f"{self.folder}/folder")
+        names = [f"{self.folder}/{name}" for name in ("folder", "s0.log", "none\x1b[2J")]
+        causes = [f"{names[0]}: Is a directory", f"{names[1]}: Permission denied", rf"{self.folder}/none\x1b[2J: No such file or directory"]
+        with mock.patch("os.geteuid", return_value=0), mock.patch("tcpwit_import.recording.cli.PACKAGES", {}):
+            for name, cause in zip(names, causes):
+                self.refused(["--no-check", "--", name], f"tcpwit-record: {cause}\n", recording)
+            self.refused(["--no-check", "--pair", names[0], "--", names[1]], f"tcpwit-record: {causes[0]}; {causes[1]}\n", recording)
+
+    def test_what_is_quoted_is_escaped(self):
+        bad, shown = "\x1b[2J\x9b\udcff", r"\x1b[2J\x9b\xff"
+        self.refused(["--capture", "0", f"/no{bad}", *self.logs[:3]], f"/no{shown}: No such file")
+        self.refused([*self.captures[:3], "--calls", "0", f"/no{bad}"], f"/no{shown}: No such file")
+        self.refused([*self.captures, *self.logs, "--out", f"/no{bad}/x", "--no-check"], f"/no{shown}/x: No such file")
+        self.refused([*self.captures, *self.logs, "--zero", bad], f"{shown} is no address")
+        other = talk()
+        for host in (0, 1):
+            other.frames[host] += Talk(zero=("10.9.0.1", 5000), one=("10.9.0.9", 22), at=AT).frames[host]
+        words = [*other.write(self.folder), *self.logs]
+        os.rename(words[2], f"{self.folder}/c{bad}")
+        words[2] = f"{self.folder}/c{bad}"
+        error = run(*words)[2]
+        self.assertIn(f"/c{shown}, packet", error)
+        for command in (importing, recording):
+            error += run(f"--{bad}", "--transfer", bad, "--skew", bad, command=command)[2]
+        self.assertFalse([letter for letter in error if letter != "\n" and not letter.isprintable()], error)
+
+    def test_names_that_are_empty(self):
+        for option in ("--out", "--lab"):
+            self.assertIn("the name is empty", run(*self.captures, *self.logs, option, "")[2])
+            self.assertIn("the name is empty", run("--transfer", "5", option, "", command=recording)[2])
+
+    def test_a_call_that_cannot_be_read(self):
+        damaged = [(process, moment, text.replace(ONE[0], "10.9\x1b")) for process, moment, text in CLIENT]
+        self.refused([*self.captures, *self.write_logs(damaged, SERVER)], r"s0.log, line 2: the words of connect can't be read ('10.9\x1b' does not")
 
     def test_the_programs_themselves(self):
         done = subprocess.run([os.path.join(TOP, "tcpwit-import")], capture_output=True, text=True, timeout=100, check=False)

@@ -5,6 +5,7 @@ import subprocess
 from unittest import mock
 
 from tcpwit_import import judging
+from tcpwit_import.problem import plain
 from tcpwit_import.recording.cli import Recording
 from tcpwit_import.recording.cli import main as recording
 from tcpwit_import.recording.running import Traced
@@ -102,13 +103,15 @@ class Judging(test_command.WithFiles):
         words = [*self.captures, *self.logs, "--quiet", "--out", f"{self.folder}/run.trace"]
         with open(f"{self.folder}/text", "w", encoding="ascii") as file:
             file.write("no program")
-        self.refused([*words, "--lab", f"{self.folder}/text"], "text is no program")
-        self.refused([*words, "--lab", self.folder], "is no program")
+        self.refused([*words, "--lab", f"{self.folder}/text"], "/text: Permission denied\n")
+        self.refused([*words, "--lab", self.folder], f"{self.folder}: Is a directory\n")
+        self.refused([*words, "--lab", "/nowhere"], "/nowhere: No such file or directory\n")
         os.chmod(f"{self.folder}/text", 0o755)
         self.refused([*words, "--lab", f"{self.folder}/text"], "text: Exec format error")
         with mock.patch.dict(os.environ, {"PATH": self.folder}), mock.patch.object(judging, "TOP", self.folder):
             os.environ.pop(judging.VARIABLE, None)
             self.refused(words, "tcpwit_lab is not in the PATH")
+            self.refused(words, "install the package tcpwit, which has tcpwit and tcpwit_lab")
             os.symlink(self.lab(LINES)[1], f"{self.folder}/tcpwit_lab")
             self.assertEqual(judging.lab(None), f"{self.folder}/tcpwit_lab")
         with mock.patch.dict(os.environ, {judging.VARIABLE: f"{self.folder}/lab"}):
@@ -133,9 +136,9 @@ class Judging(test_command.WithFiles):
         self.assertEqual(self.text("kept/run.trace")[:8], "trace 2\n")
 
     def test_a_program_that_failed_is_named_with_the_verdict(self):
-        for status, said in ((0, None), (22, "curl ended with status 22"), (-11, "curl was ended by SIGSEGV")):
+        for status, said in ((0, None), (22, "curl\x1b[2J ended with status 22"), (-11, "curl\x1b[2J was ended by SIGSEGV")):
             program = Traced.__new__(Traced)
-            program.words, program.process = ["curl", "http://10.9.0.2/"], mock.Mock(returncode=status)
+            program.words, program.process = ["curl\x1b[2J", "http://10.9.0.2/"], mock.Mock(returncode=status)
             with mock.patch.object(Traced, "logged", return_value=b"a call"), \
                     mock.patch("tcpwit_import.recording.cli.congestion_control", return_value="cubic"):
                 kept = Recording(mock.Mock(out=f"{self.folder}/kept", seconds=None))
@@ -145,7 +148,8 @@ class Judging(test_command.WithFiles):
             self.assertEqual(kept.remarks, [kernel, said] if said else [kernel])
             with mock.patch("tcpwit_import.recording.cli.Recording", return_value=kept):
                 error = self.recorded(*self.lab(LINES))[2]
-            self.assertEqual([line for line in kept.remarks if f"tcpwit-record: {line}\n" in error], kept.remarks)
+            self.assertEqual([line for line in kept.remarks if f"tcpwit-record: {plain(line)}\n" in error], kept.remarks)
+            self.assertNotIn("\x1b", error)
         # A program that --seconds ended didn't fail.
         program.process.wait.side_effect = subprocess.TimeoutExpired("curl", 1)
         with mock.patch.object(Traced, "logged", return_value=b"a call"):
@@ -163,13 +167,29 @@ class Judging(test_command.WithFiles):
         self.assertEqual(self.recorded(*self.lab(LINES))[:2], (2, ""))
 
     def test_a_recording_whose_lines_cannot_be_printed(self):
-        full = "standard output: No space left on device\n  choose a place that can be written\n"
+        full = "standard output: No space left on device\n  choose a place that can be read and written\n"
         for number, said in ((errno.EPIPE, []), (errno.ENOSPC, [full])):
             error = OSError(number, os.strerror(number))
             with self.subTest(error), mock.patch("tcpwit_import.judging.judge_all", side_effect=error), mock.patch("os.dup2"):
                 status, out, shown = self.recorded(*self.lab(LINES))
                 self.assertEqual((status, out), (2, ""))
                 self.assertEqual(shown.split("tcpwit-record: ")[2:], said)
+
+    def test_what_a_program_prints_is_escaped(self):
+        status, out, error = self.importing(*self.lab("full no 9 \x1b[2J\x7f\xff\n".encode("latin-1").decode("ascii", "ignore"), "printf '\\377\\n'; exit 1"))
+        self.assertEqual((status, out), (1, "full no 9 \\x1b[2J\\x7f\n\\xff\n"), error)
+        words = [*self.captures, *self.logs, "--quiet", "--out", f"{self.folder}/run.trace"]
+        self.refused([*words, *self.lab("bad\x1b[2J\n", "printf 'a\\233b\\n' >&2; exit 5")], r"run.trace: bad\x1b[2J; a\x9bb")
+
+    def test_a_file_that_cannot_be_written_is_named(self):
+        words = [*self.captures, *self.logs, "--quiet", *self.lab(LINES)]
+        self.refused([*words, "--out", "/dev/full"], "/dev/full: No space left on device\n")
+        self.refused([*words, "--out", f"{self.folder}/s0.log/run.trace"], "s0.log/run.trace: Not a directory\n")
+        os.mkdir(f"{self.folder}/kept")
+        os.symlink("/dev/full", f"{self.folder}/kept/run.svg")
+        status, out, error = self.recorded(*self.lab(LINES))
+        self.assertEqual((status, out), (2, LINES))
+        self.assertIn("kept/run.svg: No space left on device\n  choose a place that can be written\n", error)
 
     def test_a_recording_that_is_not_judged(self):
         self.assertEqual(self.recorded("--no-check", "--lab", "/nowhere")[:2], (0, ""))

@@ -1,11 +1,12 @@
 """What the recorder knows of the programs that it runs."""
 import contextlib
 import os
+import tempfile
 import unittest
 from unittest import mock
 
 from tcpwit_import.problem import Problem
-from tcpwit_import.recording import running
+from tcpwit_import.recording import cli, running
 from tcpwit_import.recording.namespaces import Namespace
 
 HEAD = "  sl  local_address rem_address   st tx_queue rx_queue tr tm->when retrnsmt   uid  timeout inode\n"
@@ -33,6 +34,16 @@ class Running(unittest.TestCase):
         for tables in ({"tcp": HEAD + LISTENER, "tcp6": ""}, {"tcp": HEAD, "tcp6": HEAD + LISTENER}):
             self.server(tables, log).wait_for_listener(0)
 
+    def test_a_program_that_the_system_refuses(self):
+        refused = b'8 execve("\\x61", ["\\x61"], 0x7ffc /* 35 vars */) = -1 ENOEXEC (Exec format error)\n7  5.9 +++ exited with 1 +++\n'
+        # A process has at least five columns, and a space after them.
+        for log in (b"7     5." + refused, b"70000 5." + refused):
+            with self.assertRaisesRegex(Problem, "^server: Exec format error\n"):
+                self.server({}, log).refuse_failed_start()
+        with self.assertRaisesRegex(Problem, "^host1.log: no call of server was logged\n"):
+            self.server({}, b"").refuse_failed_start()
+        self.server({}, b'7     5.8 execve("\\x61", ["\\x61"], 0x7ffc /* 35 vars */) = 0\n').refuse_failed_start()
+
     def test_daemons_of_the_namespace_are_ended_too(self):
         server = self.server({}, b"")
         server.process.pid = 5
@@ -42,6 +53,28 @@ class Running(unittest.TestCase):
             self.assertEqual(server.running(), {6, 8})
             server.namespace = None
             self.assertEqual(server.running(), {6})
+
+    def test_reading_what_tcpdump_printed_moves_nothing(self):
+        capture = running.Capture.__new__(running.Capture)
+        with tempfile.TemporaryFile() as capture.errors:
+            number = capture.errors.fileno()
+            os.write(number, b"tcpdump: ")
+            os.lseek(number, 4, os.SEEK_SET)
+            self.assertEqual((capture.said(), os.lseek(number, 0, os.SEEK_CUR)), (b"tcpdump: ", 4))
+
+    def test_frames_stop_before_a_capture_ends(self):
+        events = mock.Mock()
+        options = mock.Mock(out=None, transfer=5, pair=None, chunk=5, echo=False, seconds=None, linger=0, wait=1)
+        with tempfile.TemporaryDirectory() as options.out, mock.patch.multiple(
+                cli, joined_pair=mock.Mock(return_value=(mock.Mock(), [mock.MagicMock(), mock.MagicMock()])), Chances=mock.Mock(),
+                Carrier=mock.Mock(return_value=events.carrier), Capture=mock.Mock(return_value=events.capture), Traced=mock.Mock(return_value=events.program)):
+            events.carrier.fault = None
+            cli.Recording(options).pair()
+        names = [call[0] for call in events.mock_calls]
+        last_program = len(names) - names[::-1].index("program.stop")
+        self.assertEqual(names.count("capture.stop"), 2)
+        self.assertLess(last_program, names.index("capture.stop"))
+        self.assertLess(names.index("carrier.stop"), names.index("capture.stop"))
 
     def test_the_processes_of_a_namespace(self):
         own = Namespace.__new__(Namespace)

@@ -7,6 +7,8 @@ import socket
 import threading
 import time
 
+from ..problem import Problem
+
 try:
     import dpkt
 except ImportError:
@@ -20,6 +22,18 @@ VNET_HEADER = 10
 LARGEST = 1 << 17
 
 
+def raw_socket(name):
+    """A socket for the frames of an interface."""
+    try:
+        end = socket.socket(socket.AF_PACKET, socket.SOCK_RAW, socket.htons(ALL))
+        end.setsockopt(SOL_PACKET, PACKET_VNET_HDR, 1)
+        end.setsockopt(socket.SOL_SOCKET, socket.SO_RCVBUF, 1 << 24)
+        end.bind((name, ALL))
+    except OSError as error:
+        raise Problem(f"a raw socket at {name}: {error.strerror}", "this needs root, and in a container the capability NET_RAW") from error
+    return end
+
+
 class Carrier:
     """A thread that carries frames. Its losses are by chance, or name the client's segments with data, counted from 1."""
 
@@ -29,16 +43,12 @@ class Carrier:
         self.ends = []
         with between.inside():
             for name in ("c0", "c1"):
-                end = socket.socket(socket.AF_PACKET, socket.SOCK_RAW, socket.htons(ALL))
-                end.setsockopt(SOL_PACKET, PACKET_VNET_HDR, 1)
-                end.setsockopt(socket.SOL_SOCKET, socket.SO_RCVBUF, 1 << 24)
-                end.bind((name, ALL))
-                self.ends.append(end)
+                self.ends.append(raw_socket(name))
         self.thread = threading.Thread(target=self.carry, daemon=True)
         self.thread.start()
 
     def stop(self):
-        """Ends the thread."""
+        """Ends the thread; frames that are in transit are lost."""
         self.stopped = True
         self.thread.join()
         for end in self.ends:

@@ -2,6 +2,7 @@
 import argparse
 import contextlib
 import os
+import pwd
 import shlex
 import shutil
 import signal
@@ -12,7 +13,7 @@ from typing import NamedTuple
 from .. import cli as importing
 from .. import header as headers
 from .. import judging
-from ..problem import Notes, Problem, status_of
+from ..problem import Notes, Parser, Problem, named_file, not_run, say, status_of, write_file
 from .carrier import Carrier, dpkt
 from .namespaces import ADDRESSES, ADDRESSES_6, Namespace, congestion_control, joined_pair
 from .running import Capture, Traced
@@ -28,17 +29,20 @@ DESCRIPTION = f"""Records a program's TCP, makes a trace of it, and judges it.
 
 Capturing and network namespaces need root; the programs run as the user who called sudo. Nothing outside the namespaces is changed.
 tcpwit-record prints the lines of tcpwit_lab judge: how much of congestion control may be judged for a yes. What the programs print
-goes to standard error. Captures, logs, trace, case and picture stay in the folder --out.
+goes to standard error, unchanged. Captures, logs, trace, case and picture stay in the folder --out.
 
 The status is 0 for a yes at the word of --congestion (else full) or a stricter one, 1 if no such word has a yes, 2 for an error."""
 
 
+NAME = "tcpwit-record"
 # The name of a new folder, which .gitignore knows.
 FOLDER = "tcpwit-%Y%m%d-%H%M%S"
 # Programs that the recorder runs, with their packages.
 PACKAGES = {"strace": "strace", "tcpdump": "tcpdump", "ip": "iproute2"}
-# What only a pair has, with the defaults.
-OF_A_PAIR = {"kernel": headers.KERNEL, "wait": 10, "delay": 2, "loss": 0, "lose": frozenset(), "double": 0, "reorder": 0, "seed": 1}
+# What only a pair has, or only --transfer, or only a program whose peer is elsewhere, with the defaults.
+OF_A_PAIR = {"kernel": headers.KERNEL, "wait": 10, "linger": 1, "delay": 2, "loss": 0, "lose": frozenset(), "double": 0, "reorder": 0, "seed": 1}
+OF_A_TRANSFER = {"chunk": 60000, "echo": False}
+OF_ONE_HOST = {"interface": "any"}
 
 
 class Chances(NamedTuple):
@@ -74,7 +78,7 @@ def numbers(text):
 
 def parser():
     """The command's words."""
-    words = argparse.ArgumentParser(prog="tcpwit-record", description=DESCRIPTION, formatter_class=argparse.RawDescriptionHelpFormatter,
+    words = Parser(prog=NAME, description=DESCRIPTION, formatter_class=argparse.RawDescriptionHelpFormatter,
                                     usage="tcpwit-record [options] -- PROGRAM WORDS ..")
     form = words.add_mutually_exclusive_group()
     form.add_argument("--pair", metavar="SERVER", help="a server, with its words, in one argument; PROGRAM is the client")
@@ -82,10 +86,10 @@ def parser():
     form.add_argument("--namespace", action="store_true", help="PROGRAM is both hosts, on a loopback of its own")
     words.add_argument("--serve", action="store_true", help="PROGRAM is a server: it runs until it is interrupted, or for --seconds")
     words.add_argument("--seconds", type=within(0.1, 86400), metavar="N", help="end the program after this time")
-    words.add_argument("--interface", default="any", metavar="IF", help="where a half case is captured (default: any)")
-    words.add_argument("--out", metavar="DIR", help="the folder of all files (default: a new one, tcpwit-TIME)")
+    words.add_argument("--interface", metavar="IF", help="where a half case is captured (default: any)")
+    words.add_argument("--out", type=named_file, metavar="DIR", help="the folder of all files (default: a new one, tcpwit-TIME)")
     words.add_argument("--no-check", action="store_true", help="record and import only")
-    words.add_argument("--lab", metavar="PATH", help="the program tcpwit_lab, which judges")
+    words.add_argument("--lab", type=named_file, metavar="PATH", help="the program tcpwit_lab, which judges")
     words.add_argument("--kernel", choices=("plain", "shipped"),
                        help=f"a pair's kernel settings: without what other RFCs add (plain), or as they are (default: {headers.KERNEL})")
     words.add_argument("--congestion", choices=headers.WORDS["congestion"], help=headers.HELP["congestion"])
@@ -93,7 +97,7 @@ def parser():
                        help="of the texts (default: 2 for two hosts, 3 for one; 4 with --congestion)")
     words.add_argument("--as", dest="user", metavar="USER", help="whose the programs are (default: who called sudo)")
     words.add_argument("--wait", type=within(0.1, 600), metavar="N", help="seconds until a pair's server has to listen (default: 10)")
-    words.add_argument("--linger", type=within(0, 600), default=1, metavar="N", help="seconds that a server lasts after the client")
+    words.add_argument("--linger", type=within(0, 600), metavar="N", help="seconds that a pair's server lasts after the client (default: 1)")
     way = words.add_argument_group("the way between a pair")
     way.add_argument("--delay", type=within(0, 10000), metavar="MS", help="of each frame (default: 2)")
     way.add_argument("--loss", type=within(0, 1), metavar="SHARE", help="of segments that are lost, by chance")
@@ -102,14 +106,14 @@ def parser():
     way.add_argument("--reorder", type=within(0, 1), metavar="SHARE", help="of segments that take twice the time")
     way.add_argument("--seed", type=importing.number_within(0, 2**63), metavar="N", help="of the chances")
     own = words.add_argument_group("--transfer")
-    own.add_argument("--chunk", type=importing.number_within(1, 10**8), default=60000, metavar="N", help="how many bytes are sent at once")
-    own.add_argument("--echo", action="store_true", help="the server sends back what it gets")
+    own.add_argument("--chunk", type=importing.number_within(1, 10**8), metavar="N", help="how many bytes are sent at once (default: 60000)")
+    own.add_argument("--echo", action="store_true", default=None, help="the server sends back what it gets")
     words.add_argument("program", nargs="*", help=argparse.SUPPRESS)
     return words
 
 
 def check_words(words, options):
-    """What argparse can't say of the words; then the defaults of what only a pair has."""
+    """What argparse can't say of the words; then the defaults of what only some forms have."""
     if bool(options.program) == bool(options.transfer):
         words.error("give --transfer, or a program after --")
     if options.serve and (options.pair or options.transfer or options.namespace):
@@ -119,11 +123,19 @@ def check_words(words, options):
             words.error("--pair names no server")
     except ValueError:
         words.error(f"--pair {options.pair!r} has a quotation mark without its second")
-    for name, default in OF_A_PAIR.items():
+    is_pair = options.pair is not None or options.transfer
+    complete(words, options, OF_A_PAIR, is_pair, "for two hosts: give --pair or --transfer too")
+    complete(words, options, OF_A_TRANSFER, options.transfer, "for --transfer")
+    complete(words, options, OF_ONE_HOST, not is_pair and not options.namespace, "for a program whose peer is elsewhere")
+
+
+def complete(words, options, defaults, are_used, cause):
+    """Gives options their defaults; those that aren't used may not be given."""
+    for name, default in defaults.items():
         if getattr(options, name) is None:
             setattr(options, name, default)
-        elif options.pair is None and not options.transfer:
-            words.error(f"--{name} is for two hosts: give --pair or --transfer too")
+        elif not are_used:
+            words.error(f"--{name} is {cause}")
 
 
 class Recording:
@@ -165,12 +177,17 @@ class Recording:
         if name := congestion_control():
             self.remarks.append(f"the kernel's congestion control is {name}")
 
-    def end(self, seconds=0.0):
-        """Ends the programs, then the captures."""
+    def end(self, seconds=0.0, carrier=None):
+        """Ends the programs, then the carrier, then the captures: one that ended earlier would lack what the other shows as received."""
         for program in self.programs:
             program.stop(seconds)
+        for capture in self.captures:
+            capture.wait()
+        if carrier:
+            carrier.stop()
         captures, self.captures = self.captures, []
         for capture in captures:
+            capture.wait()
             capture.stop()
 
     def abandon(self):
@@ -197,7 +214,7 @@ class Recording:
             client = self.program(client_words, "host0.log", hosts[0])
             self.finish(client)
             client.stop(0)
-            self.end(options.linger)
+            self.end(options.linger, carrier)
         finally:
             carrier.stop()
         if carrier.fault:
@@ -215,7 +232,7 @@ class Recording:
         self.capture("lo" if options.namespace else options.interface, "run.pcap", namespace)
         program = self.program(options.program, "run.log", namespace)
         if options.serve:
-            print("tcpwit-record: recording until interrupted", file=sys.stderr)
+            say(NAME, "recording until interrupted")
         try:
             self.finish(program)
         except KeyboardInterrupt:
@@ -250,10 +267,35 @@ def refuse_missing(options):
         missing["the Python library dpkt"] = "python3-dpkt"
     commands = pair_words(options) if options.pair or options.transfer else [options.program]
     unknown = [name for name in dict.fromkeys(words[0] for words in commands) if shutil.which(name) is None]
+    named = [f"{name}: {not_run(name)}" for name in unknown if "/" in name]
+    unknown = [name for name in unknown if "/" not in name]
+    causes = [f"not installed: {', '.join([*missing, *unknown])}"] if missing or unknown else []
     remedies = [f"install them: apt-get install {' '.join(missing.values())}"] if missing else []
     remedies += [f"install {', '.join(unknown)}, or name the program as in a shell"] if unknown else []
+    remedies += ["name a program that can be run"] if named else []
     if remedies:
-        raise Problem(f"not installed: {', '.join([*missing, *unknown])}", "; ".join(remedies))
+        raise Problem("; ".join(causes + named), "; ".join(remedies))
+
+
+def refuse_unknown_user(options):
+    """A user whom the system doesn't know can't run the programs."""
+    try:
+        pwd.getpwnam(options.user or "root")
+    except KeyError as error:
+        raise Problem(f"--as {options.user}: no such user", "name a user of this system") from error
+
+
+def program_that_judges(options):
+    """The program tcpwit_lab, or None if nothing is judged. What else is missing is named with it, apart."""
+    problems, program = [], None
+    for check in (lambda: refuse_missing(options), lambda: None if options.no_check else judging.lab(options.lab)):
+        try:
+            program = check()
+        except Problem as problem:
+            problems.append(problem)
+    if problems:
+        raise Problem("; ".join(problem.cause for problem in problems), "; ".join(problem.remedy for problem in problems))
+    return program
 
 
 def recorded(options, recording):
@@ -272,8 +314,7 @@ def written(recording, traces):
         folder = recording.folder if len(traces) == 1 else recording.file(importing.file_name(name))
         os.makedirs(folder, exist_ok=True)
         files[name] = os.path.join(folder, "run.trace")
-        with open(files[name], "w", encoding="ascii") as file:
-            file.writelines(lines)
+        write_file(files[name], map(str.encode, lines))
     return files
 
 
@@ -282,22 +323,22 @@ def record(options):
     if os.geteuid() != 0:
         raise Problem("captures and network namespaces need root", "sudo tcpwit-record ..: the program itself runs as you")
     words = header_words(options)
-    program = None if options.no_check else judging.lab(options.lab)
-    refuse_missing(options)
+    refuse_unknown_user(options)
+    program = program_that_judges(options)
     recording = Recording(options)
     notes = Notes()
     files = recorded(options, recording)
     # A program that failed may be why the import fails.
     for remark in recording.remarks:
-        print(f"tcpwit-record: {remark}", file=sys.stderr)
+        say(NAME, remark)
     traces = importing.run(importing.parser().parse_args(files + words), notes)
     for line in notes.lines():
-        print(f"tcpwit-record: {line}", file=sys.stderr)
+        say(NAME, line)
     files = written(recording, traces)
     status = judging.judge_all(program, files, options.congestion) if program else 0
     for trace in files.values() if program else ():
         judging.draw(program, trace)
-    print(f"tcpwit-record: all files are in {recording.folder}", file=sys.stderr)
+    say(NAME, f"all files are in {recording.folder}")
     return status
 
 
@@ -308,4 +349,4 @@ def main(given=None):
     check_words(words, options)
     # Whoever ends this program ends what it started too.
     signal.signal(signal.SIGTERM, lambda *_: sys.exit(143))
-    return status_of("tcpwit-record", lambda: record(options))
+    return status_of(NAME, lambda: record(options))

@@ -7,7 +7,7 @@ import socket
 import struct
 import subprocess
 
-from ..problem import Problem
+from ..problem import Problem, one_line
 
 NEW_NETWORK = 0x40000000
 SIOCETHTOOL = 0x8946
@@ -75,11 +75,11 @@ class Namespace:
 def run(*words, files=()):
     """Runs a command of the system; what it says is the cause if it fails."""
     try:
-        done = subprocess.run(words, capture_output=True, text=True, check=False, pass_fds=files)
+        done = subprocess.run(words, capture_output=True, check=False, pass_fds=files)
     except FileNotFoundError as error:
         raise Problem(f"{words[0]} is not installed", "install it: apt-get install iproute2") from error
     if done.returncode:
-        raise Problem(f"{' '.join(words)}: {done.stderr.strip() or done.returncode}", "see whether this kernel has veth interfaces (modprobe veth)")
+        raise Problem(f"{' '.join(words)}: {one_line(done.stderr) or done.returncode}", "see whether this kernel has veth interfaces (modprobe veth)")
 
 
 def setting(name, value):

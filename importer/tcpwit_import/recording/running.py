@@ -8,13 +8,22 @@ import tempfile
 import time
 
 from ..captures import BUFFER
-from ..problem import Problem
+from ..problem import Problem, one_line
 
 CALLS = ("%network,read,write,readv,writev,?preadv2,?pwritev2,close,?close_range,dup,?dup2,dup3,fcntl,sendfile,splice,"
          "clone,?clone3,?fork,?vfork,execve,?execveat,exit,exit_group,?io_uring_setup")
 STRACE = ["strace", "-f", "--seccomp-bpf", "--absolute-timestamps=format:unix,precision:ns", "-xx", "-s", "1048576", "-e", "trace=" + CALLS]
 # All three flags of the buffer together: with fewer packets are lost, or are still in a buffer at the end.
 TCPDUMP = ["tcpdump", "-n", "-s", "0", "-B", "65536", "--immediate-mode", "-U", "--time-stamp-precision=nano"]
+# Seconds that tcpdump has to begin in.
+START = 10
+# What helps, by what tcpdump says.
+REMEDIES = (("permission to ", "capturing needs root, and in a container the capability NET_RAW"),
+            ("No space left", "free some space, or name another folder by --out"),
+            ("No such device", "tcpdump -D lists the interfaces; name one by --interface, or leave it out"))
+OTHER_REMEDY = "see whether tcpdump can capture there by itself: tcpdump -i INTERFACE -w FILE"
+# The first line of the log of a program that the system refuses, and why it does.
+FAILED_START = re.compile(rb"\d+ +[\d.]+ execve\(.*= -1 \w+ \((.*)\)\n")
 # The columns of /proc/net/tcp, and the state of a socket that listens.
 STATE, LISTENS = 3, "0A"
 
@@ -38,24 +47,33 @@ class Capture:
         words = [*TCPDUMP, *own, "-i", interface, "-w", file, "tcp"]
         self.process = started(words, "tcpdump", stdin=subprocess.DEVNULL, stdout=subprocess.DEVNULL, stderr=self.errors,
                                preexec_fn=namespace.enter if namespace else None)
-        until = time.monotonic() + 10
+        until = time.monotonic() + START
         while b"listening on" not in self.said():
             if self.process.poll() is not None or time.monotonic() > until:
                 self.process.kill()
-                cause = self.said().decode(errors="replace").strip().splitlines() or ["nothing"]
-                raise Problem(f"tcpdump says: {cause[-1]}", "capturing needs root: sudo tcpwit-record ..; or record a pair (--pair), which makes its own hosts")
+                raise self.problem()
             time.sleep(0.01)
 
-    def said(self):
-        """What tcpdump has printed."""
-        self.errors.seek(0)
-        return self.errors.read()
+    def problem(self):
+        """Why tcpdump doesn't capture, in its own words; those with which it begins to capture are left out."""
+        said = one_line(re.sub(rb".*(listening on|data link type) .*", b"", self.said())).removeprefix("tcpdump: ")
+        signs = ((self.file, "name a folder that can be written by --out"), *REMEDIES)
+        return Problem(f"tcpdump says: {said or 'nothing'}", next((remedy for sign, remedy in signs if sign in said), OTHER_REMEDY))
 
-    def stop(self):
-        """Waits until nothing more comes, ends tcpdump, and refuses what it lost."""
+    def said(self):
+        """What tcpdump has printed. It shares this file's offset: if that moved, tcpdump would overwrite its own output."""
+        return os.pread(self.errors.fileno(), 1 << 20, 0)
+
+    def wait(self):
+        """Waits until nothing more comes."""
         size = -1
         while size != (size := os.path.getsize(self.file)):
             time.sleep(0.2)
+
+    def stop(self):
+        """Ends tcpdump, and refuses what it lost."""
+        if self.process.poll() is not None:
+            raise self.problem()
         self.process.send_signal(signal.SIGINT)
         self.process.wait()
         lost = re.search(rb"(\d+) packets? dropped by (?:kernel|interface)", self.said())
@@ -80,7 +98,9 @@ class Traced:
         until = time.monotonic() + seconds
         while not self.listens():
             if self.process.poll() is not None:
-                raise Problem(f"{self.words[0]} ended with status {self.process.returncode} before it listened for TCP", f"see {self.log}, and try the program alone")
+                self.refuse_failed_start()
+                raise Problem(f"{self.words[0]} ended with status {self.process.returncode} before it listened for TCP",
+                              f"see {self.log}, and try the program alone")
             if time.monotonic() > until:
                 raise Problem(f"{self.words[0]} did not listen for TCP within {seconds:g} seconds", f"see {self.log}; --wait gives it more time")
             time.sleep(0.02)
@@ -114,9 +134,12 @@ class Traced:
         return f"{self.words[0]} was ended by {signal.Signals(-status).name}" if status < 0 else f"{self.words[0]} ended with status {status}"
 
     def refuse_failed_start(self):
-        """A program that strace could not begin left no log."""
-        if not self.logged():
-            raise Problem(f"{self.words[0]} could not be started", "see whether it is installed, and name it as in a shell")
+        """A program that strace could not begin left no log, or one that begins with a failed execve."""
+        log = self.logged()
+        if not log:
+            raise Problem(f"{self.log}: no call of {self.words[0]} was logged", "strace has said why, on the lines before this one")
+        if failed := FAILED_START.match(log):
+            raise Problem(f"{self.words[0]}: {one_line(failed[1])}", "name a program that the recorded user may run, as in a shell")
 
     def running(self):
         """The program's processes, with the daemons that it left: all of its namespace but what the recorder itself began."""

@@ -1,0 +1,90 @@
+"""Recordings of this machine's kernel, which need root and the programs of the recorder; elsewhere they are skipped."""
+import os
+import shutil
+import subprocess
+import sys
+import tempfile
+import time
+import unittest
+
+from tcpwit_import.recording.cli import PACKAGES
+from tcpwit_import.recording.namespaces import Namespace
+from tcpwit_import.recording.running import Traced
+
+TOP = os.path.dirname(os.path.dirname(os.path.realpath(__file__)))
+RECORD = os.path.join(TOP, "tcpwit-record")
+SERVER = f"{sys.executable} -m http.server 80"
+
+
+@unittest.skipUnless(os.geteuid() == 0 and all(map(shutil.which, PACKAGES)), "needs root, " + ", ".join(PACKAGES))
+class AsRoot(unittest.TestCase):
+    def setUp(self):
+        folder = tempfile.TemporaryDirectory()
+        self.addCleanup(folder.cleanup)
+        self.folder = folder.name
+
+    def record(self, *words):
+        """Records without judging: status, and standard error as bytes."""
+        done = subprocess.run([RECORD, "--no-check", "--out", f"{self.folder}/out", *words], cwd=self.folder, capture_output=True, timeout=100, check=False)
+        self.assertEqual(done.stdout, b"")
+        self.assertNotIn(b"Traceback", done.stderr)
+        return done.returncode, done.stderr
+
+    def script(self, name, text):
+        """A program in the folder."""
+        with open(os.path.join(os.fsencode(self.folder), name), "w", encoding="ascii") as file:
+            file.write(text)
+        os.chmod(file.name, 0o755)
+        return b"./" + name
+
+    def test_an_interface_that_does_not_exist(self):
+        status, error = self.record("--interface", "none\x1b[2J", "--", "true")
+        self.assertEqual(status, 2)
+        self.assertRegex(error, rb"^tcpwit-record: tcpdump says: none\\x1b\[2J: No such device[^\n]*\n  tcpdump -D lists the interfaces[^\n]*\n$")
+
+    def test_a_capture_that_cannot_be_written(self):
+        os.makedirs(f"{self.folder}/out/run.pcap")
+        status, error = self.record("--namespace", "--", "true")
+        self.assertEqual(status, 2)
+        self.assertRegex(error, rb"/out/run.pcap: Is a directory\n  name a folder that can be written by --out\n$")
+
+    def test_programs_that_the_system_refuses(self):
+        name = self.script(b"text", "no program\n").decode()
+        for words in (["--pair", name, "--", "true"], ["--pair", SERVER, "--", name], ["--namespace", "--", name]):
+            status, error = self.record(*words)
+            self.assertEqual(status, 2)
+            self.assertIn(b"tcpwit-record: ./text: Exec format error\n  name a program", error)
+
+    def test_a_client_whose_name_and_words_a_terminal_would_obey(self):
+        name = self.script(b"c\x1b[2J\xff", "#!/bin/sh\nexit 3\n")
+        status, error = self.record("--pair", SERVER, "--", name, b"\x1b[2J")
+        self.assertEqual(status, 2)
+        self.assertIn(b"tcpwit-record: ./c\\x1b[2J\\xff ended with status 3\n", error)
+        self.assertNotIn(b"\x1b", error)
+
+    def test_daemons_are_ended(self):
+        program = Traced(["sh", "-c", f"setsid sleep 77 & echo $! > {self.folder}/pid"], f"{self.folder}/log", Namespace())
+        until = time.monotonic() + 10
+        while not (os.path.exists(f"{self.folder}/pid") and (daemon := self.daemon())) and time.monotonic() < until:
+            time.sleep(0.05)
+        self.assertIn(b"77", command_of(daemon))
+        program.stop(0)
+        self.assertEqual(command_of(daemon), b"")
+
+    def daemon(self):
+        """The process that a program has named; an empty text if it hasn't yet."""
+        with open(f"{self.folder}/pid", encoding="ascii") as file:
+            return file.read().strip()
+
+
+def command_of(process):
+    """The words of a process; none once it has ended."""
+    try:
+        with open(f"/proc/{process}/cmdline", "rb") as file:
+            return file.read()
+    except OSError:
+        return b""
+
+
+if __name__ == "__main__":
+    unittest.main()
