@@ -71,7 +71,7 @@ Status:
 
 /// The whole command line.
 pub(crate) fn tcpwit<'a>(alloc: Global) -> Result<Command<'a>, AllocError> {
-    Command::new(alloc, "tcpwit")
+    let command = Command::new(alloc, "tcpwit")
         .no_binary_name(true)
         .version(VERSION)
         .about(
@@ -81,8 +81,8 @@ pub(crate) fn tcpwit<'a>(alloc: Global) -> Result<Command<'a>, AllocError> {
         .subcommand(check(alloc)?)?
         .subcommand(many(alloc)?)?
         .subcommand(segment(alloc)?)?
-        .subcommand(record(alloc)?)
-        .map(|command| command.after_help(AFTER))
+        .subcommand(record(alloc)?)?;
+    Ok(command.after_help(AFTER))
 }
 
 fn check<'a>(alloc: Global) -> Result<Command<'a>, AllocError> {

@@ -48,7 +48,7 @@ Status: 0 if WORD or a stricter word has a yes, 1 if none has.";
 
 /// The whole command line.
 pub(crate) fn tcpwit_lab<'a>(alloc: Global) -> Result<Command<'a>, AllocError> {
-    Command::new(alloc, "tcpwit_lab")
+    let command = Command::new(alloc, "tcpwit_lab")
         .no_binary_name(true)
         .version(VERSION)
         .about("Finds witnesses, judges traces, explains and draws cases")
@@ -57,8 +57,8 @@ pub(crate) fn tcpwit_lab<'a>(alloc: Global) -> Result<Command<'a>, AllocError> {
         .subcommand(explain(alloc)?)?
         .subcommand(show(alloc))?
         .subcommand(draw(alloc)?)?
-        .subcommand(judge(alloc)?)
-        .map(|command| command.after_help(AFTER))
+        .subcommand(judge(alloc)?)?;
+    Ok(command.after_help(AFTER))
 }
 
 fn find<'a>(alloc: Global) -> Command<'a> {

@@ -9,6 +9,7 @@ use crate::asking::{Program, asks_help};
 use crate::tcpwit::tcpwit;
 use crate::tcpwit_lab::tcpwit_lab;
 use case_forms::OutOfMemory;
+use clap::Command;
 use clap::error::ErrorKind;
 use counted::Counted;
 use std::alloc::{AllocError, Global};
@@ -25,26 +26,46 @@ const DEVICE: u8 = 5;
 
 /// The help or the version that these words ask for, which follow the program's name; None if they ask for something
 /// else. An error means that memory ran out.
-pub fn help_text(
+pub fn help_text<'a>(
     alloc: Global,
     program: Program,
-    words: &[&str],
+    words: &'a [&'a str],
 ) -> Result<Option<String>, OutOfMemory>
     ensures { IfOk result (λ text. is_some text ≡ asks_help program (map (λ word. word.now) words.now)) }
 {
     if !asks_help(program, words) {
         return Ok(None);
     }
-    let mut command = match program {
-        Program::Tcpwit => tcpwit(alloc)?,
-        Program::TcpwitLab => tcpwit_lab(alloc)?,
-    };
-    let text = match command.try_get_matches_from_mut(words) {
-        Ok(_) => command.render_help()?,
-        Err(error) if error.kind() == ErrorKind::OutOfMemory => return Err(AllocError),
-        Err(error) => format!(in alloc; "{error}")?,
-    };
+    let text = clap_text(alloc, program, words)?;
     Ok(Some(text))
+}
+
+// What clap prints for words that ask for help.
+fn clap_text<'a>(
+    alloc: Global,
+    program: Program,
+    words: &'a [&'a str],
+) -> Result<String, OutOfMemory> {
+    let command = command_line(alloc, program)?;
+    match command.try_get_matches_from(words) {
+        Ok(_matches) => whole_help(alloc, program),
+        Err(error) => match error.kind() {
+            ErrorKind::OutOfMemory => Err(AllocError),
+            _ => format!(in alloc; "{error}"),
+        },
+    }
+}
+
+fn whole_help(alloc: Global, program: Program) -> Result<String, OutOfMemory> {
+    let mut command = command_line(alloc, program)?;
+    command.render_help()
+}
+
+fn command_line<'a>(alloc: Global, program: Program) -> Result<Command<'a>, AllocError> {
+    match program {
+        Program::Tcpwit => tcpwit(alloc),
+        Program::TcpwitLab => tcpwit_lab(alloc),
+    }
 }
 
 /// Writes a text and flushes. The status is 0, or 5 if a write failed. The count of failures has to be below 2^50
