@@ -54,7 +54,8 @@ cases, one line for each, as `tcpwit check` prints it. They are the same for any
 Status: the greatest status of a case, as `tcpwit check` has it; 0 if there is no case.";
 
 const SEGMENT: &str = "\
-Nothing is read. The line begins with `ok`, or is `bad segment` and what is wrong.
+Nothing is read. Output: `src`, `dst` and the other fields with their values on one line, or `bad
+segment` and what is wrong.
 
 Status:
   0  the segment was printed
