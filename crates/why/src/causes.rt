@@ -1,6 +1,6 @@
 //! What usually causes a rule to be broken at a step, by what is known there.
 
-use crate::likely::say_likely;
+use crate::fitting::say_fitting;
 use crate::reasons::{Reason, misplaced};
 use crate::scene::Scene;
 use crate::text::{Piece, say};
@@ -19,16 +19,14 @@ pub enum Origin {
     Simulated,
 }
 
-/// Writes what usually causes it, or what likely does so here.
+/// Writes what usually causes it, after the windows that would be a cause here.
 pub(crate) fn say_cause(
     out: &mut Vec<u8>,
     scene: &Scene<'_>,
     rule: Rule,
     origin: Origin,
 ) -> Result<(), OutOfMemory> {
-    if say_likely(out, scene, rule)? {
-        return Ok(());
-    }
+    say_fitting(out, scene, rule)?;
     let cause = cause_at(scene, rule);
     say(out, &[Piece::Word("usually: "), Piece::Word(cause.usual)])?;
     match origin {

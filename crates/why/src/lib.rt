@@ -22,8 +22,8 @@
 //! - `why_answers`: the answers that a call may have; `why_inbox`: what waits in an inbox; `why_numbers`: numbers read
 //!   as positions
 //! - `causes`: what usually causes a rule to be broken at a step; `usual`: what does at any step
-//! - `likely`: what likely causes it, computed from the case; `other_windows`, `segment_window`, `changes`: congestion
-//!   windows of other rules, kept while the case is replayed
+//! - `fitting`: which other congestion windows a segment would fit; `other_windows`, `segment_window`, `changes`: those
+//!   windows, kept while the case is replayed
 //! - `unjudged`: the header's word that leaves a refusal unjudged
 //! - `refusal`: what a verdict refuses, as values
 #![tactic(auto)]
@@ -31,7 +31,7 @@
 mod causes;
 mod changes;
 mod described;
-mod likely;
+mod fitting;
 mod marks;
 pub mod numbers;
 mod other_windows;
