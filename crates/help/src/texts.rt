@@ -73,7 +73,8 @@ fn command_line<'a>(alloc: Global, program: Program) -> Result<Command<'a>, Allo
 pub fn print_help<W: Write>(w: &mut Counted<W>, text: &str) -> u8
     requires { failures_of w.old < 2 ^ 50 }
     ensures said { result ≢ 5 → (result ≡ 0)
-        × Appends (left_of W.contents w.old) (left_of W.contents w.new) text.now × (failures_of w.new ≡ failures_of w.old) }
+        × Appends (left_of W.contents w.old) (left_of W.contents w.new) text.now
+        × (failures_of w.new ≡ failures_of w.old) }
     ensures device { result ≡ 5 → failures_of w.old < failures_of w.new }
 {
     if w.write_all(text.as_bytes()).is_err() || w.flush().is_err() {
