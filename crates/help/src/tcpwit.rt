@@ -139,9 +139,7 @@ fn record<'a>(alloc: Global) -> Result<Command<'a>, AllocError> {
         .long("rounds")
         .value_name("N")
         .required(true)
-        .help(
-            "How many rounds, 1 to 1000; in each, host 0 sends 64 bytes and host 1 receives them",
-        );
+        .help("How many rounds, 1 to 1000; in each, host 0 sends 64 bytes to host 1");
     let lose = Arg::new(alloc, "lose")
         .long("lose")
         .value_name("K")
