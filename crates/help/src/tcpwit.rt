@@ -21,8 +21,8 @@ Examples:
   tcpwit many --workers 4 < runs.cases
   tcpwit record --rounds 2 --lose 3 > run.case
 
-The texts are described in tcpwit-case(5) and docs/FORMATS.md, the rules in docs/RULES.md. If you
-have a trace and no witness, `tcpwit_lab find` looks for one.";
+tcpwit-case(5) describes the texts, and the folder docs/ has the rules. If you have a trace and no
+witness, `tcpwit_lab find` looks for one.";
 
 const CHECK: &str = "\
 Without options, standard input is the case: the trace, then the witness. With both options, each

@@ -7,7 +7,7 @@
 //! is added may join what is there, so the entries are a run of the host after every event (`IsRecorded`). What two
 //! cores recorded of each other, after any events (`specs/CoreWorlds`), are two books beside each other; merged they
 //! are a run of both and a placement of its lines (crate `spec_merge`). What a core chooses among the permitted steps
-//! is no contract's matter, but for what `docs/STACK.md` says of it.
+//! is no contract's matter, but for what the pages on recording hosts say of it.
 //!
 //! - `tick`, `flying`, `item`, `entry`: when events are, segments on their way, and what a recording has
 //! - `recording`: the entries of one host, with the world that they leave
