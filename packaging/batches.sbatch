@@ -3,7 +3,7 @@
 #SBATCH --ntasks=1
 #SBATCH --cpus-per-task=2
 #SBATCH --requeue
-# Checks one of the files that `tcpwit-parts` cut, as a task of a Slurm array job; the page RECORDING has the whole batch.
+# Checks one of the files that `tcpwit-parts` cut, as a task of a Slurm array job; docs/how-to/many-cases.md has the whole batch.
 #
 #     sbatch --array=1-FILES batches.sbatch PARTS LINES
 #

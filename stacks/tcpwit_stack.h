@@ -11,7 +11,7 @@
 #include <stddef.h>
 #include <stdint.h>
 
-/* Answers below 0; the words of a trace, docs/FORMATS.md. */
+/* Answers below 0; the words of a trace, docs/reference/formats.md. */
 enum stack_answer {
     STACK_OK = 0,
     STACK_AGAIN = -1,    /* not yet: the runner calls again later */

@@ -1,4 +1,5 @@
-// Package tcpwit writes the lines of a trace, and of a witness, from the hooks of a stack (docs/FORMATS.md, docs/RECORDING.md).
+// Package tcpwit writes the lines of a trace, and of a witness, from the hooks of a stack (docs/reference/formats.md,
+// docs/how-to/embedding.md).
 //
 //	trace := tcpwit.New(file, 2)
 //	trace.Header(0, 60000000, 1000, 200000, 0, 5681)

@@ -1,4 +1,5 @@
-/* Writes the lines of a trace, and of a witness, from the hooks of a stack (docs/FORMATS.md, docs/RECORDING.md).
+/* Writes the lines of a trace, and of a witness, from the hooks of a stack (docs/reference/formats.md,
+ * docs/how-to/embedding.md).
  *
  * C99. Nothing is allocated and nothing is included but fixed-width integers: the bytes go to a function of yours. A line is written
  * by several calls of it, so lock around a function of this file where threads share a trace.

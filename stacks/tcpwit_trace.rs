@@ -1,4 +1,5 @@
-//! Writes the lines of a trace, and of a witness, from the hooks of a stack (docs/FORMATS.md, docs/RECORDING.md). Needs `std` alone.
+//! Writes the lines of a trace, and of a witness, from the hooks of a stack (docs/reference/formats.md,
+//! docs/how-to/embedding.md). Needs `std` alone.
 //!
 //!     let mut trace = Trace::new(file, 2);
 //!     trace.header(&Header { msl: 60_000_000, grain: 1_000, minrto: 200_000, ..Header::default() })?;

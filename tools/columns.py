@@ -1,11 +1,12 @@
 #!/usr/bin/env python3
-"""Holds lines to their width: 120 columns in src and specs, 160 in proofs.
+"""Holds lines to their width: 120 columns in src and specs, 160 in proofs, 100 in the prose of pages.
 
     tools/columns.py            says which files have more long lines than `tools/columns.txt` allows, and ends with status 1 if one has
     tools/columns.py --write    lowers the counts in that file to those of today; none rises
     tools/columns.py --anew     writes that file anew, as where files were renamed; the sum of all counts may not rise
 
-A column is a character. `tools/columns.txt` has a line for each file with long lines: their count and the file's name.
+A column is a character. The prose of a page is what is neither a table nor a block of commands or output; a line of one word may be
+wider. `tools/columns.txt` has a line for each file with long lines: their count and the file's name.
 """
 import argparse
 import glob
@@ -15,7 +16,16 @@ import sys
 TOP = os.path.dirname(os.path.dirname(os.path.abspath(__file__)))
 BASELINE = os.path.join(TOP, "tools", "columns.txt")
 # How wide lines may be, by the files in which they stand.
-WIDTHS = (("crates/*/src/**/*.rt", 120), ("crates/*/specs/**/*.antt", 120), ("crates/*/proofs/**/*.antt", 160))
+WIDTHS = (("crates/*/src/**/*.rt", 120), ("crates/*/specs/**/*.antt", 120), ("crates/*/proofs/**/*.antt", 160), ("**/*.md", 100))
+# Lines of a page that aren't prose, by how they begin: tables, and blocks of commands, of output or of texts.
+NO_PROSE = ("|", "    ")
+
+
+def is_long(path, line, width):
+    """Whether a line is too wide."""
+    if len(line) <= width:
+        return False
+    return not path.endswith(".md") or not line.startswith(NO_PROSE) and " " in line.strip()
 
 
 def long_lines():
@@ -24,8 +34,8 @@ def long_lines():
     for pattern, width in WIDTHS:
         for path in glob.glob(f"{TOP}/{pattern}", recursive=True):
             with open(path, encoding="utf-8") as file:
-                numbers = [number for number, line in enumerate(file, 1) if width < len(line.rstrip("\n"))]
-            if numbers:
+                numbers = [number for number, line in enumerate(file, 1) if is_long(path, line.rstrip("\n"), width)]
+            if numbers and not os.path.islink(path):
                 found[os.path.relpath(path, TOP)] = numbers
     return found
 

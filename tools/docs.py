@@ -1,13 +1,15 @@
 #!/usr/bin/python3
-"""Checks the pages that a newcomer reads.
+"""Checks the pages of this repository.
 
-    tools/docs.py            each file, link and section that they name exists, and each command works and prints what the page shows
+    tools/docs.py            each file, link, section and identifier that they name exists, and each command works and prints what the page
+                             shows
     tools/docs.py --names    only the first of both, for which no program is needed
 
 The commands are run in a copy of the repository; docs_commands.py names those that aren't run, with the reason. Prints a line for each fault, with its page and
 line. The status is 1 if there is one.
 """
 import argparse
+import glob
 import os
 import re
 import sys
@@ -17,23 +19,45 @@ sys.path.insert(0, os.path.dirname(os.path.abspath(__file__)))
 import docs_commands  # noqa: E402
 
 TOP = os.path.dirname(os.path.dirname(os.path.abspath(__file__)))
-PAGES = ("README.md", "docs/RECORDING.md", "docs/QUESTIONS.md", "stacks/README.md", "packaging/README.md", "importer/README.md")
+# The pages, by where they are. CHANGELOG.md names what there was.
+PLACES = ("README.md", "CONTRIBUTING.md", "docs/**/*.md", "*/README.md", "stacks/*.md", "*/*/README.md")
 LINK = re.compile(r"\]\(([^)\s]+)\)")
 # A word in backticks that can be the name of a file of this repository.
 NAME = re.compile(r"`(\.?/?[\w-][\w./-]*)`")
 SOURCE = re.compile(r"\.(md|py|c|h|go|rs|sbatch|scenario)$")
-# A page and its section, by number or by title: `RECORDING.md`, section 5; [it](PROOFS.md), "The printed case".
+# A page and its section, by number or by title: `formats.md`, section 5; [it](guarantees.md), "What is trusted".
 SECTION = re.compile(r'(?:(?:\]\(([^)\s]+\.md)\)|`([\w./]+\.md)`),? )?(?:\bsection (\d+)|(?<=, )"([^"\n]+)")')
+# A name of code in backticks: it has an underscore, `::` or a capital inside.
+IDENTIFIER = re.compile(r"`(\w+(?:::\w+)*)(?:\(\))?`")
+# Names in pages that aren't of this repository: code of lwIP and gVisor, and functions that PERF.md measured and that are gone.
+FOREIGN = frozenset("tcp_in.c tcp.c opt.h tcp_process tcp_receive tcp_abandon rcv.go endpoint.go header/tcp.go protocol.go connect.go "
+                    "handleRcvdSegment count_below count_in_turn place_searched".split())
+# Where names of code are looked up: everything but pages.
+CODE = re.compile(r"\.(rt|antt|txt|py|c|h|go|rs|scenario|edit|sbatch)$|/[\w-]+$")
 # What the examples get from their own server, which shows the folder where the command is called.
 FETCHED = re.compile(r"http://10\.9\.0\.2/([\w./-]*)")
 # Where programs are left that are built: a clone doesn't have them.
 BUILT = re.compile(r"(^|/)(out|\.built)(/|$)")
 
 
+def pages_of(top):
+    """The names of all pages."""
+    found = {os.path.relpath(path, top) for place in PLACES for path in glob.glob(f"{top}/{place}", recursive=True)}
+    return sorted(page for page in found if not BUILT.search(page))
+
+
 def text_of(page):
     """The text of a page, or of what its name leads to."""
     with open(page, encoding="utf-8") as file:
         return file.read()
+
+
+def words_of(path):
+    """The names in a file of code; none if it's no text."""
+    try:
+        return set(re.findall(r"\w+", text_of(path)))
+    except (UnicodeDecodeError, OSError):
+        return set()
 
 
 def slug(heading):
@@ -58,7 +82,11 @@ class Tree:
 
     def __init__(self, top=TOP):
         self.top = top
-        self.names = {name for folder, _, names in os.walk(top) if "/." not in folder[len(top):] for name in names}
+        paths = [(folder, name) for folder, _, names in os.walk(top) if "/." not in folder[len(top):] for name in names]
+        self.names = {name for _, name in paths}
+        self.words = {word for folder, name in paths if CODE.search(f"{folder}/{name}") and not BUILT.search(folder[len(top):])
+                      for word in words_of(f"{folder}/{name}")}
+        self.words |= {word for folder, name in paths for word in re.findall(r"\w+", f"{os.path.basename(folder)} {name}")}
 
     def places(self, page, name):
         """Where a name in a page may lead."""
@@ -93,11 +121,20 @@ class Tree:
         for found in NAME.finditer(text):
             name = found[1]
             known = self.file(page, name) or ("/" not in name and name in self.names)
-            if self.is_of_ours(page, name) and not known:
+            if self.is_of_ours(page, name) and not known and name not in FOREIGN:
                 yield found.start(), f"there is no file {name}"
         for found in FETCHED.finditer(text):
             if not os.path.exists(os.path.join(self.top, found[1])):
                 yield found.start(), f"the server of the example has no page {found[1]}"
+
+    def identifiers(self, text):
+        """The faults of the names of code."""
+        for found in IDENTIFIER.finditer(text):
+            if not re.search(r"[a-z0-9]_[a-z0-9]|::|[a-z][A-Z]", found[1]) or found[1] in FOREIGN:
+                continue
+            missing = [word for word in found[1].split("::") if word not in self.words]
+            if missing:
+                yield found.start(), f"no code has the name {missing[0]}"
 
     def sections(self, page, text):
         """The faults of sections. One without a page is the page's own, or that of the page named before."""
@@ -116,7 +153,7 @@ class Tree:
     def faults(self, page):
         """The faults of a page, each with its line."""
         text = text_of(os.path.join(self.top, page))
-        found = [*self.links(page, text), *self.files(page, text), *self.sections(page, text)]
+        found = [*self.links(page, text), *self.files(page, text), *self.identifiers(text), *self.sections(page, text)]
         return [f"{page}:{text.count(chr(10), 0, at) + 1}: {fault}" for at, fault in sorted(found)]
 
 
@@ -125,11 +162,12 @@ def main():
     words.add_argument("--names", action="store_true", help="check the names of files, links and sections, and run no command")
     given = words.parse_args()
     tree = Tree()
-    faults = [fault for page in PAGES for fault in tree.faults(page)]
-    print("\n".join(faults or [f"{len(PAGES)} pages: each file, link and section that they name exists"]), flush=True)
+    pages = pages_of(TOP)
+    faults = [fault for page in pages for fault in tree.faults(page)]
+    print("\n".join(faults or [f"{len(pages)} pages: each file, link, section and identifier that they name exists"]), flush=True)
     if given.names:
         return 1 if faults else 0
-    failed, count = docs_commands.faults({page: text_of(os.path.join(TOP, page)) for page in PAGES})
+    failed, count = docs_commands.faults({page: text_of(os.path.join(TOP, page)) for page in pages})
     print("\n".join(failed or [f"{count} commands or groups of commands work"]))
     return 1 if faults or failed else 0
 

@@ -27,14 +27,17 @@ LEFT_OUT = {
     "sbatch ": "needs a cluster",
     "cat lines/": "needs a cluster",
     "tcpwit check < /usr/share": "needs the installed package",
-    "tcpwit_lab draw < /usr/share": "needs the installed package",
-    "man ": "needs the installed package",
+    "bench/run ": "measures two builds",
+    "python3 bench/stand_in.py": "builds two programs",
+    "python3 bench/many_cases.py": "writes a large file",
+    "time crates/": "needs proved programs",
+    "python3 tools/soak/": "takes minutes",
 }
 # Texts that are neither commands nor what the command before them prints, by how they begin.
-SHOWN = ("trace 1  ", "no 23 0 congestion")
+SHOWN = ("//! Judges a case.",)
 # Statuses that aren't 0, of commands whose page shows no output. A busy machine lets `record` end with 1.
 STATUSES = {"tcpwit record ": 1, "strace -f -o calls": 5}
-COMMAND = re.compile(r"(\./|sudo |importer/|stacks/|packaging/|\(cd |\{ |(tcpwit|tcpwit_lab|tcpdump|strace|for|parallel|read|mkfifo|cat|sed|grep) )")
+COMMAND = re.compile(r"(\./|sudo |importer/|stacks/|packaging/|bench/|tools/|python3 |\(cd |\{ |(tcpwit|tcpwit_lab|tcpdump|strace|for|parallel|read|mkfifo|cat|sed|grep) )")
 # A command in a sentence or a table. One with `..` is cut, and one with N has a number to be chosen.
 INLINE = re.compile(r"(?<!`)`((?:\./)?tcpwit(?:_lab)? [^`\s]+ (?:(?!\.\.|\bN\b)[^`\n])+)`")
 BLOCK = re.compile(r"^(?:    .*\n)+", re.M)
@@ -139,7 +142,7 @@ class Copy:
         return at
 
     def captures(self, at):
-        """The captures and logs of a recording, by the names of RECORDING.md."""
+        """The captures and logs of a recording, by the names of docs/how-to/captures.md."""
         with tarfile.open(f"{self.top}/importer/tests/data/recordings.tar.xz") as archive:
             for host in (0, 1):
                 for source, name in (("pcap", f"c{host}.pcap"), ("log", f"s{host}.log")):

@@ -57,6 +57,18 @@ class Pages(unittest.TestCase):
         for name in ("tools/two.py", "two.py", "./tools/two.py", "tools/two", "TWO.md", "docs/rules/"):
             self.assertEqual(self.faults(f"`{name}`"), [f"README.md:1: there is no file {name}"])
 
+    def test_identifiers(self):
+        self.write("crates/one/src/lib.rt", "pub fn check_case() {}\nstruct TextFault;\nmod one;\n")
+        self.assertEqual(self.faults("`check_case`, `check_case()`, `one::check_case`, `TextFault`, `tcp_in.c`, `tcp_process`, `word`, `RCV.NXT`"), [])
+        for name, missing in (("check_cases", "check_cases"), ("one::check", "check"), ("TextFaults", "TextFaults")):
+            self.assertEqual(self.faults(f"`{name}`"), [f"README.md:1: no code has the name {missing}"])
+
+    def test_pages(self):
+        for page in ("README.md", "CHANGELOG.md", "docs/start/one.md", "tools/README.md", "tools/soak/README.md", "stacks/LANGUAGE.md", "crates/one/out/README.md"):
+            self.write(page, "")
+        self.assertEqual(docs.pages_of(self.top), ["README.md", "docs/RULES.md", "docs/start/one.md", "stacks/LANGUAGE.md", "tools/README.md",
+                                                   "tools/soak/README.md"])
+
     def test_sections(self):
         self.assertEqual(self.faults("`RULES.md`,\nsection 2"), ["README.md:1: RULES.md has no section 2"])
         self.assertEqual(self.faults("[r](docs/RULES.md), section 3"), ["README.md:1: docs/RULES.md has no section 3"])

@@ -1,5 +1,5 @@
 #!/usr/bin/env python3
-"""Tests of tcpwit-junit and tcpwit-status, on the lines that docs/FORMATS.md and examples/README.md name."""
+"""Tests of tcpwit-junit and tcpwit-status, on the lines that docs/reference/formats.md and examples/README.md name."""
 import os
 import subprocess
 import tempfile
@@ -9,7 +9,7 @@ import xml.etree.ElementTree as tree
 HERE = os.path.dirname(os.path.abspath(__file__))
 EXAMPLES = os.path.join(os.path.dirname(os.path.dirname(HERE)), "examples")
 YES, NO, BAD = "yes 18 13\n", "no 31 0 call-answer\n", "bad witness 7 0 7 cut\n"
-# Each kind of line, with its status by section 7 of docs/FORMATS.md.
+# Each kind of line, with its status by section 9 of docs/reference/formats.md.
 STATUSES = {YES: 0, NO: 1, BAD: 2, "bad trace 7 9 13 segment too-long\n": 2, "bad usage\n": 3, "bad memory\n": 4, "bad device\n": 5}
 
 

@@ -1,4 +1,4 @@
-"""Segments as bytes: what the wire and a scripted peer read and write of them (docs/FORMATS.md, section 9)."""
+"""Segments as bytes: what the wire and a scripted peer read and write of them (docs/reference/formats.md, section 10)."""
 from dataclasses import dataclass
 
 FIN, SYN, RST, PSH, ACK, URG = 1, 2, 4, 8, 16, 32

@@ -614,7 +614,7 @@ for line in sys.stdin:
     def test_missing_expiries_are_told_once(self):
         error = self.warned("tick", "")
         self.assertEqual(error.count("warning: the stack sent something again at a tick in 1 of 2 scenarios, and the adapter reported no timer"), 1)
-        self.assertTrue(error.endswith("stacks/README.md, section 1.\n"))
+        self.assertTrue(error.endswith("stacks/README.md, \"The adapter's protocol\".\n"))
         self.assertEqual((self.warned("tick", "expired 4000 80 rto\n"), self.warned("in", "")), ("", ""))
 
     def test_one_reported_expiry_is_enough(self):
