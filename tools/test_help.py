@@ -4,8 +4,13 @@ import os
 import re
 import shlex
 import subprocess
+import sys
 import tempfile
 import unittest
+
+sys.dont_write_bytecode = True
+sys.path.insert(0, os.path.dirname(os.path.abspath(__file__)))
+from unproved import kept  # noqa: E402
 
 TOP = os.path.dirname(os.path.dirname(os.path.abspath(__file__)))
 TCPWIT = shlex.split(os.environ.get("TCPWIT", f"{TOP}/tcpwit"))
@@ -79,12 +84,13 @@ class Files(unittest.TestCase):
     """tcpwit_lab names what it can't use, with the system's reason; tcpwit says nothing on standard error."""
 
     def test_input_that_cannot_be_read(self):
+        # The scripts at the top are Python, which refuses a folder as standard input.
         folder = os.open("/", os.O_RDONLY)
         self.addCleanup(os.close, folder)
         for word in WORDS["tcpwit_lab"][1]:
-            told, said, status = run(LAB, word, stdin=folder)
+            told, said, status = run([kept("tcpwit_lab")], word, stdin=folder)
             self.assertEqual((told, said, status), ("bad device\n", "standard input: Is a directory (os error 21)\n", DEVICE))
-        self.assertEqual(run(TCPWIT, "check", stdin=folder), ("bad device\n", "", DEVICE))
+        self.assertEqual(run([kept("tcpwit")], "check", stdin=folder), ("bad device\n", "", DEVICE))
 
     def test_a_case_that_cannot_be_kept(self):
         with open(f"{TOP}/examples/handshake.case", encoding="ascii") as file:

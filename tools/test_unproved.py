@@ -83,7 +83,7 @@ class Clone(unittest.TestCase):
             code = "import sys; sys.path.insert(0, 'importer'); from tcpwit_import import judging; print(judging.lab(None))"
         else:
             code = "import sys; from importlib.machinery import SourceFileLoader as Loader; run = Loader('run', 'stacks/run').load_module(); " \
-                   "print(*run.program(None, 'TCPWIT', 'tcpwit'), *run.program(None, 'TCPWIT_LAB', 'tcpwit_lab'))"
+                   "print(run.program('tcpwit', None), run.program('tcpwit_lab', None))"
         status, out, error = self.run_in_clone(sys.executable, "-W", "ignore", "-c", code)
         self.assertEqual(status, 0, error)
         return out.split(), error
@@ -142,7 +142,7 @@ class Clone(unittest.TestCase):
         os.remove(f"{self.top}/tools/unproved.py")
         status, _, error = self.run_in_clone("stacks/run", "true", "data-bulk")
         self.assertEqual(status, 2)
-        self.assertIn("tcpwit isn't found", error)
+        self.assertIn("tcpwit and tcpwit_lab aren't found. The package tcpwit has both", error)
         for name in ("tcpwit", "tcpwit_lab"):
             self.write(f"bin/{name}", PROGRAM)
         self.assertEqual(self.found("importer"), ([f"{self.folder}/bin/tcpwit_lab"], ""))

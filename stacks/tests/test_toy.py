@@ -20,6 +20,10 @@ def rows():
                 yield defect, outcome.partition(":")[0], outcome
 
 
+# Limits for a busy machine.
+SLOW = ("--command-limit", "60", "--scenario-limit", "600")
+
+
 class Toy(unittest.TestCase):
     @classmethod
     def setUpClass(cls):
@@ -33,7 +37,7 @@ class Toy(unittest.TestCase):
         with open(against, "w") as file:
             file.write(outcome + "\n")
         command = [sys.executable, os.path.join(TOP, "run"), os.path.join(self.folder.name, "stack"), "--profile", os.path.join(TOY, "profile"),
-                   "--against", against, "--", os.path.join(TOP, "scenarios", scenario + ".scenario")]
+                   *SLOW, "--against", against, "--", os.path.join(TOP, "scenarios", scenario + ".scenario")]
         done = subprocess.run(command, env={**os.environ, "TOY_DEFECT": defect}, capture_output=True, text=True)
         return "" if done.returncode == 0 else f"{defect}: status {done.returncode}\n{done.stdout}{done.stderr}"
 

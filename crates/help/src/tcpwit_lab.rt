@@ -112,7 +112,7 @@ fn judge<'a>(alloc: Global) -> Result<Command<'a>, AllocError> {
     let least = Arg::new(alloc, "least")
         .long("least")
         .value_name("WORD")
-        .help("The word that is enough for the status 0: full, recovery or none [default: full]");
+        .help("The word that is enough for status 0: full, recovery, none [default: full]");
     let case = Arg::new(alloc, "case")
         .long("case")
         .value_name("FILE")
