@@ -106,14 +106,14 @@ fn push_steps(
     text.extend_from_slice(steps.as_bytes())
 }
 
-// The first and the last line that a picture shows.
+// The first and the last line that a picture shows; 0 if it shows none.
 fn lines_drawn(alloc: Global, picture: &[u8]) -> Result<String, AllocError> {
     let picture = String::from_utf8_lossy(alloc, picture)?;
-    let mut first = "";
-    let mut last = "";
+    let mut first: u64 = 0;
+    let mut last: u64 = 0;
     for row in picture.as_str().lines() {
         if let Some(number) = line_drawn(row) {
-            if first.is_empty() {
+            if first == 0 {
                 first = number;
             }
             last = number;
@@ -123,9 +123,9 @@ fn lines_drawn(alloc: Global, picture: &[u8]) -> Result<String, AllocError> {
 }
 
 // The number of a trace's line that a row of a picture names.
-fn line_drawn(row: &str) -> Option<&str> {
+fn line_drawn(row: &str) -> Option<u64> {
     let rest = row.strip_prefix("<text class=\"when\"")?;
     let (_place, text) = rest.split_once('>')?;
     let (number, _moment) = text.split_once(' ')?;
-    Some(number)
+    number.parse::<u64>().ok()
 }
