@@ -339,7 +339,7 @@ class TheCommand(unittest.TestCase):
     def test_skipped_by_the_word_cannot_alone(self):
         status, out, error = self.run_it(self.adapter(answer="= - cannot"), "open-plain", "data-bulk", *self.programs())
         self.assertEqual((status, "nothing was judged" in error), (2, True))
-        self.assertIn("nothing was judged\nnot among them: 2 of 2 skipped", out)
+        self.assertIn("nothing was judged\n2 of 2 scenarios were skipped", out)
         for answer in ("= - banana", "= x ok", "=", "banana", "out 00", "expired 1", "= - again"):
             status, out, error = self.run_it(self.adapter(answer=answer), "open-plain", *self.programs())
             self.assertEqual((status, "1 broken" in out, error), (1, True, ""), answer)
@@ -394,7 +394,7 @@ class TheCommand(unittest.TestCase):
         status, out = self.reported()
         self.assertEqual((status, [line[66:74].strip() for line in out.split("\n")[:4]]), (1, ["yes at", "full", "recovery", "-"]))
         self.assertEqual(out.split("\n")[0].split(), ["scenario", "verdict", "yes", "at", "missing", "open"])
-        self.assertIn("of the no, 1 are a yes at recovery", out)
+        self.assertIn("of those with no, 1 has a yes at recovery", out)
 
     def test_the_status_goes_by_the_least_word(self):
         self.assertEqual([self.reported("--least", word)[0] for word in judging.WORDS], [1, 0, 0])
