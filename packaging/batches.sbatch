@@ -8,7 +8,7 @@
 #     sbatch --array=1-FILES batches.sbatch PARTS LINES
 #
 # PARTS and LINES are folders that all machines see. The lines of PARTS/00007 are left in LINES/00007 once they are whole, so a task may run again.
-# The task is COMPLETED where all its cases were answered, whatever the answers are; memory that ran out and failed devices are FAILED.
+# The task is COMPLETED if all its cases were answered, whatever the answers are; memory that ran out and failed devices are FAILED.
 set -u
 part=$(printf %05d "$SLURM_ARRAY_TASK_ID")
 "${TCPWIT:-/usr/bin/tcpwit}" many --workers "${SLURM_CPUS_PER_TASK:-1}" < "$1/$part" > "$2/.$part"
