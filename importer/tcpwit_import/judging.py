@@ -27,7 +27,7 @@ def lab(option):
     # A program without `judge` is refused here, and not after a long recording. To `judge` an empty trace is faulty.
     if on_file([found, "judge"], os.devnull).returncode != FAULTY:
         raise Problem(f"{found} doesn't know the word judge",
-                      f"name {NAME} by --lab or {VARIABLE}, not tcpwit; if it is old, build it again from these sources (docs/RECORDING.md)")
+                      f"name {NAME} by --lab or {VARIABLE}, not tcpwit; if it is old, build it again from these sources (docs/start/linux.md)")
     return found
 
 
