@@ -16,27 +16,27 @@ pub record IsReading (near : ℕ) (base w : Word) (pos : ℕ) : Type 0 where
   pub is_near : IsNear near pos
   pub number : number_of base pos ≡ w
 
--- the number is that of some places below position 0, at most 2^31 below near
+-- the number is that of a place below position 0, at most 2^31 below near
 pub record IsBelow (near : ℕ) (base w : Word) (places : ℕ) : Type 0 where
   pub some : 0 < places
   pub most : near + places ≤ 2 ^ 31
   pub number : number_of w places ≡ base
 
--- what has the number would be below position 0
+-- the position with this number would be below 0
 abbrev pub IsBelowZero : ℕ → Word → Word → Type 0
 IsBelowZero near base w = (places : ℕ) × IsBelow near base w places
 
--- what a number reads as: a position, or none where it would be below 0
+-- what a number reads as: a position, or none if it would be below 0
 abbrev pub Reads : ℕ → Word → Word → Option ℕ → Type 0
 Reads near base w (Some pos) = IsReading near base w pos
 Reads near base w None = IsBelowZero near base w
 
--- what is numbered reads back near itself, and near nothing else
+-- the number of a position reads back near it, and near nothing else
 abbrev pub ReadsBack : Type 0
 ReadsBack =
     (near : ℕ) (base : Word) (pos : ℕ) (read : Option ℕ) → Reads near base (number_of base pos) read → (read ≡ Some pos)
     ↔ IsNear near pos
 
--- positions less than 2^31 apart that have one number are one
+-- positions less than 2^31 apart with the same number are equal
 abbrev pub NearbyDiffer : Type 0
 NearbyDiffer = (base : Word) (p q : ℕ) → p < q + 2 ^ 31 → q < p + 2 ^ 31 → number_of base p ≡ number_of base q → p ≡ q

@@ -6,10 +6,9 @@
 //!
 //! - `word`: a number on the wire, from a position and back
 //! - `window`: ranges of positions
-//! - `laws`: what is numbered reads back, what is near and has one number is one position, and which position is found
+//! - `laws`: a number reads back, near positions with one number are equal, and which position is found
 //!
-//! What a number is, and when it reads as a position, stands in `specs/Numbers`; the position that it reads as,
-//! computed, in `specs/Near`.
+//! `specs/Numbers` defines numbers and when one reads as a position; `specs/Near` computes that position.
 #![tactic(auto)]
 
 mod laws;

@@ -11,10 +11,10 @@ pub struct Word(pub u32);
 /// How many numbers there are.
 const TURN: u64 = 1 << 32;
 
-/// A number that is fewer places ahead than this reads ahead, any other behind.
+/// A number fewer places ahead than this reads as a position ahead; any other reads as one before.
 const HALF_TURN: u64 = 1 << 31;
 
-/// The number of a position, where position 0 has the number `base`.
+/// The number of a position if position 0 has the number `base`.
 pub fn number(base: Word, pos: u64) -> Word
     ensures { result ≡ number_of base pos }
 {
@@ -22,14 +22,14 @@ pub fn number(base: Word, pos: u64) -> Word
     Word(base.0.wrapping_add(turned))
 }
 
-/// The position that a number reads as: less than 2^31 above `near`, or at most 2^31 below it. `base` is the number of
-/// position 0. There is none where it would be below 0. `near` is below 2^63.
+/// The position that a number reads as: less than 2^31 above `near`, or at most 2^31 below it (RFC 9293, 3.4). `base`
+/// is the number of position 0, and `near` is below 2^63. `None` means that the position would be below 0.
 pub fn read_near(near: u64, base: Word, w: Word) -> Option<u64>
     requires { near < 2 ^ 63 }
 
     ensures reads { Reads near base w result }
 
-    // There is one answer.
+    // Exactly one answer is possible.
     ensures only { (read : Option ℕ) → Reads near base w read → result ≡ read }
 
     ensures found { result ≡ near_position near base w }
