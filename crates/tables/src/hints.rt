@@ -1,23 +1,23 @@
-//! Hints at where the entries of a table stand.
+//! Hints at where the entries of a table are.
 //!
-//! A number has one of the slots, by its last bits. A slot is empty where no entry's number has it: then no number of
-//! this slot has an entry. Else it says where one of these entries stands, the last one that was added, and whoever
-//! looks there tests the number, since other numbers may have the same slot. A text may choose numbers so; a look-up
-//! then costs one look more than without hints. At most half of the slots are filled, unless memory was refused. Where
-//! more are needed they at least double, and are all written anew.
+//! The last bits of a number select one of the slots. A slot is empty if no entry's number selects it: then no number
+//! with this slot has an entry. Otherwise it holds the place of the last such entry added. The lookup compares the
+//! number, since other numbers may have the same slot. If a text chooses its numbers that way, a lookup costs one extra
+//! probe. At most half of the slots are filled, unless memory was refused. If more slots are needed, their count at
+//! least doubles and all are rewritten.
 //!
-//! A table whose numbers are given one after the other has no hints, as an entry's place is known by its number there.
+//! A table whose numbers are assigned one after the other has no hints: the number gives the entry's place.
 
 ghost use Rattle.std.specs.Prelude.{◌≡◌, ◌≢◌, ◌<◌, ℕ, IsTrue, length, slice_get};
 ghost use Rattle.tables.specs.Hints.{no_place, slot, AreHinted, AreIn, IsHinted};
 
-/// What stands in an empty slot.
+/// The content of an empty slot.
 pub(crate) const NO_PLACE: u32 = u32::MAX;
 
-// The fewest slots that are made.
+// The smallest number of slots allocated.
 const FEWEST: usize = 16;
 
-/// What stands in the slot of a number, if there are slots.
+/// The content of a number's slot, if there are slots.
 #[inline(always)]
 pub(crate) fn hint_of(hints: &[u32], number: u64) -> Option<u32>
     ensures { result ≡ slice_get hints.now (slot (length hints.now) number) }
@@ -29,8 +29,8 @@ pub(crate) fn hint_of(hints: &[u32], number: u64) -> Option<u32>
     Some(hints[slot_of(count, number)])
 }
 
-/// A new number, whose entry goes last, is hinted at. If memory for more slots is refused, there are none. The numbers
-/// that rose are all there are if `all_rose` says so; the new one may be among them.
+/// Adds a hint for a new number, whose entry is added last. If memory for more slots is refused, all hints are dropped.
+/// `all_rose` says that the rising numbers are all numbers; the new one may be among them.
 #[inline(always)]
 pub(crate) fn add_hint<V>(
     hints: &mut Vec<u32>,
@@ -51,7 +51,7 @@ pub(crate) fn add_hint<V>(
     put_hint(hints.as_mut_slice(), number, entries.len());
 }
 
-// Whether a new number is as far above the first one as its entry will stand from the first one.
+// Whether a new number is as far above the first number as its entry will be after the first entry.
 #[inline(always)]
 fn is_in_turn<V>(entries: &[(u64, V)], number: u64) -> bool {
     match entries.first() {
@@ -60,8 +60,8 @@ fn is_in_turn<V>(entries: &[(u64, V)], number: u64) -> bool {
     }
 }
 
-// At most half of the slots will be filled by one more entry, if memory isn't refused. If all numbers rose, their list
-// is read, which is shorter than the entries: a number's place is the same in both.
+// At most half of the slots will be filled after one more entry, if memory isn't refused. If all numbers rose, their
+// list is read, which is shorter than the entries: a number's place is the same in both.
 #[inline(always)]
 fn widen<V>(hints: &mut Vec<u32>, entries: &[(u64, V)], risen: &[(u64, usize)], all_rose: bool)
     requires hinted { AreHinted hints.old.items entries.now }
@@ -78,7 +78,7 @@ fn widen<V>(hints: &mut Vec<u32>, entries: &[(u64, V)], risen: &[(u64, usize)], 
     }
 }
 
-// Twice as many slots as there will be entries, or more, are made and written. If memory is refused, there are none.
+// Allocates and writes at least twice as many slots as there will be entries. If memory is refused, there are none.
 #[inline(never)]
 fn hint_anew<V>(hints: &mut Vec<u32>, entries: &[(u64, V)])
     ensures { AreHinted hints.new.items entries.now }
@@ -98,7 +98,7 @@ fn hint_anew<V>(hints: &mut Vec<u32>, entries: &[(u64, V)])
     put_all(hints.as_mut_slice(), entries);
 }
 
-// All entries are hinted at, each later one in place of those before it.
+// Adds hints for all entries; a later one replaces an earlier one in the same slot.
 fn put_all<V>(hints: &mut [u32], entries: &[(u64, V)])
     ensures { AreHinted hints.new entries.now }
 {
@@ -107,7 +107,7 @@ fn put_all<V>(hints: &mut [u32], entries: &[(u64, V)])
     }
 }
 
-// The slot of a number, if there is one, leads to this place. No slot gets empty.
+// Makes the slot of a number, if it exists, lead to this place. No slot becomes empty.
 #[inline(always)]
 fn put_hint(hints: &mut [u32], number: u64, place: usize)
     ensures new { IsHinted hints.new number }
@@ -120,14 +120,14 @@ fn put_hint(hints: &mut [u32], number: u64, place: usize)
     }
 }
 
-// The hint at a place. A place that is too large for a hint has a wrong one.
+// The hint at a place. If a place is too large for a hint, its hint is wrong.
 fn hint_at(place: usize) -> u32
     ensures { result ≢ no_place }
 {
     (place & 0x7fff_ffff) as u32
 }
 
-// The slot of a number, of so many.
+// The slot of a number, out of `count` slots.
 #[inline(always)]
 fn slot_of(count: usize, number: u64) -> usize
     requires { 0 < count }

@@ -1,12 +1,12 @@
-//! Tables by numbers that a text chooses.
+//! Tables indexed by numbers that a text chooses.
 //!
-//! An entry is found in the logarithm of their number, whatever the numbers are: a table with hashes would let a text
+//! A lookup takes time logarithmic in the number of entries, whatever the numbers are. With a hash table, a text could
 //! choose numbers that collide. Entries stay in the order in which they were added.
 //!
-//! - `hints`: where the entry of a number may stand, tried before a search
-//! - `queue`: items numbered one after the other, taken out in any order
+//! - `hints`: where the entry of a number may be, tried before a search
+//! - `queue`: items numbered one after the other, removed in any order
 //! - `rising`: numbers that rise, searched from the end
-//! - `table`: a table by 64-bit numbers
+//! - `table`: a table indexed by 64-bit numbers
 #![tactic(auto)]
 
 mod hints;

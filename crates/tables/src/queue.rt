@@ -1,4 +1,4 @@
-//! A queue of items that are numbered one after the other, and are taken out in any order.
+//! A queue of items that are numbered one after the other and removed in any order.
 
 ghost use Rattle.std.specs.Prelude.{◌≡◌, ◌+◌, ◌<◌, ◌++◌, ◌∷◌, ◌^◌, [], ℕ, filter, length, nat_eq, not, slice_get, None};
 ghost use Rattle.std.specs.Prelude.{IfSome, IfNone, OnOk, OnErr};
@@ -11,15 +11,15 @@ use std::alloc::{AllocError, Global};
 use std::collections::VecDeque;
 use std::marker::Model;
 
-/// Items numbered one after the other, of which some were taken out. After the first item that is left one that was
-/// taken out keeps its slot, so an item is found at once by its number.
+/// Items numbered one after the other, some of which were removed. After the first remaining item, a removed one keeps
+/// its slot, so the number gives an item's place directly.
 #[derive(Drop)]
 pub struct Queue<V> {
     /// The number of the first slot.
     first: u64,
-    /// The items from that number on, none where one was taken out. The first one is there.
+    /// The items from that number on, none if one was removed. The first one exists.
     slots: VecDeque<Option<V>>,
-    /// How many are there.
+    /// How many items remain.
     count: usize,
 }
 
@@ -36,7 +36,7 @@ impl<V> Model for Queue<V> {
 }
 
 impl<V: Drop> Queue<V> {
-    /// A queue with no item, whose first one will have this number.
+    /// An empty queue whose first item will have this number.
     pub fn new(alloc: Global, first: u64) -> Queue<V>
         ensures entries { result.entries ≡ [] }
         ensures next { result.next ≡ first }
@@ -48,7 +48,7 @@ impl<V: Drop> Queue<V> {
         }
     }
 
-    /// One more item, whose number is the next one. If memory runs out, nothing is changed.
+    /// Appends an item, whose number is the next one. If memory runs out, nothing changes.
     pub fn push(&mut self, item: V) -> Result<(), AllocError>
         requires { self.old.next + 1 < 2 ^ 64 }
         ensures ok { OnOk result (self.new ≡ record {
@@ -62,7 +62,7 @@ impl<V: Drop> Queue<V> {
         Ok(())
     }
 
-    /// The item of a number. None: it was taken out, or there never was one.
+    /// The item with this number. `None` means that it was removed or never existed.
     pub fn get(&self, number: u64) -> Option<&V>
         ensures { option_copied result ≡ lookup (nat_eq number) self.now.entries }
     {
@@ -70,7 +70,7 @@ impl<V: Drop> Queue<V> {
         self.slots[place].as_ref()
     }
 
-    /// Takes the item of a number out, if it is there.
+    /// Removes and returns the item with this number. `None` means that it doesn't exist.
     pub fn take(&mut self, number: u64) -> Option<V>
         ensures item { result ≡ lookup (nat_eq number) self.old.entries }
         ensures entries { self.new.entries ≡ filter (λ e. not (nat_eq number e.0)) self.old.entries }
@@ -83,7 +83,7 @@ impl<V: Drop> Queue<V> {
         Some(item)
     }
 
-    /// The first item that is left, with its number.
+    /// The first remaining item, with its number. `None` means that the queue is empty.
     pub fn first(&self) -> Option<(u64, &V)>
         ensures { option_map (λ e. (e.0, e.1.now)) result ≡ slice_get self.now.entries 0 }
     {
@@ -93,7 +93,7 @@ impl<V: Drop> Queue<V> {
         }
     }
 
-    /// How many items are left.
+    /// How many items remain.
     pub fn len(&self) -> usize
         ensures { result ≡ length self.now.entries }
     {
@@ -108,7 +108,7 @@ impl<V: Drop> Queue<V> {
     }
 }
 
-// Where the slot of a number is, if it has one, and the first slot has this number.
+// The slot of a number, if it has one. The first slot has this number.
 fn place_in<V>(first: u64, slots: &VecDeque<Option<V>>, number: u64) -> Option<usize>
     ensures some { IfSome result (λ place. (number ≡ first + place) × (place < deque_len slots.now)) }
     ensures none { IfNone result (lookup (nat_eq number) (standing first slots.now.items) ≡ None) }
@@ -123,7 +123,7 @@ fn place_in<V>(first: u64, slots: &VecDeque<Option<V>>, number: u64) -> Option<u
     Some(place)
 }
 
-// Lets go of the empty slots in front, and counts them.
+// Frees the empty slots at the front, and counts them.
 fn drop_empty<V: Drop>(slots: &mut VecDeque<Option<V>>) -> u64
     ensures standing { (n : ℕ) → standing n slots.old.items ≡ standing (n + result) slots.new.items }
     ensures count { length slots.old.items ≡ result + length slots.new.items }

@@ -1,13 +1,13 @@
-//! Numbers that rise, with the places of their entries, and how one is found among them.
+//! Rising numbers with the places of their entries, and how to find one among them.
 //!
-//! A number is searched back from the end, each step twice as wide as the one before, and then what lies between the
-//! last two steps is halved: this takes the logarithm of how far from the end the number stands.
+//! The search goes back from the end, each step twice as wide as the one before, and then bisects the range between the
+//! last two steps. It takes time logarithmic in the number's distance from the end.
 
 ghost use Rattle.std.specs.Prelude.{◌≡◌, ◌≤◌, length, nat_eq};
 ghost use Rattle.std.specs.Map.{lookup};
 ghost use Rattle.tables.specs.Tables.{AreBelow, AreNotBelow, IsRising};
 
-/// The place that stands beside a number, if it is among them.
+/// The place of a number. `None` means that it isn't among the numbers.
 pub(crate) fn place_among(risen: &[(u64, usize)], number: u64) -> Option<usize>
     requires { IsRising risen.now }
     ensures { result ≡ lookup (nat_eq number) risen.now }
@@ -19,7 +19,7 @@ pub(crate) fn place_among(risen: &[(u64, usize)], number: u64) -> Option<usize>
     None
 }
 
-// How many are below a number: they stand in front.
+// How many numbers are below a number: they come first.
 fn count_from_end(risen: &[(u64, usize)], number: u64) -> usize
     requires { IsRising risen.now }
     ensures bound { result ≤ length risen.now }
@@ -38,7 +38,7 @@ fn count_from_end(risen: &[(u64, usize)], number: u64) -> usize
     0
 }
 
-// The same, where at least `least` and at most `most` numbers are below it.
+// The same, if at least `least` and at most `most` numbers are below it.
 fn count_between(risen: &[(u64, usize)], number: u64, least: usize, most: usize) -> usize
     requires rising { IsRising risen.now }
     requires order { least ≤ most }

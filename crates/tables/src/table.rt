@@ -1,4 +1,4 @@
-//! A table by numbers, whose entries stay in the order in which they were added.
+//! A table indexed by numbers, whose entries stay in the order in which they were added.
 
 ghost use Rattle.std.specs.Prelude.{◌≡◌, ◌≢◌, ◌<◌, ℕ, [], true, false, is_some, length, nat_eq, OnOk, OnErr, None};
 ghost use Rattle.std.specs.Prelude.{Some, IsSome, IfSome};
@@ -17,26 +17,26 @@ use std::alloc::{AllocError, Global};
 use std::collections::BTreeMap;
 use std::marker::Model;
 
-/// Entries by number. None is ever taken out.
+/// Entries by number. No entry is ever removed.
 #[derive(Drop)]
 pub struct Table<V> {
     entries: Vec<(u64, V)>,
-    /// Where the entries stand.
+    /// Where the entries are.
     index: Index,
-    /// The number for which room was made last.
+    /// The number that room was last reserved for.
     ready: Option<u64>,
 }
 
-/// Where the entry of each number stands.
+/// Where the entry of each number is.
 #[derive(Drop)]
 struct Index {
-    /// Where the entry of a number may stand; none where no number needed a hint so far.
+    /// Where the entry of a number may be; none if no number needed a hint so far.
     hints: Vec<u32>,
-    /// The greatest number that was above all before it.
+    /// The greatest number that was above all earlier ones.
     top: Option<u64>,
-    /// The numbers that were above all before them, which rise, with the places of their entries.
+    /// The numbers that were above all earlier ones, which rise, with the places of their entries.
     risen: Vec<(u64, usize)>,
-    /// Where the entry of each other number stands, or none where a number has its room but no entry yet.
+    /// Where the entry of each other number is, or none if a number has its room but no entry yet.
     others: BTreeMap<u64, Option<usize>>,
 }
 
@@ -56,7 +56,7 @@ impl<V> Model for Table<V> {
 }
 
 impl<V: Drop> Table<V> {
-    /// A table with no entry.
+    /// An empty table.
     pub fn new(alloc: Global) -> Table<V>
         ensures { result.entries ≡ [] }
     {
@@ -72,7 +72,7 @@ impl<V: Drop> Table<V> {
         }
     }
 
-    /// The value of a number. None: the table has no entry of it.
+    /// The value of a number. `None` means that it has no entry.
     #[inline(always)]
     pub fn get(&self, number: u64) -> Option<&V>
         ensures { option_copied result ≡ lookup (nat_eq number) self.now.entries }
@@ -97,7 +97,7 @@ impl<V: Drop> Table<V> {
         self.get(number).is_some()
     }
 
-    /// Makes room for an entry of a number. No entry changes.
+    /// Reserves room for an entry of a number. No entry changes. The error means that memory ran out.
     pub fn reserve(&mut self, number: u64) -> Result<(), AllocError>
         ensures entries { self.new.entries ≡ self.old.entries }
         ensures room { OnOk result (self.new.ready ≡ Some number) }
@@ -114,8 +114,8 @@ impl<V: Drop> Table<V> {
         Ok(())
     }
 
-    /// The value of a number becomes this one: an entry that is there keeps its place, and a new one goes last. If
-    /// memory runs out, nothing is changed; it doesn't if there is an entry of the number, or room for it.
+    /// Sets the value of a number: an existing entry keeps its place, a new one is added last. If memory runs out,
+    /// nothing changes. It doesn't run out if the number has an entry, or room for one.
     #[inline(always)]
     pub fn insert(&mut self, number: u64, value: V) -> Result<(), AllocError>
         ensures ok { OnOk result (self.new.entries ≡ insert_entry nat_eq self.old.entries number value) }
@@ -159,7 +159,7 @@ impl<V: Drop> Table<V> {
     }
 }
 
-/// A value that can be marked where it stands.
+/// A value that can be marked in its place.
 pub trait Mark {
     /// The value once it is marked.
     ghost marked: { Self → Self };
@@ -170,7 +170,7 @@ pub trait Mark {
 }
 
 impl<V: Drop + Mark> Table<V> {
-    /// The value of a number is marked. Where the table has no entry of it nothing is changed.
+    /// Marks the value of a number. If the table has no entry for it, nothing changes.
     pub fn mark(&mut self, number: u64)
         ensures { self.new.entries ≡ changed_at V.marked self.old.entries number }
     {
@@ -190,7 +190,7 @@ fn is_above(top: Option<u64>, number: u64) -> bool
     }
 }
 
-// Where the entry of a number stands.
+// Where the entry of a number is.
 #[inline(always)]
 fn place_of<V>(entries: &Vec<(u64, V)>, index: &Index, number: u64) -> Option<usize>
     requires placed { IsPlaced index.now.top index.now.risen.items index.now.others.entries entries.now.items }
@@ -203,8 +203,8 @@ fn place_of<V>(entries: &Vec<(u64, V)>, index: &Index, number: u64) -> Option<us
     }
 }
 
-// The same, if it is the last entry, or stands as far from the first one as its number lies above the first one's, as
-// it does if all numbers up to it were given one after the other. No other list is read.
+// The same, if it is the last entry, or as far after the first entry as its number is above the first number. That is
+// so if all numbers up to it were assigned one after the other. No other list is read.
 #[inline(always)]
 fn place_at_once<V>(entries: &[(u64, V)], number: u64) -> Option<usize>
     requires { AreApart entries.now }
@@ -221,8 +221,8 @@ fn place_at_once<V>(entries: &[(u64, V)], number: u64) -> Option<usize>
     None
 }
 
-// Where the entry of any number stands. A number above all has none, and no number has one whose hint says so. A hint
-// that leads to an entry of another number says nothing: then it is searched.
+// Where the entry of any number is. A number above all others has none, nor does a number whose slot is empty. If the
+// hint leads to an entry of another number, the lists are searched.
 #[inline(never)]
 fn place_hinted<V>(entries: &Vec<(u64, V)>, index: &Index, number: u64) -> Option<usize>
     requires placed { IsPlaced index.now.top index.now.risen.items index.now.others.entries entries.now.items }
@@ -244,7 +244,7 @@ fn place_hinted<V>(entries: &Vec<(u64, V)>, index: &Index, number: u64) -> Optio
     place_in(&index.risen, &index.others, number)
 }
 
-// A number that is above all has no place in either.
+// A number above all others has no place in either list.
 fn place_in(
     risen: &Vec<(u64, usize)>,
     others: &BTreeMap<u64, Option<usize>>,
@@ -262,8 +262,7 @@ fn place_in(
     }
 }
 
-// A number that is above all has room in the list then, another one has its place in the map. No number is led
-// elsewhere.
+// A number above all others then has room in the list; any other has its place in the map. No number's lookup changes.
 fn make_room(
     top: Option<u64>,
     risen: &mut Vec<(u64, usize)>,
