@@ -1,5 +1,5 @@
--- What may be discarded: bytes that were delivered, and bytes and transmissions below the oldest position that is not
--- acknowledged (RFC 9293, 3.3.1: SND.UNA). Something fixed stands in their places.
+-- What may be discarded: delivered bytes, and bytes and transmissions below the oldest unacknowledged position (RFC
+-- 9293, 3.3.1: SND.UNA). Fixed values take their places.
 use Rattle.std.specs.Prelude.{◌≡◌, ℕ, zero, suc, ◌-◌, ◌≤◌, Bool, List, [], ◌∷◌, ◌++◌, length, Option, None, Some}
 use Rattle.streams.specs.declared.cell.Cell.{Cell}
 use Rattle.streams.specs.declared.cell.Cell.TheVariants.{Syn, Byte, Fin}
@@ -16,29 +16,29 @@ faded (Some Syn) = Some Syn
 faded (Some (Byte value)) = Some (Byte 0)
 faded (Some Fin) = Some Fin
 
--- the first so many are discarded
+-- the first cells, this many, are discarded
 abbrev pub fade : ℕ → List (Option Cell) → List (Option Cell)
 fade zero taken = taken
 fade (suc count) [] = []
 fade (suc count) (x ∷ taken) = faded x ∷ fade count taken
 
--- the bytes that were delivered are discarded
+-- the delivered bytes are discarded
 abbrev pub forgotten : Receiving → Receiving
 forgotten r = record r { taken = fade (suc r.delivered) r.taken }
 
--- the first so many bytes become 0
+-- the first bytes, this many, become 0
 abbrev pub blank : ℕ → List ℕ → List ℕ
 blank count bytes = covered 0 count bytes
 
--- of the bytes that were accepted those below this position are discarded
+-- the accepted bytes below this position are discarded
 abbrev pub below : ℕ → List ℕ → List ℕ
 below snd_una accepted = blank (snd_una - 1) accepted
 
--- the transmissions below this position are discarded: as if they had been made once, at the moment 0
+-- the transmissions below this position are discarded: they show as sent once, at the moment 0
 abbrev pub made_below : ℕ → List Transmission → List Transmission
 made_below snd_una all = covered (once 0) snd_una all
 
--- nothing that an endpoint does with its streams reads what was discarded, and discarding sooner or later is the same
+-- no operation of an endpoint on its streams reads what was discarded, and it doesn't matter when it is discarded
 pub record ForgettingStreams : Type 0 where
   pub counts : (r : Receiving) → next (forgotten r) ≡ next r
   pub ends : (r : Receiving) → is_ended (forgotten r) ≡ is_ended r
@@ -55,7 +55,7 @@ pub record ForgettingStreams : Type 0 where
   pub acks : (snd_una higher : ℕ) (accepted : List ℕ) → snd_una ≤ higher
       → below higher (below snd_una accepted) ≡ below higher accepted
 
--- the same of transmissions
+-- the same for transmissions
 pub record ForgettingMakings : Type 0 where
   pub measures : (snd_una : ℕ) (all : List Transmission) → length (made_below snd_una all) ≡ length all
   pub makes : (snd_una : ℕ) (all : List Transmission) (position count moment : ℕ) →

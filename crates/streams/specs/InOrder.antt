@@ -1,4 +1,4 @@
--- What reads are given, where what was taken is what the peer sends: TCP delivers in order, and all of it (RFC 9293,
+-- What reads return if the received cells are those the peer sends: TCP delivers in order, and all of it (RFC 9293,
 -- 3.8).
 use Rattle.std.specs.Prelude.{◌≡◌, ℕ, ◌+◌, ◌<◌, ◌≤◌, ◌↔◌, Bool, true, false, List, ◌++◌, length, Some, slice_get}
 use Rattle.streams.specs.declared.cell.Cell.{Cell}
@@ -7,17 +7,18 @@ use Rattle.streams.specs.Cells.{Taken, body}
 use Rattle.streams.specs.Received.{Receiving, arrived, is_ended, kept, next, received, starts, waiting}
 use Rattle.streams.specs.Sent.{cells, end_of, piece}
 
--- each cell that was taken stands at its position in what a peer with these bytes sends
+-- each received cell is at its position in what a peer with these bytes sends
 abbrev pub IsOf : Receiving → List ℕ → Bool → Type 0
 IsOf r accepted ended = Taken (λ position cell. slice_get (cells accepted ended) position ≡ Some cell) r.taken
 
--- these cells stand in what the peer sends, from this position on
+-- these cells are in what the peer sends, from this position on
 abbrev pub StandsAt : List Cell → ℕ → List ℕ → Bool → Type 0
 StandsAt some position accepted ended =
     (place : ℕ) (cell : Cell) → slice_get some place ≡ Some cell → slice_get (cells accepted ended) (position + place)
     ≡ Some cell
 
--- what came is how the peer's bytes begin; what waits follows what was received; the end is told when all came
+-- what was received in order is a prefix of the peer's bytes; what waits follows it; the end is reported once all was
+-- received
 pub record InOrder (r : Receiving) (accepted : List ℕ) (ended : Bool) : Type 0 where
   pub arrives : IsPrefixOf (arrived r) accepted
   pub waits : 1 ≤ next r → r.delivered ≤ length (arrived r) → received r ++ waiting r ≡ arrived r
@@ -38,6 +39,6 @@ pub record StreamsInOrder : Type 0 where
   pub sends : (accepted bytes : List ℕ) → Within (cells accepted false) (cells (accepted ++ bytes) false)
   pub finishes : (accepted : List ℕ) (ended : Bool) → Within (cells accepted ended) (cells accepted true)
 
--- bytes that others start with are a prefix of them
+-- if a list of bytes begins with others, those are a prefix of it
 abbrev pub StartsArePrefixes : Type 0
 StartsArePrefixes = (bytes all : List ℕ) → (starts bytes all ≡ true) ↔ IsPrefixOf bytes all

@@ -1,37 +1,37 @@
--- When each position was made, and whether it was made again; only what was made once is measured (RFC 6298, 3).
+-- When each position was first sent, and whether it was retransmitted; only data sent once is measured (RFC 6298, 3).
 use Rattle.std.specs.Prelude.{ℕ, zero, suc, ◌+◌, ◌-◌, Bool, true, false, ◌||◌, List, [], ◌∷◌, ◌++◌, length, take, drop}
 use Rattle.std.specs.Prelude.{replicate, Option, slice_get}
 use Rattle.std.specs.Option.{option_map}
 use Rattle.streams.specs.declared.transmission.Transmission.{Transmission}
 
--- made for the first time at this moment
+-- sent for the first time at this moment
 abbrev pub once : ℕ → Transmission
 once moment = record { moment = moment; again = false }
 
--- made again: the moment of the first making stays
+-- retransmitted: the moment of the first transmission stays
 abbrev pub remade : Transmission → Transmission
 remade x = record x { again = true }
 
--- so many positions from this one on were made again, as far as they were made
+-- this many positions from this one on were retransmitted, if they were sent
 abbrev pub mark : (position count : ℕ) → List Transmission → List Transmission
 mark position count [] = []
 mark (suc position) count (x ∷ all) = x ∷ mark position count all
 mark zero zero (x ∷ all) = x ∷ all
 mark zero (suc count) (x ∷ all) = remade x ∷ mark zero count all
 
--- a segment is made: of its positions the old ones are made again, the new ones for the first time
+-- a segment is built: its old positions are retransmitted, the new ones sent for the first time
 abbrev pub made : List Transmission → (position count moment : ℕ) → List Transmission
 made all position count moment = mark position count all ++ replicate (position + count - length all) (once moment)
 
--- one of these was made again
+-- one of these was retransmitted
 abbrev pub any_again : List Transmission → Bool
 any_again [] = false
 any_again (x ∷ all) = x.again || any_again all
 
--- a position from the first to before the second was made again
+-- a position from the first to before the second was retransmitted
 abbrev pub retransmitted : List Transmission → (from upto : ℕ) → Bool
 retransmitted all from upto = any_again (take (upto - from) (drop from all))
 
--- when a position was made first, if it was
+-- when a position was first sent, if it was
 abbrev pub made_moment : List Transmission → ℕ → Option ℕ
 made_moment all position = option_map (λ x. x.moment) (slice_get all position)

@@ -1,4 +1,4 @@
--- What the buffers show of what they discarded: something fixed at each position.
+-- What the buffers show in place of what they discarded: a fixed value at each position.
 use Rattle.std.specs.Prelude.{ℕ, zero, suc, ◌==◌, Bool, true, false, if◌then◌else◌, List, [], ◌∷◌, ◌++◌, Option, None}
 use Rattle.std.specs.Prelude.{Some, replicate}
 use Rattle.streams.specs.declared.cell.Cell.{Cell}
@@ -7,34 +7,34 @@ use Rattle.streams.specs.declared.transmission.Transmission.{Transmission}
 use Rattle.streams.specs.declared.runs.Run.{Run}
 use Rattle.streams.specs.Transmissions.{once}
 
--- so many positions that were taken, from the SYN on
+-- this many positions that were received, from the SYN on
 abbrev pub gone_cells : ℕ → List (Option Cell)
 gone_cells zero = []
 gone_cells (suc n) = Some Syn ∷ replicate n (Some (Byte 0))
 
--- these bytes, which were taken, and what stands behind them
+-- these bytes, which were received, and what follows them
 abbrev pub bytes_then : List ℕ → List (Option Cell) → List (Option Cell)
 bytes_then [] rest = rest
 bytes_then (value ∷ bytes) rest = Some (Byte value) ∷ bytes_then bytes rest
 
--- a FIN where there is one, and nothing else
+-- a FIN if there is one, and nothing else
 abbrev pub fin_alone : Bool → List (Option Cell)
 fin_alone true = Some Fin ∷ []
 fin_alone false = []
 
--- bytes at places of which some were taken, those whose mark is 1
+-- the bytes at places some of which were received: those whose mark is 1
 abbrev pub marked_bytes : (marks values : List ℕ) → List (Option Cell)
 marked_bytes [] values = []
 marked_bytes (mark ∷ marks) [] = []
 marked_bytes (mark ∷ marks) (value ∷ values) =
     (if mark == 1 then Some (Byte value) else None) ∷ marked_bytes marks values
 
--- how many ones stand in front
+-- how many ones are at the front
 abbrev pub ones : List ℕ → ℕ
 ones [] = 0
 ones (mark ∷ marks) = if mark == 1 then suc (ones marks) else 0
 
--- how many places a FIN takes in front of the first gap: one where there is a FIN and no gap
+-- how many places a FIN fills before the first gap: one if there is a FIN and no gap
 abbrev pub ends : Bool → List ℕ → ℕ
 ends true [] = 1
 ends true (mark ∷ marks) = 0

@@ -1,4 +1,4 @@
-//! Bytes that join at the end and leave in front, in one piece of memory.
+//! Bytes appended at the end and removed from the front, in one piece of memory.
 
 ghost use Rattle.std.specs.Prelude.{◌≡◌, ◌+◌, ◌≤◌, ◌<◌, ◌^◌, ◌++◌, [], length, drop, replicate, set, OnOk, OnErr};
 ghost use Rattle.streams.specs.Lists.{over};
@@ -6,12 +6,12 @@ ghost use Rattle.streams.specs.Lists.{over};
 use std::alloc::{AllocError, Global};
 use std::marker::Model;
 
-/// Bytes in their order, which are read and copied as a slice.
+/// Bytes in order, which are read and copied as a slice.
 #[derive(Drop)]
 pub(crate) struct ByteQueue {
-    /// Those that left and those that are there.
+    /// The removed bytes and the remaining ones.
     bytes: Vec<u8>,
-    /// How many of them left.
+    /// How many of them were removed.
     gone: usize,
 }
 
@@ -22,12 +22,12 @@ impl Model for ByteQueue {
 
     ghost view = { λ q. drop q.gone q.bytes.items };
 
-    // No more bytes that left are kept than bytes that are there.
+    // At most as many removed bytes are kept as bytes remain.
     ghost invariant = { λ q. q.gone ≤ length (drop q.gone q.bytes.items) };
 }
 
 impl ByteQueue {
-    /// No bytes.
+    /// An empty queue.
     pub(crate) fn new(alloc: Global) -> Self
         ensures { result ≡ [] }
     {
@@ -52,7 +52,7 @@ impl ByteQueue {
         &self.bytes[self.gone..]
     }
 
-    /// These bytes join at the end, all or none.
+    /// Appends these bytes, all or none. The error means that memory ran out.
     pub(crate) fn append(&mut self, bytes: &[u8]) -> Result<(), AllocError>
         ensures ok { OnOk result (self.new ≡ self.old ++ bytes.now) }
         ensures err { OnErr result (self.new ≡ self.old) }
@@ -77,7 +77,7 @@ impl ByteQueue {
         self.bytes[start..start + bytes.len()].copy_from_slice(bytes);
     }
 
-    /// Writes this byte at so many places from this one on.
+    /// Writes this byte at this many places from this one on.
     pub(crate) fn overfill(&mut self, place: usize, count: usize, byte: u8)
         requires { place + count ≤ length self.old }
         ensures { self.new ≡ over place self.old (replicate count byte) }
@@ -86,8 +86,8 @@ impl ByteQueue {
         self.bytes[start..start + count].fill(byte);
     }
 
-    /// The first so many bytes leave. What is there is moved to the beginning once no more bytes are there than left,
-    /// so at most one byte is moved for each that leaves.
+    /// Removes the first bytes, this many. The rest is moved to the beginning once at most as many bytes remain as were
+    /// removed, so each removed byte costs at most one move.
     pub(crate) fn drop_front(&mut self, count: usize)
         requires { count ≤ length self.old }
         ensures { self.new ≡ drop count self.old }
@@ -104,7 +104,7 @@ impl ByteQueue {
     }
 }
 
-/// So many zeros join at the end of both, or of none.
+/// Appends this many zeros to both queues, or to none.
 pub(crate) fn grow_both(
     first: &mut ByteQueue,
     second: &mut ByteQueue,

@@ -1,6 +1,6 @@
-//! What stands at one position (RFC 9293, 3.4).
+//! The cell at one position (RFC 9293, 3.4).
 
-/// What stands at one position of a stream.
+/// What is at one position of a stream.
 #[derive(Clone, Copy)]
 pub enum Cell {
     /// The SYN, at position 0.

@@ -1,5 +1,5 @@
-//! What was taken and waits, from one place on: a byte for each place in one piece of memory, and from the first gap on
-//! a mark for each place that was taken.
+//! What was received and waits, from one place on: a byte for each place in one piece of memory, and from the first gap
+//! on a mark for each place that was received.
 
 ghost use Rattle.std.specs.Prelude.{◌≡◌, ◌+◌, ◌-◌, ◌≤◌, ◌<◌, ◌^◌, [], nat_lt, OnOk, OnErr, IfOk, length, take};
 ghost use Rattle.std.specs.Prelude.{drop, slice_get};
@@ -11,20 +11,19 @@ use super::placing::{end_kept, ends, ones, part_kept, place};
 use std::alloc::{AllocError, Global};
 use std::marker::Model;
 
-/// Cells by place. The bytes in front of the first gap are read, compared and dropped as one piece, and what comes in
-/// order while there is no gap joins them by one copy.
+/// Cells by place. The bytes before the first gap are read, compared and dropped as one piece. If there is no gap,
+/// bytes that arrive in order are appended with one copy.
 #[derive(Drop)]
 pub(crate) struct CellQueue {
-    /// A byte for each place up to the furthest that was taken; where none was, it says nothing.
+    /// A byte for each place up to the furthest that was received; its value is meaningless if none was.
     values: ByteQueue,
-    /// How many of them stand in front of the first gap.
+    /// How many of them are before the first gap.
     ready: usize,
-    /// For each of the others 1 if a byte was taken there, and something else if none was.
+    /// For each of the others, 1 if a byte was received there, and another value if none was.
     marks: ByteQueue,
-    /// Whether a FIN was taken. It stands after the last byte, since nothing is taken after it, and it is not taken
-    /// below a byte.
+    /// Whether a FIN was received. It is after the last byte: nothing is accepted after a FIN, and no FIN below a byte.
     fin: bool,
-    /// How many places stand in front of the first gap: the bytes, and the FIN if no gap stands before it.
+    /// How many places are before the first gap: the bytes, and the FIN if no gap comes before it.
     front: usize,
 }
 
@@ -56,7 +55,7 @@ impl CellQueue {
         }
     }
 
-    /// How many places stand in front of the first gap.
+    /// How many places are before the first gap.
     pub(crate) fn ready(&self) -> usize
         ensures value { result ≡ length (front self.now) }
         ensures small { result ≤ length self.now }
@@ -64,28 +63,28 @@ impl CellQueue {
         self.front
     }
 
-    /// Whether the last place in front of the first gap has a FIN.
+    /// Whether the last place before the first gap has a FIN.
     pub(crate) fn is_ended(&self) -> bool
         ensures { result ≡ is_fin (slice_get self.now (length (front self.now) - 1)) }
     {
         self.front > self.ready
     }
 
-    /// Whether a byte stands in front.
+    /// Whether a byte is at the front.
     pub(crate) fn has_leading(&self) -> bool
         ensures { result ≡ nat_lt 0 (length (leading self.now)) }
     {
         self.ready > 0
     }
 
-    /// Whether the bytes in front begin with these. Takes no memory.
+    /// Whether the queue begins with these bytes. Uses no memory.
     pub(crate) fn starts_with(&self, bytes: &[u8]) -> bool
         ensures { result ≡ starts bytes.now (leading self.now) }
     {
         begins(&self.values.as_slice()[..self.ready], bytes)
     }
 
-    /// A copy of the bytes in front, of `most` or as many as there are.
+    /// A copy of the first bytes: at most `most`, or as many as there are. The error means that memory ran out.
     pub(crate) fn read(&self, alloc: Global, most: usize) -> Result<Vec<u8>, AllocError>
         ensures { IfOk result (λ bytes. bytes.items ≡ take most (leading self.now)) }
     {
@@ -93,9 +92,9 @@ impl CellQueue {
         Vec::from_slice(alloc, &self.values.as_slice()[..count])
     }
 
-    /// Takes these bytes from this place on, which is not in front of the first gap, and a FIN after them if there is
-    /// one. What was taken at a place before stays; nothing is taken at or after a FIN that was taken, and no FIN at or
-    /// below a place that was.
+    /// Accepts these bytes from this place on, which is not before the first gap, and a FIN after them if there is one.
+    /// Places that were received earlier don't change. Nothing is accepted at or after a FIN, and no FIN at or below a
+    /// place that was received.
     pub(crate) fn keep(&mut self, at: usize, bytes: &[u8], fin: bool) -> Result<(), AllocError>
         requires at { length (front self.old) ≤ at }
         requires small { at + length bytes.now + 1 < 2 ^ 63 }
@@ -125,7 +124,7 @@ impl CellQueue {
         Ok(())
     }
 
-    /// Lets go of so many bytes in front.
+    /// Removes this many bytes from the front.
     pub(crate) fn drop_front(&mut self, count: usize)
         requires { count ≤ length (leading self.old) }
         ensures { self.new ≡ drop count self.old }

@@ -4,22 +4,22 @@
 ghost use Rattle.streams.specs.Forgetting.{ForgettingMakings, ForgettingStreams};
 ghost use Rattle.streams.specs.InOrder.{StartsArePrefixes, StreamsInOrder};
 
-/// Nothing that an endpoint does with its streams reads what was discarded.
+/// No operation of an endpoint on its streams reads discarded bytes.
 pub fn forgetting_streams()
     ensures { ForgettingStreams }
 {}
 
-/// No query of transmissions reads those that were discarded.
+/// No query of transmissions reads discarded ones.
 pub fn forgetting_transmissions()
     ensures { ForgettingMakings }
 {}
 
-/// Where segments carry what their maker sends, reads are given it in order, and the end when all of it came.
+/// If segments carry what their sender sends, reads return it in order, and the end once all of it arrived.
 pub fn streams_in_order()
     ensures { StreamsInOrder }
 {}
 
-/// Bytes that others start with are a prefix of them.
+/// If a list of bytes begins with others, those are a prefix of it.
 pub fn starts_are_prefixes()
     ensures { StartsArePrefixes }
 {}

@@ -1,23 +1,22 @@
-//! The two streams of an endpoint, by position (RFC 9293, 3.4): what it sends, and what it took of its peer.
+//! The two streams of an endpoint, by position (RFC 9293, 3.4): what it sends, and what it received from its peer.
 //!
-//! Position 0 is the SYN's, data byte k has position 1 + k, and the FIN stands after the last byte. Positions don't
-//! wrap. Each list here is by position, so that "the byte at a position" is an element of a list, and "the next
-//! position expected" is the length of the part in front without a gap.
+//! Position 0 is the SYN's, data byte k has position 1 + k, and the FIN follows the last byte. Positions don't wrap.
+//! Each list is indexed by position: "the byte at a position" is an element of a list, and "the next position expected"
+//! is the length of the part before the first gap.
 //!
-//! - `byte_queue`: bytes that join at the end and leave in front
-//! - `cell`: what stands at one position
-//! - `receive`: what was taken of the peer, until it is delivered; `cell_queue` holds it, and `placing` writes bytes by
-//!   place
-//! - `send`: what sends accepted, until it is acknowledged
-//! - `transmission`, `transmissions`: when a position was made, and whether it was made again; `runs` keeps the first by
-//!   segments, `marks`
-//!   the second by ranges
-//! - `laws`: that nothing reads what is forgotten, and that reads are given what the peer sent, in order
+//! - `byte_queue`: bytes appended at the end and removed from the front
+//! - `cell`: what is at one position
+//! - `receive`: what was received from the peer, until it is delivered; `cell_queue` holds it, and `placing` writes
+//!   bytes by place
+//! - `send`: the bytes that sends accepted, until they are acknowledged
+//! - `transmission`, `transmissions`: when a position was first sent, and whether it was retransmitted; `runs` keeps
+//!   the first by segments, `marks` the second by ranges
+//! - `laws`: nothing reads what was discarded, and reads return what the peer sent, in order
 //!
-//! Each buffer shows the whole list from position 0 on, with something fixed in the places of what it discarded. What
-//! must hold stands in specs/: `Cells` first, then `Received` and `Sent`, then `Transmissions`, in `InOrder` what
-//! follows, and in `Forgetting` what may be discarded. Which bytes may be kept, read or made is for the rules above to
-//! say.
+//! Each buffer shows the whole list from position 0 on, with a fixed value in the places of what it discarded. The
+//! contracts use the definitions in specs/. Read `Cells` first, then `Received` and `Sent`, then `Transmissions`.
+//! `InOrder` states what follows, and `Forgetting` what may be discarded. The callers decide which bytes may be kept,
+//! read or sent.
 #![tactic(auto)]
 
 mod byte_queue;

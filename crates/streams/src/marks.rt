@@ -1,8 +1,8 @@
-//! Which positions were made again.
+//! Which positions were retransmitted.
 //!
-//! A segment that is made again marks one range, however long it is and whatever stands before it. Ranges may overlap.
-//! They are found in order, and one that lies below all that may still be looked up is discarded, so each costs the
-//! logarithm of how many there are.
+//! A retransmitted segment marks one range, however long it is. Ranges may overlap. They are found in order, and a
+//! range below every position that may still be looked up is discarded. Each operation is logarithmic in the number of
+//! ranges.
 
 ghost use Rattle.std.specs.List.{list_any};
 ghost use Rattle.std.specs.Prelude.{◌≡◌, ℕ, ◌<◌, ◌≤◌, ◌∷◌, ◌&&◌, ◌||◌, nat_le, nat_lt, true, false, IfNone, IfSome};
@@ -12,18 +12,18 @@ ghost use Rattle.streams.specs.Marks.{AreRanges, IsBelow, in_ranges, is_marked};
 use std::alloc::{AllocError, Global};
 use std::collections::BTreeMap;
 
-/// The positions that were made again.
+/// The positions that were retransmitted.
 #[derive(Drop)]
 pub(crate) struct Marks {
-    /// Where ranges of them begin, with the position after each range. None begins below `floor`.
+    /// Where the ranges begin, with the position after each range. None begins below `floor`.
     ranges: BTreeMap<u64, u64>,
-    /// All from here on and below `reached` were made again, too.
+    /// All positions from here on and below `reached` were retransmitted, too.
     floor: u64,
     reached: u64,
 }
 
 impl Marks {
-    /// No position was made again.
+    /// No position was retransmitted.
     pub(crate) fn new(alloc: Global) -> Marks
         ensures none { (position : ℕ) → is_marked result position ≡ false }
         ensures below { IsBelow 0 result }
@@ -35,7 +35,7 @@ impl Marks {
         }
     }
 
-    /// The positions from `from` to before `upto` were made again. If memory runs out none of them is marked.
+    /// Marks the positions from `from` to before `upto` as retransmitted. If memory runs out, none of them is marked.
     pub(crate) fn add(&mut self, from: u64, upto: u64) -> Result<(), AllocError>
         ensures marked { OnOk result ((position : ℕ) → is_marked self.new position
             ≡ (is_marked self.old position || (nat_le from position && nat_lt position upto))) }
@@ -46,7 +46,7 @@ impl Marks {
         add_range(&mut self.ranges, from, upto)
     }
 
-    // A range may begin at this position then. No position is marked or not any more.
+    // A range may then begin at this position. The set of marked positions doesn't change.
     fn lower(&mut self, from: u64) -> Result<(), AllocError>
         ensures low { OnOk result (self.new.floor ≤ from) }
         ensures same { (position : ℕ) → is_marked self.new position ≡ is_marked self.old position }
@@ -61,7 +61,7 @@ impl Marks {
         Ok(())
     }
 
-    /// Whether one of the positions from `from` to before `upto` was made again.
+    /// Whether any position from `from` to before `upto` was retransmitted.
     pub(crate) fn meets(&self, from: u64, upto: u64) -> bool
         requires { from < upto }
         ensures found { result ≡ true → (end : ℕ) → IsBelow end self.now → (position : ℕ) × (from ≤ position)
@@ -73,7 +73,7 @@ impl Marks {
         from.max(self.floor) < upto.min(self.reached) || meet(&self.ranges, from, upto)
     }
 
-    /// Those below a position are as if they had not been made again.
+    /// Forgets that positions below this one were retransmitted.
     pub(crate) fn forget_below(&mut self, snd_una: u64)
         ensures { (end : ℕ) → IsBelow end self.old → IsBelow end self.new ×
             ((position : ℕ) → is_marked self.new position ≡ (nat_le snd_una position && is_marked self.old position)) }
@@ -86,7 +86,7 @@ impl Marks {
     }
 }
 
-// One range more, if it is not empty.
+// Adds a range, if it is not empty.
 fn add_range(ranges: &mut BTreeMap<u64, u64>, from: u64, upto: u64) -> Result<(), AllocError>
     ensures added { OnOk result ((position : ℕ) → in_ranges ranges.new.entries position
         ≡ (in_ranges ranges.old.entries position || (nat_le from position && nat_lt position upto))) }
@@ -114,7 +114,7 @@ fn meet(ranges: &BTreeMap<u64, u64>, from: u64, upto: u64) -> bool
     false
 }
 
-// The ranges that begin below a position are discarded. Answers how far they reach, and at least `reached`.
+// Discards the ranges that begin below a position. Answers how far they reach, and at least `reached`.
 fn drop_below(ranges: &mut BTreeMap<u64, u64>, snd_una: u64, reached: u64) -> u64
     ensures same { (position : ℕ) → snd_una ≤ position
         → (in_ranges ranges.new.entries position || nat_lt position result)
@@ -129,7 +129,7 @@ fn drop_below(ranges: &mut BTreeMap<u64, u64>, snd_una: u64, reached: u64) -> u6
     far
 }
 
-// The first range is discarded, if it begins below a position. Answers its end.
+// Discards the first range, if it begins below a position. Answers its end.
 fn pop_below(ranges: &mut BTreeMap<u64, u64>, snd_una: u64) -> Option<u64>
     ensures popped { IfSome result (λ end. (start : ℕ) × (ranges.old.entries ≡ (start, end) ∷ ranges.new.entries)
         × (start < snd_una)) }

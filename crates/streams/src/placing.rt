@@ -9,7 +9,7 @@ ghost use Rattle.streams.specs.Views.{ends, marked_bytes, ones};
 use super::byte_queue::{ByteQueue, grow_both};
 use std::alloc::AllocError;
 
-/// Of these bytes, from this place on, those in front of a FIN that was taken after so many places.
+/// The part of these bytes, from this place on, that is before a FIN received after this many places.
 pub(crate) fn part_kept<'a>(known: usize, ended: bool, at: usize, bytes: &'a [u8]) -> &'a [u8]
     ensures { result.now ≡ (if ended then take (known - at) bytes.now else bytes.now) }
 {
@@ -20,7 +20,7 @@ pub(crate) fn part_kept<'a>(known: usize, ended: bool, at: usize, bytes: &'a [u8
     &bytes[..most.min(bytes.len())]
 }
 
-/// Whether a FIN after these bytes is kept, where so many places are known.
+/// Whether a FIN after these bytes is kept, if this many places are known.
 pub(crate) fn end_kept(known: usize, ended: bool, at: usize, bytes: &[u8], fin: bool) -> bool
     requires { at + length bytes.now < 2 ^ 63 }
     ensures { result ≡ (fin && not ended && nat_le known (at + length bytes.now)) }
@@ -28,7 +28,7 @@ pub(crate) fn end_kept(known: usize, ended: bool, at: usize, bytes: &[u8], fin: 
     fin && !ended && known <= at + bytes.len()
 }
 
-// Writes one byte and its mark, if the place has none yet. The first `ready` values have no marks.
+// Writes one byte and its mark, if the place has none yet. The first `ready` places have no marks.
 fn write_byte(values: &mut ByteQueue, marks: &mut ByteQueue, ready: usize, at: usize, byte: u8)
     requires place { at < length marks.old }
     requires same { length values.old ≡ ready + length marks.old }
@@ -46,8 +46,8 @@ fn write_byte(values: &mut ByteQueue, marks: &mut ByteQueue, ready: usize, at: u
     marks.set(at, 1);
 }
 
-/// Writes these bytes from a place on, each where none was taken yet, and makes room for them. The first `ready` values
-/// have no marks.
+/// Writes these bytes from a place on, each if none was received there yet, and makes room for them. The first `ready`
+/// places have no marks.
 pub(crate) fn place(
     values: &mut ByteQueue,
     marks: &mut ByteQueue,
@@ -72,7 +72,8 @@ pub(crate) fn place(
     Ok(())
 }
 
-// Writes these bytes from a place on, each where none was taken yet; mostly there is none, and they go in one piece.
+// Writes these bytes from a place on, each if none was received there yet. Usually none was, and they are written in
+// one piece.
 fn write(values: &mut ByteQueue, marks: &mut ByteQueue, ready: usize, at: usize, bytes: &[u8])
     requires place { at + length bytes.now ≤ length marks.old }
     requires same { length values.old ≡ ready + length marks.old }
@@ -90,7 +91,7 @@ fn write(values: &mut ByteQueue, marks: &mut ByteQueue, ready: usize, at: usize,
     write_piece(values, marks, ready, at, bytes);
 }
 
-// Writes these bytes from a place on, where none was taken yet, in one piece.
+// Writes these bytes from a place on, if none was received there yet, in one piece.
 fn write_piece(values: &mut ByteQueue, marks: &mut ByteQueue, ready: usize, at: usize, bytes: &[u8])
     requires place { at + length bytes.now ≤ length marks.old }
     requires same { length values.old ≡ ready + length marks.old }
@@ -106,7 +107,7 @@ fn write_piece(values: &mut ByteQueue, marks: &mut ByteQueue, ready: usize, at: 
     marks.overfill(at, bytes.len(), 1);
 }
 
-// Writes these bytes from a place on, each where none was taken yet.
+// Writes these bytes from a place on, each if none was received there yet.
 fn write_bytes(values: &mut ByteQueue, marks: &mut ByteQueue, ready: usize, at: usize, bytes: &[u8])
     requires place { at + length bytes.now ≤ length marks.old }
     requires same { length values.old ≡ ready + length marks.old }
@@ -122,7 +123,7 @@ fn write_bytes(values: &mut ByteQueue, marks: &mut ByteQueue, ready: usize, at: 
     }
 }
 
-/// How many places in front were taken.
+/// How many places at the front were received.
 pub(crate) fn ones(marks: &ByteQueue) -> usize
     ensures { result ≡ ones marks.now }
 {
@@ -134,7 +135,7 @@ pub(crate) fn ones(marks: &ByteQueue) -> usize
     count
 }
 
-/// How many places a FIN takes in front of the first gap: one if there is a FIN and no gap.
+/// How many places a FIN fills before the first gap: one if there is a FIN and no gap.
 pub(crate) fn ends(fin: bool, marks: &ByteQueue) -> usize
     ensures value { result ≡ ends fin marks.now }
     ensures small { result ≤ 1 }

@@ -1,8 +1,9 @@
-//! What an endpoint took of its peer (RFC 9293, 3.10.7.4): bytes may come out of order, and wait for those before them.
+//! What an endpoint received from its peer (RFC 9293, 3.10.7.4): bytes may arrive out of order and wait for those
+//! before them.
 //!
-//! The buffer keeps what was taken from the first byte on that was not delivered, up to the furthest position that was
-//! taken. So memory grows with what waits and with the gaps in it, not with the stream. A delivered byte is discarded,
-//! and shows as 0. `specs/Received` says what each call does.
+//! The buffer keeps what was received, from the first undelivered byte up to the furthest position received. So memory
+//! grows with the waiting bytes and the gaps among them, not with the stream. A delivered byte is discarded and shows
+//! as 0. `specs/Received` defines each call.
 
 ghost use Rattle.std.specs.Prelude.{◌≡◌, ◌+◌, ◌≤◌, ◌<◌, ◌^◌, nat_lt, OnOk, OnErr, IfOk, length, take};
 ghost use Rattle.streams.specs.Received.{empty, is_ended, kept, met, next, starts, told, waiting};
@@ -12,10 +13,10 @@ use super::cell_queue::CellQueue;
 use std::alloc::{AllocError, Global};
 use std::marker::Model;
 
-/// The cells that were taken and not delivered.
+/// The cells that were received and not delivered.
 #[derive(Drop)]
 pub struct ReceiveBuffer {
-    /// What was taken, by position, from `gone` on.
+    /// What was received, by position, from `gone` on.
     cells: CellQueue,
     /// How many positions were discarded: the SYN's and those of the delivered bytes.
     gone: u64,
@@ -34,7 +35,7 @@ impl Model for ReceiveBuffer {
 }
 
 impl ReceiveBuffer {
-    /// Before anything was taken.
+    /// An empty buffer: nothing was received.
     pub fn new(alloc: Global) -> Self
         ensures { result ≡ empty }
     {
@@ -44,7 +45,7 @@ impl ReceiveBuffer {
         }
     }
 
-    /// The next position that is expected: 0 before the SYN was taken.
+    /// The next position expected (RCV.NXT): 0 before the SYN was received.
     pub fn next(&self) -> u64
         ensures value { result ≡ next self.now }
         ensures small { result < 2 ^ 63 }
@@ -52,28 +53,29 @@ impl ReceiveBuffer {
         self.gone + self.cells.ready() as u64
     }
 
-    /// Whether the peer's FIN was taken with all before it.
+    /// Whether the peer's FIN and everything before it were received.
     pub fn is_ended(&self) -> bool
         ensures { result ≡ is_ended self.now }
     {
         self.cells.is_ended()
     }
 
-    /// Whether a read may be given bytes now.
+    /// Whether a read could return bytes now.
     pub fn has_waiting(&self) -> bool
         ensures { result ≡ nat_lt 0 (length (waiting self.now)) }
     {
         self.cells.has_leading()
     }
 
-    /// Whether these bytes are the next that a read may be given. Takes no memory.
+    /// Whether these bytes are the next that a read may return. Uses no memory.
     pub fn starts_with(&self, bytes: &[u8]) -> bool
         ensures { result ≡ starts bytes.now (waiting self.now) }
     {
         self.cells.starts_with(bytes)
     }
 
-    /// The next bytes that a read may be given: `most`, or as many as there are. They stay until they are delivered.
+    /// The next bytes that a read may return: `most` of them, or as many as there are. They stay until they are
+    /// delivered. The error means that memory ran out.
     pub fn read(&self, alloc: Global, most: usize) -> Result<Vec<u8>, AllocError>
         ensures { IfOk result (λ bytes. bytes.items ≡ take most (waiting self.now)) }
     {
@@ -81,7 +83,7 @@ impl ReceiveBuffer {
         Ok(bytes)
     }
 
-    /// Takes the SYN, where nothing was taken yet.
+    /// Receives the SYN, if nothing was received yet.
     pub fn take_syn(&mut self)
         requires { self.old ≡ empty }
         ensures { self.new ≡ met }
@@ -89,9 +91,9 @@ impl ReceiveBuffer {
         self.gone = 1;
     }
 
-    /// Takes these bytes from this position on, which is not below the next, and a FIN after them if there is one. What
-    /// was taken at a position before stays; nothing is taken at or after a FIN that was taken, and no FIN at or below
-    /// a position that was.
+    /// Accepts these bytes from this position on, which is not below the next, and a FIN after them if there is one.
+    /// Positions that were received earlier don't change. Nothing is accepted at or after a FIN, and no FIN at or below
+    /// a position that was received.
     pub fn keep(&mut self, position: u64, bytes: &[u8], fin: bool) -> Result<(), AllocError>
         requires met { 1 ≤ next self.old }
         requires next { next self.old ≤ position }
@@ -108,7 +110,7 @@ impl ReceiveBuffer {
         Ok(())
     }
 
-    /// Delivers the next bytes, so many, that are waiting, and lets go of them.
+    /// Delivers the next waiting bytes, this many, and discards them.
     pub fn deliver(&mut self, count: usize)
         requires { count ≤ length (waiting self.old) }
         ensures { self.new ≡ forgotten (told self.old count) }

@@ -1,6 +1,6 @@
-//! Runs of positions that were made at one moment, and what is done with a queue of them.
+//! Runs of positions that were first sent at one moment, in a queue.
 //!
-//! A segment makes one run, however long it is, so that a queue is as long as there are segments in flight.
+//! A segment adds one run, however long it is, so a queue is as long as there are segments in flight.
 
 ghost use Rattle.std.specs.Prelude.{◌≡◌, ◌+◌, ◌-◌, ◌<◌, ◌≤◌, ◌++◌, drop, length, replicate};
 ghost use Rattle.std.specs.VecDeque.{deque_capacity, deque_len};
@@ -9,16 +9,16 @@ ghost use Rattle.streams.specs.Views.{expand};
 
 use std::collections::VecDeque;
 
-/// Positions in a row that were made first at one moment.
+/// Consecutive positions that were first sent at one moment.
 #[derive(Clone, Copy)]
 pub(crate) struct Run {
-    /// How many positions.
+    /// The number of positions.
     pub(crate) count: u64,
-    /// When they were made first, in microseconds.
+    /// When they were first sent, in microseconds.
     pub(crate) moment: u64,
 }
 
-/// So many positions are made at the end, if there is room for a run.
+/// Appends this many positions, if there is room for a run.
 pub(crate) fn grow(runs: &mut VecDeque<Run>, count: u64, moment: u64)
     requires { deque_len runs.old < deque_capacity runs.old }
     ensures { expand runs.new.items ≡ expand runs.old.items ++ replicate count (once moment) }
@@ -29,7 +29,7 @@ pub(crate) fn grow(runs: &mut VecDeque<Run>, count: u64, moment: u64)
     runs.push_back_reserved(Run { count, moment });
 }
 
-/// Lets go of so many positions in front.
+/// Removes this many positions from the front.
 pub(crate) fn forget(runs: &mut VecDeque<Run>, count: u64)
     requires { count ≤ length (expand runs.old.items) }
     ensures { expand runs.new.items ≡ drop count (expand runs.old.items) }
@@ -50,7 +50,7 @@ pub(crate) fn forget(runs: &mut VecDeque<Run>, count: u64)
     }
 }
 
-/// When this position was made first, if it was.
+/// When this position was first sent, in microseconds. `None` means that it wasn't.
 pub(crate) fn moment_at(runs: &VecDeque<Run>, position: u64) -> Option<u64>
     ensures { result ≡ made_moment (expand runs.now.items) position }
 {

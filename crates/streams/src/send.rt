@@ -1,7 +1,7 @@
 //! What an endpoint sends (RFC 9293, 3.10.3): the bytes that its sends accepted, until they are acknowledged.
 //!
-//! The buffer keeps the bytes from the oldest on that may be made again. Bytes that were discarded show as 0.
-//! `specs/Sent` says what each call does.
+//! The buffer keeps the bytes from the oldest that may be retransmitted. Discarded bytes show as 0. `specs/Sent`
+//! defines each call.
 
 ghost use Rattle.std.specs.Prelude.{◌≡◌, ℕ, ◌+◌, ◌<◌, ◌^◌, List, [], ◌++◌, OnOk, OnErr, IfOk, length, take, drop};
 ghost use Rattle.streams.specs.Sent.{end_of, piece};
@@ -11,7 +11,7 @@ use super::byte_queue::ByteQueue;
 use std::alloc::{AllocError, Global};
 use std::marker::Model;
 
-/// The bytes that were accepted and may be made again.
+/// The accepted bytes that may still be sent or retransmitted.
 #[derive(Drop)]
 pub struct SendBuffer {
     /// The bytes, from data byte `gone` on.
@@ -31,7 +31,7 @@ impl Model for SendBuffer {
 }
 
 impl SendBuffer {
-    /// Before anything was accepted.
+    /// An empty buffer: nothing was accepted.
     pub fn new(alloc: Global) -> Self
         ensures { result ≡ [] }
     {
@@ -41,14 +41,14 @@ impl SendBuffer {
         }
     }
 
-    /// The position after the last byte that was accepted.
+    /// The position after the last accepted byte.
     pub fn end(&self) -> u64
         ensures { result ≡ end_of self.now }
     {
         1 + self.gone + self.bytes.len() as u64
     }
 
-    /// Accepts these bytes, all or none.
+    /// Accepts these bytes, all or none. The error means that memory ran out.
     pub fn accept(&mut self, bytes: &[u8]) -> Result<(), AllocError>
         requires { length self.old + length bytes.now < 2 ^ 63 }
         ensures ok { OnOk result (self.new ≡ self.old ++ bytes.now) }
@@ -57,7 +57,8 @@ impl SendBuffer {
         self.bytes.append(bytes)
     }
 
-    /// A copy of the bytes from this position on, so many or as many as there are, for a segment to be made.
+    /// A copy of the bytes from this position on, for a segment: this many, or as many as there are. The error means
+    /// that memory ran out.
     pub fn piece(&self, alloc: Global, position: u64, count: usize) -> Result<Vec<u8>, AllocError>
         ensures { IfOk result (λ bytes. bytes.items ≡ piece self.now position count) }
     {
@@ -72,7 +73,7 @@ impl SendBuffer {
         Ok(piece)
     }
 
-    /// Lets go of the bytes below this position, all of which were acknowledged.
+    /// Discards the bytes below this position, all of which were acknowledged.
     pub fn forget_below(&mut self, snd_una: u64)
         ensures { self.new ≡ below snd_una self.old }
     {
@@ -83,7 +84,7 @@ impl SendBuffer {
     }
 }
 
-// Of these bytes those from a place on, so many or as many as there are.
+// The part of these bytes from a place on: this many, or as many as there are.
 fn part(bytes: &[u8], start: u64, count: usize) -> &[u8]
     ensures { result.now ≡ take count (drop start bytes.now) }
 {

@@ -1,11 +1,11 @@
-//! When a position was made, and whether it was made again: round trips are measured only of what was made once
+//! When a position was first sent, and whether it was retransmitted: round trips are measured only on data sent once
 //! (RFC 6298, 3).
 
-/// The making of one position.
+/// The transmission of one position.
 #[derive(Clone, Copy)]
 pub struct Transmission {
-    /// The moment at which a segment with this position was made first, in microseconds.
+    /// The moment at which a segment with this position was first built, in microseconds.
     pub moment: u64,
-    /// A segment with this position was made again since.
+    /// Whether a segment with this position was built again since.
     pub again: bool,
 }

@@ -1,8 +1,8 @@
-//! When each position of a stream was made, and whether it was made again (RFC 6298, 3).
+//! When each position of a stream was first sent, and whether it was retransmitted (RFC 6298, 3).
 //!
-//! Positions that one segment made are kept as one run, those that were made again as ranges beside them, so that a
-//! segment walks over none that stands before it. Those that were acknowledged are discarded: they show as made once at
-//! the moment 0. `specs/Transmissions` says what each call does.
+//! The positions of one segment are kept as one run, the retransmitted ones as separate ranges, so a segment doesn't
+//! walk over earlier ones. Acknowledged positions are discarded: they show as sent once, at the moment 0.
+//! `specs/Transmissions` defines each call.
 
 ghost use Rattle.std.specs.Prelude.{◌≡◌, ◌+◌, ◌<◌, ◌^◌, [], OnOk, OnErr, length};
 ghost use Rattle.streams.specs.Transmissions.{made, retransmitted, made_moment};
@@ -17,13 +17,13 @@ use std::marker::Model;
 /// The transmissions of an endpoint's positions.
 #[derive(Drop)]
 pub struct Transmissions {
-    /// The positions from `gone` on that were made, in runs.
+    /// The positions from `gone` on that were sent, in runs.
     runs: VecDeque<Run>,
     /// How many positions were discarded.
     gone: u64,
-    /// The position after the last that was made.
+    /// The position after the last one sent.
     end: u64,
-    /// Those that were made again.
+    /// Those that were retransmitted.
     marks: Marks,
 }
 
@@ -43,7 +43,7 @@ impl Model for Transmissions {
 }
 
 impl Transmissions {
-    /// Before anything was made.
+    /// Nothing was sent.
     pub fn new(alloc: Global) -> Self
         ensures { result ≡ [] }
     {
@@ -55,15 +55,15 @@ impl Transmissions {
         }
     }
 
-    /// The position after the last that was made, 0 if none was.
+    /// The position after the last one sent (SND.MAX), 0 if none was.
     pub fn end(&self) -> u64
         ensures { result ≡ length self.now }
     {
         self.end
     }
 
-    /// A segment is made at this moment (in microseconds), with so many positions from this one on. Those that were
-    /// made before are made again.
+    /// Records a segment built at this moment (in microseconds), with this many positions from this one on. Positions
+    /// that were sent before count as retransmitted. The error means that memory ran out.
     pub fn make(&mut self, position: u64, count: u64, moment: u64) -> Result<(), AllocError>
         requires { position + count < 2 ^ 63 }
         ensures ok { OnOk result (self.new ≡ made self.old position count moment) }
@@ -77,14 +77,14 @@ impl Transmissions {
         Ok(())
     }
 
-    /// Whether a position from `from` to before `upto` was made again. Nothing is measured of such a range.
+    /// Whether any position from `from` to before `upto` was retransmitted. No round trip is measured on such a range.
     pub fn is_retransmitted(&self, from: u64, upto: u64) -> bool
         ensures { result ≡ retransmitted self.now from upto }
     {
         from < upto && self.marks.meets(from, upto)
     }
 
-    /// The moment at which this position was made first (in microseconds); `None` if it was not made.
+    /// The moment at which this position was first sent (in microseconds). `None` means that it wasn't.
     pub fn moment(&self, position: u64) -> Option<u64>
         ensures { result ≡ made_moment self.now position }
     {
@@ -94,7 +94,7 @@ impl Transmissions {
         moment_at(&self.runs, position - self.gone)
     }
 
-    /// Lets go of the positions below this one, all of which were acknowledged.
+    /// Discards the positions below this one, all of which were acknowledged.
     pub fn forget_below(&mut self, snd_una: u64)
         ensures { self.new ≡ made_below snd_una self.old }
     {
