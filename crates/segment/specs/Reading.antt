@@ -7,19 +7,19 @@ use Rattle.segment.specs.declared.fields.Segment.{Segment}
 use Rattle.segment.specs.Options.{Item, padding, option}
 use Rattle.segment.specs.Layout.{IsSegment, IsFault, max_len, header_len, options_of, fields_of}
 
--- one item before the others, where these can be read
+-- one item before the others, if these can be read
 abbrev pub in_front : Item → Option (List Item) → Option (List Item)
 in_front item None = None
 in_front item (Some items) = Some (item ∷ items)
 
--- an option of this kind, and the items behind it
+-- an option of this kind, and the items after it
 abbrev pub option_items : (List ℕ → Option (List Item)) → ℕ → List ℕ → Option (List Item)
 option_items items kind [] = None
 option_items items kind (len ∷ rest) =
     if nat_le 2 len && nat_le len (length rest + 2) then in_front (option kind (take (len - 2) rest)) (items (drop (len - 2) rest))
     else None
 
--- the items of a list of options, which has fewer bytes than the number says
+-- the items of a list of options, which has fewer bytes than this number
 abbrev pub items_within : ℕ → List ℕ → Option (List Item)
 items_within zero bytes = None
 items_within (suc n) [] = Some []
@@ -28,7 +28,7 @@ items_within (suc n) (kind ∷ rest) =
     else if kind == 1 then in_front padding (items_within n rest)
     else option_items (items_within n) kind rest
 
--- the segment with these items, or a fault of them or of the length
+-- the segment with these items, or a fault of the items or of the length
 abbrev pub with_items : List ℕ → Option (List Item) → Result Segment SegFault
 with_items bytes None = Err OptionLength
 with_items bytes (Some items) = if nat_lt max_len (length bytes) then Err TooLong else Ok (fields_of bytes items)
@@ -40,13 +40,13 @@ segment_of bytes =
     else if nat_lt (header_len bytes) 20 || nat_lt (length bytes) (header_len bytes) then Err Offset
     else with_items bytes (items_within (suc (length (options_of bytes))) (options_of bytes))
 
--- the result is what reading gives, unless memory ran out
+-- the result is that of reading, unless memory ran out
 abbrev pub Gives : Result Segment SegFault → Result Segment SegFault → Type 0
 Gives (Ok s) read = read ≡ Ok s
 Gives (Err OutOfMemory) read = Unit {0}
 Gives (Err e) read = read ≡ Err e
 
--- reading gives the segment that the bytes stand for, and where there is none their first fault
+-- reading gives the segment that the bytes encode, or their first fault if they encode none
 pub record ReadsByLayout : Type 0 where
   pub segments : (bytes : List ℕ) (s : Segment) → (segment_of bytes ≡ Ok s) ↔ IsSegment bytes s
   pub faults : (bytes : List ℕ) (e : SegFault) → (segment_of bytes ≡ Err e) ↔ (IsFault bytes e × (e ≢ OutOfMemory))

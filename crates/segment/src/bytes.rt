@@ -1,4 +1,4 @@
-//! Bytes that a value holds.
+//! Owned bytes.
 
 ghost use Rattle.std.specs.Prelude.{◌≡◌, ◌↔◌, [], length, nat_eq, IfOk, IsTrue};
 ghost use Rattle.std.specs.Cmp.Lexicographic.{pointwise, nat_list_eq_equiv};
@@ -8,7 +8,7 @@ use crate::OutOfMemory;
 use std::alloc::Global;
 use std::marker::Model;
 
-/// Bytes in memory of their own, which contracts see as a list.
+/// Bytes in their own memory, which contracts see as a list.
 #[derive(Debug, Drop)]
 pub struct Bytes {
     bytes: Vec<u8>,
@@ -23,7 +23,7 @@ impl Model for Bytes {
 }
 
 impl Bytes {
-    /// A copy of the bytes.
+    /// A copy of the bytes. The error means that memory ran out.
     pub fn from_slice(alloc: Global, bytes: &[u8]) -> Result<Self, OutOfMemory>
         ensures { IfOk result (λ b. b ≡ bytes.now) }
     {
@@ -32,7 +32,7 @@ impl Bytes {
         })
     }
 
-    /// The bytes in their order.
+    /// The bytes in order.
     pub fn as_slice(&self) -> &[u8]
         ensures { result.now ≡ self.now }
     {
@@ -46,14 +46,14 @@ impl Bytes {
         self.bytes.len()
     }
 
-    /// Whether there is no byte.
+    /// Whether there are no bytes.
     pub fn is_empty(&self) -> bool
         ensures { IsTrue result ↔ (self.now ≡ []) }
     {
         self.bytes.is_empty()
     }
 
-    /// The same bytes again.
+    /// An equal copy. The error means that memory ran out.
     pub fn copy(&self) -> Result<Self, OutOfMemory>
         ensures { IfOk result (λ b. b ≡ self.now) }
     {

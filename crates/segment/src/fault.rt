@@ -1,4 +1,4 @@
-//! Why bytes are no segment, and why a segment has no bytes.
+//! Why bytes are not a segment, and why a segment can't be encoded.
 
 ghost use Rattle.std.specs.Prelude.{◌≡◌};
 ghost use Rattle.segment.specs.Faults.{fault_name};
@@ -8,22 +8,22 @@ ghost use Rattle.segment.specs.declared.fault.EncFault.TheVariants as enc;
 use std::alloc::{AllocError, AllocFailed};
 use thiserror::Error;
 
-/// Why bytes are no segment. Of several faults the first in this order is answered.
+/// Why bytes are not a segment. If several faults apply, the first in this order is reported.
 #[derive(Clone, Copy, Debug, PartialEq, Eq, Error)]
 pub enum SegFault {
-    /// The bytes are too few for a header.
+    /// There are too few bytes for a header.
     #[error("a segment has at least 20 bytes")]
     Short,
-    /// The data offset is too small for a header, or the header passes the end of the bytes.
+    /// The data offset is too small for a header, or the header extends past the end of the bytes.
     #[error("the data offset is below 5 or passes the end")]
     Offset,
-    /// An option's length byte is missing, below 2, or passes the end of the options.
+    /// An option's length byte is missing, below 2, or extends past the end of the options.
     #[error("an option's length is missing, too small or passes the end")]
     OptionLength,
-    /// The bytes are too many for a segment.
+    /// There are too many bytes for a segment.
     #[error("a segment has at most 65515 bytes")]
     TooLong,
-    /// Memory ran out; nothing is wrong with the bytes.
+    /// Memory ran out; the bytes may be valid.
     #[error("out of memory")]
     OutOfMemory,
 }
@@ -43,13 +43,13 @@ impl SegFault {
     }
 }
 
-/// Why a segment has no bytes.
+/// Why a segment can't be encoded.
 #[derive(Clone, Copy, Debug, PartialEq, Eq, Error)]
 pub enum EncFault {
-    /// The bytes would be too many for a segment.
+    /// There would be too many bytes for a segment.
     #[error("a segment has at most 65515 bytes")]
     TooLong,
-    /// Memory ran out; nothing is wrong with the segment.
+    /// Memory ran out; the segment may be valid.
     #[error("out of memory")]
     OutOfMemory,
 }

@@ -10,9 +10,9 @@ pub enum Flag {
     Cwr,
     /// ECN echo.
     Ece,
-    /// The urgent pointer counts.
+    /// The urgent pointer is valid.
     Urg,
-    /// The acknowledgment number counts.
+    /// The acknowledgment number is valid.
     Ack,
     /// Push.
     Psh,

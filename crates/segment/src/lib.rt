@@ -6,20 +6,20 @@
 //! let written = encode(alloc, &segment)?;
 //! ```
 //!
-//! - `Segment`: a segment, field by field; `Flag`: its flags, by name; `Bytes`: bytes that a value holds
-//! - `decode`: the segment that bytes stand for; `SegFault`: why they are none
-//! - `encode`: the bytes of a segment; `EncFault`: why it has none
+//! - `Segment`: a segment, field by field; `Flag`: its flags, by name; `Bytes`: owned bytes
+//! - `decode`: the segment that bytes encode; `SegFault`: why they encode none
+//! - `encode`: the bytes of a segment; `EncFault`: why it can't be encoded
 //! - `OutOfMemory`: memory ran out
 //!
-//! Which bytes stand for which segment, and which fault comes first if there is none, stands in `specs/Layout`, which
-//! is the file to read first; how options are cut into items, in `specs/Options`; what is written, in `specs/Encoding`.
+//! `specs/Layout` defines which bytes encode which segment, and which fault comes first if they encode none; read it
+//! first. `specs/Options` defines how options are split into items, and `specs/Encoding` what is written.
 //! `specs/Reading` finds the segment or the fault from left to right, which `reading_law` proves the same. Checksums
-//! and urgent pointers are ignored: they are passed over here, and written as 0.
+//! and urgent pointers are ignored when reading, and written as 0.
 //!
 //! Private modules:
 //!
 //! - `fields`, `flag`, `bytes`, `fault`: the types above
-//! - `options`: the items of a list of options, and the MSS and the shift that they tell
+//! - `options`: the items of a list of options, and the MSS and the shift that they carry
 //! - `reading`: `decode`; `writing`: `encode`
 #![tactic(auto)]
 
