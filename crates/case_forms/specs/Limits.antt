@@ -1,4 +1,4 @@
--- What a text asks of calls, answers and plans: what their types say in memory, and what no type says.
+-- What a text requires of calls, answers and plans: the ranges of their types, and limits that no type expresses.
 use Rattle.std.specs.Prelude.{◌≤◌, ℕ, List, length, Option, None, Some}
 use Rattle.seqno.specs.declared.word.Word.{Word}
 use Rattle.case_forms.specs.declared.calls.Answer.{Answer}
@@ -18,7 +18,7 @@ Has32 n = n ≤ 4294967295
 abbrev pub AreSome : List ℕ → Type 0
 AreSome bytes = (1 ≤ length bytes) × (length bytes ≤ 65535)
 
--- the numbers of a call have the bits of their types
+-- the numbers of a call are in the ranges of their types
 abbrev pub HasCallBits : Call → Type 0
 HasCallBits (calls.Listen host port backlog) = Has16 port × Has16 backlog
 HasCallBits (calls.Connect host local remote) = Has16 local × Has16 remote
@@ -31,7 +31,7 @@ HasCallBits (calls.Close socket) = Has32 socket
 HasCallBits (calls.Abort socket) = Has32 socket
 HasCallBits (calls.Status socket) = Has32 socket
 
--- no port is 0, a send has 1 to 65,535 bytes, and a read asks for some
+-- no port is 0, a send has 1 to 65,535 bytes, and a read accepts at least one
 abbrev pub IsTextCall : Call → Type 0
 IsTextCall (calls.Listen host port backlog) = 1 ≤ port
 IsTextCall (calls.Connect host local remote) = (1 ≤ local) × (1 ≤ remote)
@@ -39,22 +39,22 @@ IsTextCall (calls.Send socket bytes) = AreSome bytes
 IsTextCall (calls.Recv socket max) = 1 ≤ max
 IsTextCall call = Unit {0}
 
--- the number of an answer has the bits of its type
+-- the number of an answer is in the range of its type
 abbrev pub HasAnswerBits : Answer → Type 0
 HasAnswerBits (answers.Given count) = Has32 count
 HasAnswerBits answer = Unit {0}
 
--- bytes that came are 1 to 65,535
+-- an answer returns 1 to 65,535 bytes
 abbrev pub IsTextAnswer : Answer → Type 0
 IsTextAnswer (answers.Bytes bytes) = AreSome bytes
 IsTextAnswer answer = Unit {0}
 
--- the initial number of a plan has the bits of its type
+-- the initial number of a plan is in the range of its type
 abbrev pub HasIssBits : Option Word → Type 0
 HasIssBits None = Unit {0}
 HasIssBits (Some iss) = Has32 iss.0
 
--- the numbers of a plan have the bits of their types
+-- the numbers of a plan are in the ranges of their types
 pub record HasPlanBits (plan : SegmentPlan) : Type 0 where
   pub lport : Has16 plan.lport
   pub rport : Has16 plan.rport

@@ -1,10 +1,10 @@
--- A label in which the line that it takes is named otherwise.
+-- A label that refers to its line in another way.
 use Rattle.std.specs.Prelude.{Option, Some}
 use Rattle.std.specs.Option.{option_map}
 use Rattle.case_forms.specs.declared.steps.Label.{Label}
 use Rattle.case_forms.specs.declared.steps.Label.TheVariants.{L, D, M, T, K, R, F}
 
--- what is found for the line stands in its place; nothing where it is not found
+-- what is found for the line takes its place; nothing if it is not found
 abbrev pub with_line : {A B : Type 0} → (A → Option B) → Label A → Option (Label B)
 with_line find (L line) = option_map (λ found. L found) (find line)
 with_line find (D thread answer) = Some (D thread answer)

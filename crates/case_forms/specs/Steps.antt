@@ -3,7 +3,7 @@ use Rattle.std.specs.Prelude.{ℕ}
 use Rattle.case_forms.specs.declared.named_line.Extras.{Extras}
 use Rattle.case_forms.specs.declared.named_line.Extras.TheVariants.{Bare, One, Two}
 
--- how many they are
+-- how many there are
 abbrev pub extras_count : Extras → ℕ
 extras_count Bare = 0
 extras_count (One x) = 1

@@ -1,4 +1,4 @@
--- A line with the numbers that a step adds, as the machine takes it.
+-- A line with the extra numbers of a step, as the model uses it.
 use Rattle.std.specs.Prelude.{ℕ, Option, None, Some}
 use Rattle.std.specs.Option.{option_map}
 use Rattle.case_forms.specs.declared.named_line.Extras.{Extras}
@@ -28,8 +28,8 @@ timer_of expired.Persist = Persist
 timer_of expired.Msl2 = Msl2
 timer_of expired.Giveup = Giveup
 
--- a segment's line has the number that it was made under, or the line that it copies; a call's nothing, nor that of a
--- segment which is heard of a host that is not recorded
+-- a segment's line has the number that it was built under, or the line that it copies; a call's has none, nor has the
+-- line of a segment from a host that is not recorded
 abbrev pub event_taken : (line thread : ℕ) → Event → Extras → Option TakenLine
 event_taken line thread (CallBegin call) Bare = Some (taken.CallBegin line thread call)
 event_taken line thread (CallEnd answer) Bare = Some (taken.CallEnd line thread answer)
@@ -40,6 +40,6 @@ event_taken line thread (TimerExpired host lport rport timer) extras =
     option_map (λ e. taken.Expired line host (record { lport = lport; rport = rport }) e) (expired_by timer extras)
 event_taken line thread event extras = None
 
--- nothing where a line of its kind has another count of numbers
+-- none if a line of its kind needs another count of numbers
 abbrev pub taken_of : Extras → Line → Option TakenLine
 taken_of extras line = event_taken line.number line.thread line.event extras

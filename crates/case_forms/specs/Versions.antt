@@ -3,7 +3,7 @@ use Rattle.std.specs.Prelude.{ℕ, Bool, true, false}
 use Rattle.case_forms.specs.declared.version.Version.{Version}
 use Rattle.case_forms.specs.declared.version.Version.TheVariants.{One, Two, Three, Four, FourHalf}
 
--- the number of the first event line of a trace, behind the lines of its header
+-- the number of the first event line of a trace, after the lines of its header
 abbrev pub first_line_of : Version → ℕ
 first_line_of One = 7
 first_line_of Two = 8
@@ -19,7 +19,7 @@ scales Three = true
 scales Four = true
 scales FourHalf = true
 
--- a half case: host 0 alone is recorded
+-- a half case: only host 0 is recorded
 abbrev pub is_half : Version → Bool
 is_half One = false
 is_half Two = false
@@ -27,7 +27,7 @@ is_half Three = true
 is_half Four = false
 is_half FourHalf = true
 
--- the header says how much of congestion control is judged
+-- the header states how much of congestion control is judged
 abbrev pub says_congestion : Version → Bool
 says_congestion One = false
 says_congestion Two = false
@@ -35,7 +35,7 @@ says_congestion Three = false
 says_congestion Four = true
 says_congestion FourHalf = true
 
--- the version that the first line of a text names: both of version 4 are named alike
+-- the version in the first line of a text: both of version 4 have the same
 abbrev pub named_as : Version → Version
 named_as One = One
 named_as Two = Two

@@ -28,16 +28,16 @@ impl Host {
     }
 }
 
-/// The ports of an endpoint.
+/// The ports of an endpoint, 1 to 65535.
 #[derive(Clone, Copy, Debug, PartialEq, Eq)]
 pub struct Ports {
-    /// Its own.
+    /// The local port.
     pub lport: u16,
-    /// The peer's.
+    /// The peer's port.
     pub rport: u16,
 }
 
-/// The state of an endpoint (RFC 9293, 3.3.2). `Listen` is answered for a listener.
+/// The state of an endpoint (RFC 9293, 3.3.2). `Listen` is the answer for a listener.
 #[derive(Clone, Copy, Debug, PartialEq, Eq)]
 pub enum State {
     Closed,
@@ -90,56 +90,56 @@ impl State {
     }
 }
 
-/// What a thread asks for (RFC 9293, 3.9.1). Ports are 1 to 65535; a socket number is any that a call was or was not
-/// given.
+/// A socket call (RFC 9293, 3.9.1). Ports are 1 to 65535. A socket number may be any number, whether or not a call
+/// returned it.
 #[derive(Debug, Drop)]
 pub enum Call {
-    /// `listen h port backlog`: open a listener on a port of host h, whose queue holds `backlog` children.
+    /// `listen h port backlog`: open a listener on a port of host h, with a queue for `backlog` children.
     Listen(Host, u16, u16),
     /// `open h lport rport`: connect a local port of host h to a port of the other host.
     Connect(Host, u16, u16),
     /// `await H`: whether the endpoint was connected.
     Await(u32),
-    /// `accept H`: the front child of a listener's queue.
+    /// `accept H`: take the first child of a listener's queue.
     Accept(u32),
-    /// `send H hex`: give bytes to send, at most 65535.
+    /// `send H hex`: send these bytes, 1 to 65535 of them.
     Send(u32, Bytes),
-    /// `recv H max`: ask for the bytes that came, 1 to `max` of them.
+    /// `recv H max`: receive at most `max` bytes.
     Recv(u32, u16),
-    /// `shut H`: end the sending.
+    /// `shut H`: end sending.
     Shut(u32),
     /// `close H`: close what socket number H names.
     Close(u32),
-    /// `abort H`: end what socket number H names at once.
+    /// `abort H`: abort what socket number H names.
     Abort(u32),
     /// `status H`: the state of what socket number H names.
     Status(u32),
 }
 
-/// What a call answers.
+/// The answer of a call.
 #[derive(PartialEq, Eq, Drop)]
 pub enum Answer {
     /// `ok`
     Done,
-    /// `ok N`: a socket number that is given, or a count of bytes.
+    /// `ok N`: the new socket number, or a count of bytes.
     Given(u32),
-    /// `data hex`: the bytes that came.
+    /// `data hex`: the received bytes, 1 to 65535.
     Bytes(Bytes),
     /// `again`: not yet.
     Again,
-    /// `eof`: all bytes up to the peer's FIN were given.
+    /// `eof`: all bytes up to the peer's FIN were returned.
     Eof,
-    /// `closed`: the sending was ended, or there is no connection any more.
+    /// `closed`: sending was ended, or the connection no longer exists.
     Closed,
-    /// `notconn`: there is no connection, or not yet.
+    /// `notconn`: the connection doesn't exist, or not yet.
     NotConn,
-    /// `refused`: the peer refused the connection by a reset.
+    /// `refused`: the peer refused the connection with a reset.
     Refused,
     /// `reset`: the peer reset the connection (RFC 9293, 3.10.7.4).
     Reset,
     /// `timeout`: the endpoint gave up (RFC 9293, 3.8.3).
     Timeout,
-    /// `inuse`: the port is taken.
+    /// `inuse`: the port is in use.
     InUse,
     /// `badsocket`: the socket number is not live.
     BadSocket,
@@ -148,7 +148,7 @@ pub enum Answer {
 }
 
 impl Call {
-    /// An equal call.
+    /// An equal call. The error means that memory ran out.
     pub fn copy(&self) -> Result<Call, OutOfMemory>
         ensures { IfOk result (λ call. call ≡ self.now) }
     {
@@ -168,7 +168,7 @@ impl Call {
 }
 
 impl Answer {
-    /// An equal answer.
+    /// An equal answer. The error means that memory ran out.
     pub fn copy(&self) -> Result<Answer, OutOfMemory>
         ensures { IfOk result (λ answer. answer ≡ self.now) }
     {

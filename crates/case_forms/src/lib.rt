@@ -1,16 +1,16 @@
-//! What a case says, as values: the header and the event lines of its trace, and the steps of its witness.
+//! The contents of a case, as values: the header and the event lines of its trace, and the steps of its witness.
 //!
-//! The texts that spell these values are read and printed by `trace_reader` and `witness`; what the values mean is
-//! defined by `interval_order` (the order of lines), `endpoint_state` and `spec_step` (the machine), and `checker`.
+//! `trace_reader` and `witness` read and print the texts of these values. `interval_order` (the order of lines),
+//! `endpoint_state` and `spec_step` (the model) and `checker` define what the values mean.
 //!
 //! - `calls`: hosts, socket calls, their answers, and the states of an endpoint (RFC 9293, 3.3.2)
 //! - `version`: the versions of the texts, and which RFC gives the first congestion window
-//! - `trace`: spans, the header, segments as they were seen, event lines, and a whole trace
-//! - `timer`: the timers of an endpoint, and what is chosen if one expires or fast recovery begins
-//! - `steps`: labels, what a segment is that is made, what is chosen at one that is taken, and a whole witness
-//! - `named_line`: the line that a step takes, by its number
-//! - `taken_line`: the same line, by what it tells
-//! - `limits`: the greatest moment, counter and position, and how many events and steps there may be
+//! - `trace`: spans, the header, observed segments, event lines, and a whole trace
+//! - `timer`: the timers of an endpoint, and the windows chosen when one expires or fast recovery begins
+//! - `steps`: labels, plans of segments, the choice when a segment is processed, and a whole witness
+//! - `named_line`: a trace line that a step uses, by its number
+//! - `taken_line`: the same line, by its content
+//! - `limits`: the greatest moment, counter and position, and the limits on events and steps
 #![tactic(auto)]
 
 mod calls;

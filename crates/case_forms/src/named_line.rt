@@ -6,19 +6,19 @@ ghost use Rattle.case_forms.specs.Steps.{extras_count};
 use crate::OutOfMemory;
 use crate::steps::Takes;
 
-/// The extra numbers of a step that takes a line.
+/// The extra numbers of a step that uses a line.
 #[derive(Clone, Copy)]
 pub enum Extras {
     /// No extra number.
     Bare,
-    /// One: of a line that goes out, the number of the made segment; of one that comes in, the line that it copies.
+    /// One: for a segment sent, the number of the built segment; for a segment that arrives, the line that it copies.
     One(u32),
     /// Two: the congestion window and the slow start threshold, in bytes.
     Two(u32, u32),
 }
 
 impl Extras {
-    /// How many they are.
+    /// How many extra numbers there are.
     pub fn count(self) -> u8
         ensures { result ≡ extras_count self }
     {
@@ -30,11 +30,11 @@ impl Extras {
     }
 }
 
-/// `n [x [y]]`: the line that a step takes, by its number. Any line may be named with none, one or two numbers more;
-/// which of them a line of its kind has is given by `TakenLine`.
+/// `n [x [y]]`: the line that a step uses, by its number. Any line may have zero, one or two extra numbers here;
+/// `TakenLine` says how many a line of its kind needs.
 #[derive(Clone, Copy)]
 pub struct NamedLine {
-    /// Its number among all lines of the trace, the header's too.
+    /// Its number among all lines of the trace, including the header's.
     pub number: u64,
     pub extras: Extras,
 }

@@ -12,7 +12,7 @@ use seqno::Word;
 use std::alloc::Global;
 use std::marker::Model;
 
-/// The flags of a segment that is made (RFC 9293, 3.1).
+/// The flags of a segment to build (RFC 9293, 3.1).
 #[derive(Clone, Copy, PartialEq, Eq)]
 pub struct Flags {
     pub ack: bool,
@@ -21,55 +21,55 @@ pub struct Flags {
     pub fin: bool,
 }
 
-/// A segment that a host is to make (RFC 9293, 3.1).
+/// A segment that a host is to build (RFC 9293, 3.1).
 #[derive(Clone, Copy)]
 pub struct SegmentPlan {
     /// The port of its endpoint.
     pub lport: u16,
     /// The peer's port.
     pub rport: u16,
-    /// The position of its number.
+    /// The position of its sequence number.
     pub pos: u64,
     /// How many bytes it carries, 0 to 65515.
     pub len: u16,
     pub flags: Flags,
     /// The window that it offers, in bytes.
     pub window: u16,
-    /// The initial send sequence number, with the first SYN of the endpoint alone (RFC 9293, 3.4.1).
+    /// The initial send sequence number, given only with the endpoint's first SYN (RFC 9293, 3.4.1).
     pub iss: Option<Word>,
-    /// By how many bits the endpoint shifts the windows that it offers, 0 to 14, with the `iss` alone (RFC 7323, 2.2
-    /// and 2.3).
+    /// The shift, in bits, of the windows that the endpoint offers: 0 to 14, given only with `iss` (RFC 7323, 2.2 and
+    /// 2.3).
     pub shift: Option<u8>,
 }
 
-/// What an endpoint chooses at a segment that it takes.
+/// What an endpoint chooses when it processes a segment.
 #[derive(Clone, Copy)]
 pub struct TakeChoice {
-    /// The congestion window from then on, in bytes (RFC 5681, 3.1).
+    /// The congestion window afterwards, in bytes (RFC 5681, 3.1).
     pub cwnd: u32,
-    /// The bytes and the FIN are kept, as far as they fit.
+    /// Whether the bytes and the FIN are kept, as far as they fit.
     pub keep: bool,
-    /// The round trip time is measured (RFC 6298, 2).
+    /// Whether the round trip time is measured (RFC 6298, 2).
     pub sample: bool,
 }
 
-/// What a step does. `Taken` says how a step names the line that it takes: by its number in a witness (`NamedLine`),
-/// and by what the line tells for the machine (`TakenLine`).
+/// What a step does. `Taken` is how a step refers to the line that it uses: by its number in a witness (`NamedLine`),
+/// or by its content in the model (`TakenLine`).
 #[derive(Drop)]
 pub enum Label<Taken> {
-    /// `L n [x [y]]`: take a line of the trace.
+    /// `L n [x [y]]`: use a line of the trace.
     L(Taken),
-    /// `D t answer`: the open call of thread t has its effect, with this answer.
+    /// `D t answer`: the open call of thread t takes effect, with this answer.
     D {
         thread: u32,
         answer: Answer,
     },
-    /// `M h lp rp pos len flags wnd [iss [shift]]`: host h makes this segment.
+    /// `M h lp rp pos len flags wnd [iss [shift]]`: host h builds this segment.
     M {
         host: Host,
         plan: SegmentPlan,
     },
-    /// `T h k cwnd keep sample`: host h takes the segment of trace line k from its inbox, with this choice.
+    /// `T h k cwnd keep sample`: host h processes the segment of trace line k from its inbox, with this choice.
     T {
         host: Host,
         line: u64,
@@ -80,7 +80,7 @@ pub enum Label<Taken> {
         host: Host,
         line: u64,
     },
-    /// `R h k`: host h answers the segment of trace line k by a reset (RFC 9293, 3.10.7.1).
+    /// `R h k`: host h answers the segment of trace line k with a reset (RFC 9293, 3.10.7.1).
     R {
         host: Host,
         line: u64,
@@ -92,7 +92,7 @@ pub enum Label<Taken> {
     },
 }
 
-/// How a step names the line that it takes.
+/// How a step refers to the line that it uses.
 pub trait Takes {
     /// An equal value. The error is that memory ran out.
     fn copy(&self) -> Result<Self, OutOfMemory>
@@ -138,7 +138,7 @@ impl<Taken: Takes> Label<Taken> {
 /// A step of a witness.
 #[derive(Drop)]
 pub struct Step {
-    /// When it is done, in microseconds.
+    /// The moment of the step, in microseconds.
     pub moment: u64,
     pub label: Label<NamedLine>,
     /// The whole line of the witness, without its end.
@@ -146,7 +146,7 @@ pub struct Step {
 }
 
 impl Step {
-    /// An equal step.
+    /// An equal step. The error means that memory ran out.
     pub fn copy(&self) -> Result<Step, OutOfMemory>
         ensures { IfOk result (λ step. step ≡ self.now) }
     {
@@ -183,7 +183,7 @@ impl Steps {
         }
     }
 
-    /// One more step at the end. If memory runs out, the steps are as they were.
+    /// Appends a step. If memory runs out, the steps don't change.
     pub fn push(&mut self, step: Step) -> Result<(), OutOfMemory>
         ensures ok { OnOk result (self.new ≡ self.old ++ step ∷ []) }
         ensures err { OnErr result (self.new ≡ self.old) }
@@ -192,14 +192,14 @@ impl Steps {
         Ok(())
     }
 
-    /// The steps in their order.
+    /// The steps in order.
     pub fn as_slice(&self) -> &[Step]
         ensures { result.now ≡ self.now }
     {
         self.items.as_slice()
     }
 
-    /// The same steps again.
+    /// An equal copy. The error means that memory ran out.
     pub fn copy(&self) -> Result<Steps, OutOfMemory>
         ensures { IfOk result (λ steps. steps ≡ self.now) }
     {
@@ -211,16 +211,16 @@ impl Steps {
     }
 }
 
-/// A witness: an order of the trace's lines, with hidden steps between them. Nobody trusts it.
+/// A witness: an order of the trace's lines, with hidden steps between them. The checker doesn't trust it.
 #[derive(Drop)]
 pub struct Witness {
-    /// That of its trace.
+    /// The version, that of its trace.
     pub version: Version,
     pub steps: Steps,
 }
 
 impl Witness {
-    /// An equal witness.
+    /// An equal witness. The error means that memory ran out.
     pub fn copy(&self) -> Result<Witness, OutOfMemory>
         ensures { IfOk result (λ witness. witness ≡ self.now) }
     {

@@ -1,4 +1,4 @@
-//! A line of the trace, as the machine takes it.
+//! A trace line as the model uses it.
 
 ghost use Rattle.std.specs.Prelude.{◌≡◌};
 ghost use Rattle.case_forms.specs.TakenLines.{expired_by, taken_of, timer_of};
@@ -10,10 +10,10 @@ use crate::steps::Takes;
 use crate::timer::{RtoChoice, Timer};
 use crate::trace::{Event, Line, Wire};
 
-/// A timer that expired, with what is chosen there.
+/// A timer that expired, with the values chosen then.
 #[derive(Clone, Copy)]
 pub enum Expired {
-    /// The congestion window and the slow start threshold are chosen (RFC 5681, 3.1).
+    /// The congestion window and the slow start threshold, in bytes, are chosen (RFC 5681, 3.1).
     Rto(RtoChoice),
     Persist,
     Msl2,
@@ -34,8 +34,8 @@ impl Expired {
     }
 }
 
-/// What a line tells that a step takes, with what the step adds to a line of its kind. `line` is its number among all
-/// lines of the trace, the header's too.
+/// The content of a line that a step uses, with the extra numbers of the step. `line` is its number among all lines of
+/// the trace, including the header's.
 #[derive(Drop)]
 pub enum TakenLine {
     /// The thread begins a call.
@@ -50,27 +50,27 @@ pub enum TakenLine {
         thread: u32,
         answer: Answer,
     },
-    /// A segment of the host goes out, which was made under the number `made`.
+    /// The host sends a segment, which was built under the number `made`.
     Sent {
         line: u64,
         host: Host,
         made: u32,
         wire: Wire,
     },
-    /// A segment comes in at the host, a copy of what went out by the line `copied`.
+    /// A segment arrives at the host, a copy of the one sent in line `copied`.
     Came {
         line: u64,
         host: Host,
         copied: u64,
         wire: Wire,
     },
-    /// A segment comes in at the host from the other one, which is not recorded.
+    /// A segment arrives at the host from the other one, which isn't recorded.
     Heard {
         line: u64,
         host: Host,
         wire: Wire,
     },
-    /// A timer of the host's endpoint of these ports expires.
+    /// A timer of the host's endpoint at these ports expires.
     Expired {
         line: u64,
         host: Host,
@@ -138,7 +138,7 @@ impl Takes for TakenLine {
     }
 }
 
-// The timer that expired, where these are the numbers that are added to its line.
+// The timer that expired, given the extra numbers of its line.
 fn expired_by(timer: Timer, extras: Extras) -> Option<Expired>
     ensures { result ≡ expired_by timer extras }
 {
@@ -155,7 +155,7 @@ fn expired_by(timer: Timer, extras: Extras) -> Option<Expired>
 }
 
 impl Line {
-    /// The line as the machine takes it, where a step adds these numbers; None where a line of its kind has another
+    /// The line as the model uses it, with a step's extra numbers. `None` means that a line of its kind needs another
     /// count of them.
     pub fn taken(self, extras: Extras) -> Option<TakenLine>
         ensures { result ≡ taken_of extras self }

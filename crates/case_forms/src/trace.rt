@@ -20,11 +20,11 @@ pub struct Span {
     pub stop: usize,
 }
 
-/// What a trace says before its event lines. Times are microseconds.
+/// The header of a trace. Times are in microseconds.
 #[derive(Clone, Copy)]
 pub struct Header {
     pub version: Version,
-    /// By how much a step may be later than its line, 0 to 10^9.
+    /// How much later than its line a step may be, 0 to 10^9.
     pub skew: u64,
     /// The maximum segment lifetime (RFC 9293, 3.4.2), 1 to 3600000000.
     pub msl: u64,
@@ -32,16 +32,16 @@ pub struct Header {
     pub grain: u64,
     /// The least retransmission timeout (RFC 6298, 2.4), 0 to 60000000.
     pub minrto: u64,
-    /// How many children a listen queue may hold above its backlog.
+    /// How many children a listen queue may hold beyond its backlog.
     pub extra: u16,
-    /// Which RFC gives the first congestion window; `Rfc5681` in version 1, whose texts don't say it.
+    /// Which RFC gives the first congestion window; `Rfc5681` in version 1, whose texts don't state it.
     pub initial: Initial,
-    /// How much of congestion control is judged; `Full` in versions 1 to 3, whose texts don't say it.
+    /// How much of congestion control is judged; `Full` in versions 1 to 3, whose texts don't state it.
     pub congestion: Judged,
 }
 
 impl Header {
-    /// The number of the first event line, which stands after the lines of the header.
+    /// The number of the first event line, which follows the lines of the header.
     pub fn first_event_line(&self) -> u64
         ensures { result ≡ first_event_line self.now }
     {
@@ -49,12 +49,12 @@ impl Header {
     }
 }
 
-/// A segment as it was seen: its bytes, at most 65515, and what `segment::decode` gives of them. No wire has another
-/// segment than the one that its bytes stand for: whoever makes one has to show it, and `is_segment` says it.
+/// An observed segment: its bytes, at most 65515, and the result of `segment::decode` on them. The segment always
+/// matches the bytes: a constructor has to prove it, and `is_segment` states it.
 #[derive(Drop)]
 pub struct Wire {
     pub bytes: Bytes,
-    /// The segment that the bytes stand for (RFC 9293, 3.1).
+    /// The segment that the bytes encode (RFC 9293, 3.1).
     pub seg: Segment,
 }
 
@@ -72,14 +72,14 @@ impl Model for Wire {
 }
 
 impl Wire {
-    /// The segment is what the bytes stand for, of each wire: a call that does nothing, whose contract says it.
+    /// The segment of every wire is what its bytes encode: a call that does nothing, whose contract states this.
     pub fn is_segment(&self)
         ensures { IsSegment self.now.bytes self.now.seg }
     {
         let _ = &self.seg;
     }
 
-    /// An equal wire.
+    /// An equal wire. The error means that memory ran out.
     pub fn copy(&self) -> Result<Wire, OutOfMemory>
         ensures { IfOk result (λ wire. wire ≡ self.now) }
     {
@@ -90,7 +90,7 @@ impl Wire {
     }
 }
 
-/// What a line of a trace tells.
+/// The content of an event line.
 #[derive(Drop)]
 pub enum Event {
     /// `B`: the thread begins a call.
@@ -101,12 +101,12 @@ pub enum Event {
     Sent(Host, Wire),
     /// `I host hex`: a segment arrived at the host.
     Came(Host, Wire),
-    /// `T host lport rport timer`: a timer expired at the host's endpoint of these ports, local and remote.
+    /// `T host lport rport timer`: a timer expired at the host's endpoint at these ports, local and remote.
     Expired(Host, u16, u16, Timer),
 }
 
 impl Event {
-    /// An equal event.
+    /// An equal event. The error means that memory ran out.
     pub fn copy(&self) -> Result<Event, OutOfMemory>
         ensures { IfOk result (λ event. event ≡ self.now) }
     {
@@ -125,7 +125,7 @@ impl Event {
 /// An event line of a trace.
 #[derive(Drop)]
 pub struct Line {
-    /// Its number among all lines of the trace, the header's too.
+    /// Its number among all lines of the trace, including the header's.
     pub number: u64,
     /// When it was recorded, in microseconds.
     pub moment: u64,
@@ -136,7 +136,7 @@ pub struct Line {
 }
 
 impl Line {
-    /// An equal line.
+    /// An equal line. The error means that memory ran out.
     pub fn copy(&self) -> Result<Line, OutOfMemory>
         ensures { IfOk result (λ line. line ≡ self.now) }
     {
@@ -175,7 +175,7 @@ impl Lines {
         }
     }
 
-    /// One more line at the end. If memory runs out, the lines are as they were.
+    /// Appends a line. If memory runs out, the lines don't change.
     pub fn push(&mut self, line: Line) -> Result<(), OutOfMemory>
         ensures ok { OnOk result (self.new ≡ self.old ++ line ∷ []) }
         ensures err { OnErr result (self.new ≡ self.old) }
@@ -184,14 +184,14 @@ impl Lines {
         Ok(())
     }
 
-    /// The lines in their order.
+    /// The lines in order.
     pub fn as_slice(&self) -> &[Line]
         ensures { result.now ≡ self.now }
     {
         self.items.as_slice()
     }
 
-    /// The same lines again.
+    /// An equal copy. The error means that memory ran out.
     pub fn copy(&self) -> Result<Lines, OutOfMemory>
         ensures { IfOk result (λ lines. lines ≡ self.now) }
     {
@@ -211,7 +211,7 @@ pub struct Trace {
 }
 
 impl Trace {
-    /// An equal trace.
+    /// An equal trace. The error means that memory ran out.
     pub fn copy(&self) -> Result<Trace, OutOfMemory>
         ensures { IfOk result (λ trace. trace ≡ self.now) }
     {

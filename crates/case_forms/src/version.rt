@@ -3,23 +3,23 @@
 ghost use Rattle.std.specs.Prelude.{◌≡◌};
 ghost use Rattle.case_forms.specs.Versions.{first_line_of, is_half, scales};
 
-/// Which version a text is of. A trace and its witness are of the same.
+/// The version of a text. A trace and its witness have the same version.
 #[derive(Clone, Copy, Debug, PartialEq, Eq)]
 pub enum Version {
-    /// Windows count bytes as they are written.
+    /// Windows count bytes as written, without scaling.
     One,
-    /// Windows may be scaled (RFC 7323, 2), and the trace says which RFC gives the first congestion window.
+    /// Windows may be scaled (RFC 7323, 2), and the trace names the RFC that gives the first congestion window.
     Two,
-    /// The same of a half case: host 0 alone is recorded.
+    /// The same for a half case: only host 0 is recorded.
     Three,
-    /// As version 2, and the trace says how much of congestion control is judged.
+    /// Like version 2, and the trace states how much of congestion control is judged.
     Four,
-    /// As version 3, and the trace says how much of congestion control is judged. Its texts name version 4.
+    /// Like version 3, and the trace states how much of congestion control is judged. Its texts have version 4.
     FourHalf,
 }
 
 impl Version {
-    /// The number of the first event line of a trace, which stands after the lines of the header.
+    /// The number of the first event line of a trace, which follows the lines of the header.
     pub fn first_event_line(self) -> u64
         ensures { result ≡ first_line_of self }
     {
@@ -41,7 +41,7 @@ impl Version {
         }
     }
 
-    /// Whether host 0 alone is recorded.
+    /// Whether only host 0 is recorded.
     pub fn is_half(self) -> bool
         ensures { result ≡ is_half self }
     {
@@ -55,7 +55,7 @@ impl Version {
 /// Which RFC gives the first congestion window.
 #[derive(Clone, Copy)]
 pub enum Initial {
-    /// Two to four segments, one where a SYN was lost (RFC 5681, 3.1).
+    /// Two to four segments, one if a SYN was lost (RFC 5681, 3.1).
     Rfc5681,
     /// Ten segments (RFC 6928, 2).
     Rfc6928,
@@ -64,11 +64,11 @@ pub enum Initial {
 /// How much of congestion control is judged.
 #[derive(Clone, Copy)]
 pub enum Judged {
-    /// The congestion window, the slow start threshold, and when outstanding data may be sent again (RFC 5681, 3.1 and
-    /// 3.2; RFC 6298, 5).
+    /// The congestion window, the slow start threshold, and when outstanding data may be retransmitted (RFC 5681, 3.1
+    /// and 3.2; RFC 6298, 5).
     Full,
-    /// When outstanding data may be sent again: after a timeout or three duplicate acknowledgments (RFC 5681, 3.2; RFC
-    /// 6298, 5).
+    /// When outstanding data may be retransmitted: after a timeout or three duplicate acknowledgments (RFC 5681, 3.2;
+    /// RFC 6298, 5).
     Recovery,
     /// Neither of them.
     Nothing,
