@@ -1,4 +1,4 @@
--- The rules' names, and the least rule that is broken.
+-- The rules' names, and the lowest-numbered rule that is broken.
 use Rattle.std.specs.Prelude.{ℕ, Bool, List, [], ◌∷◌, Option, None, Some, if◌then◌else◌, codes}
 use Rattle.verdict.specs.declared.rule.Rule.{Rule}
 use Rattle.verdict.specs.declared.rule.Rule.TheVariants as rules
@@ -45,7 +45,7 @@ rule_name rules.Recovery = codes "recovery"
 rule_name rules.ScaleUnread = codes "scale-unread"
 rule_name rules.Unplaced = codes "unplaced"
 
--- the first rule of a list that is broken: rules stand with whether the step breaks them, least first
+-- the first broken rule of a list; each rule is paired with whether the step breaks it, lowest first
 abbrev pub first_broken : List (Rule × Bool) → Option Rule
 first_broken [] = None
 first_broken (rule ∷ rules) = if rule.1 then Some rule.0 else first_broken rules

@@ -8,7 +8,7 @@ use Rattle.verdict.specs.Rules.{rule_name}
 abbrev pub two_numbers : ℕ → ℕ → List ℕ
 two_numbers first second = decimal first ++ codes " " ++ decimal second
 
--- what a line of output shows of a verdict
+-- the line of output for a verdict
 abbrev pub verdict_text : Verdict → List ℕ
 verdict_text (verdicts.Yes lines hidden) = codes "yes " ++ two_numbers lines hidden
 verdict_text (verdicts.No witness_line trace_line rule) =

@@ -1,10 +1,10 @@
 //! Verdicts, and the rules that they name.
 //!
 //! - `rule`: the rules that a step may break, by name
-//! - `report`: a verdict, and the text that a line of output shows of it
+//! - `report`: a verdict, and its line of output
 //!
-//! When a rule is broken is defined by `interval_order` (the first six, and the last) and by `spec_step`; which verdict
-//! a case has, by `checker`. The texts stand in `specs/Rules` and `specs/VerdictText`.
+//! `interval_order` defines when a rule is broken for the first six and the last, and `spec_step` for the others;
+//! `checker` defines the verdict of a case. `specs/Rules` and `specs/VerdictText` define the texts.
 #![tactic(auto)]
 
 mod report;

@@ -16,23 +16,23 @@ pub enum Verdict {
     Yes {
         /// How many event lines the trace has.
         lines: u64,
-        /// How many steps take no line.
+        /// How many steps use no line (hidden steps).
         hidden: u64,
     },
-    /// They do not, and this is the first step at which it shows.
+    /// They don't, and this is the first step that shows it.
     No {
         /// The step's line in the witness, from 1; 0 for the rule `unplaced`.
         witness_line: u64,
-        /// The number of a trace line that the step names, 0 where it names none; for the rule `unplaced` the least
-        /// line that is not placed.
+        /// The number of a trace line that the step names, 0 if it names none; for the rule `unplaced` the first line
+        /// that is not placed.
         trace_line: u64,
-        /// The least rule that the step breaks.
+        /// The lowest-numbered rule that the step breaks.
         rule: Rule,
     },
 }
 
 /// Appends the verdict's text, `yes <lines> <hidden>` or `no <witness line> <trace line> <rule>`, without an end of
-/// line. Memory is taken only where `out` has not the room, and if there is none `out` stays as it was.
+/// line. Memory is used only if `out` lacks the room; if it runs out, `out` doesn't change.
 pub fn print_verdict(verdict: &Verdict, out: &mut Vec<u8>) -> Result<(), AllocError>
     ensures ok { OnOk result (out.new.items ≡ out.old.items ++ verdict_text verdict.now) }
     ensures err { OnErr result (out.new.items ≡ out.old.items) }
@@ -48,7 +48,7 @@ pub fn print_verdict(verdict: &Verdict, out: &mut Vec<u8>) -> Result<(), AllocEr
     }
 }
 
-// Appends the head, both numbers with a space between, the gap and the tail.
+// Appends the head, both numbers with a space between them, the gap and the tail.
 fn append_words(
     out: &mut Vec<u8>,
     head: &str,
@@ -78,7 +78,7 @@ fn append_words(
     Ok(())
 }
 
-// Appends what there is room for.
+// Appends the text; the room was reserved.
 fn append_reserved(out: &mut Vec<u8>, piece: &[u8])
     requires { vec_len out.old + length piece.now ≤ vec_capacity out.old }
     ensures items { out.new.items ≡ out.old.items ++ piece.now }

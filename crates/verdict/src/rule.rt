@@ -5,65 +5,65 @@ ghost use Rattle.verdict.specs.Rules.{rule_name};
 
 use std::fmt;
 
-/// A rule of the order of lines (the first six) or of the machine. Where a step breaks several, the first of this
-/// list is named.
+/// A rule of the order of lines (the first six and the last) or of the model. If a step breaks several, the first in
+/// this list is reported.
 #[derive(Clone, Copy, Debug, PartialEq, Eq)]
 pub enum Rule {
-    /// L names no event line, or a line that is not placed with another count of extra numbers than its kind has.
+    /// L names no event line, or names an unplaced line with another count of extra numbers than its kind needs.
     LineRange,
     /// That line was placed before.
     LineAgain,
     /// An earlier line of its thread is not placed.
     ThreadOrder,
-    /// The step's moment is below that of the step before.
+    /// The step's moment is before that of the step before.
     MomentFalls,
-    /// The step's moment is below the line's, or above it by more than the skew.
+    /// The step's moment is before the line's, or after it by more than the skew.
     MomentOff,
-    /// Some line that is not placed may not wait any longer.
+    /// Some line that is not placed may no longer wait.
     Overdue,
-    /// The line begins a call, and the thread has an open call.
+    /// The line begins a call, but the thread has an open call.
     ThreadBusy,
-    /// An effect or the end of a call, and the thread has no open call.
+    /// An effect or the end of a call, but the thread has no open call.
     NoCall,
-    /// An effect, and the open call had its effect.
+    /// An effect, but the open call already had its effect.
     DoneTwice,
-    /// The end of a call that had no effect yet, or another answer.
+    /// The end of a call that had no effect yet, or had another answer.
     AnswerDiffers,
-    /// An effect gives a socket number that was given before.
+    /// An effect returns a socket number that was returned before.
     Socket,
-    /// An effect that the call may not have.
+    /// An effect with an answer that the call may not have.
     CallAnswer,
-    /// No endpoint is at the ports, or it is closed.
+    /// No endpoint exists at these ports, or it is closed.
     NoEndpoint,
     /// The endpoint's state allows no segment of that kind.
     State,
     /// The initial send sequence number is missing, was given before, or is given without a SYN.
     Iss,
-    /// The segment on the wire is not the one that was made.
+    /// The segment on the wire is not the one that was built.
     BytesDiffer,
-    /// No such segment was made, or it is on the wire already.
+    /// No such segment was built, or it was already sent.
     NotMade,
-    /// The segment's bytes are not among those that were accepted, or its FIN is not at the end of them.
+    /// The segment's bytes are not among those accepted, or its FIN is not at the end of them.
     PayloadRange,
-    /// An acknowledgment before the peer's SYN was taken, or none after it.
+    /// An acknowledgment before the peer's SYN was received, or no acknowledgment after it.
     AckField,
-    /// A segment with old data stands at a place where nothing is to be sent again.
+    /// A segment with old data at a place where nothing may be retransmitted.
     OldData,
-    /// New data ends above the offered window (RFC 9293, 3.8.6).
+    /// New data ends beyond the offered window (RFC 9293, 3.8.6).
     Offered,
-    /// New data ends above the congestion window (RFC 5681, 3.1).
+    /// New data ends beyond the congestion window (RFC 5681, 3.1).
     Congestion,
     /// The segment holds more data than the sender's maximum segment size.
     Size,
-    /// What arrives is no segment that the other host sent.
+    /// What arrives is not a segment that the other host sent.
     NoEmission,
     /// What arrives has other bytes than the segment that it copies.
     CopyDiffers,
     /// The segment is older than the maximum segment lifetime.
     Lifetime,
-    /// The segment does not wait in the host's inbox.
+    /// The segment isn't waiting in the host's inbox.
     Inbox,
-    /// The segment comes from another maker than the endpoint's peer.
+    /// The segment was built by another endpoint than this endpoint's peer.
     NotPeer,
     /// A sequence or acknowledgment number does not read back to its position.
     Number,
@@ -71,21 +71,21 @@ pub enum Rule {
     Unacceptable,
     /// The acknowledgment is missing or out of range.
     AckRange,
-    /// The child would join a listen queue that is full.
+    /// The child would join a full listen queue.
     QueueFull,
-    /// The congestion window or the slow start threshold is above the greatest that is allowed.
+    /// The congestion window or the slow start threshold is above the greatest value allowed.
     Growth,
-    /// A round trip time is sampled if it may not be (RFC 6298, 3).
+    /// A round trip time is measured when it may not be (RFC 6298, 3).
     Sample,
-    /// The timer is not armed, or what it waits for is not there.
+    /// The timer is not armed, or what it waits for doesn't exist.
     TimerOff,
     /// The timer expires before it may.
     TimerEarly,
     /// Fast recovery may not be entered (RFC 5681, 3.2).
     Recovery,
-    /// A segment's window would be read with another scale than its maker's.
+    /// A segment's window would be read with another shift than its sender's.
     ScaleUnread,
-    /// After the last step a line is not placed.
+    /// A line is not placed after the last step.
     Unplaced,
 }
 
