@@ -1,4 +1,4 @@
--- The rules of a step of two hosts, least first.
+-- The rules of a step of two hosts, lowest-numbered first.
 use Rattle.std.specs.Prelude.{◌≡◌, ℕ, nat_eq, Bool, true, false, not, if◌then◌else◌, List, [], ◌∷◌, ◌++◌, Option, None}
 use Rattle.std.specs.Prelude.{Some}
 use Rattle.std.specs.Map.{lookup}
@@ -16,7 +16,7 @@ use Rattle.spec_network.specs.Hosts.{Begin, Finish, Effect, At, turn_of}
 abbrev pub just : Rule → Bool → List (Rule × Bool)
 just rule broken = (rule, broken) ∷ []
 
--- the rules of a segment that goes out, made under that number: it is what was made, and did not go out before
+-- the rules of sending a segment built under that number: it matches the built one, and was not sent before
 abbrev pub made_rules : {E W : Type 0} → (W → E → List (Rule × Bool)) → W → Made E → List (Rule × Bool)
 made_rules out_rules wire m = out_rules wire m.emission ++ just rules.NotMade m.sent
 
@@ -25,11 +25,11 @@ abbrev pub sending_rules : {E W : Type 0} → (W → E → List (Rule × Bool)) 
 sending_rules out_rules made number wire =
     on (lookup (nat_eq number) made) (just rules.NotMade true) (made_rules out_rules wire)
 
--- the rules of one that comes in, as a copy of that line of the other host, whose wire is `far`
+-- the rules of a segment that arrives, as a copy of that line of the other host, whose wire is `far`
 abbrev pub arrival_rules : {E W : Type 0} → (W → E → List (Rule × Bool)) → List (ℕ × E) → ℕ → W → List (Rule × Bool)
 arrival_rules in_rules far copied wire = on (lookup (nat_eq copied) far) (just rules.NoEmission true) (in_rules wire)
 
--- the rules of what one host does, which has this; `far` is the wire of the other host
+-- the rules of an act of this host; `far` is the wire of the other host
 abbrev pub deed_rules : (k : Kernel) → Host → ℕ → List (ℕ × k.shape.Emission) → HostState k.shape → Deed k.shape
     → List (Rule × Bool)
 deed_rules k me moment far h (Does x) = k.act_rules me moment h.body (k.does x)
@@ -44,18 +44,18 @@ deed_rules k me moment far h (Drops line) = on (waiting line h.inbox) (just rule
 deed_rules k me moment far h (Answers line) =
     on (waiting line h.inbox) (just rules.Inbox true) (λ e. k.act_rules me moment h.body (k.answers e))
 
--- the host that a call means: for a socket number, the host that gave it
+-- the host that a call applies to: for a socket number, the host that returned it
 abbrev pub aim_of : (k : Kernel) → Both (HostState k.shape) → Aim → Option Host
 aim_of k hosts (ThatHost host) = Some host
 aim_of k hosts (ThatSocket n) =
     if k.given hosts.zero.body n then Some Zero else if k.given hosts.one.body n then Some One else None
 
--- a socket number that is given was given by neither host before
+-- a new socket number was returned by neither host before
 abbrev pub fresh_rules : (k : Kernel) → Both (HostState k.shape) → Option ℕ → List (Rule × Bool)
 fresh_rules k hosts None = []
 fresh_rules k hosts (Some n) = (rules.Socket, k.given hosts.zero.body n) ∷ just rules.Socket (k.given hosts.one.body n)
 
--- the rules of a call's effect, at the host that the call means
+-- the rules of a call's effect, at the host that the call applies to
 abbrev pub call_rules : (k : Kernel) → ℕ → Both (HostState k.shape) → k.shape.Call → k.shape.Answer → Option Host
     → List (Rule × Bool)
 call_rules k moment hosts call answer None =
@@ -89,11 +89,11 @@ begin_rules u = (rules.ThreadBusy, not (is_idle u)) ∷ []
 abbrev pub end_rules : {s : Shape} → (s.Answer → s.Answer → Bool) → Turn s → s.Answer → List (Rule × Bool)
 end_rules differs u answer = (rules.NoCall, is_idle u) ∷ (rules.AnswerDiffers, answer_differs differs u answer) ∷ []
 
--- what is asked of an effect before the call itself: a call is open, and had none yet
+-- the rules of an effect before those of the call itself: a call is open, and had no effect yet
 abbrev pub pending_rules : {s : Shape} → Turn s → List (Rule × Bool)
 pending_rules u = (rules.NoCall, is_idle u) ∷ (rules.DoneTwice, is_answered u) ∷ []
 
--- the rules of the call that is open
+-- the rules of the open call
 abbrev pub open_rules : (k : Kernel) → ℕ → Both (HostState k.shape) → Turn k.shape → k.shape.Answer → List (Rule × Bool)
 open_rules k moment hosts Idle answer = []
 open_rules k moment hosts (Called call) answer = call_rules k moment hosts call answer (aim_of k hosts (k.aim call))

@@ -9,31 +9,31 @@ use Rattle.spec_network.specs.Hosts.{Sends, Gets, Hears, Takes, Drops, Answers, 
 use Rattle.spec_network.specs.Hosts.{Stamped, turn_of}
 use Rattle.spec_network.specs.HostRules.{aim_of, Permitted}
 
--- the made segments after an act, with the one that it makes under the fresh number
+-- the built segments after an act; the segment it builds gets the new number
 abbrev pub act_made : (k : Kernel) → Host → ℕ → ℕ → HostState k.shape → k.shape.Act → List (ℕ × Made k.shape.Emission)
 act_made k me moment fresh h act =
     on (k.act_makes me moment h.body act) h.made (λ e. insert_entry nat_eq h.made fresh (unsent e))
 
--- what was made, once the segment of that number went out
+-- the built segments, once the segment of that number was sent
 abbrev pub made_gone_out : {E : Type 0} → ℕ → List (ℕ × Made E) → List (ℕ × Made E)
 made_gone_out number made = on (lookup (nat_eq number) made) made (λ m. insert_entry nat_eq made number (gone_out m))
 
--- what stands on the wire, once the segment of that number went out with this line
+-- the wire, once the segment of that number was sent with this line
 abbrev pub wire_after : {E W : Type 0} → (ℕ → W → E → E) → List (ℕ × Made E) → (line number : ℕ) → W → ℕ → List (ℕ × E)
     → List (ℕ × E)
 wire_after sent made line number wire moment out =
     on (lookup (nat_eq number) made) out (λ m. insert_entry nat_eq out line (sent moment wire m.emission))
 
--- the inbox, once a copy of that line of the other host came in with this one
+-- the inbox, once a copy of that line of the other host arrived with this line
 abbrev pub inbox_after : {E : Type 0} → List (ℕ × E) → (line copied : ℕ) → List (ℕ × Option E) → List (ℕ × Option E)
 inbox_after far line copied inbox = on (lookup (nat_eq copied) far) inbox (λ e. insert_entry nat_eq inbox line (Some e))
 
--- the inbox, once what waits there with this line is taken, dropped or answered
+-- the inbox, once the segment waiting under this line is processed, dropped or answered
 abbrev pub inbox_settled : {E : Type 0} → ℕ → List (ℕ × Option E) → List (ℕ × Option E)
 inbox_settled line inbox = on (waiting line inbox) inbox (λ e. settled line inbox)
 
--- what a host has after what it does: a line that goes out marks its segment and puts it on the wire, a line that comes
--- in joins the inbox, and what is taken, dropped or answered waits there no longer
+-- a host after its act: a sent line marks its segment and puts it on the wire, a line that arrives joins the inbox, and
+-- a processed segment no longer waits there
 abbrev pub deed_after : (k : Kernel) → Host → ℕ → ℕ → List (ℕ × k.shape.Emission) → HostState k.shape → Deed k.shape
     → HostState k.shape
 deed_after k me moment fresh far h (Does x) = record h { body = k.act_after me moment h.body (k.does x) }
@@ -58,13 +58,13 @@ deed_after k me moment fresh far h (Answers line) = record h {
   inbox = inbox_settled line h.inbox;
 }
 
--- whether it takes a number for a made segment
+-- whether it uses a number for a built segment
 abbrev pub makes : (k : Kernel) → Deed k.shape → Bool
 makes k (Makes x) = true
 makes k (Answers line) = true
 makes k d = false
 
--- both hosts after a call's act at the host that the call means
+-- both hosts after a call's act at the host that the call applies to
 abbrev pub call_after : (k : Kernel) → ℕ → Both (HostState k.shape) → k.shape.Act → Option Host
     → Both (HostState k.shape)
 call_after k moment hosts act None = hosts
@@ -75,7 +75,7 @@ call_after k moment hosts act (Some host) =
 abbrev pub with_turn : (k : Kernel) → World k.shape → ℕ → Turn k.shape → World k.shape
 with_turn k w t u = record w { threads = insert_entry nat_eq w.threads t u }
 
--- the world after an effect of the thread whose turn this is
+-- the world after an effect of the thread at this turn
 abbrev pub effect_after : (k : Kernel) → ℕ → World k.shape → ℕ → k.shape.Answer → Turn k.shape → World k.shape
 effect_after k moment w t answer Idle = w
 effect_after k moment w t answer (Called call) = record {

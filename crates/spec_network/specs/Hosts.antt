@@ -1,18 +1,18 @@
--- What the two hosts don't know of TCP, as a kernel gives it; and hosts, threads, worlds and steps above it.
+-- What the two hosts don't know of TCP, as a kernel provides it; and hosts, threads, worlds and steps above it.
 use Rattle.std.specs.Prelude.{ℕ, nat_eq, Bool, List, Option, unwrap_or}
 use Rattle.std.specs.Map.{lookup}
 use Rattle.case_forms.specs.declared.calls.Host.{Host}
 use Rattle.verdict.specs.declared.rule.Rule.{Rule}
 use Rattle.spec_network.specs.Tables.{Both, Made}
 
--- whom a call means: a host, or the host that gave a socket number
+-- the target of a call: a host, or the host that returned a socket number
 pub data Aim : Type 0 where
   ThatHost : (host : Host) → Aim
   ThatSocket : (socket : ℕ) → Aim
 
--- the types: what a host has and does (`Body`, `Act`); what a step says beside the numbers that it names, of a step
--- that looks nothing up, of a timer that expires, of a segment to be made, and of the choice at taking one (`Plain` to
--- `How`); what the line of a timer says; segments as they were made and as they are on the wire; calls and answers
+-- the types: the state and the acts of a host (`Body`, `Act`); the contents of steps beside the numbers that they name:
+-- of a step that looks nothing up, of a timer that expires, of a segment to build, and of the choice when a segment is
+-- processed (`Plain` to `How`); the content of a timer's line; segments as built and as on the wire; calls and answers
 pub record Shape : Type 1 where
   pub Body : Type 0
   pub Act : Type 0
@@ -26,13 +26,12 @@ pub record Shape : Type 1 where
   pub Call : Type 0
   pub Answer : Type 0
 
--- what is done with them; a function that is asked with a host and a moment is asked for a step of that host at that
--- moment
+-- the functions on them; a function with a host and a moment as arguments concerns a step of that host at that moment
 pub record Kernel : Type 1 where
   pub shape : Shape
-  -- what a host has at the start
+  -- the body of a host at the start
   pub empty : shape.Body
-  -- the rules of an act, least first, what the host has after it, and the segment that it makes
+  -- the rules of an act, lowest-numbered first, the body of the host after it, and the segment that it builds
   pub act_rules : Host → ℕ → shape.Body → shape.Act → List (Rule × Bool)
   pub act_after : Host → ℕ → shape.Body → shape.Act → shape.Body
   pub act_makes : Host → ℕ → shape.Body → shape.Act → Option shape.Emission
@@ -43,46 +42,46 @@ pub record Kernel : Type 1 where
   pub takes : shape.How → shape.Emission → shape.Act
   pub answers : shape.Emission → shape.Act
   pub calls : shape.Call → shape.Answer → shape.Act
-  -- what the line says of a timer that expires
+  -- the content of a line for a timer that expires
   pub expiry : shape.Expiring → shape.Expiry
-  -- the rules of a segment that goes out, what stands on the wire then, and the rules of one that comes in
+  -- the rules of sending a segment, the segment on the wire then, and the rules of one that arrives
   pub out_rules : shape.Wire → shape.Emission → List (Rule × Bool)
   pub sent : ℕ → shape.Wire → shape.Emission → shape.Emission
   pub in_rules : ℕ → shape.Wire → shape.Emission → List (Rule × Bool)
-  -- whether one host alone is recorded, and what stands in its inbox for a segment that is heard of the other
+  -- whether only one host is recorded, and the inbox entry for a segment heard from the other
   pub half : Bool
   pub heard : ℕ → shape.Wire → shape.Emission
-  -- whom a call means; what it may answer where no host gave its socket number
+  -- the target of a call; the answers it may have if no host returned its socket number
   pub aim : shape.Call → Aim
   pub stray : shape.Call → shape.Answer → Bool
-  -- the socket number that an answer gives, and whether a host gave one
+  -- the socket number in an answer, and whether a host returned one
   pub gives : shape.Call → shape.Answer → Option ℕ
   pub given : shape.Body → ℕ → Bool
   pub differs : shape.Answer → shape.Answer → Bool
 
--- one host: what the kernel knows of it, the segments that it made by their numbers, those that it put on the wire by
--- their lines, and its inbox by the lines that came in, with None for one that waits no longer
+-- one host: its body, the segments that it built by their numbers, those that it sent by their lines, and its inbox by
+-- the lines of arrival, with None for a segment that no longer waits
 pub record HostState (s : Shape) : Type 0 where
   pub body : s.Body
   pub made : List (ℕ × Made s.Emission)
   pub wire : List (ℕ × s.Emission)
   pub inbox : List (ℕ × Option s.Emission)
 
--- where a thread is: in no call, in one that had no effect yet, or in one whose effect had that answer
+-- the state of a thread: in no call, in one that had no effect yet, or in one whose effect had that answer
 pub data Turn (s : Shape) : Type 0 where
   Idle : Turn s
   Called : (call : s.Call) → Turn s
   Answered : (answer : s.Answer) → Turn s
 
--- two hosts, each thread that called with where it is, and how many segments were made
+-- two hosts, the state of each thread that called, and how many segments were built
 pub record World (s : Shape) : Type 0 where
   pub hosts : Both (HostState s)
   pub threads : List (ℕ × Turn s)
   pub count : ℕ
 
--- what one host does: a step that looks nothing up; a timer's line; making a segment; the line of one that goes out,
--- made under that number; the line of one that comes in, a copy of the other host's line; the line of one that is heard
--- of a host that isn't recorded; and taking, dropping or answering what came in with that line
+-- the acts of one host: a step that looks nothing up; a timer's line; building a segment; the line of sending one,
+-- built under that number; the line of one that arrives, a copy of the other host's line; the line of one heard from a
+-- host that isn't recorded; and processing, dropping or answering what arrived with that line
 pub data Deed (s : Shape) : Type 0 where
   Does : (plain : s.Plain) → Deed s
   Expires : (line : ℕ) (expiring : s.Expiring) → Deed s
@@ -94,7 +93,7 @@ pub data Deed (s : Shape) : Type 0 where
   Drops : (line : ℕ) → Deed s
   Answers : (line : ℕ) → Deed s
 
--- a step: the line that begins a call, the line that ends one, the call's effect, and what one host does
+-- a step: the line that begins a call, the line that ends one, the call's effect, and an act of one host
 pub data Step (s : Shape) : Type 0 where
   Begin : (line thread : ℕ) (call : s.Call) → Step s
   Finish : (line thread : ℕ) (answer : s.Answer) → Step s
@@ -106,6 +105,6 @@ pub record Stamped (s : Shape) : Type 0 where
   pub moment : ℕ
   pub step : Step s
 
--- where that thread is: in no call, if it never called
+-- the state of that thread: in no call, if it never called
 abbrev pub turn_of : {s : Shape} → ℕ → List (ℕ × Turn s) → Turn s
 turn_of t threads = unwrap_or (lookup (nat_eq t) threads) Idle

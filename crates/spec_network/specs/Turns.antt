@@ -3,7 +3,7 @@ use Rattle.std.specs.Prelude.{◌≡◌, ℕ, ◌==◌, false, if◌then◌else�
 use Rattle.spec_network.specs.Hosts.{Kernel, Turn, Idle, Called, Answered, Step, Begin, Finish, Effect, At, Stamped}
 
 -- in thread t, which is at this turn, a step begins no second call, is the first effect of an open call, or ends a call
--- with its effect's answer; `rest` is asked of the turn after it
+-- with its effect's answer; `rest` applies to the turn after it
 abbrev pub TakesTurn : (k : Kernel) → ℕ → Turn k.shape → Step k.shape → (Turn k.shape → Type 0) → Type 0
 TakesTurn k t turn (Begin line u c) rest = (t ≡ u → turn ≡ Idle) × rest (if t == u then Called c else turn)
 TakesTurn k t turn (Finish line u a) rest =
