@@ -18,7 +18,7 @@ one_call_more n = min (n + 1) (2 ^ 50)
 abbrev pub inner_of : {X : Type 0} → Counted X → X
 inner_of c = c.inner
 
--- the bytes that are left to read, where they are known
+-- the bytes that are left to read, if they are known
 abbrev pub left_of : {X : Type 0} → (X → Option (List ℕ)) → Counted X → Option (List ℕ)
 left_of known c = known c.inner
 

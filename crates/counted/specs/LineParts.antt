@@ -11,7 +11,7 @@ HasNoFeed bytes = All (λ b. b ≢ 10) bytes
 abbrev pub EndsAtFeed : List ℕ → Type 0
 EndsAtFeed bytes = (text : List ℕ) × HasNoFeed text × (bytes ≡ text ++ 10 ∷ [])
 
--- the bytes are of one line, and its LF is among them or not
+-- the bytes belong to one line, and its LF is among them or not
 abbrev pub IsPart : Bool → List ℕ → Type 0
 IsPart true bytes = EndsAtFeed bytes
 IsPart false bytes = HasNoFeed bytes
@@ -21,7 +21,7 @@ abbrev pub LosesLine : Option (List ℕ) → Option (List ℕ) → List ℕ → 
 LosesLine old new raw =
     Consumes old new raw × (EndsAtFeed raw ⊎ (HasNoFeed raw × (0 < length raw) × OnSome old (IsAtEnd new)))
 
--- the last bytes of a line, and those that stand before them: some only where the line has more than `most`
+-- the last bytes of a line, and those before them: some only if the line has more than `most`
 pub record IsKept (most : ℕ) (front : List ℕ) (before : ℕ) (kept : List ℕ) : Type 0 where
   pub count : length front ≡ before
   pub past : 0 < before → most < before + length kept

@@ -1,18 +1,18 @@
-//! A reader or a writer beside its count of failures.
+//! A reader or a writer with its count of failures.
 
 ghost use Rattle.std.specs.Prelude.{◌≡◌, ◌≤◌, ◌^◌};
 
 use std::io;
 use std::io::{BufRead, ErrorKind, Read, Write};
 
-// After so many calls each fails.
+// After this many calls, every call fails.
 pub(crate) const MOST_CALLS: u64 = 1 << 50;
 
-// The count of failures stays here.
+// The count of failures stops here.
 const MOST_FAILURES: u64 = 1 << 60;
 
-/// A reader or a writer that counts the reads and writes that failed, its own refusals among them: after 2^50 calls
-/// each fails, and so does a write that takes none of its bytes. Nothing else is counted.
+/// A reader or a writer that counts its failed reads and writes. After 2^50 calls every call fails, and so does a write
+/// that writes none of its bytes; these failures are counted, too. Nothing else is counted.
 #[derive(Drop)]
 pub struct Counted<X> {
     pub(crate) inner: X,
@@ -22,12 +22,12 @@ pub struct Counted<X> {
     ghost at_most: { failures ≤ 2 ^ 60 },
 }
 
-// The error of a call past the last that may be made.
+// The error of a call beyond the limit of calls.
 fn spent() -> io::Error {
     io::Error::new(ErrorKind::Other, "too many calls")
 }
 
-// The error of a write that takes none of its bytes.
+// The error of a write that writes none of its bytes.
 fn nothing_taken() -> io::Error {
     io::Error::new(ErrorKind::WriteZero, "nothing was taken")
 }
@@ -36,7 +36,7 @@ impl<X> Counted<X> {
     ghost use Rattle.std.specs.Prelude.{◌<◌, ◌↔◌, IsTrue};
     ghost use Rattle.counted.specs.Counting.{failures_of, calls_of, one_call_more, inner_of, one_more, Counts};
 
-    /// A reader or a writer of which nothing has failed.
+    /// A reader or a writer with no failures yet.
     pub fn new(inner: X) -> Counted<X>
         ensures inner { inner_of result ≡ inner }
         ensures none { failures_of result ≡ 0 }
@@ -49,14 +49,14 @@ impl<X> Counted<X> {
         }
     }
 
-    /// How many reads and writes failed; at 2^60 the count stays.
+    /// How many reads and writes failed; the count stops at 2^60.
     pub fn failures(&self) -> u64
         ensures { result ≡ failures_of self.now }
     {
         self.failures
     }
 
-    // The answer of a read or write, which is counted where it failed.
+    // The answer of a read or write; a failure is counted.
     fn tallied<T>(&mut self, answer: io::Result<T>) -> io::Result<T>
         ensures answer { result ≡ answer }
         ensures inner { inner_of self.new ≡ inner_of self.old }
@@ -69,7 +69,7 @@ impl<X> Counted<X> {
         answer
     }
 
-    // One failure more.
+    // Counts one failure.
     pub(crate) fn count_failure(&mut self)
         ensures inner { inner_of self.new ≡ inner_of self.old }
         ensures calls { calls_of self.new ≡ calls_of self.old }
@@ -78,7 +78,7 @@ impl<X> Counted<X> {
         self.failures = (self.failures + 1).min(MOST_FAILURES);
     }
 
-    // Whether one more call may be made, which is counted.
+    // Whether one more call may be made; the call is counted.
     pub(crate) fn may_call(&mut self) -> bool
         ensures may { IsTrue result ↔ (calls_of self.old < 2 ^ 50) }
         ensures calls { calls_of self.new ≡ one_call_more (calls_of self.old) }
@@ -142,7 +142,7 @@ impl<W: Write> Write for Counted<W> {
         self.tallied(answer)
     }
 
-    // It ends at the first call that fails, an interrupted one too.
+    // It ends at the first call that fails, including an interrupted one.
     fn write_all(&mut self, buf: &[u8]) -> io::Result<()>
         ensures bytes { OnOk result (Appends (left_of W.contents self.old) (left_of W.contents self.new) buf.now) }
         ensures counts { Counts result (failures_of self.old) (failures_of self.new) }
@@ -168,12 +168,12 @@ impl<W: Write> Write for Counted<W> {
     }
 }
 
-/// Why not all was read.
+/// Why a reader could not be read to its end.
 #[derive(Clone, Copy, Debug, PartialEq, Eq)]
 pub enum ReadFault {
     /// A read failed, and was counted.
     Read,
-    /// The bytes that were read found no memory. Nothing was counted.
+    /// There was no memory for the bytes that were read. Nothing was counted.
     OutOfMemory,
 }
 
@@ -183,7 +183,7 @@ impl<B: BufRead> Counted<B> {
     ghost use Rattle.std.specs.Io.KnownBytes.{Consumes, IsAtEnd};
     ghost use Rattle.counted.specs.Counting.{left_of, failures_of, calls_of, one_call_more, one_more};
 
-    /// Appends what one read gives, and says whether the input is at its end, if it gives nothing.
+    /// Appends the bytes of one read, and returns whether the input is at its end, which is so if there are none.
     pub fn append_piece(&mut self, buf: &mut Vec<u8>) -> Result<bool, ReadFault>
         ensures appends { StartsWith buf.new.items buf.old.items }
         ensures bytes { Consumes (left_of B.remaining self.old) (left_of B.remaining self.new)
@@ -215,7 +215,7 @@ impl<B: BufRead> Counted<B> {
         Ok(count == 0)
     }
 
-    /// Appends all that is left to read. At an error `buf` has what was read before it.
+    /// Appends all remaining bytes. After an error, `buf` has what was read before it.
     pub fn append_all(&mut self, buf: &mut Vec<u8>) -> Result<(), ReadFault>
         ensures appends { StartsWith buf.new.items buf.old.items }
         ensures bytes { OnOk result (IfSome (left_of B.remaining self.old) (λ xs. buf.new.items ≡ buf.old.items

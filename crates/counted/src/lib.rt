@@ -1,13 +1,12 @@
-//! Readers and writers that count the calls of them that failed.
+//! Readers and writers that count their failed calls.
 //!
-//! A call of a `Counted` that fails is counted, and nothing else is. It fails where the device fails, where a write
-//! takes none of its bytes, and after 2^50 calls. So whoever reads or writes through one can tell afterwards whether a
-//! call failed, as long as fewer than 2^60 did, where the count stays; that memory ran out is never counted. Readers
-//! are read a piece at a time by methods of `Counted` itself, which lend nothing. `specs/Counting` has the words of the
-//! clauses.
+//! A `Counted` counts its failed calls and nothing else. A call fails if the device fails, if a write writes none of
+//! its bytes, and after 2^50 calls. So you can tell afterwards whether a call failed, as long as fewer than 2^60 did:
+//! the count stops there. Running out of memory is never counted. `Counted` has its own methods for reading a piece at
+//! a time, which lend nothing. `specs/Counting` has the definitions that the contracts use.
 //!
 //! - `ends`: a reader or a writer and its count
-//! - `lines`: one line of a reader, of which a bounded part is kept (`specs/LineParts`)
+//! - `lines`: one line of a reader, at most a bounded part of which is kept (`specs/LineParts`)
 #![tactic(auto)]
 
 mod ends;

@@ -1,4 +1,4 @@
-//! One line of a reader, a piece at a time.
+//! One line of a reader, read a piece at a time.
 
 ghost use Rattle.std.specs.Prelude.{◌≡◌, ◌+◌, ◌≤◌, ◌<◌, ◌⊎◌, ◌^◌, [], OnOk, IfOk, IfSome, OnSome, ◌++◌, true, false};
 ghost use Rattle.std.specs.Prelude.{length, take};
@@ -11,10 +11,10 @@ use crate::ends::{Counted, MOST_CALLS, ReadFault};
 use memchr::memchr;
 use std::io::BufRead;
 
-// How many bytes of a line one read gives at most, so that 2^50 reads can be counted.
+// How many bytes of a line one read returns at most, so that 2^50 reads can be counted.
 const PIECE: usize = 8192;
 
-// Discards all bytes but the last, and says how many.
+// Discards all bytes but the last, and returns how many.
 fn keep_last(line: &mut Vec<u8>) -> u64
     requires { 0 < length line.old.items }
     ensures count { result + 1 ≡ length line.old.items }
@@ -27,7 +27,7 @@ fn keep_last(line: &mut Vec<u8>) -> u64
     last as u64
 }
 
-// How many of these bytes are of one line, at most so many, and whether its LF is among them.
+// How many of these bytes belong to one line, up to a limit, and whether its LF is among them.
 fn line_part(bytes: &[u8], most: usize) -> (usize, bool)
     ensures within { result.0 ≤ length bytes.now }
     ensures most { result.0 ≤ most }
@@ -42,8 +42,8 @@ fn line_part(bytes: &[u8], most: usize) -> (usize, bool)
 }
 
 impl<B: BufRead> Counted<B> {
-    // Appends what one read gives of a line, at most so many bytes, and says whether the line is at its end: after its
-    // LF, or at the end of the input, if it gives nothing.
+    // Appends the bytes of one read of a line, up to a limit, and returns whether the line is at its end: after its LF,
+    // or at the end of the input, if there are no bytes.
     fn append_line_piece(&mut self, most: usize, buf: &mut Vec<u8>) -> Result<bool, ReadFault>
         requires { 0 < most }
         ensures appends { StartsWith buf.new.items buf.old.items }
@@ -77,8 +77,8 @@ impl<B: BufRead> Counted<B> {
         Ok(is_ended || count == 0)
     }
 
-    /// Reads one line with its LF, or all that is left where none follows. Of a line of more than `most` bytes only the
-    /// last ones may be kept, and the answer is how many bytes stand before those. None at the end of the input.
+    /// Reads one line with its LF, or all that is left if no LF follows. Of a line of more than `most` bytes, only the
+    /// last may be kept; the answer is how many bytes came before those. `None` means the end of the input.
     #[inline(always)]
     pub fn read_line(&mut self, most: usize, line: &mut Vec<u8>) -> Result<Option<u64>, ReadFault>
         requires { most < 2 ^ 32 }
