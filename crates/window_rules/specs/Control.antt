@@ -36,8 +36,8 @@ first_window Rfc6928 smss syn_lost = initial_window_6928 smss
 first_window Unbounded smss syn_lost = greatest_window
 first_window Unjudged smss syn_lost = greatest_window
 
--- the greatest cwnd and ssthresh that a signal allows where they are bounded (RFC 5681, 3.1 and 3.2); if a segment is
--- taken, ssthresh stays
+-- the greatest cwnd and ssthresh that a signal allows if they are bounded (RFC 5681, 3.1 and 3.2); if a segment is
+-- processed, ssthresh stays
 abbrev pub greatest_bounded : Control → Signal → At → ℕ × ℕ
 greatest_bounded c (Syn smss) at = (c.values.cwnd, c.values.ssthresh)
 greatest_bounded c (SynAcked smss syn_lost) at = (first_window c.profile smss syn_lost, c.values.ssthresh)
@@ -66,12 +66,12 @@ after c (Timeout flight syn_pending again) at cwnd ssthresh =
 after c (Recovery flight threshold) at cwnd ssthresh =
     record c { values = record c.values { cwnd = cwnd; ssthresh = ssthresh; fast = true } }
 
--- the position at which new data ends at most; where windows aren't bounded, it is beyond every window that is offered
+-- the position at which new data ends at most; if windows aren't bounded, it is beyond every window that can be offered
 abbrev pub control_edge : ℕ → Control → ℕ
 control_edge una c =
     if bounds_windows c.profile then congestion_edge una c.values else congestion_edge una c.values + 2 ^ 40
 
 -- fast recovery may begin: from the third duplicate acknowledgment on, and not within it (RFC 5681, 3.2, step 2); at
--- any time if it needs no duplicates
+-- any time if the profile needs no duplicates
 abbrev pub may_recover : Control → Bool
 may_recover c = not (counts_duplicates c.profile) || nat_le 3 c.values.dup && not c.values.fast

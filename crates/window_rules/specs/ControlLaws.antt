@@ -1,4 +1,4 @@
--- What holds at the boundary of congestion control for every profile: the crates above cite these laws and know no
+-- What holds at the boundary of congestion control for every profile: the crates above use these laws and know no
 -- profile.
 use Rattle.std.specs.Prelude.{◌≡◌, ℕ, ◌+◌, ◌*◌, ◌^◌, ◌≤◌, ◌<◌, ◌↔◌, Bool, true, false, suc, ⊤}
 use Rattle.window_rules.specs.declared.control.Profile.{Profile}
@@ -21,7 +21,7 @@ MayFirst Rfc6928 smss syn_lost cwnd = MayBegin6928 smss cwnd
 MayFirst Unbounded smss syn_lost cwnd = ⊤
 MayFirst Unjudged smss syn_lost cwnd = ⊤
 
--- the windows that a signal allows where they are bounded (RFC 5681, 3.1 and 3.2)
+-- the windows that a signal allows if they are bounded (RFC 5681, 3.1 and 3.2)
 abbrev pub MayChooseBounded : Control → Signal → ℕ → Type 0
 MayChooseBounded c (Syn smss) cwnd = cwnd ≤ c.values.cwnd
 MayChooseBounded c (SynAcked smss syn_lost) cwnd = MayFirst c.profile smss syn_lost cwnd
@@ -31,17 +31,17 @@ MayChooseBounded c Other cwnd = cwnd ≤ c.values.cwnd
 MayChooseBounded c (Timeout flight syn_pending again) cwnd = cwnd ≤ c.values.smss
 MayChooseBounded c (Recovery flight ssthresh) cwnd = cwnd ≤ ssthresh + c.values.dup * c.values.smss
 
--- the windows that a signal allows: all where none is bounded
+-- the windows that a signal allows: all if none is bounded
 abbrev pub MayChoose : Control → Signal → ℕ → Type 0
 MayChoose c s cwnd = bounds_windows c.profile ≡ true → MayChooseBounded c s cwnd
 
--- the thresholds where they are bounded
+-- the thresholds if they are bounded
 abbrev pub MayLowerBounded : Control → Signal → ℕ → Type 0
 MayLowerBounded c (Timeout flight syn_pending again) ssthresh = MayHold c.values flight syn_pending again ssthresh
 MayLowerBounded c (Recovery flight threshold) ssthresh = MayHalve c.values flight ssthresh
 MayLowerBounded c signal ssthresh = ssthresh ≤ c.values.ssthresh
 
--- the thresholds that a signal allows: all where none is bounded
+-- the thresholds that a signal allows: all if none is bounded
 abbrev pub MayLower : Control → Signal → ℕ → Type 0
 MayLower c s ssthresh = bounds_windows c.profile ≡ true → MayLowerBounded c s ssthresh
 
@@ -56,8 +56,8 @@ pub record IsLimited (c : Control) : Type 0 where
   pub cwnd : c.values.cwnd ≤ greatest_window
   pub ssthresh : c.values.ssthresh ≤ greatest_window
 
--- of the values up to 4294967295, those that are allowed are those up to the greatest; new data may end exactly where
--- the window lets it, and anywhere in the offered window where none is bounded
+-- a value up to 4294967295 is allowed if and only if it is at most the greatest; new data may end exactly where the
+-- window allows, and anywhere in the offered window if none is bounded
 pub record ControlIsGreatest : Type 0 where
   pub window : (c : Control) (s : Signal) (at : At) → IsLimited c → IsGreatest (MayChoose c s) ((greatest c s at).0)
   pub threshold : (c : Control) (s : Signal) (at : At) → IsLimited c → IsGreatest (MayLower c s) ((greatest c s at).1)
@@ -67,8 +67,7 @@ pub record ControlIsGreatest : Type 0 where
       offered_edge una wnd probe ≤ control_edge una c
 
 -- after a signal the window is the one chosen; so is the threshold after a loss, and else it stays; and no signal
--- changes
--- the profile
+-- changes the profile
 pub record ControlTakesChoice : Type 0 where
   pub cwnd : (c : Control) (s : Signal) (at : At) (cwnd ssthresh : ℕ) → (after c s at cwnd ssthresh).values.cwnd ≡ cwnd
   pub lowered : (c : Control) (s : Signal) (at : At) (cwnd ssthresh : ℕ) → is_loss s ≡ true

@@ -1,5 +1,5 @@
--- What an acknowledgment does to the congestion window. `acked` is how many positions it acknowledges first, the SYN
--- not counted.
+-- What an acknowledgment does to the congestion window. `acked` is how many positions it newly acknowledges, not
+-- counting the SYN.
 use Rattle.std.specs.Prelude.{ℕ, ◌+◌, ◌-◌, ◌*◌, ◌/◌, Bool, not, ◌&&◌, nat_lt, nat_le, min, max, if◌then◌else◌}
 use Rattle.window_rules.specs.declared.congestion.Congestion.{Congestion}
 use Rattle.window_rules.specs.Windows.{capped}
@@ -8,11 +8,11 @@ use Rattle.window_rules.specs.Windows.{capped}
 abbrev pub slow_start : Congestion → ℕ → ℕ
 slow_start c acked = c.cwnd + min acked c.smss
 
--- what was counted and what is acknowledged now make a whole window (RFC 5681, 3.1)
+-- what was counted and what is acknowledged now fill a whole window (RFC 5681, 3.1)
 abbrev pub fills_window : Congestion → ℕ → Bool
 fills_window c acked = nat_le c.cwnd (c.counted + acked)
 
--- a part of SMSS for each acknowledgment, at least one byte (RFC 5681, 3.1, equation 3)
+-- SMSS * SMSS / cwnd for each acknowledgment, at least one byte (RFC 5681, 3.1, equation 3)
 abbrev pub increment : Congestion → ℕ
 increment c = max 1 (c.smss * c.smss / max c.cwnd 1)
 
@@ -27,16 +27,16 @@ growth c acked =
     if nat_lt c.cwnd c.ssthresh then slow_start c acked
     else (if nat_lt c.ssthresh c.cwnd then avoidance c acked else max (slow_start c acked) (avoidance c acked))
 
--- the greatest cwnd after a new acknowledgment; ssthresh where it ends fast recovery (RFC 5681, 3.1 and 3.2, step 6)
+-- the greatest cwnd after a new acknowledgment; ssthresh if it ends fast recovery (RFC 5681, 3.1 and 3.2, step 6)
 abbrev pub may_grow : Congestion → ℕ → ℕ
 may_grow c acked = capped (if c.fast then c.ssthresh else growth c acked)
 
--- congestion avoidance is on: from ssthresh on, outside fast recovery
+-- in congestion avoidance: from ssthresh on, outside fast recovery
 abbrev pub is_avoiding : Congestion → Bool
 is_avoiding c = not c.fast && nat_le c.ssthresh c.cwnd
 
--- counted after a new acknowledgment: it grows by what is acknowledged, and falls by cwnd where that makes a whole
--- window (RFC 5681, 3.1)
+-- counted after a new acknowledgment: it grows by what is acknowledged, and falls by cwnd if that fills a whole window
+-- (RFC 5681, 3.1)
 abbrev pub counted_after : Congestion → ℕ → ℕ
 counted_after c acked =
     if is_avoiding c then (if fills_window c acked then c.counted + acked - c.cwnd else c.counted + acked)

@@ -1,4 +1,4 @@
--- Where less of congestion control is judged, more is allowed, and nothing else differs.
+-- If less of congestion control is judged, more is allowed, and nothing else differs.
 use Rattle.std.specs.Prelude.{◌≡◌, ℕ, ◌≤◌, true}
 use Rattle.window_rules.specs.declared.control.Profile.{Profile}
 use Rattle.window_rules.specs.declared.control.Signal.{Signal}
@@ -7,7 +7,7 @@ use Rattle.window_rules.specs.declared.control.Control.{Control}
 use Rattle.window_rules.specs.Windows.{greatest_window}
 use Rattle.window_rules.specs.Control.{bounds_windows, counts_duplicates, greatest, after, control_edge, may_recover}
 
--- the same by another profile
+-- the same with another profile
 abbrev pub with_profile : Profile → Control → Control
 with_profile p c = record c { profile = p }
 
@@ -17,7 +17,7 @@ pub record JudgesAtMost (p q : Profile) : Type 0 where
   pub windows : bounds_windows p ≡ true → p ≡ q
   pub duplicates : counts_duplicates p ≡ true → counts_duplicates q ≡ true
 
--- where less is judged, all is allowed that was, and the values after a signal are the same
+-- if less is judged, all is allowed that was, and the values after a signal are the same
 pub record AllowsMore (c : Control) (p : Profile) : Type 0 where
   pub window : (s : Signal) (at : At) (cwnd : ℕ) → cwnd ≤ greatest_window → cwnd ≤ (greatest c s at).0
       → cwnd ≤ (greatest (with_profile p c) s at).0
@@ -29,7 +29,7 @@ pub record AllowsMore (c : Control) (p : Profile) : Type 0 where
 abbrev pub LessJudgedIsMoreAllowed : Type 0
 LessJudgedIsMoreAllowed = (c : Control) (p : Profile) → JudgesAtMost p c.profile → AllowsMore c p
 
--- no value after a signal is read off the profile
+-- no value after a signal depends on the profile
 abbrev pub NoProfileIsRead : Type 0
 NoProfileIsRead = (c : Control) (p : Profile) (s : Signal) (at : At) (cwnd ssthresh : ℕ)
     → after (with_profile p c) s at cwnd ssthresh ≡ with_profile p (after c s at cwnd ssthresh)

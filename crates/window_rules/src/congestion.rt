@@ -1,22 +1,22 @@
-//! What congestion control remembers of an endpoint (RFC 5681).
+//! The state of an endpoint's congestion control (RFC 5681).
 
 ghost use Rattle.std.specs.Prelude.{◌≡◌};
 ghost use Rattle.window_rules.specs.Windows.{start};
 
-/// The congestion window of an endpoint and what it goes by. All but `dup` and `fast` are bytes.
+/// The congestion window of an endpoint and the values that it depends on. All but `dup` and `fast` are bytes.
 #[derive(Clone, Copy, Debug, PartialEq, Eq)]
 pub struct Congestion {
     /// The congestion window.
     pub cwnd: u32,
     /// The slow start threshold.
     pub ssthresh: u32,
-    /// The greatest payload of a segment that is sent.
+    /// The greatest payload of a segment that is sent (SMSS).
     pub smss: u32,
-    /// What was acknowledged in congestion avoidance and did not let cwnd grow yet, below 2^63.
+    /// What was acknowledged in congestion avoidance and has not yet made cwnd grow, below 2^63.
     pub counted: u64,
-    /// How many duplicate acknowledgments came since the last new one.
+    /// How many duplicate acknowledgments arrived since the last new one.
     pub dup: u32,
-    /// Fast recovery is on.
+    /// Whether the endpoint is in fast recovery.
     pub fast: bool,
 }
 

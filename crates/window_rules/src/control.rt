@@ -12,7 +12,7 @@ use crate::growth::{counted_after, may_grow, on_duplicate};
 use crate::losses::{on_fast, on_timeout, recovery_window};
 use crate::windows::{GREATEST_WINDOW, congestion_edge, initial_window, initial_window_6928};
 
-/// The rules by which an endpoint's congestion control goes.
+/// The rules that an endpoint's congestion control follows.
 #[derive(Clone, Copy, Debug, PartialEq, Eq)]
 pub enum Profile {
     /// RFC 5681.
@@ -50,39 +50,39 @@ impl Profile {
 /// What happened to an endpoint. All counts and sizes are bytes.
 #[derive(Clone, Copy, Debug, PartialEq, Eq)]
 pub enum Signal {
-    /// The peer's SYN was taken, and the own one is not acknowledged by it.
+    /// The peer's SYN was received, and it doesn't acknowledge the endpoint's own.
     Syn {
-        /// The greatest payload of a segment, by the options of the SYN.
+        /// The greatest payload of a segment, from the options of the SYN.
         smss: u32,
     },
     /// The own SYN is acknowledged.
     SynAcked {
         /// The greatest payload of a segment.
         smss: u32,
-        /// The SYN was sent more than once.
+        /// Whether the SYN was sent more than once.
         syn_lost: bool,
     },
-    /// Positions are newly acknowledged, and the SYN was before.
+    /// Positions are newly acknowledged after the SYN was.
     NewAck {
         /// How many.
         acked: u64,
     },
-    /// A duplicate acknowledgment was taken (RFC 5681, 2).
+    /// A duplicate acknowledgment was processed (RFC 5681, 2).
     Duplicate,
-    /// Any other segment was taken.
+    /// Any other segment was processed.
     Other,
     /// The retransmission timer expired.
     Timeout {
-        /// How much is made and not acknowledged.
+        /// How much is outstanding: sent and not acknowledged.
         flight: u64,
-        /// The SYN is not acknowledged.
+        /// Whether the SYN is not acknowledged.
         syn_pending: bool,
-        /// It expired before, and nothing new was acknowledged since.
+        /// Whether it expired before, and nothing new was acknowledged since.
         again: bool,
     },
     /// Fast recovery begins.
     Recovery {
-        /// How much is made and not acknowledged.
+        /// How much is outstanding: sent and not acknowledged.
         flight: u64,
         /// The slow start threshold that is chosen.
         ssthresh: u32,
@@ -101,7 +101,7 @@ pub struct At {
 /// The congestion control of an endpoint.
 #[derive(Clone, Copy, Debug, PartialEq, Eq)]
 pub struct Control {
-    /// The window and what it goes by.
+    /// The window and the values that it depends on.
     pub values: Congestion,
     /// The rules. No signal changes them.
     pub profile: Profile,
@@ -130,7 +130,7 @@ impl Control {
         }
     }
 
-    // The same where windows are bounded.
+    // The same if windows are bounded.
     fn greatest_bounded(&self, signal: Signal, at: At) -> (u64, u64)
         ensures { result ≡ greatest_bounded self.now signal at }
     {
@@ -196,8 +196,8 @@ impl Control {
         then
     }
 
-    /// The position at which new data ends at most, from position `una` on, which is below 2^63 (RFC 5681, 3.1 and
-    /// 3.2). It lies beyond every window that a peer offers if no congestion window is bounded.
+    /// The position at which new data ends at most, given the oldest unacknowledged position `una`, which is below 2^63
+    /// (RFC 5681, 3.1 and 3.2). It is beyond every window that a peer can offer if no congestion window is bounded.
     pub fn send_edge(&self, una: u64) -> u64
         requires { una < 2 ^ 63 }
         ensures { result ≡ control_edge una self.now }
@@ -210,8 +210,8 @@ impl Control {
         }
     }
 
-    /// Whether fast recovery may begin: from the third duplicate acknowledgment on, and not while it is on (RFC 5681,
-    /// 3.2, step 2); at any time if it needs no duplicates.
+    /// Whether fast recovery may begin: from the third duplicate acknowledgment on, and not if it already began (RFC
+    /// 5681, 3.2, step 2); at any time if the profile needs no duplicates.
     pub fn may_recover(&self) -> bool
         ensures { result ≡ may_recover self.now }
     {

@@ -8,7 +8,7 @@ ghost use Rattle.window_rules.specs.Growth.{is_avoiding, counted_after, on_dupli
 use crate::congestion::Congestion;
 use crate::windows::capped;
 
-/// The greatest cwnd in bytes after an acknowledgment of `acked` new positions, the SYN not counted; ssthresh where it
+/// The greatest cwnd in bytes after an acknowledgment of `acked` new positions, not counting the SYN; ssthresh if it
 /// ends fast recovery.
 pub fn may_grow(congestion: &Congestion, acked: u64) -> u64
     ensures greatest { result ≡ may_grow congestion.now acked }
@@ -20,7 +20,7 @@ pub fn may_grow(congestion: &Congestion, acked: u64) -> u64
     capped(growth(congestion, acked))
 }
 
-/// How many bytes are counted after an acknowledgment of `acked` new positions, the SYN not counted. Both counts are
+/// How many bytes are counted after an acknowledgment of `acked` new positions, not counting the SYN. Both counts are
 /// below 2^63.
 pub fn counted_after(congestion: &Congestion, acked: u64) -> u64
     requires acked { acked < 2 ^ 63 }

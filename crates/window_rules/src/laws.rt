@@ -1,5 +1,5 @@
-//! What the greatest values have to do with what the RFCs allow, and what follows from them, for callers that prove
-//! more: each law is the contract of a call that does nothing.
+//! How the greatest values relate to what the RFCs allow, and what follows, for callers that prove more: each law is
+//! the contract of a call that does nothing.
 
 ghost use Rattle.window_rules.specs.ControlLaws.{ControlCounts, ControlIsGreatest, ControlTakesChoice};
 ghost use Rattle.window_rules.specs.Judging.{LessJudgedIsMoreAllowed, NoProfileIsRead};
@@ -11,12 +11,12 @@ pub fn edges_are_exact()
     ensures { EdgesAreExact }
 {}
 
-/// Each window that a call answers for an acknowledgment is the greatest that is allowed (RFC 5681, 3.1 and 3.2).
+/// Each window that a call returns for an acknowledgment is the greatest allowed (RFC 5681, 3.1 and 3.2).
 pub fn growth_is_greatest()
     ensures { GrowthIsGreatest }
 {}
 
-/// So is each window and threshold that a call answers for a loss (RFC 5681, 3.1 and 3.2).
+/// So is each window and threshold that a call returns for a loss (RFC 5681, 3.1 and 3.2).
 pub fn losses_are_greatest()
     ensures { LossesAreGreatest }
 {}
@@ -26,12 +26,12 @@ pub fn recovery_is_greatest()
     ensures { RecoveryIsGreatest }
 {}
 
-/// A window grows by at most a segment for an acknowledgment, and never shrinks by one (RFC 5681, 3.1).
+/// A window grows by at most a segment per acknowledgment, and an acknowledgment never shrinks it (RFC 5681, 3.1).
 pub fn growth_is_gentle()
     ensures { GrowthIsGentle }
 {}
 
-/// Each byte that is acknowledged in congestion avoidance is counted, and spent once (RFC 5681, 3.1).
+/// Each byte acknowledged in congestion avoidance is counted, and spent once (RFC 5681, 3.1).
 pub fn counts_once()
     ensures { CountsOnce }
 {}
@@ -51,12 +51,12 @@ pub fn control_takes_choice()
     ensures { ControlTakesChoice }
 {}
 
-/// A profile that judges at most what another does allows at least what that one allows.
+/// A profile that judges at most what another does allows at least what the other allows.
 pub fn less_judged_is_more_allowed()
     ensures { LessJudgedIsMoreAllowed }
 {}
 
-/// With the same choices the same values follow, whatever the profile.
+/// The same choices lead to the same values, whatever the profile.
 pub fn no_profile_is_read()
     ensures { NoProfileIsRead }
 {}

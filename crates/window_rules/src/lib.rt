@@ -1,17 +1,17 @@
 //! How much an endpoint may send: the window that its peer offers (RFC 9293, 3.8.6) and the congestion window
 //! (RFC 5681).
 //!
-//! Each call answers the greatest value that a sender may choose; it may always choose less. All values are bytes,
+//! Each call returns the greatest value that a sender may choose; it may always choose less. All values are bytes;
 //! windows and thresholds are at most 4294967295.
 //!
-//! - `control`: the boundary of congestion control: what happened, what is allowed then, and what is remembered
-//! - `congestion`: what congestion control remembers of an endpoint
+//! - `control`: the boundary of congestion control: what happened, what is allowed then, and its state
+//! - `congestion`: the state of an endpoint's congestion control
 //! - `windows`: how far new data may reach, and the first congestion window
 //! - `growth`: what acknowledgments do to the congestion window
 //! - `losses`: what timeouts and fast recovery do to it
 //! - `laws`: that the answers are the greatest values that the RFCs allow, and what follows
 //!
-//! The formulas stand in specs/ under the same names.
+//! The files of the same names in specs/ have the formulas.
 #![tactic(auto)]
 
 mod congestion;

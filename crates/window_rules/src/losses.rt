@@ -1,5 +1,5 @@
-//! What a loss does to the congestion window and the slow start threshold (RFC 5681, 3.1 and 3.2). `flight` is how
-//! many bytes were sent and are not acknowledged.
+//! What a loss does to the congestion window and the slow start threshold (RFC 5681, 3.1 and 3.2). `flight` is the
+//! number of outstanding bytes.
 
 ghost use Rattle.std.specs.Prelude.{◌≡◌, ◌≤◌};
 ghost use Rattle.window_rules.specs.Windows.{greatest_window};

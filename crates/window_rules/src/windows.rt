@@ -9,8 +9,8 @@ use crate::congestion::Congestion;
 /// The greatest congestion window and slow start threshold, in bytes.
 pub const GREATEST_WINDOW: u64 = 4_294_967_295;
 
-/// The position at which new data ends at most by the window of `wnd` bytes that the peer offers from position `una`
-/// on, which is below 2^63; a byte later where that window is 0 and a probe is due (RFC 9293, 3.8.6 and 3.8.6.1).
+/// The position at which new data ends at most, given the window of `wnd` bytes that the peer offers from position
+/// `una` on, which is below 2^63; a byte later if that window is 0 and a probe is due (RFC 9293, 3.8.6 and 3.8.6.1).
 pub fn offered_edge(una: u64, wnd: u32, probe: bool) -> u64
     requires { una < 2 ^ 63 }
     ensures { result ≡ offered_edge una wnd probe }
@@ -19,9 +19,9 @@ pub fn offered_edge(una: u64, wnd: u32, probe: bool) -> u64
     una + wnd as u64 + probed
 }
 
-/// The position at which new data ends at most by the congestion window from position `una` on, which is below 2^63;
-/// two segments later at the first and the second duplicate acknowledgment, outside fast recovery (RFC 5681, 3.1 and
-/// 3.2).
+/// The position at which new data ends at most, given the congestion window from position `una` on, which is below
+/// 2^63; two segments later at the first and the second duplicate acknowledgment, outside fast recovery (RFC 5681, 3.1
+/// and 3.2).
 pub fn congestion_edge(una: u64, congestion: &Congestion) -> u64
     requires { una < 2 ^ 63 }
     ensures value { result ≡ congestion_edge una congestion.now }
@@ -30,8 +30,8 @@ pub fn congestion_edge(una: u64, congestion: &Congestion) -> u64
     una + congestion.cwnd as u64 + limited_transmit(congestion)
 }
 
-/// The greatest cwnd in bytes once the SYN is acknowledged: two to four segments of `smss` bytes, one where a SYN was
-/// lost (RFC 5681, 3.1).
+/// The greatest cwnd in bytes once the SYN is acknowledged: two to four segments of `smss` bytes, one if a SYN was lost
+/// (RFC 5681, 3.1).
 pub fn initial_window(smss: u32, syn_lost: bool) -> u64
     ensures greatest { result ≡ initial_window smss syn_lost }
     ensures limit { result ≤ greatest_window }
@@ -49,8 +49,8 @@ pub fn initial_window(smss: u32, syn_lost: bool) -> u64
     capped(window)
 }
 
-/// The same by RFC 6928, 2: ten segments, at most 14600 bytes, or two segments where these are more. Lost SYNs aren't
-/// looked at.
+/// The same by RFC 6928, 2: ten segments, at most 14600 bytes, or two segments if these are more. Lost SYNs don't
+/// matter.
 pub fn initial_window_6928(smss: u32) -> u64
     ensures greatest { result ≡ initial_window_6928 smss }
     ensures limit { result ≤ greatest_window }
@@ -59,7 +59,7 @@ pub fn initial_window_6928(smss: u32) -> u64
     capped((10 * smss).min((2 * smss).max(14_600)))
 }
 
-/// The bytes of a window by a shift; a shift above 14 is read as 14 (RFC 7323, 2.2 and 2.3).
+/// The bytes of a window, by its shift; a shift above 14 is read as 14 (RFC 7323, 2.2 and 2.3).
 pub fn scaled_window(window: u16, shift: u8) -> u32
     ensures value { result ≡ scaled_window window shift }
     ensures small { result < 2 ^ 30 }
@@ -67,7 +67,7 @@ pub fn scaled_window(window: u16, shift: u8) -> u32
     u32::from(window) << shift.min(14)
 }
 
-/// A window in bytes, or the greatest if it is above.
+/// A window in bytes, or the greatest window if that is less.
 pub(crate) fn capped(window: u64) -> u64
     ensures value { result ≡ capped window }
     ensures limit { result ≤ greatest_window }
