@@ -1,6 +1,6 @@
-//! What becomes of segments on their way.
+//! What happens to segments in transit.
 
-/// What becomes of a segment.
+/// What happens to a segment.
 #[derive(Clone, Copy)]
 pub enum Fate {
     /// It is sent.
@@ -9,17 +9,17 @@ pub enum Fate {
     Lose,
     /// It is sent twice.
     Twice,
-    /// It is sent once that many further segments of its host were, or never if the loop ends first.
+    /// It is sent after this many further segments of its host were, or never if the loop ends first.
     Hold(u32),
 }
 
-/// Says of each segment what becomes of it.
+/// Decides what happens to each segment.
 pub trait WireFate {
     /// The fate of the next segment.
     fn next(&mut self) -> Fate;
 }
 
-/// Each `every`-th segment is lost; none where `every` is 0.
+/// Loses each `every`-th segment; none if `every` is 0.
 #[derive(Clone, Copy)]
 pub struct LoseEach {
     every: u32,
@@ -27,7 +27,7 @@ pub struct LoseEach {
 }
 
 impl LoseEach {
-    /// The first that is lost is the `every`-th.
+    /// The first lost segment is the `every`-th.
     pub fn new(every: u32) -> LoseEach {
         LoseEach { every, left: every }
     }

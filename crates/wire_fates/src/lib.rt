@@ -1,9 +1,10 @@
-//! What becomes of segments on their way: each is sent, lost, sent twice, or held back until further ones of its
-//! host were sent.
+//! What happens to segments in transit: each is sent, lost, sent twice, or held back until further ones of its host
+//! were sent.
 //!
-//! It stands apart from the recorder, whose loops ask it, since tests are proved with the crate in which they stand.
+//! It is a crate of its own because tests are proved with their crate: this way the recorder, whose loops use it, has
+//! no tests.
 //!
-//! - `fate`: the fate of a segment, and who says it
+//! - `fate`: the fate of a segment, and the trait that decides it
 //! - `held_back`: the segments that are held back
 #![tactic(auto)]
 
