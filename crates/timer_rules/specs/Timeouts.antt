@@ -1,4 +1,4 @@
--- The retransmission timeout (RFC 6298). Times are microseconds.
+-- The retransmission timeout (RFC 6298). Times are in microseconds.
 use Rattle.std.specs.Prelude.{ℕ, ◌+◌, ◌-◌, ◌*◌, ◌/◌, min, max, Option, None, Some}
 use Rattle.case_forms.specs.declared.trace.Header.{Header}
 
@@ -10,7 +10,7 @@ longest_rto = 60000000
 abbrev pub first_rto : ℕ
 first_rto = 1000000
 
--- the least timeout for data where the SYN was lost (RFC 6298, 5.7)
+-- the least timeout for data if the SYN was lost (RFC 6298, 5.7)
 abbrev pub lost_syn_rto : ℕ
 lost_syn_rto = 3000000
 
@@ -30,7 +30,7 @@ abbrev pub rttvar_after : Option ℕ → ℕ → ℕ → ℕ
 rttvar_after None rttvar r = r / 2
 rttvar_after (Some srtt) rttvar r = (3 * rttvar + distance srtt r) / 4
 
--- the timeout of SRTT and RTTVAR: at least the minimum, at most a minute (RFC 6298, 2.2 to 2.5)
+-- the timeout from SRTT and RTTVAR: at least the minimum, at most a minute (RFC 6298, 2.2 to 2.5)
 abbrev pub timeout : Header → ℕ → ℕ → ℕ
 timeout h srtt rttvar = min longest_rto (max h.minrto (srtt + max h.grain (4 * rttvar)))
 

@@ -1,5 +1,5 @@
 -- The timers of an endpoint: which are armed, since when, when they may expire, and what samples and expiries do. Times
--- are microseconds.
+-- are in microseconds.
 use Rattle.std.specs.Prelude.{ℕ, ◌+◌, ◌-◌, ◌*◌, Bool, false, not, nat_lt, max, Option, None, Some, is_some}
 use Rattle.std.specs.Prelude.{if◌then◌else◌}
 use Rattle.std.specs.Option.{option_map_or}
@@ -15,7 +15,7 @@ use Rattle.timer_rules.specs.Timeouts.{first_rto, lost_syn_rto, srtt_after, rttv
 abbrev pub start : Timers
 start = record { srtt = None; rttvar = 0; rto = first_rto; rto_armed = None; persist_armed = None; msl_armed = None }
 
--- a round trip took r: RTTVAR goes by the old SRTT, the timeout by the new values (RFC 6298, 2.2 and 2.3)
+-- a round trip took r: RTTVAR uses the old SRTT, the timeout the new values (RFC 6298, 2.2 and 2.3)
 abbrev pub sampled : Timers → ℕ → Header → Timers
 sampled t r h = record t {
   srtt = Some (srtt_after t.srtt r);
@@ -31,7 +31,7 @@ backed_off t = record t { rto = doubled t.rto }
 abbrev pub raised_for_lost_syn : Timers → Timers
 raised_for_lost_syn t = record t { rto = max t.rto lost_syn_rto }
 
--- since when a timer is armed; giving up is no timer of these
+-- since when a timer is armed; giving up is not one of these timers
 abbrev pub armed_since : Timers → Timer → Option ℕ
 armed_since t Rto = t.rto_armed
 armed_since t Persist = t.persist_armed
@@ -83,8 +83,8 @@ abbrev pub refusal : Timers → Timer → ℕ → Header → Option TimerFault
 refusal t timer moment h =
     if not (is_armed t timer) then Some Off else (if is_early t timer moment h then Some Early else None)
 
--- after an expiry: the retransmission timer runs anew with twice the timeout (RFC 6298, 5.5 and 5.6), the persist timer
--- with the same one, the wait in TIME-WAIT is over
+-- after an expiry: the retransmission timer is rearmed with twice the timeout (RFC 6298, 5.5 and 5.6), the persist
+-- timer with the same one, the wait in TIME-WAIT is over
 abbrev pub expired : Timers → Timer → ℕ → Timers
 expired t Rto moment = armed (backed_off t) Rto moment
 expired t Persist moment = armed t Persist moment

@@ -2,7 +2,7 @@
 
 use thiserror::Error;
 
-/// Why an expiry was refused. The timers are then as they were.
+/// Why an expiry was refused. The timers don't change.
 #[derive(Clone, Copy, Debug, PartialEq, Eq, Error)]
 pub enum TimerFault {
     /// The timer is not armed.

@@ -1,5 +1,5 @@
-//! What samples, back-off and expiries mean in the words of RFC 6298, and what follows, for callers that prove more:
-//! each law is the contract of a call that does nothing.
+//! Samples, back-off and expiries in the words of RFC 6298, and what follows, for callers that prove more: each law is
+//! the contract of a call that does nothing.
 
 ghost use Rattle.timer_rules.specs.Laws.{SamplesAreExact, SamplesAreSmooth, TimeoutIsBounded, NeverPassesAMinute};
 ghost use Rattle.timer_rules.specs.Laws.{BackOffIsExponential, ExpiryIsExact, ExpiriesAreApart};
@@ -30,12 +30,12 @@ pub fn back_off_is_exponential()
     ensures { BackOffIsExponential }
 {}
 
-/// A timer expires exactly if it is armed and ran out (RFC 6298, 4 and 5).
+/// A timer can expire if and only if it is armed and ran out (RFC 6298, 4 and 5).
 pub fn expiry_is_exact()
     ensures { ExpiryIsExact }
 {}
 
-/// Expiries of the retransmission timer in a row lie further and further apart (RFC 6298, 5.5 and 5.6).
+/// Consecutive expiries of the retransmission timer are further and further apart (RFC 6298, 5.5 and 5.6).
 pub fn expiries_are_apart()
     ensures { ExpiriesAreApart }
 {}

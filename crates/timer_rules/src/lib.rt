@@ -1,12 +1,12 @@
-//! When the timers of an endpoint may expire, and the timeout that they go by (RFC 6298; RFC 9293, 3.8.6.1 and
-//! 3.6.1). All times and moments are microseconds.
+//! When the timers of an endpoint may expire, and its retransmission timeout (RFC 6298; RFC 9293, 3.8.6.1 and 3.6.1).
+//! All times and moments are in microseconds.
 //!
 //! - `timers`: the timers of an endpoint; samples, arming, back-off, expiries
-//! - `fault`: why an expiry is refused
-//! - `laws`: what all of this means in the words of RFC 6298
+//! - `fault`: why an expiry was refused
+//! - `laws`: the same in the words of RFC 6298
 //!
-//! The formulas stand in specs/Timeouts and specs/Timers. Which event arms or stops which timer, and which round
-//! trips may be sampled, stands in `spec_tcp/specs`; `endpoint` does it.
+//! `specs/Timeouts` and `specs/Timers` have the formulas. `spec_tcp/specs` defines which event arms or stops which
+//! timer, and which round trips may be sampled; `endpoint` implements it.
 #![tactic(auto)]
 
 mod fault;

@@ -1,4 +1,4 @@
-//! The timers of one endpoint, and the timeout that they go by (RFC 6298; RFC 9293, 3.8.6.1).
+//! The timers of one endpoint, and its retransmission timeout (RFC 6298; RFC 9293, 3.8.6.1).
 
 ghost use Rattle.std.specs.Prelude.{◌≡◌, ◌≢◌, ◌≤◌, nat_lt, OnOk, OnErr};
 ghost use Rattle.std.specs.Result.{result_err};
@@ -13,23 +13,23 @@ use case_forms::{Header, Timer};
 /// The greatest retransmission timeout, in microseconds.
 pub const LONGEST_RTO: u64 = 60_000_000;
 
-/// The timers of an endpoint. All times and moments are microseconds.
+/// The timers of an endpoint. All times and moments are in microseconds.
 ///
-/// These are the retransmission timer, the persist timer and the wait in TIME-WAIT. `Timer::Giveup` is no timer that is
-/// armed, so the calls that name a timer take each but that one.
+/// These are the retransmission timer, the persist timer and the wait in TIME-WAIT. `Timer::Giveup` is never armed, so
+/// the calls that name a timer accept any but that one.
 #[derive(Clone, Copy, Debug, PartialEq, Eq)]
 pub struct Timers {
-    /// The smoothed round trip time; None before the first sample.
+    /// The smoothed round trip time (SRTT); `None` before the first sample.
     pub srtt: Option<u64>,
-    /// How much the round trip time varies; 0 before the first sample.
+    /// The variation of the round trip time (RTTVAR); 0 before the first sample.
     pub rttvar: u64,
     /// The retransmission timeout, at most 60,000,000.
     pub rto: u64,
-    /// Since when the retransmission timer is armed; None if it is off.
+    /// Since when the retransmission timer is armed; `None` if it is off.
     pub rto_armed: Option<u64>,
-    /// Since when the persist timer is armed; None if it is off.
+    /// Since when the persist timer is armed; `None` if it is off.
     pub persist_armed: Option<u64>,
-    /// Since when the wait in TIME-WAIT lasts; None if it is off.
+    /// When the wait in TIME-WAIT began; `None` if it is off.
     pub msl_armed: Option<u64>,
 }
 
@@ -48,7 +48,7 @@ impl Timers {
         }
     }
 
-    /// Takes a sample: a round trip took `r` microseconds (RFC 6298, 2.2 to 2.5).
+    /// Applies a sample: a round trip took `r` microseconds (RFC 6298, 2.2 to 2.5).
     pub fn sample(&mut self, r: u64, header: &Header)
         ensures value { self.new ≡ sampled self.old r header.now }
         ensures limit { self.new.rto ≤ longest_rto }
@@ -60,7 +60,7 @@ impl Timers {
         self.rto = timeout(header, srtt, rttvar);
     }
 
-    /// Arms a timer, any but `Giveup`, at a moment in microseconds, anew if it is armed.
+    /// Arms or rearms a timer, any but `Giveup`, at a moment in microseconds.
     pub fn arm(&mut self, timer: Timer, moment: u64)
         requires { timer ≢ Giveup }
         ensures { self.new ≡ armed self.old timer moment }
@@ -93,8 +93,8 @@ impl Timers {
         self.rto = self.rto.saturating_mul(2).min(LONGEST_RTO);
     }
 
-    /// Raises the timeout to 3,000,000 microseconds where it is below: the SYN was lost, and is acknowledged now
-    /// (RFC 6298, 5.7).
+    /// Raises the timeout to 3,000,000 microseconds if it is below: the SYN was lost, and is now acknowledged (RFC
+    /// 6298, 5.7).
     pub fn raise_for_lost_syn(&mut self)
         ensures { self.new ≡ raised_for_lost_syn self.old }
     {
@@ -102,8 +102,8 @@ impl Timers {
     }
 
     /// Lets a timer, any but `Giveup`, expire at a moment in microseconds. An expiry of the retransmission timer
-    /// doubles the timeout and arms the timer anew (RFC 6298, 5.5 and 5.6), one of the persist timer arms it anew, and
-    /// the wait in TIME-WAIT is then over. `Off` where the timer is not armed, else `Early` where the moment is before
+    /// doubles the timeout and rearms the timer (RFC 6298, 5.5 and 5.6). One of the persist timer rearms it. One of the
+    /// wait in TIME-WAIT ends it. The error is `Off` if the timer is not armed, or else `Early` if the moment is before
     /// the earliest.
     pub fn expire(&mut self, timer: Timer, moment: u64, header: &Header) -> Result<(), TimerFault>
         requires { timer ≢ Giveup }
@@ -124,8 +124,8 @@ impl Timers {
         Ok(())
     }
 
-    /// Whether a timer, any but `Giveup`, may expire at a moment in microseconds: the refusals of `expire`, with
-    /// nothing changed.
+    /// Whether a timer, any but `Giveup`, may expire at a moment in microseconds. The errors are those of `expire`;
+    /// nothing changes.
     pub fn may_expire(&self, timer: Timer, moment: u64, header: &Header) -> Result<(), TimerFault>
         requires { timer ≢ Giveup }
         ensures { result_err result ≡ refusal self.now timer moment header.now }
@@ -141,7 +141,7 @@ impl Timers {
         }
     }
 
-    /// Since when a timer, any but `Giveup`, is armed, in microseconds; None if it is off.
+    /// Since when a timer, any but `Giveup`, is armed, in microseconds; `None` if it is off.
     pub fn armed_since(&self, timer: Timer) -> Option<u64>
         requires { timer ≢ Giveup }
         ensures { result ≡ armed_since self.now timer }
@@ -166,7 +166,7 @@ impl Timers {
         }
     }
 
-    // Twice the maximum segment lifetime may pass 64 bits.
+    // Twice the maximum segment lifetime may exceed 64 bits.
     fn run_time(&self, timer: Timer, header: &Header) -> u128
         requires { timer ≢ Giveup }
         ensures { result ≡ run_time self.now timer header.now }
