@@ -1,4 +1,4 @@
--- A segment arrives: whom it finds, which rules are asked, and what the host has then (RFC 9293, 3.10.7).
+-- A segment arrives: who receives it, which rules apply, and the host afterwards (RFC 9293, 3.10.7).
 pub mod OtherStates
 pub mod SynSent
 pub mod Listen
@@ -21,7 +21,7 @@ use Rattle.spec_tcp.specs.Arrives.SynSent.{syn_sent_rules, on_syn}
 use Rattle.spec_tcp.specs.Arrives.Listen.{listener_rules, child}
 use Rattle.spec_tcp.specs.Signals.{profile_of}
 
--- whom a segment finds: the endpoint of its ports, if that is not CLOSED, else the listener on its destination port
+-- the receiver: the endpoint at the segment's ports, if that is not CLOSED, else the listener on its destination port
 pub data Taker : Type 0 where
   Nobody : Taker
   AtListener : (place : ℕ) → Taker
@@ -36,14 +36,14 @@ endpoint_taker b m i = option_map_or (λ e. if is_closed e.state then listener_t
 abbrev pub taker : HostTcp → Emission → Taker
 taker b m = option_map_or (endpoint_taker b m) (place_of b m.rport m.lport) (listener_taker b m)
 
--- the rules of taking at the endpoint of this place
+-- the rules of processing at the endpoint of this place
 abbrev pub endpoint_rules : Header → Host → HostTcp → TakeChoice → Emission → (moment : ℕ) → ℕ → Endpoint
     → List (Rule × Bool)
 endpoint_rules h me b how m moment i e =
     if is_syn_sent e.state then syn_sent_rules e how m moment
     else connected_rules h b (record { host = me; number = i }) e how m moment
 
--- the rules of taking; an endpoint reads the segment first
+-- the rules of processing; an endpoint reads the segment first
 abbrev pub taker_rules : Header → Host → HostTcp → TakeChoice → Emission → (moment : ℕ) → Taker
     → List (Rule × Bool)
 taker_rules h me b how m moment Nobody = (rules.NoEndpoint, true) ∷ []
@@ -61,12 +61,12 @@ joined b i e m =
     then option_map_or (λ l. modify b.listeners l (λ x. record x { queue = x.queue ++ i ∷ [] })) e.listener b.listeners
     else b.listeners
 
--- what the host has, once the endpoint of this place took it
+-- the host, once the endpoint of this place processed the segment
 abbrev pub endpoint_after : Header → HostTcp → TakeChoice → Emission → ℕ → ℕ → Endpoint → HostTcp
 endpoint_after h b how m moment i e =
     record b { endpoints = modify b.endpoints i (λ x. endpoint_taken h x how m moment); listeners = joined b i e m }
 
--- what the host has then
+-- the host after processing
 abbrev pub after_taking : Header → HostTcp → TakeChoice → Emission → ℕ → Taker → HostTcp
 after_taking h b how m moment Nobody = b
 after_taking h b how m moment (AtListener l) =

@@ -1,4 +1,4 @@
--- Which answers a call may have at a host, and what the host has then (RFC 9293, 3.9.1 and 3.10.1 to 3.10.6).
+-- Which answers a call may have at a host, and the host afterwards (RFC 9293, 3.9.1 and 3.10.1 to 3.10.6).
 pub mod Await
 pub mod Send
 pub mod Receive
@@ -38,7 +38,7 @@ thing_allows b call answer (ListenerAt l) = listener_allows (queue_of b l) call 
 thing_allows b call answer (EndpointAt i) =
     option_map_or (λ e. endpoint_allows e call answer) (slice_get b.endpoints i) false
 
--- the answer to a call on a socket number that is not live, and to no other
+-- the only answer to a call on a socket number that is not live
 abbrev pub is_bad_socket : Answer → Bool
 is_bad_socket answers.BadSocket = true
 is_bad_socket _ = false
@@ -46,7 +46,7 @@ is_bad_socket _ = false
 abbrev pub socket_allows : HostTcp → ℕ → Call → Answer → Bool
 socket_allows b n call answer = option_map_or (thing_allows b call answer) (thing_of b n) (is_bad_socket answer)
 
--- a number is given, or the port or the pair of ports is in use
+-- a socket number is returned, or the port or the pair of ports is in use
 abbrev pub gives_or_in_use : Bool → Answer → Bool
 gives_or_in_use used (answers.Given n) = not used
 gives_or_in_use used answers.InUse = used
@@ -73,7 +73,7 @@ change_thing b f (EndpointAt i) = with_endpoint b i f
 abbrev pub change : HostTcp → ℕ → (Endpoint → Endpoint) → HostTcp
 change b n f = option_map_or (change_thing b f) (thing_of b n) b
 
--- what the host has then; every other answer changes nothing
+-- the host afterwards; every other answer changes nothing
 abbrev pub after_call : Profile → HostTcp → Call → Answer → HostTcp
 after_call profile b (calls.Listen host port backlog) (answers.Given n) =
     with_socket (record b {

@@ -1,5 +1,5 @@
--- Endpoints at their creation, and what is read of one: its positions, its windows, what it has in flight (RFC 9293,
--- 3.3.1; RFC 7323, 2).
+-- New endpoints, and the derived values of an endpoint: its positions, its windows, what is in flight (RFC 9293, 3.3.1;
+-- RFC 7323, 2).
 pub use Rattle.spec_tcp.specs.declared.endpoint.EndpointId.{EndpointId}
 pub use Rattle.spec_tcp.specs.declared.endpoint.Stream.{Stream}
 pub use Rattle.spec_tcp.specs.declared.endpoint.SendWindow.{SendWindow}
@@ -21,8 +21,7 @@ use Rattle.window_rules.specs.Control.{began}
 use Rattle.window_rules.specs.declared.control.Profile.{Profile}
 use Rattle.timer_rules.specs.Timers as timers
 
--- an endpoint at its creation, for the listener that made it, with the profile of its congestion control (RFC 9293,
--- 3.10.1)
+-- a new endpoint, with the listener that created it, and the profile of its congestion control (RFC 9293, 3.10.1)
 abbrev pub new_endpoint : (lport rport : ℕ) → Option ℕ → State → Profile → Endpoint
 new_endpoint lport rport listener state profile = record {
   lport = lport;
@@ -48,11 +47,11 @@ new_endpoint lport rport listener state profile = record {
   syn_lost = false;
 }
 
--- the position behind all that was made (RFC 9293, 3.3.1: SND.NXT at its greatest)
+-- the position after all that was sent (RFC 9293, 3.3.1: SND.NXT at its greatest)
 abbrev pub snd_max : Endpoint → ℕ
 snd_max e = length e.transmissions
 
--- the next position expected of the peer (RFC 9293, 3.3.1: RCV.NXT)
+-- the next position expected from the peer (RFC 9293, 3.3.1: RCV.NXT)
 abbrev pub rcv_nxt : Endpoint → ℕ
 rcv_nxt e = received.next e.stream.receive
 
@@ -60,11 +59,11 @@ rcv_nxt e = received.next e.stream.receive
 abbrev pub receive_window : Endpoint → ℕ
 receive_window e = e.window.rcv_adv - rcv_nxt e
 
--- what is sent and not acknowledged (RFC 5681, 2: FlightSize)
+-- what is outstanding: sent and not acknowledged (RFC 5681, 2: FlightSize)
 abbrev pub flight : Endpoint → ℕ
 flight e = snd_max e - e.stream.snd_una
 
--- the own SYN was acknowledged and the peer's SYN taken
+-- the own SYN was acknowledged and the peer's SYN received
 abbrev pub is_up : Endpoint → Bool
 is_up e = nat_le 1 e.stream.snd_una && nat_le 1 (rcv_nxt e)
 
@@ -76,15 +75,15 @@ flag_count false = 0
 abbrev pub segment_length : Emission → ℕ
 segment_length m = length m.payload + flag_count m.flags.syn + flag_count m.flags.fin
 
--- scaling is in force: it gave a shift, and the SYN that it took told one (RFC 7323, 2.2)
+-- scaling is in force: it gave a shift, and the SYN that it received carried one (RFC 7323, 2.2)
 abbrev pub is_scaling : Endpoint → Bool
 is_scaling e = is_some e.shift && is_some e.peer_shift
 
--- a window in bytes: by the shift where scaling is in force, but for the window of a SYN (RFC 7323, 2.2 and 2.3)
+-- a window in bytes: shifted if scaling is in force, except for the window of a SYN (RFC 7323, 2.2 and 2.3)
 abbrev pub window_in : (scaling syn : Bool) → Option ℕ → ℕ → ℕ
 window_in scaling syn shift window =
     if scaling && not syn then option_map_or (windows.scaled_window window) shift window else window
 
--- the window that a segment offers here, in bytes
+-- the window that a segment offers to this endpoint, in bytes
 abbrev pub peer_window : Endpoint → Emission → ℕ
 peer_window e m = window_in (is_scaling e) m.flags.syn e.peer_shift m.window

@@ -1,5 +1,5 @@
--- What a host may discard: delivered bytes, and bytes and transmissions below the oldest position that is not
--- acknowledged. Something fixed stands in their places.
+-- What a host may discard: delivered bytes, and bytes and transmissions below the oldest unacknowledged position. Fixed
+-- values take their places.
 use Rattle.std.specs.Prelude.{map}
 use Rattle.streams.specs.Forgetting.{below, forgotten, made_below}
 use Rattle.spec_network.specs.Hosts.{HostState, World}

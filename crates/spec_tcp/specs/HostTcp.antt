@@ -1,5 +1,5 @@
--- What a host has: endpoints in the order of creation, listeners, and the sockets that name them; and how they are
--- found (RFC 9293, 3.3.1 and 3.9.1.1).
+-- The state of a host: endpoints in the order of creation, listeners, and the sockets that name them; and look-ups in
+-- it (RFC 9293, 3.3.1 and 3.9.1.1).
 use Rattle.std.specs.Prelude.{ℕ, suc, ◌==◌, nat_eq, Bool, true, false, not, ◌&&◌, if◌then◌else◌, List, [], ◌∷◌}
 use Rattle.std.specs.Prelude.{slice_get, Option, None, Some, is_some}
 use Rattle.std.specs.Map.{lookup}
@@ -9,7 +9,7 @@ use Rattle.case_forms.specs.States.{is_closed}
 use Rattle.streams.specs.Lists.{modify}
 use Rattle.spec_tcp.specs.Endpoints.{Endpoint, Listener, SocketTarget, Socket}
 
--- what a host has
+-- the state of a host
 pub record HostTcp : Type 0 where
   pub endpoints : List Endpoint
   pub listeners : List Listener
@@ -18,27 +18,27 @@ pub record HostTcp : Type 0 where
 abbrev pub empty : HostTcp
 empty = record { endpoints = []; listeners = []; sockets = [] }
 
--- the endpoint is that of these ports
+-- the endpoint has these ports
 abbrev pub has_ports : ℕ → ℕ → Endpoint → Bool
 has_ports lport rport e = e.lport == lport && e.rport == rport
 
--- the place of the last one that has it, of elements whose first has this place
+-- the place of the last element with a property; the first element has this place
 abbrev pub last_from : {X : Type 0} → (X → Bool) → ℕ → Option ℕ → List X → Option ℕ
 last_from test place found [] = found
 last_from test place found (x ∷ xs) = last_from test (suc place) (if test x then Some place else found) xs
 
--- the endpoint of ports is the last one created there
+-- the endpoint at some ports is the last one created there
 abbrev pub place_of : HostTcp → ℕ → ℕ → Option ℕ
 place_of b lport rport = last_from (has_ports lport rport) 0 None b.endpoints
 
 abbrev pub endpoint_at : HostTcp → Option ℕ → Option Endpoint
 endpoint_at b place = option_map_or (λ i. slice_get b.endpoints i) place None
 
--- the endpoint of ports, closed or not
+-- the endpoint at some ports, closed or not
 abbrev pub endpoint_of : HostTcp → ℕ → ℕ → Option Endpoint
 endpoint_of b lport rport = endpoint_at b (place_of b lport rport)
 
--- there is an endpoint of these ports that is not CLOSED
+-- an endpoint at these ports exists and is not CLOSED
 abbrev pub is_connected : HostTcp → ℕ → ℕ → Bool
 is_connected b lport rport = option_map_or (λ e. not (is_closed e.state)) (endpoint_of b lport rport) false
 
@@ -46,7 +46,7 @@ is_connected b lport rport = option_map_or (λ e. not (is_closed e.state)) (endp
 abbrev pub with_endpoint : HostTcp → ℕ → (Endpoint → Endpoint) → HostTcp
 with_endpoint b place f = record b { endpoints = modify b.endpoints place f }
 
--- the endpoint of ports changes
+-- the endpoint at these ports changes
 abbrev pub at_ports : HostTcp → ℕ → ℕ → (Endpoint → Endpoint) → HostTcp
 at_ports b lport rport f = option_map_or (λ i. with_endpoint b i f) (place_of b lport rport) b
 
@@ -61,11 +61,11 @@ listener_on b port = last_from (listens_on port) 0 None b.listeners
 abbrev pub is_listening : HostTcp → ℕ → Bool
 is_listening b port = is_some (listener_on b port)
 
--- the children that stand in a listener's queue
+-- the children in a listener's queue
 abbrev pub queue_of : HostTcp → ℕ → List ℕ
 queue_of b l = option_map_or (λ x. x.queue) (slice_get b.listeners l) []
 
--- the socket number was given at this host
+-- the socket number was returned at this host
 abbrev pub given : HostTcp → ℕ → Bool
 given b n = is_some (lookup (nat_eq n) b.sockets)
 
@@ -76,7 +76,7 @@ if_live s = if s.live then Some s.thing else None
 abbrev pub thing_of : HostTcp → ℕ → Option SocketTarget
 thing_of b n = option_map_or if_live (lookup (nat_eq n) b.sockets) None
 
--- a socket number is given
+-- a socket number is returned
 abbrev pub with_socket : HostTcp → ℕ → SocketTarget → HostTcp
 with_socket b n thing = record b { sockets = insert_entry nat_eq b.sockets n (record { thing = thing; live = true }) }
 

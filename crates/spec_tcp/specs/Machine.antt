@@ -1,4 +1,4 @@
--- The machine of two TCP hosts: what a host does, and all of it as a kernel of two hosts.
+-- The model of two TCP hosts: the acts of a host, and the whole model as a kernel of two hosts.
 use Rattle.std.specs.Prelude.{ℕ, Bool, true, not, List, [], ◌∷◌, slice_get, Option, None, Some}
 use Rattle.std.specs.Option.{option_map, option_map_or}
 use Rattle.case_forms.specs.TakenLines.{timer_of}
@@ -31,13 +31,13 @@ use Rattle.spec_tcp.specs.Wire.{out_rules, sent, in_rules}
 use Rattle.spec_tcp.specs.Heard.{heard}
 use Rattle.spec_tcp.specs.Signals.{profile_of}
 
--- a timer of the endpoint of these ports expires, with what is chosen there
+-- a timer of the endpoint at these ports expires, with the values chosen then
 pub record Expiring : Type 0 where
   pub lport : ℕ
   pub rport : ℕ
   pub expired : Expired
 
--- what a host does
+-- the acts of a host
 pub data Act : Type 0 where
   Calls : (call : Call) (answer : Answer) → Act
   Makes : (making : SegmentPlan) → Act
@@ -46,11 +46,11 @@ pub data Act : Type 0 where
   Expires : (expiring : Expiring) → Act
   Recovers : (recovery : Recovery) → Act
 
--- the rules of the endpoint of some ports
+-- the rules of the endpoint at these ports
 abbrev pub rules_at : HostTcp → ℕ → ℕ → (Endpoint → List (Rule × Bool)) → List (Rule × Bool)
 rules_at b lport rport f = option_map_or f (endpoint_of b lport rport) ((rules.NoEndpoint, true) ∷ [])
 
--- the rules of an act, least first
+-- the rules of an act, lowest-numbered first
 abbrev pub act_rules : Header → Host → ℕ → HostTcp → Act → List (Rule × Bool)
 act_rules h me moment b (Calls call answer) = (rules.CallAnswer, not (call_allows b call answer)) ∷ []
 act_rules h me moment b (Makes m) = rules_at b m.lport m.rport (λ e. making_rules e m)
@@ -59,7 +59,7 @@ act_rules h me moment b (Resets m) = reset_rules b m
 act_rules h me moment b (Expires x) = rules_at b x.lport x.rport (λ e. expiry_rules h moment e x.expired)
 act_rules h me moment b (Recovers x) = rules_at b x.lport x.rport (λ e. recovery_rules e x.cwnd x.ssthresh moment)
 
--- what the host has after it
+-- the host after it
 abbrev pub act_after : Header → Host → ℕ → HostTcp → Act → HostTcp
 act_after h me moment b (Calls call answer) = after_call (profile_of h) b call answer
 act_after h me moment b (Makes m) = at_ports b m.lport m.rport (λ e. after_making e m moment)
@@ -68,17 +68,17 @@ act_after h me moment b (Resets m) = b
 act_after h me moment b (Expires x) = at_ports b x.lport x.rport (λ e. after_expiry e x.expired moment)
 act_after h me moment b (Recovers x) = at_ports b x.lport x.rport (λ e. after_recovery e x.cwnd x.ssthresh moment)
 
--- the segment made by the endpoint at a place
+-- the segment that the endpoint at a place builds
 abbrev pub made_at : Host → HostTcp → SegmentPlan → ℕ → Option Emission
 made_at me b m i = option_map (λ e. emission_of (record { host = me; number = i }) e m) (slice_get b.endpoints i)
 
--- the segment that it makes
+-- the segment that it builds
 abbrev pub act_makes : Host → HostTcp → Act → Option Emission
 act_makes me b (Makes m) = option_map_or (made_at me b m) (place_of b m.lport m.rport) None
 act_makes me b (Resets m) = Some (reset_of m)
 act_makes me b act = None
 
--- whom a call means
+-- the target of a call
 abbrev pub aim : Call → Aim
 aim (calls.Listen host port backlog) = ThatHost host
 aim (calls.Connect host lport rport) = ThatHost host
@@ -91,14 +91,14 @@ aim (calls.Close n) = ThatSocket n
 aim (calls.Abort n) = ThatSocket n
 aim (calls.Status n) = ThatSocket n
 
--- the socket number that an answer gives
+-- the socket number in an answer
 abbrev pub gives : Call → Answer → Option ℕ
 gives (calls.Listen host port backlog) (answers.Given n) = Some n
 gives (calls.Connect host lport rport) (answers.Given n) = Some n
 gives (calls.Accept h) (answers.Given n) = Some n
 gives call answer = None
 
--- the types of the machine
+-- the types of the model
 abbrev pub tcp_shape : Shape
 tcp_shape = record {
   Body = HostTcp;
@@ -114,7 +114,7 @@ tcp_shape = record {
   Answer = Answer;
 }
 
--- the machine
+-- the model
 abbrev pub tcp : Header → Kernel
 tcp h = record {
   shape = tcp_shape;

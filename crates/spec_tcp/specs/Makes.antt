@@ -1,4 +1,4 @@
--- A segment is made: all rules in their order, the segment, and its endpoint then (RFC 9293, 3.8 and 3.10).
+-- A segment is built: all rules in their order, the segment, and its endpoint afterwards (RFC 9293, 3.8 and 3.10).
 pub mod Kind
 pub mod Payload
 pub mod Edges
@@ -18,7 +18,7 @@ use Rattle.spec_tcp.specs.Makes.Kind.{may_make, makes_nothing, is_bad_iss, given
 use Rattle.spec_tcp.specs.Makes.Payload.{making_length, has_new_bytes, is_bad_payload, is_bad_place}
 use Rattle.spec_tcp.specs.Makes.Edges.{is_bad_ack, own_window, is_beyond_offer, is_congesting}
 
--- the rules of making, at the endpoint of the ports
+-- the rules of building a segment, at the endpoint at these ports
 abbrev pub making_rules : Endpoint → SegmentPlan → List (Rule × Bool)
 making_rules e m =
     (rules.NoEndpoint, makes_nothing e m) ∷ (rules.State, not (may_make e m)) ∷ (rules.Iss, is_bad_iss e m)
@@ -26,7 +26,7 @@ making_rules e m =
     ∷ (rules.Offered, is_beyond_offer e m) ∷ (rules.Congestion, is_congesting e m)
     ∷ (rules.Size, nat_lt e.control.values.smss m.len) ∷ []
 
--- the segment: the accepted bytes at its position, the next position expected as its acknowledgment, both also as
+-- the segment: the accepted bytes at its position, and the next position expected as its acknowledgment, both also as
 -- numbers
 abbrev pub emission_of : EndpointId → Endpoint → SegmentPlan → Emission
 emission_of me e m = record {
@@ -50,11 +50,11 @@ emission_of me e m = record {
   moment = 0;
 }
 
--- the retransmission timer is armed with what takes positions, where it isn't armed (RFC 6298, 5.1)
+-- a segment that has positions arms the retransmission timer, if it isn't armed (RFC 6298, 5.1)
 abbrev pub timed : Timers → SegmentPlan → ℕ → Timers
 timed t m moment = if nat_lt 0 (making_length m) && not (is_some t.rto_armed) then armed t Rto moment else t
 
--- what the endpoint has then
+-- the endpoint afterwards
 abbrev pub endpoint_made : Endpoint → SegmentPlan → ℕ → Endpoint
 endpoint_made e m moment = record e {
   iss = option_or e.iss m.iss;

@@ -8,7 +8,7 @@ use Rattle.window_rules.specs.Windows.{greatest_window}
 use Rattle.spec_tcp.specs.Endpoints.{Endpoint, snd_max, is_up}
 use Rattle.spec_tcp.specs.Signals.{at_moment, recovery_signal}
 
--- the greatest pair with which fast recovery may begin: the window for the greatest threshold, and that threshold
+-- the greatest values with which fast recovery may begin: the window for the greatest threshold, and that threshold
 abbrev pub greatest_at_recovery : Endpoint → (moment : ℕ) → ℕ × ℕ
 greatest_at_recovery e moment =
     let ssthresh : ℕ = min ((greatest e.control (recovery_signal e 0) (at_moment e moment)).1) greatest_window in

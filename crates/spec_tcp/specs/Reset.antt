@@ -1,4 +1,4 @@
--- The reset that answers a segment (RFC 9293, 3.5.2 and 3.10.7.1).
+-- The reset in answer to a segment (RFC 9293, 3.5.2 and 3.10.7.1).
 use Rattle.std.specs.Prelude.{Bool, true, false, not, ◌&&◌, ◌||◌, if◌then◌else◌, List, [], ◌∷◌, None}
 use Rattle.std.specs.Option.{option_map_or}
 use Rattle.seqno.specs.Numbers.{number_of}
@@ -11,23 +11,23 @@ use Rattle.spec_tcp.specs.Same.{same_word}
 use Rattle.spec_tcp.specs.Makes.Kind.{word_zero}
 use Rattle.spec_tcp.specs.Arrives.{Taker, Nobody, AtListener, AtEndpoint, taker}
 
--- before the connection stands, an acknowledgment of another number than the own SYN's
+-- before the connection is established, an acknowledgment of another number than the own SYN's
 abbrev pub is_stray_ack : Endpoint → Emission → Bool
 is_stray_ack e m =
     (is_syn_sent e.state || is_syn_received e.state) && m.flags.ack
     && option_map_or (λ iss. not (same_word m.ack_seq (number_of iss 1))) e.iss false
 
--- nobody is there for the segment; or a listener, for an acknowledgment
+-- the segment has no receiver; or a listener receives an acknowledgment
 abbrev pub finds_nothing : Emission → Taker → Bool
 finds_nothing m Nobody = true
 finds_nothing m (AtListener l) = m.flags.ack
 finds_nothing m (AtEndpoint i e) = is_stray_ack e m
 
--- no reset answers a reset
+-- a reset is never answered with a reset
 abbrev pub reset_rules : HostTcp → Emission → List (Rule × Bool)
 reset_rules b m = (rules.State, m.flags.rst || not (finds_nothing m (taker b m))) ∷ []
 
--- the reset: at the number that is acknowledged, or at 0 with an acknowledgment of all that came
+-- the reset: at the acknowledged number, or at 0 with an acknowledgment of all of the segment
 abbrev pub reset_of : Emission → Emission
 reset_of m = record {
   sender = m.sender;

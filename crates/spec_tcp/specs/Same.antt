@@ -23,7 +23,7 @@ same_bytes [] (y ∷ ys) = false
 same_bytes (x ∷ xs) [] = false
 same_bytes (x ∷ xs) (y ∷ ys) = x == y && same_bytes xs ys
 
--- a state's place among the states, by which two are told apart
+-- a state's number, which distinguishes it from the others
 abbrev pub state_place : State → ℕ
 state_place states.Closed = 0
 state_place states.Listen = 1

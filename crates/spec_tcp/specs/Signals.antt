@@ -1,5 +1,5 @@
--- What happens to an endpoint, as its congestion control sees it: no other definition distinguishes one kind of event
--- from another for it (RFC 5681, 3.1 and 3.2).
+-- Events at an endpoint as its congestion control sees them: no other definition distinguishes kinds of events for it
+-- (RFC 5681, 3.1 and 3.2).
 use Rattle.std.specs.Prelude.{ℕ, ◌==◌, nat_lt, not, ◌&&◌, if◌then◌else◌, Option}
 use Rattle.std.specs.Option.{option_map_or}
 use Rattle.case_forms.specs.States.{is_syn_sent}
@@ -17,7 +17,7 @@ use Rattle.window_rules.specs.declared.control.Signal.TheVariants.{Timeout, Reco
 use Rattle.spec_tcp.specs.Endpoints.{Endpoint, Emission, flight}
 use Rattle.spec_tcp.specs.Arrives.OtherStates.Ack.{is_new_ack, acknowledges_syn, acked, is_duplicate}
 
--- the profile of an RFC for the first window, and of how much of congestion control is judged
+-- the profile for the RFC of the first window, and for how much of congestion control is judged
 abbrev pub profile_named : Initial → Judged → Profile
 profile_named initials.Rfc5681 judged.Full = profiles.Rfc5681
 profile_named initials.Rfc6928 judged.Full = profiles.Rfc6928
@@ -32,18 +32,18 @@ profile_of h = profile_named h.initial h.congestion
 abbrev pub at_moment : Endpoint → ℕ → At
 at_moment e moment = record { moment = moment; srtt = e.timers.srtt }
 
--- the segment size that a SYN brings, 536 if it has none or 0 (RFC 9293, 3.7.1)
+-- the segment size that a SYN carries, 536 if it has none or 0 (RFC 9293, 3.7.1)
 abbrev pub told_smss : Option ℕ → ℕ
 told_smss told = option_map_or (λ mss. if mss == 0 then 536 else mss) told 536
 
--- a segment that is taken in SYN-SENT
+-- a segment that is processed in SYN-SENT
 abbrev pub signal_at_syn : Endpoint → Emission → Signal
 signal_at_syn e m =
     if not (m.flags.syn && not m.flags.rst) then Other
     else if m.flags.ack then SynAcked (told_smss m.mss) e.syn_lost
     else Syn (told_smss m.mss)
 
--- a segment that is taken in any other state
+-- a segment that is processed in any other state
 abbrev pub signal_in_other_states : Endpoint → Emission → Signal
 signal_in_other_states e m =
     if acknowledges_syn e m then SynAcked e.control.values.smss e.syn_lost
@@ -51,11 +51,11 @@ signal_in_other_states e m =
     else if is_duplicate e m then Duplicate
     else Other
 
--- a segment that is taken
+-- a segment that is processed
 abbrev pub signal_of : Endpoint → Emission → Signal
 signal_of e m = if is_syn_sent e.state then signal_at_syn e m else signal_in_other_states e m
 
--- the retransmission timer expires, perhaps while the SYN is pending, perhaps once more
+-- the retransmission timer expires, perhaps with the SYN pending, perhaps repeatedly
 abbrev pub timeout_signal : Endpoint → Signal
 timeout_signal e = Timeout (flight e) (e.stream.snd_una == 0) (nat_lt 0 e.backoffs)
 

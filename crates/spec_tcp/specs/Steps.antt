@@ -1,5 +1,4 @@
--- Which step of the machine a line of a trace, or a label of a witness, asks for; and the first step of a list that
--- breaks a rule.
+-- The step of the model for a line of a trace or a label of a witness; and the first step of a list that breaks a rule.
 use Rattle.std.specs.Prelude.{ℕ, suc, List, [], ◌∷◌, Option, None, Some}
 use Rattle.std.specs.Option.{option_map, option_map_or}
 use Rattle.case_forms.specs.Naming.{with_line}
@@ -41,20 +40,19 @@ step_of (labels.K host line) = At host (Drops line)
 step_of (labels.R host line) = At host (Answers line)
 step_of (labels.F host recovery) = At host (Does recovery)
 
--- the line that is found under a number, with the numbers that a step adds: nothing where a line of its kind has
--- another count of them
+-- the line with a number, with the extra numbers of a step: none if a line of its kind needs another count of them
 abbrev pub line_found : (ℕ → Option lines.Line) → NamedLine → Option TakenLine
 line_found find named = option_map_or (taken_of named.extras) (find named.number) None
 
--- the step of a label that names its line: none where there is no such line
+-- the step of a label that names its line: none if that line doesn't exist
 abbrev pub label_step : (ℕ → Option lines.Line) → Label NamedLine → Option (Step tcp_shape)
 label_step find label = option_map step_of (with_line (line_found find) label)
 
--- the step of a label that takes no line
+-- the step of a label that uses no line
 abbrev pub hidden_step : {A : Type 0} → Label A → Option (Step tcp_shape)
 hidden_step label = option_map step_of (with_line (λ line. None) label)
 
--- the rule that a witness's step breaks, if it breaks one
+-- the rule that a witness's step breaks, if any
 abbrev pub rule_broken : Header → List lines.Line → World tcp_shape → witness.Step → Option Rule
 rule_broken h all w s =
     option_map_or (λ step. first_broken (step_rules (tcp h) s.moment w step)) (label_step (line_at h all) s.label) None
@@ -63,8 +61,7 @@ rule_broken h all w s =
 abbrev pub world_after : Header → List lines.Line → World tcp_shape → witness.Step → World tcp_shape
 world_after h all w s = option_map_or (λ step. after (tcp h) s.moment w step) (label_step (line_at h all) s.label) w
 
--- the line of the witness at which the first rule of the machine is broken, with the rule; the first step stands in
--- line 2
+-- the line of the witness at which the first rule of the model is broken, with the rule; the first step is in line 2
 abbrev pub broken_from : Header → List lines.Line → World tcp_shape → ℕ → List witness.Step → Option (ℕ × Rule)
 broken_from h all w place [] = None
 broken_from h all w place (s ∷ steps) =

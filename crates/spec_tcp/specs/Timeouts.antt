@@ -1,4 +1,4 @@
--- A timer expires: which may, and the endpoint then (RFC 9293, 3.10.8, 3.6.1 and 3.8.6.1; RFC 6298, 5).
+-- A timer expires: which ones may, and the endpoint afterwards (RFC 9293, 3.10.8, 3.6.1 and 3.8.6.1; RFC 6298, 5).
 use Rattle.std.specs.Prelude.{ℕ, ◌+◌, ◌==◌, nat_le, nat_lt, Bool, true, false, not, ◌&&◌, ◌||◌, List, [], ◌∷◌, Some}
 use Rattle.std.specs.Prelude.{is_some}
 use Rattle.case_forms.specs.States.{is_closed, is_fin_wait_2}
@@ -22,27 +22,27 @@ use Rattle.spec_tcp.specs.Calls.Close.{shut_down}
 abbrev pub greatest_values : Endpoint → (moment : ℕ) → ℕ × ℕ
 greatest_values e moment = greatest e.control (timeout_signal e) (at_moment e moment)
 
--- a value is above the greatest at an expiry of the retransmission timer (RFC 5681, 3.1)
+-- a value is above the greatest allowed at an expiry of the retransmission timer (RFC 5681, 3.1)
 abbrev pub is_above : Endpoint → RtoChoice → (moment : ℕ) → Bool
 is_above e growth moment =
     nat_lt ((greatest_values e moment).0) growth.cwnd || nat_lt ((greatest_values e moment).1) growth.ssthresh
 
--- the same of what is chosen: at another timer nothing is
+-- the same for the values chosen: other timers have none
 abbrev pub grows_above : Endpoint → Expired → (moment : ℕ) → Bool
 grows_above e (expireds.Rto growth) moment = is_above e growth moment
 grows_above e _ moment = false
 
--- data or the FIN is unsent or not acknowledged
+-- data or the FIN is unsent or unacknowledged
 abbrev pub has_more : Endpoint → Bool
 has_more e = nat_lt e.stream.snd_una (end_of e.stream.accepted + flag_count e.stream.ended)
 
--- three expiries without an answer while something is open, or a closed socket that waits for the peer's FIN (this
--- profile's own)
+-- three expiries without an answer while data is outstanding or the persist timer is armed, or a closed socket that
+-- waits for the peer's FIN (specific to this profile)
 abbrev pub may_give_up : Endpoint → Bool
 may_give_up e =
     (nat_lt e.stream.snd_una (snd_max e) || is_some e.timers.persist_armed) && nat_le 3 e.unanswered_expiries || e.closed && is_fin_wait_2 e.state
 
--- the timer is off, or its needs are not met
+-- the timer is off, or its conditions are not met
 abbrev pub is_off : Endpoint → Timer → Bool
 is_off e Rto = not (is_armed e.timers Rto)
 is_off e Persist = not (is_armed e.timers Persist && is_up e && has_more e)
@@ -54,7 +54,7 @@ expiry_rules h moment e x =
     (rules.NoEndpoint, is_closed e.state) ∷ (rules.Growth, grows_above e x moment)
     ∷ (rules.TimerOff, is_off e (timer_of x)) ∷ (rules.TimerEarly, is_early e.timers (timer_of x) moment h) ∷ []
 
--- a retransmission is due: the values chosen, all that was made may be made again, the timer runs anew (RFC 6298, 5.4
+-- a retransmission is due: the values chosen, all that was sent may be retransmitted, the timer restarts (RFC 6298, 5.4
 -- to 5.6; RFC 5681, 3.1)
 abbrev pub after_rto : Endpoint → RtoChoice → ℕ → Endpoint
 after_rto e growth moment = record e {

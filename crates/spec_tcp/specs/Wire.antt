@@ -1,4 +1,4 @@
--- Segments that go out and come in, as bytes on the wire (RFC 9293, 3.1 and 3.4.2; RFC 7323, 2.2).
+-- Segments sent and received, as bytes on the wire (RFC 9293, 3.1 and 3.4.2; RFC 7323, 2.2).
 use Rattle.std.specs.Prelude.{ℕ, ◌+◌, ◌==◌, nat_lt, min, Bool, true, false, not, ◌&&◌, ◌||◌, List, [], ◌∷◌}
 use Rattle.std.specs.Option.{option_map_or}
 use Rattle.segment.specs.Flags.{has_flag}
@@ -13,30 +13,30 @@ use Rattle.verdict.specs.declared.rule.Rule.TheVariants as rules
 use Rattle.spec_tcp.specs.Endpoints.{Emission}
 use Rattle.spec_tcp.specs.Same.{same_bool, same_word, same_bytes}
 
--- the flags ACK, RST, SYN and FIN are those of the made segment; the others are read and ignored
+-- the flags ACK, RST, SYN and FIN are those of the built segment; the others are read and ignored
 abbrev pub same_flags : Segment → Flags → Bool
 same_flags s f =
     same_bool (has_flag s.flags Ack) f.ack && same_bool (has_flag s.flags Rst) f.rst && same_bool
     (has_flag s.flags Syn) f.syn
     && same_bool (has_flag s.flags Fin) f.fin
 
--- the fields are those of the made segment: the acknowledgment number where there is one, the window of all but a reset
--- that answers
+-- the fields are those of the built segment: the acknowledgment number if it has one, the window of all except a reset
+-- in answer to a segment
 abbrev pub header_matches : Segment → Emission → Bool
 header_matches s m =
     s.src == m.lport && s.dst == m.rport && same_word s.seq m.seq && (not m.flags.ack || same_word s.ack m.ack_seq)
     && same_flags s m.flags && (m.is_reset_reply || s.window == m.window) && same_bytes s.payload m.payload
 
--- a SYN tells the shift that its sender gave, or none (RFC 7323, 2.2); a byte above 14 is read as 14 (RFC 7323, 2.3)
+-- a SYN carries the shift that its sender gave, or none (RFC 7323, 2.2); a byte above 14 is read as 14 (RFC 7323, 2.3)
 abbrev pub shift_matches : Segment → Emission → Bool
 shift_matches s m =
     option_map_or (λ told. option_map_or (λ given. min told 14 == min given 14) m.shift false) s.scale true
 
--- the segment on the wire is the made one; shifts are looked at where windows may be scaled
+-- the segment on the wire is the built one; shifts are compared if windows may be scaled
 abbrev pub matches_sent : Header → Wire → Emission → Bool
 matches_sent h wire m = header_matches wire.seg m && (not (scales h.version && m.flags.syn) || shift_matches wire.seg m)
 
--- what goes out is the made segment
+-- the segment sent is the built one
 abbrev pub out_rules : Header → Wire → Emission → List (Rule × Bool)
 out_rules h wire m = (rules.BytesDiffer, not (matches_sent h wire m)) ∷ []
 
@@ -44,7 +44,7 @@ out_rules h wire m = (rules.BytesDiffer, not (matches_sent h wire m)) ∷ []
 abbrev pub sent : ℕ → Wire → Emission → Emission
 sent moment wire m = record m { bytes = wire.bytes; mss = wire.seg.mss; scale = wire.seg.scale; moment = moment }
 
--- what comes in is a copy of it, at most the maximum segment lifetime later (RFC 9293, 3.4.2)
+-- what arrives is a copy of it, at most the maximum segment lifetime later (RFC 9293, 3.4.2)
 abbrev pub in_rules : Header → ℕ → Wire → Emission → List (Rule × Bool)
 in_rules h moment wire m =
     (rules.CopyDiffers, not (same_bytes wire.bytes m.bytes)) ∷ (rules.Lifetime, nat_lt (m.moment + h.msl) moment) ∷ []

@@ -1,4 +1,4 @@
-//! A segment as the endpoint reads it that takes it.
+//! A segment as its receiving endpoint reads it.
 
 ghost use Rattle.std.specs.Prelude.{◌≡◌, ◌<◌, ◌≤◌, ◌^◌, IfSome, None};
 ghost use Rattle.spec_tcp.specs.Bounds.{IsSmallEmission, greatest_position};
@@ -10,8 +10,8 @@ use case_forms::{Flags, GREATEST_POSITION, POSITIONS, Version};
 use seqno::{Word, read_near};
 use std::marker::Model;
 
-/// A segment with the positions that its numbers have at the endpoint that takes it. Contracts see it as a segment. It
-/// is not copied: a rule takes no memory.
+/// A segment with the positions that its numbers have at the endpoint that receives it. Contracts see it as a segment.
+/// It isn't copied: a rule uses no memory.
 #[derive(Drop)]
 pub struct Arrived<'a> {
     made: &'a Emission,
@@ -29,8 +29,8 @@ impl<'a> Model for Arrived<'a> {
 }
 
 impl<'a> Arrived<'a> {
-    /// The segment as the endpoint reads it: what a recorded host made has the positions at making; of what is heard of
-    /// a host that is not recorded the numbers are read near those that the endpoint awaits.
+    /// The segment as the endpoint reads it. A segment of a recorded host has the positions it was built with. The
+    /// numbers of a segment from a host that isn't recorded are read near the positions that the endpoint expects.
     pub fn read(version: Version, endpoint: &Endpoint, m: &'a Emission) -> Arrived<'a>
         requires { endpoint.now.stream.snd_una < 2 ^ 63 }
         ensures value { result ≡ as_read version endpoint.now m.now }
@@ -58,7 +58,7 @@ impl<'a> Arrived<'a> {
         }
     }
 
-    /// The same, if the endpoint's positions are below 2^63, as those of a run are. None: they are not.
+    /// The same, if the endpoint's positions are below 2^63, as those of a run are. `None` means that they aren't.
     pub fn checked_read(
         version: Version,
         endpoint: &Endpoint,
@@ -82,7 +82,7 @@ impl<'a> Arrived<'a> {
         self.made.sender
     }
 
-    /// The peer that its sender knew then.
+    /// Its sender's peer, as the sender knew it then.
     pub fn peer_at_send(&self) -> Option<EndpointId>
         ensures { result ≡ self.now.peer_at_send }
     {
@@ -124,14 +124,14 @@ impl<'a> Arrived<'a> {
         self.made.flags
     }
 
-    /// Its window, as it is written.
+    /// Its window field, before scaling.
     pub fn window(&self) -> u16
         ensures { result ≡ self.now.window }
     {
         self.made.window
     }
 
-    /// Its bytes.
+    /// Its payload.
     pub fn payload(&self) -> &[u8]
         ensures { result.now ≡ self.now.payload }
     {
@@ -145,21 +145,21 @@ impl<'a> Arrived<'a> {
         self.scaled
     }
 
-    /// Whether it is a reset that answers a segment.
+    /// Whether it is a reset in answer to a segment.
     pub fn is_reset_reply(&self) -> bool
         ensures { result ≡ self.now.is_reset_reply }
     {
         self.made.is_reset_reply
     }
 
-    /// The MSS that its options tell.
+    /// The MSS in its options, if they carry one.
     pub fn mss(&self) -> Option<u16>
         ensures { result ≡ self.now.mss }
     {
         self.made.mss
     }
 
-    /// The byte that tells a shift of windows among its options.
+    /// The byte of its Window Scale option, if it has one.
     pub fn scale(&self) -> Option<u8>
         ensures { result ≡ self.now.scale }
     {

@@ -1,4 +1,4 @@
-//! What a host has, as values: endpoints, segments that were made, listeners, and what socket numbers name.
+//! The state of a host, as values: endpoints, built segments, listeners, and what socket numbers name.
 
 ghost use Rattle.std.specs.Prelude.{◌≡◌, ◌<◌, ◌^◌, IfOk};
 ghost use Rattle.spec_tcp.specs.Endpoints.{flight, is_scaling, is_up, snd_max, new_endpoint, rcv_nxt, peer_window};
@@ -14,7 +14,7 @@ use streams::{ReceiveBuffer, SendBuffer, Transmissions};
 use timer_rules::Timers;
 use window_rules::{Control, Profile, scaled_window};
 
-/// An endpoint, by its host and its place in the order of creation there. A name is never given twice.
+/// An endpoint, by its host and its place in the order of creation there. An identity is never reused.
 #[derive(Clone, Copy, PartialEq, Eq)]
 pub struct EndpointId {
     pub host: Host,
@@ -24,35 +24,35 @@ pub struct EndpointId {
 /// The two streams of an endpoint, by position (RFC 9293, 3.4).
 #[derive(Drop)]
 pub struct Stream {
-    /// The sender of the first SYN that was taken.
+    /// The sender of the first SYN that was received.
     pub peer: Option<EndpointId>,
     /// The bytes that sends accepted.
     pub accepted: SendBuffer,
-    /// Sending was ended.
+    /// Whether sending was ended.
     pub ended: bool,
-    /// What was taken, and what of it was delivered.
+    /// What was received, and how much of it was delivered.
     pub receive: ReceiveBuffer,
-    /// The oldest position that is not acknowledged (RFC 9293, 3.3.1: SND.UNA).
+    /// The oldest unacknowledged position (RFC 9293, 3.3.1: SND.UNA).
     pub snd_una: u64,
 }
 
-/// The window that the peer offers, and how far own windows reached (RFC 9293, 3.3.1).
+/// The window that the peer offers, and how far the endpoint's own windows reached (RFC 9293, 3.3.1).
 #[derive(Clone, Copy, Debug)]
 pub struct SendWindow {
     /// The offered window in bytes (SND.WND).
     pub snd_wnd: u32,
-    /// The position of the segment by which it was taken (SND.WL1).
+    /// The position of the segment that last updated it (SND.WL1).
     pub snd_wl1: u64,
     /// The position that this segment acknowledged (SND.WL2).
     pub snd_wl2: u64,
-    /// The greatest position that an own window reached (RCV.NXT + RCV.WND).
+    /// The greatest position that one of its own windows reached (RCV.NXT + RCV.WND).
     pub rcv_adv: u64,
 }
 
 /// Why an endpoint failed.
 #[derive(Clone, Copy, Debug)]
 pub enum Fault {
-    /// The peer refused the connection by a reset.
+    /// The peer refused the connection with a reset.
     Refused,
     /// The peer reset the connection.
     Reset,
@@ -63,48 +63,48 @@ pub enum Fault {
 /// One end of a connection (RFC 9293, 3.3).
 #[derive(Drop)]
 pub struct Endpoint {
-    /// Its own port.
+    /// The local port.
     pub lport: u16,
     /// The peer's port.
     pub rport: u16,
-    /// The place of the listener that made it, until it is accepted; None for one that was opened.
+    /// The place of the listener that created it, until it is accepted; `None` for one that was opened.
     pub listener: Option<u32>,
-    /// The initial send sequence number, once it is given.
+    /// The initial send sequence number, once it is chosen.
     pub iss: Option<Word>,
-    /// The initial receive sequence number, once the peer's SYN was taken.
+    /// The initial receive sequence number, once the peer's SYN was received.
     pub irs: Option<Word>,
-    /// By how many bits it shifts the windows that it offers, if it gave a shift with its `iss` (RFC 7323, 2.2).
+    /// The shift, in bits, of the windows that it offers, if it gave one with its `iss` (RFC 7323, 2.2).
     pub shift: Option<u8>,
-    /// The byte that tells the shift of the peer's windows, if the SYN that was taken has one; read as 14 above 14.
+    /// The shift of the peer's windows, if the SYN that was received carries one; above 14 it is read as 14.
     pub peer_shift: Option<u8>,
     pub state: State,
     /// Why it failed, if it did.
     pub fault: Option<Fault>,
-    /// A reset is to be made.
+    /// Whether a reset is to be sent.
     pub reset_due: bool,
-    /// Its socket was closed.
+    /// Whether its socket was closed.
     pub closed: bool,
     pub stream: Stream,
-    /// When each position was made.
+    /// When each position was first sent.
     pub transmissions: Transmissions,
     pub window: SendWindow,
     pub control: Control,
-    /// Up to this position what was made may be made again.
+    /// Outstanding positions below this one may be retransmitted.
     pub recover: u64,
-    /// A byte beyond a window of 0 is to be made (RFC 9293, 3.8.6.1).
+    /// Whether a probe is due: a byte beyond a window of 0 (RFC 9293, 3.8.6.1).
     pub probe_due: bool,
     pub timers: Timers,
-    /// Expiries since a segment was taken.
+    /// Expiries since a segment was last processed.
     pub unanswered_expiries: u32,
     /// Expiries of the retransmission timer since a new acknowledgment.
     pub backoffs: u32,
-    /// One of them came before the SYN was acknowledged.
+    /// Whether one of them was before the SYN was acknowledged.
     pub syn_lost: bool,
 }
 
 impl Endpoint {
-    /// An endpoint at its creation, between its own port and the peer's. A child has the place of its listener. Its
-    /// congestion control goes by this profile.
+    /// A new endpoint, with its local port and the peer's. A child has the place of its listener. Its congestion
+    /// control follows this profile.
     pub fn new(
         alloc: Global,
         lport: u16,
@@ -151,14 +151,14 @@ impl Endpoint {
         }
     }
 
-    /// The position after all that was made (RFC 9293, 3.3.1: SND.NXT at its greatest).
+    /// The position after all that was sent (RFC 9293, 3.3.1: SND.NXT at its greatest).
     pub fn snd_max(&self) -> u64
         ensures { result ≡ snd_max self.now }
     {
         self.transmissions.end()
     }
 
-    /// The next position that is expected of the peer: 0 before its SYN was taken (RFC 9293, 3.3.1: RCV.NXT).
+    /// The next position expected from the peer: 0 before its SYN was received (RFC 9293, 3.3.1: RCV.NXT).
     pub fn rcv_nxt(&self) -> u64
         ensures value { result ≡ rcv_nxt self.now }
         ensures small { result < 2 ^ 63 }
@@ -166,35 +166,35 @@ impl Endpoint {
         self.stream.receive.next()
     }
 
-    /// How many positions from the next one on its own windows have reached (RFC 9293, 3.3.1: RCV.WND).
+    /// How many positions from the next one on its own windows reach (RFC 9293, 3.3.1: RCV.WND).
     pub fn receive_window(&self) -> u64
         ensures { result ≡ receive_window self.now }
     {
         self.window.rcv_adv.saturating_sub(self.rcv_nxt())
     }
 
-    /// How many positions are made and not acknowledged (RFC 5681, 2: FlightSize).
+    /// How many positions are outstanding: sent and not acknowledged (RFC 5681, 2: FlightSize).
     pub fn flight(&self) -> u64
         ensures { result ≡ flight self.now }
     {
         self.snd_max().saturating_sub(self.stream.snd_una)
     }
 
-    /// Whether its own SYN was acknowledged and the peer's SYN taken.
+    /// Whether its own SYN was acknowledged and the peer's SYN received.
     pub fn is_up(&self) -> bool
         ensures { result ≡ is_up self.now }
     {
         1 <= self.stream.snd_una && 1 <= self.rcv_nxt()
     }
 
-    /// Whether windows are scaled: it gave a shift, and the SYN that it took carried one (RFC 7323, 2.2).
+    /// Whether windows are scaled: it gave a shift, and the SYN that it received carried one (RFC 7323, 2.2).
     pub fn is_scaling(&self) -> bool
         ensures { result ≡ is_scaling self.now }
     {
         self.shift.is_some() && self.peer_shift.is_some()
     }
 
-    /// The window that a segment of the peer's offers here, in bytes.
+    /// The window that a segment of the peer offers to this endpoint, in bytes.
     pub fn peer_window(&self, m: &Arrived<'_>) -> u32
         ensures value { result ≡ peer_window self.now m.now }
         ensures small { result < 2 ^ 30 }
@@ -208,7 +208,7 @@ impl Endpoint {
     }
 }
 
-/// A window in bytes: by the shift where scaling is in force, but for the window of a SYN (RFC 7323, 2.2 and 2.3).
+/// A window in bytes: shifted if scaling is in force, except for the window of a SYN (RFC 7323, 2.2 and 2.3).
 pub fn window_in(scaling: bool, syn: bool, shift: Option<u8>, window: u16) -> u32
     ensures value { result ≡ window_in scaling syn shift window }
     ensures small { result < 2 ^ 30 }
@@ -219,18 +219,18 @@ pub fn window_in(scaling: bool, syn: bool, shift: Option<u8>, window: u16) -> u3
     }
 }
 
-/// A segment that was made (RFC 9293, 3.1).
+/// A segment that was built (RFC 9293, 3.1).
 #[derive(Drop)]
 pub struct Emission {
-    /// Its sender; of a reset that answers, the sender of the segment answered.
+    /// Its sender; for a reset in answer to a segment, the sender of that segment.
     pub sender: EndpointId,
-    /// The peer that its sender knew then.
+    /// Its sender's peer, as the sender knew it then.
     pub peer_at_send: Option<EndpointId>,
     pub lport: u16,
     pub rport: u16,
-    /// The true position of its sequence number; 0 where that is not known.
+    /// The true position of its sequence number; 0 if that is not known.
     pub pos: u64,
-    /// The true position of its acknowledgment number; 0 where it has none, or that is not known.
+    /// The true position of its acknowledgment number; 0 if it has none, or that is not known.
     pub ack: u64,
     /// The sequence number, 32 bits (SEG.SEQ).
     pub seq: Word,
@@ -239,19 +239,19 @@ pub struct Emission {
     pub flags: Flags,
     pub window: u16,
     pub payload: Bytes,
-    /// By how many bits its sender shifts the windows that it offers, if it gave a shift (RFC 7323, 2.2).
+    /// The shift, in bits, of the windows that its sender offers, if it gave one (RFC 7323, 2.2).
     pub shift: Option<u8>,
-    /// Windows were scaled at its sender when it was made.
+    /// Whether windows were scaled at its sender when it was built.
     pub scaled: bool,
-    /// A reset that answers a segment.
+    /// Whether it is a reset in answer to a segment.
     pub is_reset_reply: bool,
-    /// Its bytes, once it went out; none before.
+    /// Its bytes, once it was sent; none before.
     pub bytes: Bytes,
-    /// The MSS that its options tell, once it went out.
+    /// The MSS in its options, once it was sent.
     pub mss: Option<u16>,
-    /// The byte that tells a shift of windows among its options, once it went out.
+    /// The byte of its Window Scale option, once it was sent.
     pub scale: Option<u8>,
-    /// When it went out, in microseconds.
+    /// When it was sent, in microseconds.
     pub moment: u64,
 }
 
@@ -264,7 +264,7 @@ impl Emission {
         self.payload.len() as u128 + self.flags.syn as u128 + self.flags.fin as u128
     }
 
-    /// An equal segment.
+    /// An equal segment. The error means that memory ran out.
     pub fn copy(&self) -> Result<Emission, OutOfMemory>
         ensures { IfOk result (λ m. m ≡ self.now) }
     {
@@ -295,26 +295,26 @@ impl Emission {
 #[derive(Drop)]
 pub struct Listener {
     pub port: u16,
-    /// How many children its queue holds, `extra` aside.
+    /// How many children its queue holds, not counting `extra`.
     pub backlog: u16,
     pub is_open: bool,
-    /// Its children that are established and not accepted, in the order of joining.
+    /// Its established children that aren't accepted yet, in the order of joining.
     pub queue: Queue,
 }
 
 /// What a socket number names.
 #[derive(Clone, Copy)]
 pub enum SocketTarget {
-    /// The listener at this place of the host's.
+    /// The host's listener at this place.
     ListenerAt(u32),
-    /// The endpoint at this place.
+    /// The host's endpoint at this place.
     EndpointAt(u32),
 }
 
-/// A socket number that was given.
+/// A socket number that a call returned.
 #[derive(Clone, Copy)]
 pub struct Socket {
     pub thing: SocketTarget,
-    /// It was not closed or aborted since.
+    /// Whether it was not closed or aborted since.
     pub live: bool,
 }

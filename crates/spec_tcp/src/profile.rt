@@ -7,7 +7,7 @@ ghost use Rattle.std.specs.Prelude.{◌≡◌};
 use case_forms::{Header, Initial, Judged};
 use window_rules::Profile;
 
-/// The rules of congestion control that the header names: how much of it is judged, and the RFC of the first window.
+/// The profile of congestion control that the header names: how much of it is judged, and the RFC of the first window.
 pub fn profile_of(header: &Header) -> Profile
     ensures { result ≡ profile_of header.now }
 {
@@ -18,7 +18,7 @@ pub fn profile_of(header: &Header) -> Profile
     }
 }
 
-// The same if all of it is judged.
+// The same if all of congestion control is judged.
 fn full_profile(initial: Initial) -> Profile
     ensures { result ≡ profile_named initial Full }
 {

@@ -21,7 +21,7 @@ impl Model for Queue {
 }
 
 impl Queue {
-    /// A queue in which nobody stands.
+    /// An empty queue.
     pub fn new(alloc: Global) -> Queue
         ensures { result ≡ [] }
     {
@@ -30,21 +30,21 @@ impl Queue {
         }
     }
 
-    /// How many stand in it.
+    /// How many are in the queue.
     pub fn len(&self) -> usize
         ensures { result ≡ length self.now }
     {
         self.places.len()
     }
 
-    /// The first to have joined. None: nobody stands in it.
+    /// The first that joined. `None` means that the queue is empty.
     pub fn first(&self) -> Option<u32>
         ensures { result ≡ slice_get self.now 0 }
     {
         self.places.front().copied()
     }
 
-    /// One more joins at the end. If memory runs out, the queue is as it was.
+    /// Adds one at the end. If memory runs out, the queue doesn't change.
     pub fn join(&mut self, place: u32) -> Result<(), AllocError>
         ensures ok { OnOk result (self.new ≡ self.old ++ place ∷ []) }
         ensures err { OnErr result (self.new ≡ self.old) }
@@ -53,14 +53,14 @@ impl Queue {
         Ok(())
     }
 
-    /// The first leaves.
+    /// Removes the first.
     pub fn leave(&mut self)
         ensures { self.new ≡ drop 1 self.old }
     {
         self.places.pop_front();
     }
 
-    /// The last leaves.
+    /// Removes the last.
     pub fn leave_last(&mut self)
         ensures { self.new ≡ take (length self.old - 1) self.old }
     {

@@ -1,4 +1,4 @@
--- A segment arrives in LISTEN: what may be taken, and the child then (RFC 9293, 3.10.7.2).
+-- A segment arrives in LISTEN: what may be processed, and the child it creates (RFC 9293, 3.10.7.2).
 use Rattle.std.specs.Prelude.{ℕ, nat_lt, Bool, not, ◌&&◌, List, [], ◌∷◌, Some}
 use Rattle.case_forms.specs.declared.calls.State.TheVariants as states
 use Rattle.case_forms.specs.declared.steps.TakeChoice.{TakeChoice}
@@ -12,13 +12,13 @@ use Rattle.window_rules.specs.declared.control.Profile.{Profile}
 use Rattle.window_rules.specs.declared.control.Signal.TheVariants.{Syn}
 use Rattle.spec_tcp.specs.Signals.{at_moment, told_smss}
 
--- a listener takes a SYN that is neither acknowledgment nor reset (RFC 9293, 3.10.7.2)
+-- a listener processes a SYN that is neither acknowledgment nor reset (RFC 9293, 3.10.7.2)
 abbrev pub listener_rules : TakeChoice → Emission → List (Rule × Bool)
 listener_rules how m =
     (rules.State, not (m.flags.syn && not m.flags.ack && not m.flags.rst)) ∷ (rules.Growth, nat_lt 0 how.cwnd)
     ∷ (rules.Sample, how.sample) ∷ []
 
--- a child of a listener: it knows the peer, and took its SYN
+-- a child of a listener: it knows the peer, and received its SYN
 abbrev pub child : Profile → ℕ → TakeChoice → Emission → ℕ → Endpoint
 child profile l how m moment =
     let fresh : Endpoint = new_endpoint m.rport m.lport (Some l) states.SynReceived profile in

@@ -1,5 +1,5 @@
--- A segment arrives in any other state: all rules in their order, and the endpoint then (RFC 9293, 3.10.7.4; the tests
--- as worded are this profile's own).
+-- A segment arrives in any other state: all rules in their order, and the endpoint afterwards (RFC 9293, 3.10.7.4; the
+-- wording of the tests is specific to this profile).
 pub mod Peer
 pub mod Sequence
 pub mod Reset
@@ -28,7 +28,7 @@ use Rattle.spec_tcp.specs.Arrives.OtherStates.Window.{is_unread, window_after_se
 use Rattle.spec_tcp.specs.Arrives.OtherStates.Text.{stream_after_segment, state_after_segment}
 use Rattle.spec_tcp.specs.Arrives.OtherStates.Timers.{timers_after_segment}
 
--- the child would join a full queue (this profile's own: `extra` more than the backlog)
+-- the child would join a full queue (specific to this profile: `extra` more than the backlog)
 abbrev pub is_queue_full : Header → HostTcp → ℕ → Bool
 is_queue_full h b l = option_map_or (λ x. nat_le (x.backlog + h.extra) (length x.queue)) (slice_get b.listeners l) false
 
@@ -36,7 +36,7 @@ abbrev pub joins_full_queue : Header → HostTcp → Endpoint → Emission → B
 joins_full_queue h b e m =
     is_syn_received e.state && not m.flags.rst && option_map_or (is_queue_full h b) e.listener false
 
--- the rules in the other states, where it is known whether the child would join a full queue
+-- the rules in the other states, given whether the child would join a full queue
 abbrev pub rules_with_queue : Header → (full : Bool) → EndpointId → Endpoint → TakeChoice → Emission
     → (moment : ℕ) → List (Rule × Bool)
 rules_with_queue h full me e how m moment =
@@ -51,7 +51,7 @@ abbrev pub connected_rules : Header → HostTcp → EndpointId → Endpoint → 
     → List (Rule × Bool)
 connected_rules h b me e how m moment = rules_with_queue h (joins_full_queue h b e m) me e how m moment
 
--- a segment without RST is taken, in all states but SYN-SENT
+-- a segment without RST is processed, in all states but SYN-SENT
 abbrev pub taken : Header → Endpoint → TakeChoice → Emission → ℕ → Endpoint
 taken h e how m moment = record e {
   state = state_after_segment e how m;

@@ -1,4 +1,4 @@
--- A segment arrives in SYN-SENT: what may be taken, and the endpoint once the peer is met (RFC 9293, 3.10.7.3).
+-- A segment arrives in SYN-SENT: what may be processed, and the endpoint afterwards (RFC 9293, 3.10.7.3).
 use Rattle.std.specs.Prelude.{ℕ, ◌==◌, nat_lt, max, Bool, false, not, ◌&&◌, ◌||◌, if◌then◌else◌, List, [], ◌∷◌}
 use Rattle.std.specs.Prelude.{Some}
 use Rattle.std.specs.Option.{option_map_or}
@@ -18,12 +18,12 @@ use Rattle.spec_tcp.specs.Signals.{at_moment, signal_of}
 use Rattle.spec_tcp.specs.Arrives.OtherStates.Window.{is_unread, persist_after_window}
 use Rattle.spec_tcp.specs.Arrives.OtherStates.Timers.{timeout_after_ack, rto_after_ack}
 
--- in SYN-SENT: it acknowledges the SYN, which is all that was made (RFC 9293, 3.10.7.3)
+-- in SYN-SENT: it acknowledges the SYN, which is all that was sent (RFC 9293, 3.10.7.3)
 abbrev pub answers_syn : Endpoint → Emission → Bool
 answers_syn e m =
     m.flags.ack && snd_max e == 1 && option_map_or (λ iss. same_word m.ack_seq (number_of iss 1)) e.iss false
 
--- in SYN-SENT: a SYN or a reset, where it acknowledges, of the own SYN (RFC 9293, 3.10.7.3)
+-- in SYN-SENT: a SYN or a reset; an acknowledgment must be of the own SYN (RFC 9293, 3.10.7.3)
 abbrev pub syn_sent_rules : Endpoint → TakeChoice → Emission → (moment : ℕ) → List (Rule × Bool)
 syn_sent_rules e how m moment =
     (rules.State, not (m.flags.syn || m.flags.rst))
@@ -32,18 +32,17 @@ syn_sent_rules e how m moment =
     ∷ (rules.Sample, how.sample && (m.flags.rst || not m.flags.ack || retransmitted e.transmissions e.stream.snd_una 1))
     ∷ (rules.ScaleUnread, is_unread e m) ∷ []
 
--- the oldest position that is not acknowledged, once the peer's SYN was taken in SYN-SENT; an acknowledgment is of the
--- own SYN
+-- the oldest unacknowledged position after the peer's SYN was received in SYN-SENT; an acknowledgment is of the own SYN
 abbrev pub snd_una_after_syn : Endpoint → Emission → ℕ
 snd_una_after_syn e m = if m.flags.ack then max e.stream.snd_una 1 else e.stream.snd_una
 
--- the timers then; a round trip is that of the own SYN, while it is not acknowledged
+-- the timers afterwards; a round trip is that of the own SYN, if it was not acknowledged before
 abbrev pub timers_after_syn : Header → Endpoint → TakeChoice → Emission → ℕ → Timers
 timers_after_syn h e how m moment =
     persist_after_window (rto_after_ack (timeout_after_ack h e (how.sample && m.flags.ack
     && e.stream.snd_una == 0) 1 m.flags.ack moment) (snd_una_after_syn e m == snd_max e) false moment) m.window moment
 
--- in SYN-SENT the peer's SYN is taken: ESTABLISHED with an acknowledgment, else SYN-RECEIVED
+-- in SYN-SENT the peer's SYN is received: ESTABLISHED with an acknowledgment, else SYN-RECEIVED
 abbrev pub on_syn : Header → Endpoint → TakeChoice → Emission → ℕ → Endpoint
 on_syn h e how m moment = record e {
   state = if m.flags.ack then states.Established else states.SynReceived;

@@ -1,5 +1,5 @@
--- What may be answered at a listener, and an endpoint that is accepted (RFC 9293, 3.10.1, passive OPEN; `accept` is
--- this profile's own).
+-- The answers of a listener, and an endpoint that is accepted (RFC 9293, 3.10.1, passive OPEN; `accept` is specific to
+-- this profile).
 use Rattle.std.specs.Prelude.{ℕ, Bool, true, false, List, [], ◌∷◌, None}
 use Rattle.case_forms.specs.declared.calls.Answer.{Answer}
 use Rattle.case_forms.specs.declared.calls.Answer.TheVariants as answers
@@ -10,7 +10,7 @@ use Rattle.streams.specs.Lists.{modify}
 use Rattle.spec_tcp.specs.Endpoints.{SocketTarget, ListenerAt, EndpointAt}
 use Rattle.spec_tcp.specs.HostTcp.{HostTcp, queue_of, with_socket}
 
--- a call on a live socket number of a listener, in whose queue these stand
+-- a call on a live socket number of a listener with this queue
 abbrev pub listener_allows : List ℕ → Call → Answer → Bool
 listener_allows [] (calls.Accept n) answers.Again = true
 listener_allows (child ∷ queue) (calls.Accept n) (answers.Given m) = true
@@ -23,7 +23,7 @@ listener_allows queue (calls.Abort n) answers.Done = true
 listener_allows queue (calls.Status n) (answers.State states.Listen) = true
 listener_allows queue _ _ = false
 
--- `accept`: the first child of the queue gets the number
+-- `accept`: the first child of the queue gets the socket number
 abbrev pub accepted_from : HostTcp → ℕ → ℕ → List ℕ → HostTcp
 accepted_from b l n [] = b
 accepted_from b l n (child ∷ queue) = with_socket (record b {

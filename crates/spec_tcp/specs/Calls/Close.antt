@@ -1,4 +1,4 @@
--- CLOSE and ABORT: what they may be answered, and what is there then (RFC 9293, 3.10.4 and 3.10.5).
+-- CLOSE and ABORT: the answers they may have, and the host afterwards (RFC 9293, 3.10.4 and 3.10.5).
 use Rattle.std.specs.Prelude.{ℕ, ◌==◌, Bool, true, false, not, ◌&&◌, ◌||◌, if◌then◌else◌, map, is_some}
 use Rattle.std.specs.Option.{option_map_or}
 use Rattle.case_forms.specs.States.{is_syn_sent}
@@ -22,7 +22,7 @@ shut_allows e answer = tells_fault e answer
 abbrev pub shut_down : Endpoint → Endpoint
 shut_down e = record e { state = states.Closed; timers = all_stopped e.timers }
 
--- the state once sending is ended: a FIN is to be made (RFC 9293, 3.10.4)
+-- the state once sending is ended: a FIN is to be sent (RFC 9293, 3.10.4)
 abbrev pub ended_state : State → State
 ended_state states.Established = states.FinWait1
 ended_state states.CloseWait = states.LastAck
@@ -32,7 +32,7 @@ ended_state state = state
 abbrev pub after_shut : Endpoint → Endpoint
 after_shut e = record e { stream = record e.stream { ended = true }; state = ended_state e.state }
 
--- `close`: as `shut`, and an endpoint in SYN-SENT is gone
+-- `close`: like `shut`, and an endpoint in SYN-SENT is CLOSED
 abbrev pub after_close : Endpoint → Endpoint
 after_close e = record (if is_syn_sent e.state then shut_down (record e { stream = record e.stream { ended = true } }) else after_shut e) { closed = true }
 
@@ -53,7 +53,7 @@ after_abort e = record (shut_down e) { reset_due = e.reset_due || resets_at_abor
 abbrev pub orphaned : ℕ → Endpoint → Endpoint
 orphaned l e = if option_map_or (λ holder. holder == l) e.listener false then after_abort e else e
 
--- a listener is gone, and with it its children that were not accepted
+-- a listener is closed, and with it its children that were not accepted
 abbrev pub without_listener : HostTcp → ℕ → HostTcp
 without_listener b l =
     record b {

@@ -1,4 +1,4 @@
--- RECEIVE: what it may be answered, and the endpoint then (RFC 9293, 3.10.3).
+-- RECEIVE: the answers it may have, and the endpoint afterwards (RFC 9293, 3.10.3).
 use Rattle.std.specs.Prelude.{ℕ, ◌==◌, nat_le, Bool, not, ◌&&◌, List, length, is_some}
 use Rattle.case_forms.specs.declared.calls.Answer.{Answer}
 use Rattle.case_forms.specs.declared.calls.Answer.TheVariants as answers
@@ -10,7 +10,7 @@ use Rattle.spec_tcp.specs.Calls.Await.{tells_fault}
 abbrev pub is_read_out : Endpoint → Bool
 is_read_out e = is_ended e.stream.receive && length (waiting e.stream.receive) == 0
 
--- `recv`: the next bytes in order; the end behind the last; a fault; nothing yet (RFC 9293, 3.10.3)
+-- `recv`: the next bytes in order; the end after the last; a fault; nothing yet (RFC 9293, 3.10.3)
 abbrev pub recv_allows : Endpoint → ℕ → Answer → Bool
 recv_allows e most (answers.Bytes bytes) =
     nat_le 1 (length bytes) && nat_le (length bytes) most && starts bytes (waiting e.stream.receive)

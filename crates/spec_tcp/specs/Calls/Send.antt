@@ -1,4 +1,4 @@
--- SEND: what it may be answered, and the endpoint then (RFC 9293, 3.10.2).
+-- SEND: the answers it may have, and the endpoint afterwards (RFC 9293, 3.10.2).
 use Rattle.std.specs.Prelude.{ℕ, nat_le, Bool, true, false, ◌&&◌, ◌||◌, if◌then◌else◌, List, ◌++◌, length, take}
 use Rattle.std.specs.Prelude.{is_some}
 use Rattle.case_forms.specs.declared.calls.Answer.{Answer}
@@ -14,7 +14,7 @@ sends_some bytes (answers.Given n) = nat_le 1 n && nat_le n (length bytes)
 sends_some bytes answers.Again = true
 sends_some bytes _ = false
 
--- `send`, where nothing failed and sending was not ended (RFC 9293, 3.10.2)
+-- `send`, if nothing failed and sending was not ended (RFC 9293, 3.10.2)
 abbrev pub open_send_allows : State → List ℕ → Answer → Bool
 open_send_allows states.SynSent bytes answer = is_not_connected answer || sends_some bytes answer
 open_send_allows states.SynReceived bytes answer = is_not_connected answer || sends_some bytes answer

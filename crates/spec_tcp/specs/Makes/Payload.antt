@@ -1,4 +1,4 @@
--- The bytes of a segment that is made, and where they begin (RFC 9293, 3.8.1 and 3.10.2).
+-- The bytes of a segment to build, and where they begin (RFC 9293, 3.8.1 and 3.10.2).
 use Rattle.std.specs.Prelude.{ℕ, ◌+◌, ◌==◌, nat_lt, min, Bool, false, not, ◌&&◌, ◌||◌, if◌then◌else◌}
 use Rattle.case_forms.specs.declared.steps.SegmentPlan.{SegmentPlan}
 use Rattle.streams.specs.Sent.{end_of}
@@ -8,12 +8,12 @@ use Rattle.spec_tcp.specs.Endpoints.{Endpoint, snd_max, flag_count}
 abbrev pub making_length : SegmentPlan → ℕ
 making_length m = m.len + flag_count m.flags.syn + flag_count m.flags.fin
 
--- bytes that were not made before are among its own
+-- bytes that were not sent before are among its own
 abbrev pub has_new_bytes : Endpoint → SegmentPlan → Bool
 has_new_bytes e m = nat_lt 0 m.len && nat_lt (snd_max e) (m.pos + m.len)
 
--- the bytes are those that were accepted, a FIN stands behind the last of them once sending is ended; SYN and reset
--- carry none
+-- the bytes are those that were accepted, and a FIN follows the last of them once sending is ended; SYN and reset carry
+-- none
 abbrev pub is_bad_payload : Endpoint → SegmentPlan → Bool
 is_bad_payload e m =
     if m.flags.syn then not (m.pos == 0 && m.len == 0)
@@ -21,17 +21,16 @@ is_bad_payload e m =
     else (nat_lt 0 m.len && (m.pos == 0 || nat_lt (end_of e.stream.accepted) (m.pos + m.len)))
     || (m.flags.fin && not (e.stream.ended && m.pos + m.len == end_of e.stream.accepted))
 
--- where what was made before ends
+-- the end of its part that was sent before
 abbrev pub old_end : Endpoint → SegmentPlan → ℕ
 old_end e m = min (m.pos + making_length m) (snd_max e)
 
--- an empty segment: from the position before the oldest that is not acknowledged up to the next (a keep-alive stands
--- one below)
+-- an empty segment: from the position before the oldest unacknowledged one up to the next (a keep-alive is one below)
 abbrev pub is_bad_empty_place : Endpoint → SegmentPlan → Bool
 is_bad_empty_place e m = nat_lt (m.pos + 1) e.stream.snd_una || nat_lt (snd_max e) m.pos
 
--- other segments: from the oldest position that is not acknowledged, no gap behind what was made; and what was made
--- before is made again only up to where recovery began
+-- other segments: from the oldest unacknowledged position on, with no gap after what was sent; and what was sent before
+-- is retransmitted only up to where recovery began
 abbrev pub is_bad_place : Endpoint → SegmentPlan → Bool
 is_bad_place e m =
     if m.flags.rst then nat_lt m.pos e.stream.snd_una || nat_lt (snd_max e) m.pos

@@ -7,7 +7,7 @@ use Rattle.streams.specs.Transmissions.{retransmitted}
 use Rattle.streams.specs.Sent.{end_of}
 use Rattle.spec_tcp.specs.Endpoints.{Endpoint, Emission, snd_max, peer_window, segment_length}
 
--- it acknowledges nothing, or what was not made; in SYN-RECEIVED the SYN has to be acknowledged (RFC 9293, 3.10.7.4)
+-- it acknowledges nothing, or what was not sent; in SYN-RECEIVED it must acknowledge the SYN (RFC 9293, 3.10.7.4)
 abbrev pub is_bad_ack_range : Endpoint → Emission → Bool
 is_bad_ack_range e m =
     not m.flags.rst && (not m.flags.ack || nat_lt
@@ -17,11 +17,11 @@ is_bad_ack_range e m =
 abbrev pub is_new_ack : Endpoint → Emission → Bool
 is_new_ack e m = m.flags.ack && not m.flags.rst && nat_lt e.stream.snd_una m.ack
 
--- it acknowledges the own SYN
+-- it acknowledges the endpoint's own SYN
 abbrev pub acknowledges_syn : Endpoint → Emission → Bool
 acknowledges_syn e m = is_new_ack e m && e.stream.snd_una == 0
 
--- how many positions it acknowledges first, the own SYN's among them; asked only where that was acknowledged before
+-- how many positions it newly acknowledges, including the own SYN's; used only if that was acknowledged before
 abbrev pub acked : Endpoint → Emission → ℕ
 acked e m = m.ack - e.stream.snd_una
 
@@ -30,19 +30,19 @@ abbrev pub is_duplicate : Endpoint → Emission → Bool
 is_duplicate e m =
     nat_lt e.stream.snd_una (snd_max e) && segment_length m == 0 && not m.flags.rst && m.ack == e.stream.snd_una && peer_window e m == e.window.snd_wnd
 
--- a round trip is measured by a new acknowledgment of positions that were made once (RFC 6298, 3)
+-- a round trip is measured by a new acknowledgment of positions that were sent once (RFC 6298, 3)
 abbrev pub may_sample : Endpoint → Emission → Bool
 may_sample e m = is_new_ack e m && not (retransmitted e.transmissions e.stream.snd_una m.ack)
 
--- the oldest position that is not acknowledged, then
+-- the oldest unacknowledged position afterwards
 abbrev pub snd_una_after_segment : Endpoint → Emission → ℕ
 snd_una_after_segment e m = max e.stream.snd_una m.ack
 
--- the own FIN is acknowledged
+-- the endpoint's own FIN is acknowledged
 abbrev pub fin_acknowledged : Endpoint → Emission → Bool
 fin_acknowledged e m = e.stream.ended && nat_lt (end_of e.stream.accepted) (snd_una_after_segment e m)
 
--- the state once the acknowledgment is looked at (RFC 9293, 3.10.7.4, fifth)
+-- the state after the acknowledgment is processed (RFC 9293, 3.10.7.4, fifth)
 abbrev pub acknowledged : State → Endpoint → Emission → State
 acknowledged states.SynReceived e m =
     if acknowledges_syn e m then (if e.stream.ended then states.FinWait1 else states.Established)

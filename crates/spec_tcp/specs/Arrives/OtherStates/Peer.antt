@@ -1,10 +1,10 @@
--- Whose segment it is that arrives, asked before RFC 9293, 3.10.7.4, asks anything (this profile's own).
+-- Whose segment arrives, tested before any test of RFC 9293, 3.10.7.4 (specific to this profile).
 use Rattle.std.specs.Prelude.{Bool, true, false, ◌&&◌, if◌then◌else◌}
 use Rattle.std.specs.Option.{option_map_or}
 use Rattle.spec_tcp.specs.Endpoints.{EndpointId, Endpoint, Emission}
 use Rattle.spec_tcp.specs.Same.{same_name}
 
--- the peer made it for this endpoint, or before it knew whom; a reset that answers answers this endpoint
+-- the peer built it for this endpoint, or before it knew its peer; a reset in answer must answer this endpoint
 abbrev pub is_from_peer : EndpointId → Endpoint → Emission → Bool
 is_from_peer me e m =
     if m.is_reset_reply then same_name m.sender me

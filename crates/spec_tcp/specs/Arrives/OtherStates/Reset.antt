@@ -9,7 +9,7 @@ use Rattle.window_rules.specs.Control.{after}
 use Rattle.window_rules.specs.declared.control.Signal.TheVariants.{Other}
 use Rattle.spec_tcp.specs.Signals.{at_moment}
 
--- the fault of a reset: refused before the connection stood, where the endpoint was opened; reset after it
+-- the fault of a reset: refused before the connection is established, if the endpoint was opened; reset after it
 abbrev pub reset_fault : State → Endpoint → Option Fault
 reset_fault states.SynSent e = Some Refused
 reset_fault states.SynReceived e = if is_some e.listener then e.fault else Some Refused
@@ -19,7 +19,7 @@ reset_fault states.FinWait2 e = Some Reset
 reset_fault states.CloseWait e = Some Reset
 reset_fault _ e = e.fault
 
--- a reset is taken
+-- a reset is processed
 abbrev pub was_reset : Endpoint → TakeChoice → ℕ → Endpoint
 was_reset e how moment = record (shut_down e) {
   fault = reset_fault e.state e;

@@ -1,4 +1,4 @@
--- Seventh, the segment text, and the stream and the state then (RFC 9293, 3.10.7.4).
+-- Seventh, the segment text, and the stream and the state afterwards (RFC 9293, 3.10.7.4).
 use Rattle.std.specs.Prelude.{ℕ, ◌-◌, min, max, if◌then◌else◌, List, [], slice_range}
 use Rattle.case_forms.specs.declared.calls.State.{State}
 use Rattle.case_forms.specs.declared.steps.TakeChoice.{TakeChoice}

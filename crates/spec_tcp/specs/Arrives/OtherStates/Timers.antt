@@ -1,4 +1,4 @@
--- The timers once a segment is taken (RFC 6298, 2, 3 and 5; RFC 9293, 3.6.1).
+-- The timers after a segment is processed (RFC 6298, 2, 3 and 5; RFC 9293, 3.6.1).
 use Rattle.std.specs.Prelude.{ℕ, ◌-◌, ◌==◌, Bool, ◌&&◌, if◌then◌else◌, unwrap_or}
 use Rattle.case_forms.specs.States.{is_time_wait}
 use Rattle.case_forms.specs.declared.calls.State.{State}
@@ -14,19 +14,18 @@ use Rattle.spec_tcp.specs.Arrives.OtherStates.Ack.{is_new_ack, acknowledges_syn,
 use Rattle.spec_tcp.specs.Arrives.OtherStates.Window.{takes_window, persist_after_window}
 use Rattle.spec_tcp.specs.Arrives.OtherStates.Text.{state_after_segment}
 
--- how long ago a position was made
+-- how long ago a position was first sent
 abbrev pub since_made : Endpoint → ℕ → ℕ → ℕ
 since_made e pos moment = moment - unwrap_or (made_moment e.transmissions pos) moment
 
--- the timeout after a new acknowledgment up to this position, with a sample where one is taken, and longer where the
--- SYN was lost (RFC 6298, 2, 3 and 5.7)
+-- the timeout after a new acknowledgment up to this position, with a sample if one is measured, and longer if the SYN
+-- was lost (RFC 6298, 2, 3 and 5.7)
 abbrev pub timeout_after_ack : Header → Endpoint → Bool → ℕ → Bool → ℕ → Timers
 timeout_after_ack h e sample ack syn moment =
     let measured : Timers = (if sample then sampled e.timers (since_made e (ack - 1) moment) h else e.timers) in
     if syn && e.syn_lost then raised_for_lost_syn measured else measured
 
--- the retransmission timer stops where all is acknowledged, and starts anew at a new acknowledgment (RFC 6298, 5.2 and
--- 5.3)
+-- the retransmission timer stops if all is acknowledged, and restarts at a new acknowledgment (RFC 6298, 5.2 and 5.3)
 abbrev pub rto_after_ack : Timers → (all_acked new : Bool) → ℕ → Timers
 rto_after_ack t all_acked new moment = if all_acked then stopped t Rto else if new then armed t Rto moment else t
 
