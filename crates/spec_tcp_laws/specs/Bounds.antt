@@ -1,5 +1,5 @@
--- What follows of windows from each step of the machine: how far new data reaches, and what cwnd and ssthresh become
--- (RFC 9293, 3.8.6; RFC 5681, 3.1 and 3.2).
+-- What follows for windows from each step of the model: how far new data reaches, and how cwnd and ssthresh change (RFC
+-- 9293, 3.8.6; RFC 5681, 3.1 and 3.2).
 use Rattle.std.specs.Prelude.{◌≡◌, ◌<◌, ◌≤◌, ℕ, ◌+◌, length, None, Some}
 use Rattle.case_forms.specs.declared.trace.Header.{Header}
 use Rattle.case_forms.specs.declared.calls.Host.{Host}
@@ -32,22 +32,22 @@ pub record InBothWindows (e : Endpoint) (end : ℕ) : Type 0 where
   pub offered : end ≤ offered_edge e.stream.snd_una e.window.snd_wnd e.probe_due
   pub congestion : end ≤ control_edge e.stream.snd_una e.control
 
--- the endpoint of the ports is there, and where bytes of the segment stand at or above all that it made before, they
--- end in both windows
+-- an endpoint with these ports exists, and if bytes of the segment are at or beyond the end of all that it sent before,
+-- they end in both windows
 abbrev pub NewDataFits : World tcp_shape → Host → SegmentPlan → Type 0
 NewDataFits w host m = (e : Endpoint) × (endpoint_of (pick w.hosts host).body m.lport m.rport ≡ Some e)
     × ((x : Emission) → act_makes host (pick w.hosts host).body (acts.Makes m) ≡ Some x → 0 < length x.payload →
     snd_max e < x.pos + length x.payload → InBothWindows e (x.pos + length x.payload))
 
--- the greatest congestion window that taking a segment allows, as the endpoint reads it
+-- the greatest congestion window that processing a segment allows, as the endpoint reads it
 abbrev pub greatest_taking : Header → (moment : ℕ) → Endpoint → Emission → ℕ
 greatest_taking h moment e m = (greatest e.control (signal_of e (as_read h.version e m)) (at_moment e moment)).0
 
--- the greatest congestion window and threshold with which fast recovery may begin, where this threshold is chosen
+-- the greatest congestion window and threshold with which fast recovery may begin, if this threshold is chosen
 abbrev pub greatest_recovering : (moment : ℕ) → Endpoint → (ssthresh : ℕ) → ℕ × ℕ
 greatest_recovering moment e ssthresh = greatest e.control (recovery_signal e ssthresh) (at_moment e moment)
 
--- the step takes this segment, which waits for it, at the endpoint
+-- the step processes this segment, which waits for it, at the endpoint
 abbrev pub TakesThere : World tcp_shape → Step tcp_shape → EndpointId → Endpoint → Emission → Type 0
 TakesThere w step me e m = (line : ℕ) × (how : TakeChoice) × (step ≡ At me.host (Takes line how))
     × (waiting line (pick w.hosts me.host).inbox ≡ Some m)
@@ -59,32 +59,33 @@ TimesOut w step me =
     (line : ℕ) × (x : Expiring) × (growth : RtoChoice) × (step ≡ At me.host (Expires line x)) × (x.expired ≡ Rto growth)
     × (place_of (pick w.hosts me.host).body x.lport x.rport ≡ Some me.number)
 
--- the step begins fast recovery at the endpoint of these ports
+-- the step begins fast recovery at the endpoint with these ports
 abbrev pub Recovers : World tcp_shape → Step tcp_shape → EndpointId → Type 0
 Recovers w step me =
     (x : Recovery) × (step ≡ At me.host (Does x))
     × (place_of (pick w.hosts me.host).body x.lport x.rport ≡ Some me.number)
 
--- after the step the endpoint is there, and this holds of its congestion control
+-- after the step the endpoint exists, and its congestion control has this property
 abbrev pub Leaves : Header → ℕ → World tcp_shape → Step tcp_shape → EndpointId → (Control → Type 0) → Type 0
 Leaves h moment w step me P = (f : Endpoint) × (find (after (tcp h) moment w step).hosts me ≡ Some f) × P f.control
 
--- what a step makes of the windows of the endpoints that are there, and with which windows a new one begins
+-- what a step does to the windows of existing endpoints, and with which windows a new one begins
 pub record WindowsFollow (h : Header) (moment : ℕ) (w : World tcp_shape) (step : Step tcp_shape) : Type 0 where
-  -- where a segment is taken, cwnd is at most the greatest that this allows, and ssthresh stays
+  -- if a segment is processed, cwnd is at most the greatest that this allows, and ssthresh stays
   pub takes : (me : EndpointId) (e : Endpoint) (m : Emission) → find w.hosts me ≡ Some e → TakesThere w step me e m
       → Leaves h moment w step me (λ c. (c.values.cwnd ≤ greatest_taking h moment e m)
       × (c.values.ssthresh ≡ e.control.values.ssthresh))
-  -- where the retransmission timer expires, both are at most the greatest that a timeout allows
+  -- if the retransmission timer expires, both are at most the greatest that a timeout allows
   pub times_out : (me : EndpointId) (e : Endpoint) → find w.hosts me ≡ Some e → TimesOut w step me
       → Leaves h moment w step me (λ c. (c.values.cwnd ≤ (greatest_values e moment).0)
       × (c.values.ssthresh ≤ (greatest_values e moment).1))
-  -- where fast recovery begins, both are at most the greatest that this allows, cwnd by the threshold that was chosen:
-  -- by RFC 5681 half the flight, or two segments, and that threshold with a segment more for each duplicate
+  -- if fast recovery begins, both are at most the greatest that this allows, cwnd by the threshold that was chosen: if
+  -- this profile bounds them, half the flight, or two segments, and that threshold with a segment more for each
+  -- duplicate
   pub recovers : (me : EndpointId) (e : Endpoint) → find w.hosts me ≡ Some e → Recovers w step me
       → Leaves h moment w step me (λ c. (c.values.ssthresh ≤ (greatest_recovering moment e c.values.ssthresh).1)
       × (c.values.cwnd ≤ (greatest_recovering moment e c.values.ssthresh).0))
-  -- every other step leaves congestion control as it is
+  -- every other step leaves congestion control unchanged
   pub stays : (me : EndpointId) (e : Endpoint) → find w.hosts me ≡ Some e
       → ((m : Emission) → TakesThere w step me e m → ⊥) → (TimesOut w step me → ⊥) → (Recovers w step me → ⊥)
       → Leaves h moment w step me (λ c. c ≡ e.control)
@@ -97,7 +98,7 @@ pub record WindowsFollow (h : Header) (moment : ℕ) (w : World tcp_shape) (step
       → (f.control.values.cwnd ≡ 0) × (f.control.values.ssthresh ≡ greatest_value)
       × (f.control.profile ≡ profile_of h)
 
--- the congestion control of each endpoint goes by the RFC that the header names
+-- the congestion control of each endpoint follows the profile that the header names
 abbrev pub ProfilesAreNamed : Header → World tcp_shape → Type 0
 ProfilesAreNamed h w =
     (me : EndpointId) (e : Endpoint) → find w.hosts me ≡ Some e → e.control.profile ≡ profile_of h

@@ -1,5 +1,5 @@
--- What reads are told came in segments that were taken: true of every case, also where one host alone was recorded (RFC
--- 9293, 3.4 and 3.10.7.4).
+-- What reads return was carried by segments that were processed: true of every case, even if only one host was recorded
+-- (RFC 9293, 3.4 and 3.10.7.4).
 use Rattle.std.specs.Prelude.{◌≡◌, ℕ, ◌+◌, false, true, List, ◌∷◌, ◌++◌, length, Some, slice_get}
 use Rattle.case_forms.specs.declared.steps.TakeChoice.{TakeChoice}
 use Rattle.case_forms.specs.declared.trace.Header.{Header}
@@ -18,8 +18,8 @@ use Rattle.spec_tcp.specs.Arrives.{AtEndpoint, taker}
 use Rattle.spec_tcp.specs.Machine.{tcp, tcp_shape}
 use Rattle.spec_tcp_laws.specs.Runs.{world_at_end, is_socket_of, told_to, was_told_end}
 
--- the step takes a segment at this endpoint, no reset, and keeps of it; as the endpoint reads it, this cell stands at
--- this position of the peer's stream
+-- the step processes a segment at this endpoint, not a reset, and keeps its data; as the endpoint reads it, this cell
+-- is at this position of the peer's stream
 pub record Carries (h : Header) (w : World tcp_shape) (step : Step tcp_shape) (me : EndpointId) (position : ℕ) (cell : Cell) : Type 0 where
   pub line : ℕ
   pub how : TakeChoice
@@ -34,7 +34,7 @@ pub record Carries (h : Header) (w : World tcp_shape) (step : Step tcp_shape) (m
   pub stands : first_byte (as_read h.version endpoint segment) + place ≡ position
   pub has : slice_get (body segment.payload segment.flags.fin) place ≡ Some cell
 
--- one of the steps does, in the world that those before it make of this one
+-- one of the steps does, in the world after the steps before it
 abbrev pub CarriedFrom : Header → World tcp_shape → List (Stamped tcp_shape) → EndpointId → ℕ → Cell → Type 0
 CarriedFrom h w steps me position cell =
     (before : List (Stamped tcp_shape)) × (x : Stamped tcp_shape) × (rest : List (Stamped tcp_shape)) ×
@@ -49,8 +49,8 @@ abbrev pub CarriedTo : Header → List (Stamped tcp_shape) → (socket position 
 CarriedTo h steps socket position cell =
     (me : EndpointId) × (is_socket_of (world_at_end h steps).hosts socket me ≡ true) × Carried h steps me position cell
 
--- byte i of what the reads on a socket number were told was carried at position 1 + i; where one was told the end, a
--- FIN behind all of them was
+-- byte i of what the reads on a socket number returned was carried at position 1 + i; if one returned the end, a FIN
+-- after all of them was carried
 pub record ReadsWereCarried (h : Header) (steps : List (Stamped tcp_shape)) : Type 0 where
   pub bytes : (socket i value : ℕ) → slice_get (told_to h socket steps) i ≡ Some value
       → CarriedTo h steps socket (1 + i) (Byte value)

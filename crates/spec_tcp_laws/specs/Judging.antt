@@ -1,4 +1,4 @@
--- Where less of congestion control is judged, no more rules are broken, and the same follows from each step.
+-- If less of congestion control is judged, no more rules are broken, and the same follows from each step.
 use Rattle.std.specs.Prelude.{◌≡◌, ◌≤◌, ℕ, List, map, Some, None}
 use Rattle.case_forms.specs.declared.steps.Step as witness
 use Rattle.case_forms.specs.declared.trace.Header.{Header}
@@ -20,17 +20,17 @@ use Rattle.spec_tcp.specs.declared.endpoint.EndpointId.{EndpointId}
 use Rattle.spec_tcp_laws.specs.Bounds.{ProfilesAreNamed}
 use Rattle.spec_tcp_laws.specs.Consequences.{find}
 
--- how much is judged: more, the greater the number
+-- how much is judged: the greater the number, the more
 abbrev pub extent : Judged → ℕ
 extent Full = 2
 extent Recovery = 1
 extent Nothing = 0
 
--- the same header with another word on congestion control
+-- the same header with another extent of congestion control
 abbrev pub header_by : Judged → Header → Header
 header_by j h = record h { congestion = j }
 
--- the same endpoint, host and world, where the congestion control of each endpoint goes by this profile
+-- the same endpoint, host and world, with the congestion control of each endpoint following this profile
 abbrev pub endpoint_by : Profile → Endpoint → Endpoint
 endpoint_by p e = record e { control = with_profile p e.control }
 
@@ -43,7 +43,7 @@ host_by p s = record s { body = body_by p s.body }
 abbrev pub world_by : Profile → World tcp_shape → World tcp_shape
 world_by p w = record w { hosts = record { zero = host_by p w.hosts.zero; one = host_by p w.hosts.one } }
 
--- the same world with another word on congestion control
+-- the same world with another extent of congestion control
 abbrev pub world_judged : Judged → Header → World tcp_shape → World tcp_shape
 world_judged j h w = world_by (profile_of (header_by j h)) w
 
@@ -51,8 +51,8 @@ world_judged j h w = world_by (profile_of (header_by j h)) w
 abbrev pub ValuesAreLimited : World tcp_shape → Type 0
 ValuesAreLimited w = (me : EndpointId) (e : Endpoint) → find w.hosts me ≡ Some e → IsLimited e.control
 
--- a world in which each endpoint goes by the profile of the header, with such values: as the start is, and the world
--- after each permitted step
+-- a world in which each endpoint follows the profile of the header, with such values: this holds of the start, and of
+-- the world after each permitted step
 pub record IsJudged (h : Header) (w : World tcp_shape) : Type 0 where
   pub profiles : ProfilesAreNamed h w
   pub values : ValuesAreLimited w
@@ -63,7 +63,7 @@ pub record JudgedStays (h : Header) : Type 0 where
       → Permitted (tcp h) moment w step
       → IsJudged h (after (tcp h) moment w step)
 
--- where less is judged a permitted step is permitted, and every step leads to the same world but for that word
+-- if less is judged, a permitted step is permitted, and every step leads to the same world except for that extent
 pub record LessIsJudged (h : Header) (j : Judged) : Type 0 where
   pub start_is : start (tcp (header_by j h)) ≡ world_judged j h (start (tcp h))
   pub permits : extent j ≤ extent h.congestion → (moment : ℕ) (w : World tcp_shape) (step : Step tcp_shape)
@@ -73,7 +73,7 @@ pub record LessIsJudged (h : Header) (j : Judged) : Type 0 where
       → after (tcp (header_by j h)) moment (world_judged j h w) step
       ≡ world_judged j h (after (tcp h) moment w step)
 
--- so a run is a run, and ends in the same world but for that word
+-- so a run is a run, and ends in the same world except for that extent
 pub record RunsWithLessJudged (h : Header) (j : Judged) : Type 0 where
   pub lawful : extent j ≤ extent h.congestion → (steps : List (Stamped tcp_shape))
       → Lawful (tcp h) (start (tcp h)) steps

@@ -1,4 +1,4 @@
--- What the steps of a run say by themselves: what reads were told, what sends accepted, and which sendings were ended.
+-- What the steps of a run show by themselves: what reads returned, what sends accepted, and which sendings were ended.
 use Rattle.std.specs.Prelude.{ℕ, ◌==◌, nat_eq, Bool, false, ◌||◌, if◌then◌else◌, List, [], ◌∷◌, ◌++◌, take, Option}
 use Rattle.std.specs.Prelude.{None, Some}
 use Rattle.std.specs.Option.{option_map_or}
@@ -22,25 +22,25 @@ use Rattle.spec_tcp.specs.Machine.{tcp, tcp_shape}
 abbrev pub world_at_end : Header → List (Stamped tcp_shape) → World tcp_shape
 world_at_end h steps = after_all (tcp h) (start (tcp h)) steps
 
--- the place of an endpoint that is named
+-- the place of an endpoint with an identity
 abbrev pub endpoint_place : SocketTarget → Option ℕ
 endpoint_place (ListenerAt l) = None
 endpoint_place (EndpointAt i) = Some i
 
--- the endpoint that a socket number was given to at this host, if it was given to one; live or not
+-- the endpoint that this socket number was returned for at this host, if it was; live or not
 abbrev pub owner : HostTcp → ℕ → Option ℕ
 owner b socket = option_map_or (λ s. endpoint_place s.thing) (lookup (nat_eq socket) b.sockets) None
 
--- the socket number was given to that endpoint
+-- the socket number was returned for that endpoint
 abbrev pub is_socket_of : Both (HostState tcp_shape) → ℕ → EndpointId → Bool
 is_socket_of hosts socket me = option_map_or (λ i. i == me.number) (owner (pick hosts me.host).body socket) false
 
--- the bytes that a call told the reads on a socket number
+-- the bytes that a call returned to the reads on a socket number
 abbrev pub call_told : Call → Answer → ℕ → List ℕ
 call_told (calls.Recv n most) (answers.Bytes bytes) socket = if n == socket then bytes else []
 call_told _ _ socket = []
 
--- it told them the end
+-- it returned the end to them
 abbrev pub call_told_end : Call → Answer → ℕ → Bool
 call_told_end (calls.Recv n most) answers.Eof socket = n == socket
 call_told_end _ _ socket = false
@@ -57,34 +57,34 @@ call_ended hosts (calls.Shut n) answers.Done me = is_socket_of hosts n me
 call_ended hosts (calls.Close n) answers.Done me = is_socket_of hosts n me
 call_ended hosts _ _ me = false
 
--- what is said of the call that is open and had no effect yet; else this
+-- the function's value for the call that is open and had no effect yet; else this
 abbrev pub of_turn : {X : Type 0} → Turn tcp_shape → X → (Call → X) → X
 of_turn Idle none f = none
 of_turn (Called call) none f = f call
 of_turn (Answered answer) none f = none
 
--- what is said of the call whose effect a step is; else this
+-- the function's value for the call whose effect a step is; else this
 abbrev pub of_effect : {X : Type 0} → Header → World tcp_shape → Step tcp_shape → X → (Call → Answer → X) → X
 of_effect h w (Begin line t call) none f = none
 of_effect h w (Finish line t answer) none f = none
 of_effect h w (Effect t answer) none f = of_turn (turn_of t w.threads) none (λ call. f call answer)
 of_effect h w (At host deed) none f = none
 
--- the bytes that the steps from this world on told the reads on a socket number, in their order
+-- the bytes that the steps from this world on returned to the reads on a socket number, in order
 abbrev pub told_from : Header → ℕ → World tcp_shape → List (Stamped tcp_shape) → List ℕ
 told_from h socket w [] = []
 told_from h socket w (x ∷ xs) =
     of_effect h w x.step [] (λ call answer. call_told call answer socket)
     ++ told_from h socket (after (tcp h) x.moment w x.step) xs
 
--- one of them told those reads the end
+-- one of them returned the end to those reads
 abbrev pub told_end_from : Header → ℕ → World tcp_shape → List (Stamped tcp_shape) → Bool
 told_end_from h socket w [] = false
 told_end_from h socket w (x ∷ xs) =
     of_effect h w x.step false (λ call answer. call_told_end call answer socket)
     || told_end_from h socket (after (tcp h) x.moment w x.step) xs
 
--- the bytes that they accepted of the sends on socket numbers of an endpoint, in their order
+-- the bytes that they accepted from the sends on socket numbers of an endpoint, in order
 abbrev pub accepted_from : Header → EndpointId → World tcp_shape → List (Stamped tcp_shape) → List ℕ
 accepted_from h me w [] = []
 accepted_from h me w (x ∷ xs) =
@@ -98,11 +98,11 @@ ended_from h me w (x ∷ xs) =
     of_effect h w x.step false (λ call answer. call_ended w.hosts call answer me)
     || ended_from h me (after (tcp h) x.moment w x.step) xs
 
--- over a whole run: what the reads on a socket number were told
+-- over a whole run: what the reads on a socket number returned
 abbrev pub told_to : Header → ℕ → List (Stamped tcp_shape) → List ℕ
 told_to h socket steps = told_from h socket (start (tcp h)) steps
 
--- whether they were told the end
+-- whether they returned the end
 abbrev pub was_told_end : Header → ℕ → List (Stamped tcp_shape) → Bool
 was_told_end h socket steps = told_end_from h socket (start (tcp h)) steps
 

@@ -1,4 +1,4 @@
--- That two things are the same, as the machine tests it, is that they are equal.
+-- Two things are the same, as the model tests it, if and only if they are equal.
 use Rattle.std.specs.Prelude.{◌≡◌, ◌↔◌, ℕ, Bool, true, List}
 use Rattle.seqno.specs.declared.word.Word.{Word}
 use Rattle.case_forms.specs.declared.calls.Answer.{Answer}
@@ -6,7 +6,7 @@ use Rattle.case_forms.specs.declared.calls.State.{State}
 use Rattle.spec_tcp.specs.declared.endpoint.EndpointId.{EndpointId}
 use Rattle.spec_tcp.specs.Same.{same_answer, same_bool, same_bytes, same_name, same_state, same_word}
 
--- a test of two values answers true exactly where they are equal
+-- a test of two values is true if and only if they are equal
 abbrev pub TellsEquality : (T : Type 0) → (T → T → Bool) → Type 0
 TellsEquality T same = (a b : T) → (same a b ≡ true) ↔ (a ≡ b)
 

@@ -25,15 +25,15 @@ use Rattle.spec_tcp_laws.specs.Runs.{world_at_end}
 use Rattle.spec_tcp_laws.specs.Consequences.{find}
 use Rattle.spec_tcp_laws.specs.Bounds.{TakesThere}
 
--- the arrows of figure 5 at CLOSE, which `shut` and `close` are here (RFC 9293, 3.3.2 and 3.10.4)
+-- the arrows of figure 5 at CLOSE, which is `shut` and `close` here (RFC 9293, 3.3.2 and 3.10.4)
 abbrev pub close_leads : State → State → Bool
 close_leads states.SynSent states.Closed = true
 close_leads states.Established states.FinWait1 = true
 close_leads states.CloseWait states.LastAck = true
 close_leads state _ = false
 
--- those at a SYN and at an acknowledgment. From SYN-RECEIVED to FIN-WAIT-1 the figure leads at CLOSE: here CLOSE ends
--- the sending, and the state follows with the acknowledgment of the SYN (this profile's own)
+-- those at a SYN and at an acknowledgment. In the figure, CLOSE leads from SYN-RECEIVED to FIN-WAIT-1: here CLOSE ends
+-- the sending, and the state follows with the acknowledgment of the SYN (specific to this profile)
 abbrev pub segment_leads : State → State → Bool
 segment_leads states.SynSent states.SynReceived = true
 segment_leads states.SynSent states.Established = true
@@ -51,11 +51,11 @@ fin_leads states.FinWait1 states.Closing = true
 fin_leads states.FinWait2 states.TimeWait = true
 fin_leads state _ = false
 
--- a state stays, or one of these leads on from it
+-- a state stays, or one of these arrows leaves it
 abbrev pub StaysOr : (State → State → Bool) → State → State → Type 0
 StaysOr leads s t = (t ≡ s) ⊎ (leads s t ≡ true)
 
--- the socket number that a call closes, that it aborts, and that it does either to
+-- the socket number that a call closes, that it aborts, and that it closes or aborts
 abbrev pub closed_number : Call → Option ℕ
 closed_number (calls.Shut n) = Some n
 closed_number (calls.Close n) = Some n
@@ -87,13 +87,13 @@ abbrev pub TimerCloses : World tcp_shape → Step tcp_shape → EndpointId → T
 TimerCloses w step me = (line : ℕ) × (x : Expiring) × (step ≡ At me.host (Expires line x)) × (closes x.expired ≡ true)
     × (place_of (pick w.hosts me.host).body x.lport x.rport ≡ Some me.number)
 
--- the endpoint makes a reset
+-- the endpoint sends a reset
 abbrev pub MakesReset : World tcp_shape → Step tcp_shape → EndpointId → Type 0
 MakesReset w step me =
     (m : SegmentPlan) × (step ≡ At me.host (Makes m)) × (m.flags.rst ≡ true) ×
     (place_of (pick w.hosts me.host).body m.lport m.rport ≡ Some me.number)
 
--- from the state of an endpoint a step may lead to this one
+-- a step may lead from the state of an endpoint to this one
 pub data MayLead (w : World tcp_shape) (step : Step tcp_shape) (me : EndpointId) (e : Endpoint) (t : State) : Type 0 where
   Stays : t ≡ e.state → MayLead w step me e t
   ByClose : CallsOn closed_number w step me.host (EndpointAt me.number) → close_leads e.state t ≡ true
@@ -102,20 +102,20 @@ pub data MayLead (w : World tcp_shape) (step : Step tcp_shape) (me : EndpointId)
   -- its listener is closed or aborted before the endpoint is accepted
   ByListener : (l : ℕ) → e.listener ≡ Some l → CallsOn left_number w step me.host (ListenerAt l) → t ≡ states.Closed
       → MayLead w step me e t
-  -- the endpoint takes a segment without RST: its SYN or its acknowledgment may lead on, and from there its FIN (note 2
-  -- at figure 5)
+  -- the endpoint processes a segment without RST: its SYN or its acknowledgment may lead on, and from there its FIN
+  -- (note 2 at figure 5)
   BySegment : (m : Emission) (between : State) → TakesThere w step me e m → m.flags.rst ≡ false →
       StaysOr segment_leads e.state between → StaysOr fin_leads between t → MayLead w step me e t
-  -- it takes one with RST (note 3 there)
+  -- it processes one with RST (note 3 there)
   ByReset : (m : Emission) → TakesThere w step me e m → m.flags.rst ≡ true → t ≡ states.Closed → MayLead w step me e t
   ByOwnReset : MakesReset w step me → t ≡ states.Closed → MayLead w step me e t
   ByTimer : TimerCloses w step me → t ≡ states.Closed → MayLead w step me e t
 
--- TIME-WAIT isn't begun anew: it is over, or it goes on since the same moment (RFC 9293, 3.6.1)
+-- TIME-WAIT doesn't restart: it is over, or it continues since the same moment (RFC 9293, 3.6.1)
 abbrev pub WaitsOn : Endpoint → Endpoint → Type 0
 WaitsOn e f = (f.state ≡ states.Closed) ⊎ ((f.state ≡ states.TimeWait) × (f.timers.msl_armed ≡ e.timers.msl_armed))
 
--- a step leaves each endpoint there, in its state or in one to which the step may lead; and a new one begins in
+-- a step leaves each endpoint in existence, in its state or in one to which the step may lead; and a new one begins in
 -- SYN-SENT, or as a child in SYN-RECEIVED
 pub record StatesFollow (h : Header) (moment : ℕ) (w : World tcp_shape) (step : Step tcp_shape) : Type 0 where
   pub leads : (me : EndpointId) (e : Endpoint) → find w.hosts me ≡ Some e → (f : Endpoint) ×
@@ -126,15 +126,15 @@ pub record StatesFollow (h : Header) (moment : ℕ) (w : World tcp_shape) (step 
       → find (after (tcp h) moment w step).hosts me ≡ Some f →
       (f.state ≡ states.SynSent) ⊎ (f.state ≡ states.SynReceived)
 
--- none of these is below what it was (RFC 9293, 3.3.1): SND.UNA, SND.NXT at its greatest, RCV.NXT, and the greatest
--- RCV.NXT + RCV.WND that was offered
+-- none of these decreases (RFC 9293, 3.3.1): SND.UNA, SND.NXT at its greatest, RCV.NXT, and the greatest RCV.NXT +
+-- RCV.WND that was offered
 pub record NoneFalls (e f : Endpoint) : Type 0 where
   pub snd_una : e.stream.snd_una ≤ f.stream.snd_una
   pub made : snd_max e ≤ snd_max f
   pub rcv_nxt : rcv_nxt e ≤ rcv_nxt f
   pub rcv_adv : e.window.rcv_adv ≤ f.window.rcv_adv
 
--- so it is with each endpoint over a step behind a run
+-- this holds of each endpoint over a step after a run
 abbrev pub PositionsNeverFall : Header → List (Stamped tcp_shape) → Stamped tcp_shape → Type 0
 PositionsNeverFall h steps x = (me : EndpointId) (e : Endpoint) → find (world_at_end h steps).hosts me ≡ Some e
     → (f : Endpoint) × (find (after (tcp h) x.moment (world_at_end h steps) x.step).hosts me ≡ Some f) × NoneFalls e f

@@ -31,91 +31,90 @@ pub fn received_is_a_prefix()
         → Lawful (tcp h) (start (tcp h)) steps → ReceivedIsAPrefix h steps }
 {}
 
-/// Once a read returned the end, the reads have returned all that the peer's sends ever accept, and the peer's sending
-/// was ended.
+/// Once a read returned the end, the reads have returned all that the peer's sends ever accept, and the peer has ended
+/// its sending.
 pub fn end_is_whole()
     ensures { (h : Header) → is_half h.version ≡ false → (steps : List (Stamped tcp_shape))
         → Lawful (tcp h) (start (tcp h)) steps → EndIsWhole h steps }
 {}
 
-/// What is acknowledged, but for the SYN, was taken by the peer before the step that acknowledged it.
+/// Every position that is acknowledged, except the SYN's, was received by the peer before the step that acknowledged
+/// it.
 pub fn acknowledged_was_taken()
     ensures { (h : Header) → is_half h.version ≡ false → (steps : List (Stamped tcp_shape)) (x : Stamped tcp_shape) →
         Lawful (tcp h) (start (tcp h)) steps → Permitted (tcp h) x.moment (world_at_end h steps) x.step →
         AcknowledgedWasTaken h steps x }
 {}
 
-/// What the reads on a socket number returned came with segments that were taken at its endpoint: byte i at position 1
-/// + i, and if one returned the end, a FIN at the position after all of them (RFC 9293, 3.4 and 3.10.7.4). So it is in
-/// every case, also where one host alone was recorded.
+/// What the reads on a socket number returned was in segments that its endpoint processed: byte i at position 1 + i,
+/// and if one returned the end, a FIN at the position after all of them (RFC 9293, 3.4 and 3.10.7.4). This holds in
+/// every case, even if only one host was recorded.
 pub fn reads_were_carried()
     ensures { (h : Header) (steps : List (Stamped tcp_shape)) → Lawful (tcp h) (start (tcp h)) steps
         → ReadsWereCarried h steps }
 {}
 
-/// Bytes that are made for the first time end in the window that the peer offers and in the congestion window. Other
-/// segments that are made, resets that answer, carry no bytes.
+/// New data ends in the window that the peer offers and in the congestion window. The other segments that are built,
+/// resets in answer to segments, carry no bytes.
 pub fn new_data_fits()
     ensures { (h : Header) (moment : ℕ) (w : World tcp_shape) (host : Host) (m : SegmentPlan) →
         Permitted (tcp h) moment w (At host (Makes m)) → NewDataFits w host m }
 {}
 
-/// Taking a segment, an expiry of the retransmission timer and the beginning of fast recovery leave the congestion
-/// window and the slow start threshold at or below what they allow by the endpoint's profile, also where a loss lowers
-/// it; every other step leaves all of congestion control as it is. No step changes a profile.
+/// Processing a segment, an expiry of the retransmission timer and the beginning of fast recovery leave the congestion
+/// window and the slow start threshold at or below what the endpoint's profile allows then, even if a loss lowers it.
+/// Every other step leaves all of congestion control unchanged. No step changes a profile.
 pub fn windows_follow()
     ensures { (h : Header) (moment : ℕ) (w : World tcp_shape) (step : Step tcp_shape) → Permitted (tcp h) moment w step
         → WindowsFollow h moment w step }
 {}
 
-/// At the end of each run every endpoint's congestion control goes by the RFC that the header names.
+/// At the end of each run, every endpoint's congestion control follows the profile that the header names.
 pub fn profiles_are_named()
     ensures { (h : Header) (steps : List (Stamped tcp_shape)) → Lawful (tcp h) (start (tcp h)) steps
         → ProfilesAreNamed h (world_at_end h steps) }
 {}
 
 /// A step leaves an endpoint in its state, or in one to which an arrow of RFC 9293, 3.3.2, figure 5, leads at such a
-/// step: at a `shut` or a `close` of its socket number; at a segment that it takes, whose SYN or acknowledgment comes
-/// first and then its FIN. It is CLOSED by a reset, by an `abort`, where its listener goes before it is accepted, where
-/// TIME-WAIT is over, where it gives up, and where it makes a reset. TIME-WAIT isn't begun anew. A new endpoint begins
-/// in SYN-SENT, or as a child in SYN-RECEIVED. So it is with every step in every world.
+/// step. That step is a `shut` or a `close` of its socket number, or a segment that it processes, with the SYN or
+/// acknowledgment first and then the FIN. The endpoint becomes CLOSED by a reset, by an `abort`, if its listener is
+/// closed before it is accepted, if TIME-WAIT is over, if it gives up, and if it sends a reset. TIME-WAIT doesn't
+/// restart. A new endpoint begins in SYN-SENT, or as a child in SYN-RECEIVED. This holds for every step in every world.
 pub fn states_follow()
     ensures { (h : Header) (moment : ℕ) (w : World tcp_shape) (step : Step tcp_shape) → StatesFollow h moment w step }
 {}
 
-/// No step of a run leaves an endpoint's oldest position that is not acknowledged, the position after all that it made,
-/// the next one that it expects of its peer or the greatest that its windows reached below what it was (RFC 9293,
-/// 3.3.1).
+/// No step of a run decreases an endpoint's oldest unacknowledged position, the position after all that it sent, the
+/// next position that it expects from its peer, or the greatest position that its windows reached (RFC 9293, 3.3.1).
 pub fn positions_never_fall()
     ensures { (h : Header) (steps : List (Stamped tcp_shape)) (x : Stamped tcp_shape)
         → Lawful (tcp h) (start (tcp h)) steps →
         Permitted (tcp h) x.moment (world_at_end h steps) x.step → PositionsNeverFall h steps x }
 {}
 
-/// The machine's rules of each step stand in the order of their numbers, after the six of order, so the first that is
-/// broken is the least.
+/// The model's rules of each step are in the order of their numbers, after the six of order. So the first broken rule
+/// is the lowest-numbered one.
 pub fn rules_ascend()
     ensures { RulesAscend }
 {}
 
 /// A copy of a segment that begins more than half the number space below the next position expected is refused: its
-/// sequence number doesn't read as its position any more (RFC 9293, 3.4).
+/// sequence number no longer reads as its position (RFC 9293, 3.4).
 pub fn old_copies_are_refused()
     ensures { (e : Endpoint) (m : Emission) → m.is_reset_reply ≡ false → m.pos + 2 ^ 31 < rcv_nxt e
         → is_bad_number e m ≡ true }
 {}
 
-/// A number of a segment that is heard of a host that is not recorded reads back exactly where it reads as a position
-/// near the one that is awaited, and then as that position (RFC 9293, 3.4). Positions above those that a text can name
-/// aside.
+/// A number of a segment from a host that isn't recorded reads back exactly if it reads as a position near the expected
+/// one, and then as that position (RFC 9293, 3.4). This doesn't cover positions above those that a text can contain.
 pub fn heard_numbers_are_read()
     ensures { (near : ℕ) (base w : Word) → base.0 < 2 ^ 32 → w.0 < 2 ^ 32 → HeardNumbersAreRead near base w }
 {
     numbers_are_found_near();
 }
 
-/// Two answers, and two lists of bytes, states, numbers, names or flags, are the same to the machine exactly where they
-/// are equal. So a call ends with the very answer that it had, and what is compared byte by byte is equal.
+/// Two answers, and two lists of bytes, states, numbers, names or flags, are the same to the model if and only if they
+/// are equal. So a call ends with exactly the answer of its effect, and bytes that compare as the same are equal.
 pub fn sameness_is_equality()
     ensures { SamenessIsEquality }
 {}
