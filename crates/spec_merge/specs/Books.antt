@@ -1,4 +1,4 @@
--- What one host's recorder keeps: a run of that host alone, with the segments that the other host brought.
+-- What one host's recorder stores: a run of that host alone, with the segments delivered from the other host.
 use Rattle.std.specs.Prelude.{◌≡◌, ℕ, nat_eq, true, List, [], ◌∷◌, Option, None, Some}
 use Rattle.indexmap.specs.IndexMap.{insert_entry}
 use Rattle.case_forms.specs.declared.calls.Host.{Host}
@@ -8,19 +8,19 @@ use Rattle.spec_network.specs.Hosts.{Step, Begin, Finish, Effect, At, Called, tu
 use Rattle.spec_network.specs.HostRules.{Permitted}
 use Rattle.spec_network.specs.HostSteps.{after}
 
--- where an entry stands among those of both hosts: its moment, a count of its host, and its host
+-- the place of an entry among those of both hosts: its moment, a count of its host, and its host
 pub record Key : Type 0 where
   pub moment : ℕ
   pub counter : ℕ
   pub host : Host
 
--- a segment of the other host on its way, with the key and the line with which it went out
+-- a segment of the other host in transit, with the key and the line with which it was sent
 pub record Flying (s : Shape) : Type 0 where
   pub key : Key
   pub line : ℕ
   pub emission : s.Emission
 
--- a step of this host, or a segment that the other host brings
+-- a step of this host, or a segment delivered from the other host
 pub data Item (s : Shape) : Type 0 where
   Do : (step : Step s) → Item s
   Bring : (flying : Flying s) → Item s
@@ -30,7 +30,7 @@ pub record Entry (s : Shape) : Type 0 where
   pub key : Key
   pub item : Item s
 
--- the segment stands on that host's wire under its line
+-- the segment is on that host's wire under its line
 abbrev pub bring : (k : Kernel) → Host → Flying k.shape → World k.shape → World k.shape
 bring k host f w =
     record w {
@@ -50,12 +50,12 @@ next_item k h moment w (Bring f) = bring k (other h) f w
 abbrev pub next : (k : Kernel) → Host → World k.shape → Entry k.shape → World k.shape
 next k h w x = next_item k h x.key.moment w x.item
 
--- and after all
+-- and after all entries
 abbrev pub end : (k : Kernel) → Host → World k.shape → List (Entry k.shape) → World k.shape
 end k h w [] = w
 end k h w (x ∷ xs) = end k h (next k h w x) xs
 
--- a call means host h, by itself or by a socket number of its lane
+-- a call applies to host h, directly or by a socket number of its lane
 abbrev pub Aims : Host → Aim → Type 0
 Aims h (ThatHost host) = host ≡ h
 Aims h (ThatSocket n) = lane n ≡ h
@@ -69,12 +69,12 @@ OwnStep k h w (Effect t answer) =
     → lane n ≡ h)
 OwnStep k h w (At host d) = host ≡ h
 
--- a step is permitted and this host's own; any segment may be brought
+-- a step is permitted and this host's own; any segment may be delivered
 abbrev pub FitsItem : (k : Kernel) → Host → ℕ → World k.shape → Item k.shape → Type 0
 FitsItem k h moment w (Do step) = Permitted k moment w step × OwnStep k h w step
 FitsItem k h moment w (Bring f) = Unit {0}
 
--- all socket numbers that the host gave are of its lane
+-- all socket numbers that the host returned are of its lane
 abbrev pub InLane : (k : Kernel) → Host → World k.shape → Type 0
 InLane k h w = (n : ℕ) → k.given (pick w.hosts h).body n ≡ true → lane n ≡ h
 
@@ -83,7 +83,7 @@ abbrev pub HostRun : (k : Kernel) → Host → World k.shape → List (Entry k.s
 HostRun k h w [] = Unit {0}
 HostRun k h w (x ∷ xs) = FitsItem k h x.key.moment w x.item × InLane k h (next k h w x) × HostRun k h (next k h w x) xs
 
--- the line that a host's deed takes
+-- the line that a host's deed uses
 abbrev pub deed_line : (k : Kernel) → Deed k.shape → Option ℕ
 deed_line k (Expires line x) = Some line
 deed_line k (Sends line number wire) = Some line
@@ -91,14 +91,14 @@ deed_line k (Gets line copied wire) = Some line
 deed_line k (Hears line wire) = Some line
 deed_line k d = None
 
--- the line that a step takes
+-- the line that a step uses
 abbrev pub step_line : (k : Kernel) → Step k.shape → Option ℕ
 step_line k (Begin line t call) = Some line
 step_line k (Finish line t answer) = Some line
 step_line k (Effect t answer) = None
 step_line k (At host d) = deed_line k d
 
--- the line that an item takes
+-- the line that an item uses
 abbrev pub item_line : (k : Kernel) → Item k.shape → Option ℕ
 item_line k (Do step) = step_line k step
 item_line k (Bring f) = None

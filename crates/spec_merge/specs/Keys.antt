@@ -9,12 +9,12 @@ use Rattle.spec_network.specs.Hosts.{Kernel, World}
 use Rattle.spec_network.specs.HostSteps.{start}
 use Rattle.spec_merge.specs.Books.{Key, Item, Do, Bring, Entry, HostRun, item_line, end}
 
--- hosts in their order
+-- hosts in order
 abbrev pub rank : Host → ℕ
 rank Zero = 0
 rank One = 1
 
--- whether three numbers come before three others, the first of them that differ deciding
+-- whether three numbers come before three others, decided by the first that differ
 abbrev pub lesser : ℕ → ℕ → ℕ → ℕ → ℕ → ℕ → Bool
 lesser a b c x y z =
     if nat_lt a x then true else if nat_lt x a then false else if nat_lt b y then true else if nat_lt y b then false
@@ -24,8 +24,8 @@ lesser a b c x y z =
 abbrev pub before : Key → Key → Bool
 before a b = lesser a.moment a.counter (rank a.host) b.moment b.counter (rank b.host)
 
--- an entry among those of the other host, in front of the first whose key is above its own; `rest` merges what stands
--- behind it
+-- an entry merged into those of the other host, before the first whose key is above its own; `rest` merges what follows
+-- it
 abbrev pub merge_with : (k : Kernel) → Entry k.shape → (List (Entry k.shape) → List (Entry k.shape))
     → List (Entry k.shape) → List (Entry k.shape)
 merge_with k x rest [] = x ∷ rest []
@@ -36,17 +36,17 @@ abbrev pub merge : (k : Kernel) → List (Entry k.shape) → List (Entry k.shape
 merge k [] ys = ys
 merge k (x ∷ xs) ys = merge_with k x (merge k xs) ys
 
--- what holds where there is no number, and of a number
+-- one property if there is no number, and another of a number
 abbrev pub If : Option ℕ → Type 0 → (ℕ → Type 0) → Type 0
 If None none some = none
 If (Some n) none some = some n
 
--- the lines of these entries are numbered on from n
+-- the lines of these entries are numbered consecutively from n
 abbrev pub Numbered : (k : Kernel) → ℕ → List (Entry k.shape) → Type 0
 Numbered k n [] = Unit {0}
 Numbered k n (x ∷ xs) = If (item_line k x.item) (Numbered k n xs) (λ line. (line ≡ n) × Numbered k (suc n) xs)
 
--- something holds of each entry
+-- each entry has the property
 abbrev pub EachEntry : (k : Kernel) → (Entry k.shape → Type 0) → List (Entry k.shape) → Type 0
 EachEntry k P [] = Unit {0}
 EachEntry k P (x ∷ xs) = P x × EachEntry k P xs
@@ -56,8 +56,7 @@ abbrev pub KeysRise : (k : Kernel) → Host → List (Entry k.shape) → Type 0
 KeysRise k h [] = Unit {0}
 KeysRise k h (x ∷ xs) = (x.key.host ≡ h) × EachEntry k (λ y. before y.key x.key ≡ false) xs × KeysRise k h xs
 
--- a segment that is brought has a key above that of its line, and is the one that stands on host o's last wire under
--- that line;
+-- a segment that is delivered has a key above that of its line, and is the one on host o's last wire under that line;
 -- each entry of host o's book with that line has that key
 abbrev pub NamesOne : (k : Kernel) → Host → World k.shape → List (Entry k.shape) → Key → Item k.shape → Type 0
 NamesOne k o last ys key (Do step) = Unit {0}
@@ -65,8 +64,8 @@ NamesOne k o last ys key (Bring f) =
     (before f.key key ≡ true) × (lookup (nat_eq f.line) (pick last.hosts o).wire ≡ Some f.emission) ×
     EachEntry k (λ y. item_line k y.item ≡ Some f.line → y.key ≡ f.key) ys
 
--- entries of host h are a book, from this world and line number on, beside what is left of host o's book, which ends in
--- the world `last`
+-- entries of host h are a book, from this world and line number on, matching what is left of host o's book, which ends
+-- in the world `last`
 pub record Book (k : Kernel) (h o : Host) (w : World k.shape) (n : ℕ) (xs : List (Entry k.shape))
     (last : World k.shape) (ys : List (Entry k.shape)) : Type 0 where
   pub runs : HostRun k h w xs
@@ -74,7 +73,7 @@ pub record Book (k : Kernel) (h o : Host) (w : World k.shape) (n : ℕ) (xs : Li
   pub keys : KeysRise k h xs
   pub arrivals : EachEntry k (λ x. NamesOne k o last ys x.key x.item) xs
 
--- two finished books, each beside the other, whose event lines are numbered from the first on
+-- two finished books that match each other, whose event lines are numbered from the first on
 abbrev pub Books : (k : Kernel) → ℕ → List (Entry k.shape) → List (Entry k.shape) → Type 0
 Books k first xs ys =
     Book k Zero One (start k) first xs (end k One (start k) ys) ys

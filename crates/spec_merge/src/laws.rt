@@ -1,4 +1,4 @@
-//! What two recordings say together, for callers that prove more: each law is the contract of a call that does nothing.
+//! What follows from two recordings, for callers that prove more: each law is the contract of a call that does nothing.
 
 ghost use Rattle.std.specs.Prelude.{◌≡◌, ◌++◌, ◌∷◌, [], List, ℕ, false};
 ghost use Rattle.case_forms.specs.Versions.{is_half};
@@ -22,16 +22,16 @@ use spec_tcp_laws::{
     windows_follow,
 };
 
-/// Two books beside each other, merged in the order of their keys with lines and made segments counted anew, are a run,
-/// and a placement of the lines that they take: each line once, in their order, at its own moment.
+/// Two matching books, merged in the order of their keys with lines and built segments renumbered, are a run, and a
+/// placement of the lines that it uses: each line once, in order, at its own moment.
 pub fn merged_books_are_a_run()
     ensures { (h : Header) (first : ℕ) (zeros ones : List TcpEntry) → Books (tcp h) first zeros ones →
         IsPlacedRun (tcp h) h.skew first (merged_lines h first zeros ones) (merged h first zeros ones) }
 {}
 
-/// A host's recording grows at its end. What may join leaves it kept; its world and the number of its next line go on
-/// from where they were; what each host kept, with segments brought that the other host sent, are two books beside each
-/// other.
+/// A host's recording grows at its end. Appending what may join keeps it a recording; its world and the number of its
+/// next line continue from where they were. The recordings of two hosts are matching books if every segment that
+/// arrived at one is one that the other sent.
 pub fn books_grow()
     ensures grows { (h : Header) (me : Host) (first : ℕ) (old new : List TcpEntry) → IsKept h me first old
         → MayJoin h me first old new →
@@ -45,11 +45,10 @@ pub fn books_grow()
         NamesSent h One zeros ones → NamesSent h Zero ones zeros → Books (tcp h) first zeros ones }
 {}
 
-/// What two books say, merged, has the consequences of every run of a whole case, at its end and after any of its first
-/// steps: what reads
-/// were told is a prefix of what the peer's sends accepted, and all of these once a read was told the end; what a
-/// step leaves acknowledged, but for the SYN, the peer had taken before it; new data fits both windows; and windows
-/// change by their causes alone, by the RFC that the header names.
+/// Two books, merged, have the consequences of every run of a whole case, at its end and after any of its first steps.
+/// What reads returned is a prefix of what the peer's sends accepted, and all of it once a read returned the end. What
+/// a step leaves acknowledged, except the SYN, the peer had received before it. New data fits both windows. Windows
+/// change only by their causes, by the profile that the header names.
 pub fn merged_books_have_the_consequences()
     ensures received { (h : Header) → is_half h.version ≡ false
         → (first : ℕ) (zeros ones : List TcpEntry) (steps : List (Stamped tcp_shape)) →
