@@ -1,7 +1,7 @@
 //! A segment arrives (RFC 9293, 3.10.7).
 //!
-//! - `listen`: in LISTEN, where a child is made (3.10.7.2)
-//! - `syn_sent`: in SYN-SENT, where the peer is met (3.10.7.3)
+//! - `listen`: in LISTEN, where a child is created (3.10.7.2)
+//! - `syn_sent`: in SYN-SENT, where the peer's SYN is received (3.10.7.3)
 //! - `other_states`: in any other state (3.10.7.4)
 
 ghost use Rattle.case_forms.specs.States.{is_closed};
@@ -21,9 +21,9 @@ use case_forms::{Header, TakeChoice};
 use segment::OutOfMemory;
 use spec_tcp::{Arrived, Endpoint};
 
-/// An endpoint takes a segment at a moment in microseconds, in every state but CLOSED (RFC 9293, 3.10.7). If memory
-/// runs out, the endpoint stays as it was. The segment is not tested here: the `admits_` functions say whether it may
-/// be taken.
+/// An endpoint processes a segment at a moment in microseconds, in every state but CLOSED (RFC 9293, 3.10.7). If memory
+/// runs out, the endpoint doesn't change. The segment is not tested here: the `admits_` functions say whether it may be
+/// processed.
 pub fn take_segment(
     header: &Header,
     endpoint: &mut Endpoint,

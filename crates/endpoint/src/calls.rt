@@ -1,8 +1,8 @@
-//! What socket calls may be answered at one endpoint (RFC 9293, 3.10.1 to 3.10.6).
+//! Which answers socket calls may have at one endpoint (RFC 9293, 3.10.1 to 3.10.6).
 //!
-//! - `accept`: what may be answered at a listener, and an endpoint that is accepted
-//! - `send`, `receive`: SEND and RECEIVE, and the endpoint then
-//! - `close`: CLOSE and ABORT, and the endpoint then
+//! - `accept`: the answers at a listener, and an endpoint that is accepted
+//! - `send`, `receive`: SEND and RECEIVE, and the endpoint afterwards
+//! - `close`: CLOSE and ABORT, and the endpoint afterwards
 
 ghost use Rattle.spec_tcp.specs.Calls.Await.{await_allows, is_not_connected, tells, tells_fault, is_closed_answer};
 ghost use Rattle.spec_tcp.specs.Calls.{endpoint_allows};

@@ -1,17 +1,17 @@
-//! What one endpoint does at each event of RFC 9293, 3.10. In each file the rules of an event and its effect stand
-//! beside each other; the definitions that their contracts cite stand in the crate `spec_tcp`, in files of the same
-//! names in `specs/`.
+//! What one endpoint does at each event of RFC 9293, 3.10. Each file has the rules of an event and its effect. The
+//! contracts use definitions of the crate `spec_tcp`, in files of the same names in `specs/`.
 //!
-//! - `calls`: what socket calls may be answered, and what they do (3.10.1 to 3.10.6)
-//! - `makes`: a segment is made (3.8, 3.10)
+//! - `calls`: the answers of socket calls, and what they do (3.10.1 to 3.10.6)
+//! - `makes`: a segment is built (3.8, 3.10)
 //! - `arrives`: a segment arrives (3.10.7): in LISTEN, in SYN-SENT, and in the other states, in the order of the RFC
 //! - `timeouts`: a timer expires (3.10.8); `recovery`: fast recovery begins (RFC 5681, 3.2)
-//! - `reset`: the reset that answers a segment (3.5.2); `wire`: segments as bytes on the wire (3.1)
-//! - `signals`: what any of these is to congestion control
-//! - `same`: comparisons that the rules speak of
+//! - `reset`: the reset in answer to a segment (3.5.2); `wire`: segments as bytes on the wire (3.1)
+//! - `signals`: how congestion control sees these events
+//! - `same`: the comparisons in the rules
 //!
-//! An error is the first rule that is broken, by the order of `Rule`. An effect tests nothing again: its caller tested
-//! the rules. How endpoints are found, and what is under numbers of lines and of made segments, is `endpoint_state`'s.
+//! An error is the first rule that is broken, in the order of `Rule`. An effect doesn't repeat the tests: its caller
+//! tested the rules. `endpoint_state` finds endpoints, and has the tables by line numbers and numbers of built
+//! segments.
 #![tactic(auto)]
 
 mod arrives;

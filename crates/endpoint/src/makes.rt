@@ -1,6 +1,6 @@
-//! A segment is made (RFC 9293, 3.8 and 3.10): all rules in their order, and the endpoint then.
+//! A segment is built (RFC 9293, 3.8 and 3.10): all rules in their order, and the endpoint afterwards.
 //!
-//! - `kind`: which kinds of segments a state makes
+//! - `kind`: which kinds of segments a state may send
 //! - `payload`: the bytes of a segment, and where they begin
 //! - `edges`: its acknowledgment, and the windows in which its bytes end
 
@@ -27,7 +27,7 @@ use std::alloc::Global;
 use timer_rules::Timers;
 use verdict::Rule;
 
-/// Whether an endpoint may make a segment; else the first rule that it breaks, in the order of `Rule`.
+/// Whether an endpoint may build a segment; the error is the first rule that it breaks, in the order of `Rule`.
 pub fn admits_making(endpoint: &Endpoint, making: &SegmentPlan) -> Result<(), Rule>
     requires { IsSmall endpoint.now making.now }
     ensures { result_err result ≡ first_broken (making_rules endpoint.now making.now) }
@@ -62,8 +62,8 @@ pub fn admits_making(endpoint: &Endpoint, making: &SegmentPlan) -> Result<(), Ru
     Ok(())
 }
 
-/// Makes a segment at an endpoint of this name, at a moment in microseconds. If memory runs out, the endpoint stays as
-/// it was. The segment is not tested here: `admits_making` says whether it may be made.
+/// Builds a segment at the endpoint with this identity, at a moment in microseconds. If memory runs out, the endpoint
+/// doesn't change. The segment is not tested here: `admits_making` says whether it may be built.
 pub fn make(
     alloc: Global,
     endpoint: &mut Endpoint,
@@ -122,7 +122,7 @@ fn emission_of(
     })
 }
 
-// What the endpoint has then, but for a reset.
+// The endpoint afterwards, except for a reset.
 fn change(endpoint: &mut Endpoint, making: &SegmentPlan, moment: u64) -> Result<(), OutOfMemory>
     requires { IsSmall endpoint.old making.now }
     ensures ok { OnOk result (endpoint.new ≡ endpoint_made endpoint.old making.now moment) }

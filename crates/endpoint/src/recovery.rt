@@ -15,7 +15,7 @@ use spec_tcp::Endpoint;
 use verdict::Rule;
 use window_rules::GREATEST_WINDOW;
 
-/// Whether fast recovery may begin at an endpoint, with this congestion window and slow start threshold (in bytes). An
+/// Whether fast recovery may begin at an endpoint, with this congestion window and slow start threshold (in bytes). The
 /// error is the first rule that is broken.
 pub fn admits_recovery(
     endpoint: &Endpoint,
@@ -73,8 +73,8 @@ pub fn greatest_at_recovery(endpoint: &Endpoint, moment: u64) -> (u64, u64)
     )
 }
 
-/// Fast recovery begins: the congestion window and the slow start threshold are these, in bytes, and all that was made
-/// may be made again (RFC 5681, 3.2, steps 2 and 3).
+/// Fast recovery begins: the congestion window and the slow start threshold become these, in bytes, and all that was
+/// sent may be retransmitted (RFC 5681, 3.2, steps 2 and 3).
 pub fn recover(endpoint: &mut Endpoint, cwnd: u32, ssthresh: u32, moment: u64)
     requires { HasRoom endpoint.old }
     ensures { endpoint.new ≡ forget_endpoint (after_recovery endpoint.old cwnd ssthresh moment) }

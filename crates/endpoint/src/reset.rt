@@ -1,4 +1,4 @@
-//! The reset that answers a segment (RFC 9293, 3.5.2).
+//! The reset in answer to a segment (RFC 9293, 3.5.2).
 
 ghost use Rattle.spec_tcp.specs.Bounds.{IsSmallEmission};
 ghost use Rattle.spec_tcp.specs.Reset.{reset_of};
@@ -14,8 +14,8 @@ use std::alloc::Global;
 /// How many numbers there are.
 const TURN: u128 = 1 << 32;
 
-/// The reset: at the number that the segment acknowledges, or at 0 with an acknowledgment of all its positions. It
-/// takes no memory.
+/// The reset: at the number that the segment acknowledges, or at 0 with an acknowledgment of all its positions. Uses no
+/// memory.
 pub fn reset_of(alloc: Global, m: &Emission) -> Emission
     ensures reset { result ≡ reset_of m.now }
     ensures small { IsSmallEmission result }
@@ -49,7 +49,7 @@ pub fn reset_of(alloc: Global, m: &Emission) -> Emission
     }
 }
 
-// The number so many positions further.
+// The number this many positions further.
 fn number_behind(base: Word, length: u128) -> Word
     ensures { result ≡ number_of base length }
 {

@@ -1,4 +1,4 @@
-//! Comparisons that the rules speak of.
+//! The comparisons in the rules.
 
 ghost use Rattle.spec_tcp.specs.Same.{same_bool, same_word, same_name};
 ghost use Rattle.std.specs.Prelude.{◌≡◌};

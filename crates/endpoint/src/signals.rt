@@ -1,5 +1,5 @@
-//! What happens to an endpoint, as its congestion control sees it: nothing else distinguishes one kind of event from
-//! another for it (RFC 5681, 3.1 and 3.2).
+//! Events at an endpoint as its congestion control sees them: nothing else distinguishes kinds of events for it (RFC
+//! 5681, 3.1 and 3.2).
 
 ghost use Rattle.spec_tcp.specs.Signals.{at_moment, recovery_signal, signal_at_syn};
 ghost use Rattle.spec_tcp.specs.Signals.{signal_in_other_states, signal_of, timeout_signal, told_smss};
@@ -22,7 +22,7 @@ pub(crate) fn at_moment(endpoint: &Endpoint, moment: u64) -> At
     }
 }
 
-/// The segment size in bytes that a SYN brings, 536 if it has none or 0 (RFC 9293, 3.7.1).
+/// The segment size in bytes that a SYN carries, 536 if it has none or 0 (RFC 9293, 3.7.1).
 pub(crate) fn told_smss(told: Option<u16>) -> u32
     ensures { result ≡ told_smss told }
 {
@@ -32,7 +32,7 @@ pub(crate) fn told_smss(told: Option<u16>) -> u32
     }
 }
 
-/// What a segment that is taken is to congestion control.
+/// How congestion control sees a segment that is processed.
 pub(crate) fn signal_of(endpoint: &Endpoint, m: &Arrived<'_>) -> Signal
     ensures value { result ≡ signal_of endpoint.now m.now }
     ensures fit { m.now.ack < 2 ^ 63 → IsFit result }
@@ -81,7 +81,7 @@ fn signal_in_other_states(endpoint: &Endpoint, m: &Arrived<'_>) -> Signal
     }
 }
 
-/// What an expiry of the retransmission timer is to congestion control.
+/// How congestion control sees an expiry of the retransmission timer.
 pub(crate) fn timeout_signal(endpoint: &Endpoint) -> Signal
     ensures value { result ≡ timeout_signal endpoint.now }
     ensures fit { IsFit result }
@@ -93,8 +93,7 @@ pub(crate) fn timeout_signal(endpoint: &Endpoint) -> Signal
     }
 }
 
-/// What the beginning of fast recovery is to congestion control, with the slow start threshold that is chosen, in
-/// bytes.
+/// How congestion control sees the beginning of fast recovery, with the chosen slow start threshold in bytes.
 pub(crate) fn recovery_signal(endpoint: &Endpoint, ssthresh: u32) -> Signal
     ensures value { result ≡ recovery_signal endpoint.now ssthresh }
     ensures fit { IsFit result }
@@ -105,7 +104,7 @@ pub(crate) fn recovery_signal(endpoint: &Endpoint, ssthresh: u32) -> Signal
     }
 }
 
-/// The greatest congestion window in bytes that an endpoint may have once it took the segment, at a moment in
+/// The greatest congestion window in bytes that an endpoint may have after it processed the segment, at a moment in
 /// microseconds.
 pub fn greatest_taking(endpoint: &Endpoint, m: &Arrived<'_>, moment: u64) -> u64
     ensures { result ≡
@@ -118,7 +117,7 @@ pub fn greatest_taking(endpoint: &Endpoint, m: &Arrived<'_>, moment: u64) -> u64
         .0
 }
 
-/// Congestion control once an endpoint took the segment, at a moment in microseconds.
+/// Congestion control after an endpoint processed the segment, at a moment in microseconds.
 pub(crate) fn control_taken(
     endpoint: &Endpoint,
     how: TakeChoice,

@@ -1,4 +1,4 @@
-//! A timer expires (RFC 9293, 3.10.8): which may, and the endpoint then.
+//! A timer expires (RFC 9293, 3.10.8): which ones may, and the endpoint afterwards.
 
 ghost use Rattle.case_forms.specs.declared.timer.Timer.TheVariants.{Giveup};
 ghost use Rattle.spec_tcp.specs.Bounds.{HasRoom};
@@ -20,8 +20,8 @@ use spec_tcp::{Endpoint, Fault};
 use timer_rules::{TimerFault, Timers};
 use verdict::Rule;
 
-/// Whether a timer may expire at an endpoint at this moment, in microseconds; the retransmission timer with what is
-/// chosen there. An error is the first rule that is broken.
+/// Whether a timer may expire at an endpoint at this moment, in microseconds; the retransmission timer with the values
+/// chosen then. The error is the first rule that is broken.
 pub fn admits_expiry(
     header: &Header,
     moment: u64,
@@ -46,7 +46,7 @@ pub fn admits_expiry(
     Ok(())
 }
 
-// Whether what is chosen at the retransmission timer is above what it may be.
+// Whether the values chosen at the retransmission timer are above the greatest allowed.
 fn grows_above(endpoint: &Endpoint, expired: Expired, moment: u64) -> bool
     ensures { result ≡ grows_above endpoint.now expired moment }
 {
@@ -56,7 +56,7 @@ fn grows_above(endpoint: &Endpoint, expired: Expired, moment: u64) -> bool
     }
 }
 
-/// The greatest congestion window and the greatest slow start threshold, in bytes, that an endpoint may have once its
+/// The greatest congestion window and the greatest slow start threshold, in bytes, that an endpoint may have after its
 /// retransmission timer expired at a moment in microseconds (RFC 5681, 3.1).
 pub fn greatest_values(endpoint: &Endpoint, moment: u64) -> (u64, u64)
     ensures { result ≡ greatest_values endpoint.now moment }
@@ -87,7 +87,7 @@ fn is_off(endpoint: &Endpoint, timer: Timer) -> bool
     }
 }
 
-/// Whether data or the FIN is unsent or not acknowledged.
+/// Whether data or the FIN is unsent or unacknowledged.
 pub fn has_more(endpoint: &Endpoint) -> bool
     ensures { result ≡ has_more endpoint.now }
 {
@@ -129,9 +129,9 @@ fn is_refused_early(timers: &Timers, timer: Timer, moment: u64, header: &Header)
     )
 }
 
-/// A timer expires at a moment in microseconds. After the retransmission timer the congestion window and the slow start
-/// threshold are those that are chosen, in bytes, and all that was made may be made again; after the persist timer a
-/// probe is due; the wait in TIME-WAIT is over, or the endpoint gives up, with a reset that is due.
+/// A timer expires at a moment in microseconds. After the retransmission timer, the congestion window and the slow
+/// start threshold are the chosen ones, in bytes, and all that was sent may be retransmitted. After the persist timer,
+/// a probe is due. Otherwise, the wait in TIME-WAIT is over, or the endpoint gives up and a reset is due.
 pub fn expire(endpoint: &mut Endpoint, expired: Expired, moment: u64)
     requires { HasRoom endpoint.old }
     ensures { endpoint.new ≡ forget_endpoint (after_expiry endpoint.old expired moment) }

@@ -15,17 +15,17 @@ use spec_tcp::{Emission, EndpointId};
 use std::alloc::Global;
 use verdict::Rule;
 
-/// All that comes from the host that is not recorded has this sender.
+/// Every segment from the host that is not recorded has this sender.
 const FAR_NAME: EndpointId = EndpointId {
     host: Host::One,
     number: 0,
 };
 
-/// No segment carries more bytes.
+/// No segment carries more bytes than this.
 const MOST_BYTES: usize = 65_535;
 
-// Whether the segment's fields are those of the made one: the acknowledgment number if there is one, the window of all
-// but a reset that answers.
+// Whether the segment's fields are those of the built one: the acknowledgment number if it has one, the window of all
+// except a reset in answer to a segment.
 fn header_matches(segment: &Segment, m: &Emission) -> bool
     ensures { result ≡ header_matches segment.now m.now }
 {
@@ -45,7 +45,7 @@ fn same_bytes(a: &[u8], b: &[u8]) -> bool
     a == b
 }
 
-// The flags ACK, RST, SYN and FIN alone.
+// Only the flags ACK, RST, SYN and FIN.
 fn same_flags(segment: &Segment, flags: Flags) -> bool
     ensures { result ≡ same_flags segment.now flags }
 {
@@ -55,7 +55,7 @@ fn same_flags(segment: &Segment, flags: Flags) -> bool
         && same_bool(segment.has(Flag::Fin), flags.fin)
 }
 
-// A SYN tells the shift that its sender gave, or none. A byte above 14 is read as 14 (RFC 7323, 2.3).
+// A SYN carries the shift that its sender gave, or none. A byte above 14 is read as 14 (RFC 7323, 2.3).
 fn shift_matches(segment: &Segment, m: &Emission) -> bool
     ensures { result ≡ shift_matches segment.now m.now }
 {
@@ -66,7 +66,7 @@ fn shift_matches(segment: &Segment, m: &Emission) -> bool
     }
 }
 
-/// Whether the segment on the wire is the made one. Shifts are looked at if windows may be scaled.
+/// Whether the segment on the wire is the built one. Shifts are compared if windows may be scaled.
 pub fn matches_sent(header: &Header, wire: &Wire, m: &Emission) -> bool
     ensures { result ≡ matches_sent header.now wire.now m.now }
 {
@@ -74,8 +74,8 @@ pub fn matches_sent(header: &Header, wire: &Wire, m: &Emission) -> bool
         && (!(header.version.scales() && m.flags.syn) || shift_matches(&wire.seg, m))
 }
 
-/// The made segment once it went out, at a moment in microseconds: with its bytes, and the MSS and the shift that they
-/// tell. An error: memory ran out.
+/// The built segment after it was sent, at a moment in microseconds: with its bytes, and the MSS and the shift in its
+/// options. The error means that memory ran out.
 pub fn sent(moment: u64, wire: &Wire, m: &Emission) -> Result<Emission, OutOfMemory>
     ensures sent { IfOk result (λ x. x ≡ sent moment wire.now m.now) }
     ensures small { IsSmallEmission m.now → IfOk result IsSmallEmission }
@@ -86,7 +86,7 @@ pub fn sent(moment: u64, wire: &Wire, m: &Emission) -> Result<Emission, OutOfMem
     Ok(with_bytes(m, payload, bytes, told, moment))
 }
 
-/// As `sent`, of a wire that is given away and has the payload of the made segment: its parts are kept, and nothing is
+/// Like `sent`, for an owned wire that has the payload of the built segment: its parts are moved, and nothing is
 /// copied.
 pub fn sent_owned(moment: u64, wire: Wire, m: &Emission) -> Emission
     requires { wire.seg.payload ≡ m.now.payload }
@@ -97,8 +97,8 @@ pub fn sent_owned(moment: u64, wire: Wire, m: &Emission) -> Emission
     with_bytes(m, seg.payload, bytes, (seg.mss, seg.scale), moment)
 }
 
-/// An equal segment, of a wire that is given away and has its bytes: they are kept, and so is the payload if the
-/// segment has the same. An error: memory ran out.
+/// An equal segment, from an owned wire that has its bytes: they are moved, and so is the payload if the segment has
+/// the same. The error means that memory ran out.
 pub fn copy_owned(wire: Wire, m: &Emission) -> Result<Emission, OutOfMemory>
     requires { wire.bytes ≡ m.now.bytes }
     ensures { IfOk result (λ x. x ≡ m.now) }
@@ -108,7 +108,7 @@ pub fn copy_owned(wire: Wire, m: &Emission) -> Result<Emission, OutOfMemory>
     Ok(with_bytes(m, payload, bytes, (m.mss, m.scale), m.moment))
 }
 
-// These bytes if they are the wanted ones, else a copy of those.
+// These bytes if they are the required ones, else a copy of those.
 fn same_or_copy(bytes: Bytes, wanted: &Bytes) -> Result<Bytes, OutOfMemory>
     ensures { IfOk result (λ kept. kept ≡ wanted.now) }
 {
@@ -119,8 +119,8 @@ fn same_or_copy(bytes: Bytes, wanted: &Bytes) -> Result<Bytes, OutOfMemory>
     }
 }
 
-// A segment with this payload, on the wire at a moment in microseconds: with its bytes, and the MSS and the shift that
-// they tell.
+// A segment with this payload, on the wire at a moment in microseconds: with its bytes, and the MSS and the shift in
+// its options.
 #[inline(always)]
 fn with_bytes(
     m: &Emission,
@@ -159,8 +159,8 @@ fn with_bytes(
     }
 }
 
-/// What is heard of a host that is not recorded, at a moment in microseconds: a segment as its bytes tell it. An error:
-/// memory ran out.
+/// A segment heard from a host that is not recorded, at a moment in microseconds: its fields are those of its bytes.
+/// The error means that memory ran out.
 pub fn heard(alloc: Global, moment: u64, wire: &Wire) -> Result<Emission, OutOfMemory>
     ensures heard { IfOk result (λ m. m ≡ heard moment wire.now) }
     ensures small { IfOk result IsSmallEmission }
@@ -188,7 +188,7 @@ pub fn heard(alloc: Global, moment: u64, wire: &Wire) -> Result<Emission, OutOfM
     })
 }
 
-// As many of these bytes as a segment carries.
+// As many of these bytes as a segment can carry.
 #[tactic(auto, using(std::proofs::lemmas::List::take_min))]
 fn carried(payload: &[u8]) -> &[u8]
     ensures bytes { result.now ≡ take most_bytes payload.now }
@@ -208,8 +208,8 @@ fn told_flags(segment: &Segment) -> Flags
     }
 }
 
-/// Whether what comes in at a moment, in microseconds, is a copy of a segment that went out, at most the maximum
-/// segment lifetime later (RFC 9293, 3.4.2). An error is the first rule that is broken.
+/// Whether what arrives at a moment, in microseconds, is a copy of a segment that was sent, at most the maximum segment
+/// lifetime later (RFC 9293, 3.4.2). The error is the first rule that is broken.
 pub fn admits_copy(header: &Header, moment: u64, wire: &Wire, m: &Emission) -> Result<(), Rule>
     ensures { result_err result ≡ first_broken (in_rules header.now moment wire.now m.now) }
 {
@@ -222,8 +222,8 @@ pub fn admits_copy(header: &Header, moment: u64, wire: &Wire, m: &Emission) -> R
     Ok(())
 }
 
-/// Whether a moment, in microseconds, is more than the maximum segment lifetime after the segment was made
-/// (RFC 9293, 3.4.2).
+/// Whether a moment, in microseconds, is more than the maximum segment lifetime after the segment was built (RFC 9293,
+/// 3.4.2).
 pub fn is_past_lifetime(header: &Header, moment: u64, m: &Emission) -> bool
     ensures { result ≡ nat_lt (m.now.moment + header.now.msl) moment }
 {

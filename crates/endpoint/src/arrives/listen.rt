@@ -13,7 +13,7 @@ use std::alloc::Global;
 use verdict::Rule;
 use window_rules::{Control, Profile, Signal};
 
-/// Whether a listener may take the segment: a SYN that is neither acknowledgment nor reset (RFC 9293, 3.10.7.2). An
+/// Whether a listener may process the segment: a SYN that is neither acknowledgment nor reset (RFC 9293, 3.10.7.2). The
 /// error is the first rule that is broken.
 pub fn admits_listening(how: TakeChoice, m: &Emission) -> Result<(), Rule>
     ensures { result_err result ≡ first_broken (listener_rules how m.now) }
@@ -30,8 +30,8 @@ pub fn admits_listening(how: TakeChoice, m: &Emission) -> Result<(), Rule>
     Ok(())
 }
 
-/// A child of the listener at this place, which took the peer's SYN at a moment in microseconds (RFC 9293, 3.10.7.2).
-/// Its congestion control goes by this profile.
+/// A child of the listener at this place, which received the peer's SYN at a moment in microseconds (RFC 9293,
+/// 3.10.7.2). Its congestion control follows this profile.
 pub fn child(
     alloc: Global,
     profile: Profile,

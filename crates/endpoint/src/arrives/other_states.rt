@@ -1,7 +1,7 @@
 //! A segment arrives in any other state (RFC 9293, 3.10.7.4).
 //!
 //! In the order of the RFC: `sequence` (first), `reset` (second), `ack` (fifth), `text` (seventh), `fin` (eighth).
-//! Beside them `peer`: whose segment it is; `timers`, `window`: what these are then.
+//! The others are `peer`: whose segment it is; and `timers`, `window`: their values afterwards.
 
 ghost use Rattle.spec_tcp.specs.Arrives.OtherStates.{taken, rules_with_queue};
 ghost use Rattle.spec_tcp.specs.Bounds.{HasRoom, IsSmallEmission};
@@ -38,8 +38,8 @@ use segment::OutOfMemory;
 use spec_tcp::{Arrived, Endpoint, EndpointId};
 use verdict::Rule;
 
-/// Whether an endpoint in any other state but CLOSED may take the segment (RFC 9293, 3.10.7.4). `full`: it is a child
-/// that would join a full queue. An error is the first rule that is broken.
+/// Whether an endpoint in any other state but CLOSED may process the segment (RFC 9293, 3.10.7.4). `full`: it is a
+/// child that would join a full queue. The error is the first rule that is broken.
 pub fn admits_connected(
     header: &Header,
     full: bool,
@@ -78,7 +78,7 @@ pub fn admits_connected(
     Ok(())
 }
 
-/// What the endpoint has then, at a moment in microseconds. If memory runs out, it stays as it was.
+/// The endpoint after the segment, at a moment in microseconds. If memory runs out, it doesn't change.
 pub(crate) fn taken(
     header: &Header,
     endpoint: &mut Endpoint,

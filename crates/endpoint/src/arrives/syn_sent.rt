@@ -1,4 +1,4 @@
-//! A segment arrives in SYN-SENT (RFC 9293, 3.10.7.3): the peer is met.
+//! A segment arrives in SYN-SENT (RFC 9293, 3.10.7.3): the peer's SYN is received.
 
 ghost use Rattle.case_forms.specs.declared.calls.State.TheVariants as states;
 ghost use Rattle.streams.specs.Received as received;
@@ -26,7 +26,7 @@ use spec_tcp::{Arrived, Endpoint, SendWindow};
 use timer_rules::Timers;
 use verdict::Rule;
 
-/// Whether an endpoint in SYN-SENT may take the segment (RFC 9293, 3.10.7.3). An error is the first rule that is
+/// Whether an endpoint in SYN-SENT may process the segment (RFC 9293, 3.10.7.3). The error is the first rule that is
 /// broken.
 pub fn admits_syn_sent(
     endpoint: &Endpoint,
@@ -54,7 +54,7 @@ pub fn admits_syn_sent(
     Ok(())
 }
 
-// Whether it acknowledges, in SYN-SENT, the endpoint's SYN, which is all that was made.
+// Whether it acknowledges, in SYN-SENT, the endpoint's SYN, which is all that was sent.
 fn answers_syn(endpoint: &Endpoint, m: &Arrived<'_>) -> bool
     ensures { result ≡ answers_syn endpoint.now m.now }
 {
@@ -78,7 +78,7 @@ pub fn completes_handshake(endpoint: &Endpoint, m: &Arrived<'_>) -> bool
     endpoint.state.is_syn_received() && acknowledges_syn(endpoint, m)
 }
 
-/// In SYN-SENT the peer's SYN is taken: ESTABLISHED with an acknowledgment, else SYN-RECEIVED.
+/// In SYN-SENT the peer's SYN is received: ESTABLISHED with an acknowledgment, else SYN-RECEIVED.
 pub(crate) fn on_syn(
     header: &Header,
     endpoint: &mut Endpoint,
@@ -145,8 +145,8 @@ fn window_after_syn(endpoint: &Endpoint, m: &Arrived<'_>) -> SendWindow
     window
 }
 
-// The timers once the peer's SYN was taken in SYN-SENT. A round trip is that of the own SYN, while it is not
-// acknowledged.
+// The timers after the peer's SYN was received in SYN-SENT. A round trip is that of the own SYN, if it was not
+// acknowledged before.
 fn timers_after_syn(
     header: &Header,
     endpoint: &Endpoint,

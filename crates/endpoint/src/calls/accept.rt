@@ -1,4 +1,4 @@
-//! What may be answered at a listener, and an endpoint that is accepted.
+//! The answers of a listener, and an endpoint that is accepted.
 
 ghost use Rattle.spec_tcp.specs.Bounds.{HasRoom};
 ghost use Rattle.spec_tcp.specs.Calls.Accept.{listener_allows};

@@ -1,4 +1,4 @@
-//! CLOSE and ABORT: what they may be answered, and the endpoint then.
+//! CLOSE and ABORT: their answers, and the endpoint afterwards.
 
 ghost use Rattle.spec_tcp.specs.Bounds.{HasRoom};
 ghost use Rattle.spec_tcp.specs.Calls.Close.{after_shut, after_close, shut_down, after_abort, orphaned, ended_state};
@@ -30,7 +30,7 @@ pub(crate) fn shut_allows(endpoint: &Endpoint, answer: &Answer) -> bool
     }
 }
 
-/// `shut`: sending is ended, and a FIN is to be made (RFC 9293, 3.10.4).
+/// `shut`: sending is ended, and a FIN is to be sent (RFC 9293, 3.10.4).
 pub fn shut(endpoint: &mut Endpoint)
     requires { HasRoom endpoint.old }
     ensures { endpoint.new ≡ forget_endpoint (after_shut endpoint.old) }
@@ -38,7 +38,7 @@ pub fn shut(endpoint: &mut Endpoint)
     end_sending(endpoint);
 }
 
-/// `close`: sending is ended, and the socket is gone. An endpoint in SYN-SENT is CLOSED then.
+/// `close`: sending is ended, and the socket number is no longer live. An endpoint in SYN-SENT becomes CLOSED.
 pub fn close(endpoint: &mut Endpoint)
     requires { HasRoom endpoint.old }
     ensures { endpoint.new ≡ forget_endpoint (after_close endpoint.old) }
@@ -60,7 +60,8 @@ pub fn abort(endpoint: &mut Endpoint)
     end_at_once(endpoint);
 }
 
-/// The listener at this place is gone: its child that was not accepted is aborted, any other endpoint stays as it is.
+/// The listener at this place is closed: its children that were not accepted are aborted, any other endpoint stays
+/// unchanged.
 pub fn orphan(listener: u32, endpoint: &mut Endpoint)
     requires { HasRoom endpoint.old }
     ensures { endpoint.new ≡ forget_endpoint (orphaned listener endpoint.old) }

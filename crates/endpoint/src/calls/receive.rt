@@ -1,4 +1,4 @@
-//! RECEIVE: what it may be answered, and the endpoint then.
+//! RECEIVE: its answers, and the endpoint afterwards.
 
 ghost use Rattle.spec_tcp.specs.Bounds.{HasRoom};
 ghost use Rattle.spec_tcp.specs.Calls.Receive.{after_recv, is_read_out, recv_allows};
@@ -44,7 +44,7 @@ pub(crate) fn recv_allows(endpoint: &Endpoint, most: u16, answer: &Answer) -> bo
     }
 }
 
-/// The bytes of a `recv`, which are the next that wait, are delivered and discarded.
+/// Delivers and discards the bytes of a `recv`, which are the next waiting ones.
 pub fn deliver(endpoint: &mut Endpoint, bytes: &[u8])
     requires room { HasRoom endpoint.old }
     requires waiting { length bytes.now ≤ length (waiting endpoint.old.stream.receive) }

@@ -1,4 +1,4 @@
-//! SEND: what it may be answered, and the endpoint then.
+//! SEND: its answers, and the endpoint afterwards.
 
 ghost use Rattle.spec_tcp.specs.Bounds.{HasRoom};
 ghost use Rattle.spec_tcp.specs.Calls.Send.{after_send, sends_some, open_send_allows, send_allows};
@@ -60,8 +60,8 @@ pub(crate) fn send_allows(endpoint: &Endpoint, bytes: &[u8], answer: &Answer) ->
     open_send_allows(endpoint.state, bytes, answer)
 }
 
-/// The first so many bytes of a `send` are accepted; all of them if there are no more. If memory runs out, the endpoint
-/// stays as it was.
+/// Accepts the first bytes of a `send`, this many; all of them if there are no more. If memory runs out, the endpoint
+/// doesn't change.
 pub fn send(endpoint: &mut Endpoint, bytes: &[u8], count: u32) -> Result<(), OutOfMemory>
     requires { HasRoom endpoint.old }
     ensures ok { OnOk result (endpoint.new ≡ forget_endpoint (after_send bytes.now count endpoint.old)) }

@@ -71,7 +71,7 @@ fn own_window(endpoint: &Endpoint, making: &SegmentPlan) -> u32
     )
 }
 
-// How far its own windows reached then.
+// How far its own windows then reached.
 pub(crate) fn own_edge(endpoint: &Endpoint, making: &SegmentPlan) -> u64
     ensures { result ≡ (if making.now.flags.ack then max endpoint.now.window.rcv_adv (rcv_nxt endpoint.now + own_window endpoint.now making.now)
         else endpoint.now.window.rcv_adv) }

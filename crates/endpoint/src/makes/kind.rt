@@ -1,4 +1,4 @@
-//! Which kinds of segments a state makes.
+//! Which kinds of segments a state may send.
 
 ghost use Rattle.case_forms.specs.States.{is_syn_sent, is_syn_received};
 ghost use Rattle.spec_tcp.specs.Calls.Close.{shut_down};

@@ -16,7 +16,7 @@ pub(crate) fn making_length(making: &SegmentPlan) -> u64
     making.len as u64 + making.flags.syn as u64 + making.flags.fin as u64
 }
 
-/// Whether bytes that were not made before are among a segment's.
+/// Whether bytes that were not sent before are among a segment's.
 pub(crate) fn has_new_bytes(endpoint: &Endpoint, making: &SegmentPlan) -> bool
     requires { making.now.pos ≤ greatest_position }
     ensures { result ≡ has_new_bytes endpoint.now making.now }

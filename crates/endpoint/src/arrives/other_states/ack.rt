@@ -13,7 +13,7 @@ use crate::arrives::other_states::window::takes_window;
 use case_forms::State;
 use spec_tcp::{Arrived, Endpoint};
 
-/// Whether the segment acknowledges nothing, or what was not made. In SYN-RECEIVED it has to acknowledge the SYN.
+/// Whether the segment acknowledges nothing, or what was not sent. In SYN-RECEIVED it must acknowledge the SYN.
 pub(crate) fn is_bad_ack_range(endpoint: &Endpoint, m: &Arrived<'_>) -> bool
     ensures { result ≡ is_bad_ack_range endpoint.now m.now }
 {
@@ -37,15 +37,15 @@ pub(crate) fn acknowledges_syn(endpoint: &Endpoint, m: &Arrived<'_>) -> bool
     is_new_ack(endpoint, m) && endpoint.stream.snd_una == 0
 }
 
-/// How many positions it acknowledges for the first time: 0 where it acknowledges none.
+/// How many positions it newly acknowledges: 0 if none.
 pub(crate) fn acked(endpoint: &Endpoint, m: &Arrived<'_>) -> u64
     ensures { result ≡ acked endpoint.now m.now }
 {
     m.ack().saturating_sub(endpoint.stream.snd_una)
 }
 
-/// Whether it is a duplicate acknowledgment: something is not acknowledged, and the segment takes no position and
-/// tells of nothing new.
+/// Whether it is a duplicate acknowledgment: data is outstanding, and the segment takes no position and carries nothing
+/// new (RFC 5681, 2).
 pub(crate) fn is_duplicate(endpoint: &Endpoint, m: &Arrived<'_>) -> bool
     ensures { result ≡ is_duplicate endpoint.now m.now }
 {
@@ -56,8 +56,8 @@ pub(crate) fn is_duplicate(endpoint: &Endpoint, m: &Arrived<'_>) -> bool
         && endpoint.peer_window(m) == endpoint.window.snd_wnd
 }
 
-/// Whether a round trip may be measured by it: it acknowledges what was not acknowledged before, and all of that was
-/// made once (RFC 6298, 3).
+/// Whether it may be used to measure a round trip: it acknowledges what was not acknowledged before, all of which was
+/// sent once (RFC 6298, 3).
 pub(crate) fn may_sample(endpoint: &Endpoint, m: &Arrived<'_>) -> bool
     ensures { result ≡ may_sample endpoint.now m.now }
 {
@@ -67,7 +67,7 @@ pub(crate) fn may_sample(endpoint: &Endpoint, m: &Arrived<'_>) -> bool
             .is_retransmitted(endpoint.stream.snd_una, m.ack())
 }
 
-// In SYN-SENT the SYN is measured by its acknowledgment alone.
+// In SYN-SENT only an acknowledgment of the SYN measures it.
 pub(crate) fn is_no_sample(endpoint: &Endpoint, m: &Arrived<'_>) -> bool
     ensures { result ≡ (m.now.flags.rst || not m.now.flags.ack || retransmitted endpoint.now.transmissions endpoint.now.stream.snd_una 1) }
 {
@@ -78,14 +78,14 @@ pub(crate) fn is_no_sample(endpoint: &Endpoint, m: &Arrived<'_>) -> bool
             .is_retransmitted(endpoint.stream.snd_una, 1)
 }
 
-/// The oldest position that is not acknowledged, then.
+/// The oldest unacknowledged position afterwards.
 pub(crate) fn snd_una_after_segment(endpoint: &Endpoint, m: &Arrived<'_>) -> u64
     ensures { result ≡ snd_una_after_segment endpoint.now m.now }
 {
     endpoint.stream.snd_una.max(m.ack())
 }
 
-/// The state once the acknowledgment is looked at, and not yet a FIN (RFC 9293, 3.10.7.4, fifth).
+/// The state after the acknowledgment is processed, before a FIN is (RFC 9293, 3.10.7.4, fifth).
 pub(crate) fn acknowledged(endpoint: &Endpoint, m: &Arrived<'_>) -> State
     ensures { result ≡ acknowledged endpoint.now.state endpoint.now m.now }
 {
@@ -107,7 +107,7 @@ pub(crate) fn acknowledged(endpoint: &Endpoint, m: &Arrived<'_>) -> State
     }
 }
 
-/// Up to which position what was made may be made again: all of it, where a window above 0 ends the waiting for one.
+/// Up to which position outstanding data may be retransmitted: all of it, if a window above 0 ends a zero window.
 pub(crate) fn recover_after_segment(endpoint: &Endpoint, m: &Arrived<'_>) -> u64
     ensures { result ≡ (if opens_window endpoint.now m.now && is_some endpoint.now.timers.persist_armed
         then snd_max endpoint.now else endpoint.now.recover) }

@@ -30,7 +30,7 @@ pub(crate) fn first_byte(m: &Arrived<'_>) -> u64
     m.pos() + m.flags().syn as u64
 }
 
-// The state once the peer's FIN was passed, where it was (RFC 9293, 3.10.7.4, eighth).
+// The state once everything up to the peer's FIN was received, if it was (RFC 9293, 3.10.7.4, eighth).
 pub(crate) fn finished(state: State, ended: bool) -> State
     ensures { result ≡ finished state ended }
 {

@@ -8,8 +8,8 @@ ghost use Rattle.std.specs.Prelude.{◌≡◌, false, true};
 use crate::same::same_name;
 use spec_tcp::{Arrived, Endpoint, EndpointId};
 
-/// Whether the peer made it for this endpoint, or before the peer knew whom. A reset that answers is this endpoint's
-/// where it answers a segment that the endpoint made.
+/// Whether the peer built it for this endpoint, or before it knew its peer. A reset in answer to a segment belongs to
+/// the endpoint that built that segment.
 pub(crate) fn is_from_peer(me: EndpointId, endpoint: &Endpoint, m: &Arrived<'_>) -> bool
     ensures { result ≡ is_from_peer me endpoint.now m.now }
 {

@@ -11,7 +11,7 @@ use case_forms::{State, TakeChoice};
 use spec_tcp::{Endpoint, Fault};
 use window_rules::Signal;
 
-/// The endpoint is CLOSED, and failed where a connection was wanted or stood.
+/// The endpoint is CLOSED, and failed if a connection was being opened or was established.
 pub(crate) fn was_reset(endpoint: &mut Endpoint, how: TakeChoice, moment: u64)
     requires forgotten { IsForgotten endpoint.old }
     requires counts { HasCounts endpoint.old.control }
@@ -31,7 +31,7 @@ pub(crate) fn was_reset(endpoint: &mut Endpoint, how: TakeChoice, moment: u64)
     endpoint.unanswered_expiries = 0;
 }
 
-// A child that no connection stands for yet ends without a fault: no call knows of it.
+// A child whose connection isn't established yet ends without a fault: no call knows of it.
 fn reset_fault(endpoint: &Endpoint) -> Option<Fault>
     ensures { result ≡ reset_fault endpoint.now.state endpoint.now }
 {

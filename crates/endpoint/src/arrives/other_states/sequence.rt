@@ -8,11 +8,11 @@ use crate::same::same_word;
 use seqno::{Word, number, read_near};
 use spec_tcp::{Arrived, Endpoint};
 
-/// A position that is no further above another reads ahead of it, one no further below reads behind.
+/// A position at most this far above another reads ahead of it; one at most this far below reads before it.
 const HALF_TURN: u64 = 1 << 31;
 
-// The position at which the segment begins; of a reset that answers, what its number reads as near the next position.
-// None: that would be below position 0, or the endpoint took no SYN.
+// The position at which the segment begins; for a reset in answer, the position its number has near the next one.
+// `None` means that it would be below position 0, or the endpoint received no SYN.
 fn read_position(endpoint: &Endpoint, m: &Arrived<'_>) -> Option<u64>
     ensures { result ≡ read_position endpoint.now m.now }
 {
@@ -25,8 +25,8 @@ fn read_position(endpoint: &Endpoint, m: &Arrived<'_>) -> Option<u64>
     }
 }
 
-/// Whether a number of the segment does not read back to the position that it was made at. Of a reset that answers:
-/// whether its sequence number reads as no position.
+/// Whether a number of the segment does not read back to its position. For a reset in answer to a segment: whether its
+/// sequence number reads as no position.
 pub(crate) fn is_bad_number(endpoint: &Endpoint, m: &Arrived<'_>) -> bool
     ensures { result ≡ is_bad_number endpoint.now m.now }
 {
@@ -52,9 +52,9 @@ fn is_near(near: u64, pos: u64) -> bool
     near.saturating_sub(pos) <= HALF_TURN && pos.saturating_sub(near) < HALF_TURN
 }
 
-/// Whether the segment is acceptable: its first or its last position lies in the receive window; at a window of 0 it
-/// begins at the next position. In SYN-RECEIVED the peer's SYN is let in again with its acknowledgment (RFC 9293, 3.5);
-/// no other segment with a SYN is, but for a reset.
+/// Whether the segment is acceptable: its first or its last position is in the receive window; with a window of 0 it
+/// begins at the next position. In SYN-RECEIVED the peer's SYN is accepted again with its acknowledgment (RFC 9293,
+/// 3.5); no other segment with a SYN is, unless it is a reset.
 pub(crate) fn is_acceptable(endpoint: &Endpoint, m: &Arrived<'_>) -> bool
     ensures { result ≡ is_acceptable endpoint.now m.now }
 {

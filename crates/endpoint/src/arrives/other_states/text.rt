@@ -12,7 +12,8 @@ use case_forms::TakeChoice;
 use segment::OutOfMemory;
 use spec_tcp::{Arrived, Endpoint};
 
-/// Keeps what is kept of a segment. The answer is whether the peer's FIN was taken then, with all before it.
+/// Stores what is kept of a segment. The answer is whether the peer's FIN and everything before it have now been
+/// received.
 pub(crate) fn receive(
     endpoint: &mut Endpoint,
     how: TakeChoice,

@@ -1,4 +1,4 @@
-//! The timers then.
+//! The timers after a segment.
 
 ghost use Rattle.spec_tcp.specs.Arrives.OtherStates.Ack.{snd_una_after_segment, acknowledges_syn, is_new_ack};
 ghost use Rattle.spec_tcp.specs.Arrives.OtherStates.Timers.{rto_after_ack, since_made, state_timers, timeout_after_ack};
@@ -12,7 +12,7 @@ use case_forms::{Header, State, TakeChoice, Timer};
 use spec_tcp::{Arrived, Endpoint};
 use timer_rules::Timers;
 
-/// The timers before the state is looked at: `timers_after_segment` is `state_timers` of them.
+/// The timers before the state is considered: `timers_after_segment` is `state_timers` of them.
 pub(crate) fn timers_before(
     header: &Header,
     endpoint: &Endpoint,
@@ -62,8 +62,7 @@ pub(crate) fn state_timers(timers: Timers, old: State, new: State, moment: u64) 
     timers
 }
 
-// The retransmission timer stops where all is acknowledged, and starts anew at a new acknowledgment (RFC 6298, 5.2 and
-// 5.3).
+// The retransmission timer stops if all is acknowledged, and restarts at a new acknowledgment (RFC 6298, 5.2 and 5.3).
 pub(crate) fn rto_after_ack(timers: Timers, all_acked: bool, is_new: bool, moment: u64) -> Timers
     ensures { result ≡ rto_after_ack timers all_acked is_new moment }
 {
@@ -76,7 +75,7 @@ pub(crate) fn rto_after_ack(timers: Timers, all_acked: bool, is_new: bool, momen
     timers
 }
 
-// The timeout after a new acknowledgment up to a position, with a sample if one is taken, and longer where the SYN was
+// The timeout after a new acknowledgment up to a position, with a sample if one is measured, and longer if the SYN was
 // lost (RFC 6298, 2, 3 and 5.7).
 pub(crate) fn timeout_after_ack(
     header: &Header,
@@ -98,7 +97,7 @@ pub(crate) fn timeout_after_ack(
     timers
 }
 
-// How long ago a position was made.
+// How long ago a position was first sent.
 fn since_made(endpoint: &Endpoint, pos: u64, moment: u64) -> u64
     ensures { result ≡ since_made endpoint.now pos moment }
 {

@@ -1,4 +1,4 @@
-//! The send window then.
+//! The send window after a segment.
 
 ghost use Rattle.spec_tcp.specs.Arrives.OtherStates.Window.{takes_window, window_after_segment, is_unread};
 ghost use Rattle.spec_tcp.specs.Arrives.OtherStates.Window.{opens_window};
@@ -11,16 +11,14 @@ use case_forms::Timer;
 use spec_tcp::{Arrived, Endpoint, SendWindow};
 use timer_rules::Timers;
 
-/// Whether its window can't be read as it was meant: scaling was in force at its sender and is not here, or the other
-/// way.
+/// Whether its window can't be read as it was meant: scaling was in force at its sender and is not here, or vice versa.
 pub(crate) fn is_unread(endpoint: &Endpoint, m: &Arrived<'_>) -> bool
     ensures { result ≡ is_unread endpoint.now m.now }
 {
     !m.flags().syn && !m.is_reset_reply() && !same_bool(m.is_scaled(), endpoint.is_scaling())
 }
 
-/// Whether the window is taken from the segment: it is not older than the one that it was taken from last, or
-/// acknowledges the SYN.
+/// Whether the segment updates the window: it is not older than the last one that did, or it acknowledges the SYN.
 pub(crate) fn takes_window(endpoint: &Endpoint, m: &Arrived<'_>) -> bool
     ensures { result ≡ takes_window endpoint.now m.now }
 {
@@ -30,7 +28,7 @@ pub(crate) fn takes_window(endpoint: &Endpoint, m: &Arrived<'_>) -> bool
             || endpoint.window.snd_wl1 == m.pos() && endpoint.window.snd_wl2 <= m.ack())
 }
 
-/// The window that the peer offers then.
+/// The window that the peer then offers, in bytes.
 pub(crate) fn window_after_segment(endpoint: &Endpoint, m: &Arrived<'_>) -> SendWindow
     ensures { result ≡ window_after_segment endpoint.now m.now }
 {
@@ -43,14 +41,14 @@ pub(crate) fn window_after_segment(endpoint: &Endpoint, m: &Arrived<'_>) -> Send
     window
 }
 
-/// Whether a byte beyond a window of 0 is still to be made.
+/// Whether a byte beyond a window of 0 is still to be sent.
 pub(crate) fn probe_due_after_segment(endpoint: &Endpoint, m: &Arrived<'_>) -> bool
     ensures { result ≡ endpoint.now.probe_due && not (opens_window endpoint.now m.now) }
 {
     endpoint.probe_due && !opens_window(endpoint, m)
 }
 
-/// A window of 0 arms the persist timer if it is off, another turns it off (RFC 9293, 3.8.6.1).
+/// A window of 0 arms the persist timer if it is off, any other turns it off (RFC 9293, 3.8.6.1).
 pub(crate) fn persist_after_window(timers: Timers, window: u16, moment: u64) -> Timers
     ensures { result ≡ persist_after_window timers window moment }
 {
