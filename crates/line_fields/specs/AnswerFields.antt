@@ -12,13 +12,13 @@ use Rattle.line_fields.specs.HexFields.{hex_field}
 use Rattle.line_fields.specs.States.{state_name, all_states}
 use Rattle.line_fields.specs.Answers.{answer_name, all_answer_words}
 
--- a number that is given
+-- a number that is returned
 abbrev pub given_field : Rest → Result (Answer × Rest) TextFault
 given_field r = do
   count ← number_field 0 4294967295 r
   Ok (answers.Given count.0, count.1)
 
--- the bytes that came
+-- the bytes that were received
 abbrev pub data_field : Rest → Result (Answer × Rest) TextFault
 data_field r = do
   bytes ← hex_field 65535 r

@@ -1,4 +1,4 @@
--- What stands behind the first word of an answer.
+-- What follows the first word of an answer.
 use Rattle.line_fields.specs.Answers.{answer_name, all_answer_words}
 use Rattle.line_fields.specs.Forms.{Form, End, Maybe, numeric, digits, named, then_form, choice}
 use Rattle.line_fields.specs.States.{state_name, all_states}

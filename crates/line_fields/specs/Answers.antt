@@ -28,7 +28,7 @@ all_answer_words =
     words.Done ∷ words.Data ∷ words.Again ∷ words.Eof ∷ words.Closed ∷ words.NotConn ∷ words.Refused ∷ words.Reset
     ∷ words.Timeout ∷ words.InUse ∷ words.BadSocket ∷ words.State ∷ []
 
--- the first word of an answer, and the fields behind it
+-- the first word of an answer, and the fields after it
 abbrev pub answer_word : Answer → AnswerWord
 answer_word answers.Done = words.Done
 answer_word (answers.Given count) = words.Done
@@ -44,7 +44,7 @@ answer_word answers.InUse = words.InUse
 answer_word answers.BadSocket = words.BadSocket
 answer_word (answers.State state) = words.State
 
--- what stands behind the first word: a number, bytes, the name of a state, or nothing
+-- what follows the first word: a number, bytes, the name of a state, or nothing
 abbrev pub answer_tail : Answer → List Piece
 answer_tail (answers.Given count) = number count ∷ []
 answer_tail (answers.Bytes bytes) = hex bytes ∷ []

@@ -11,7 +11,7 @@ use Rattle.line_fields.specs.Reading.{◌>>=◌, fault_at, next_field, number_va
 abbrev pub field_len : List ℕ → ℕ
 field_len text = position_or_len (λ b. b == 32) text
 
--- the next field spells this number, and this is left after it
+-- the next field spells this number, and this is the rest after it
 pub record Spells (n : ℕ) (before after : Rest) : Type 0 where
   pub word : Word
   pub next : next_field before ≡ Ok (word, after)

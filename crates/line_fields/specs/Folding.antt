@@ -3,7 +3,7 @@ use Rattle.std.specs.Prelude.{ℕ, List, [], ◌∷◌, Result, Ok}
 use Rattle.line_fields.specs.declared.fault.TextFault.{TextFault}
 use Rattle.line_fields.specs.Reading.{◌>>=◌}
 
--- each line is read in a state, and the next one in the state behind it
+-- each line is read in a state, and the next one in the state after it
 unfoldable pub read_lines : {S A : Type 0} → (S → List ℕ → Result A TextFault) → (S → A → S) → S → List (List ℕ)
     → Result (List A) TextFault
 read_lines read after state [] = Ok []

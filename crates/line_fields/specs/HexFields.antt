@@ -7,7 +7,7 @@ use Rattle.line_fields.specs.declared.fault.TextFault.{TextFault}
 use Rattle.line_fields.specs.Word.{Word, Rest}
 use Rattle.line_fields.specs.Reading.{◌>>=◌, fault_at, next_field}
 
--- the bytes, or this fault where the digits spell none
+-- the bytes, or this fault if the digits spell none
 abbrev pub or_bad : TextFault → Result (List ℕ) FromHexError → Result (List ℕ) TextFault
 or_bad e (Ok bytes) = Ok bytes
 or_bad e (Err bad) = Err e

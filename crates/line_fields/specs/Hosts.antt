@@ -17,11 +17,11 @@ host_number One = 1
 abbrev pub host_of : ℕ → Host
 host_of n = if n == 0 then Zero else One
 
--- the greatest number of a host that the texts of this version name: those of a half case name host 0 alone
+-- the greatest number of a host in texts of this version: those of a half case have only host 0
 abbrev pub greatest_host : Version → ℕ
 greatest_host v = if is_half v then 0 else 1
 
--- the texts of this version name this host
+-- the texts of this version may name this host
 abbrev pub IsHost : Version → Host → Type 0
 IsHost v host = host_number host ≤ greatest_host v
 

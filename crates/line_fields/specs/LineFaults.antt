@@ -9,7 +9,7 @@ use Rattle.line_fields.specs.Word.{Rest}
 use Rattle.line_fields.specs.declared.fault.FaultKind.TheVariants as kinds
 use Rattle.line_fields.specs.declared.fault.TextFault.{TextFault}
 
--- a fault of the line as a whole: it is too long; or else it isn't ended; or else it is one line too many
+-- a fault of the line as a whole: it is too long; or else it has no end; or else it is one line too many
 pub data IsWholeFault (number : ℕ) (raw : List ℕ) (e : TextFault) : Type 0 where
   TooLong : 140000 < length (without_terminator raw) → e
       ≡ record { kind = kinds.LineTooLong; span = whole_line number (without_terminator raw) } → IsWholeFault number raw e
@@ -24,24 +24,24 @@ abbrev pub IsFaultOf : Form → ℕ → List ℕ → TextFault → Type 0
 IsFaultOf form number raw e =
     IsWholeFault number raw e ⊎ ((r : Rest) × (line_rest number raw ≡ Ok r) × IsFirstFault form r e)
 
--- the first fault of a line whose text has to be as wanted: that of the line as a whole, or else Header
+-- the first fault of a line with a required text: that of the line as a whole, or else Header
 abbrev pub IsTextFaultOf : (List ℕ → Type 0) → ℕ → List ℕ → TextFault → Type 0
 IsTextFaultOf Wanted number raw e =
     IsWholeFault number raw e
     ⊎ ((text : List ℕ) × (line_text number raw ≡ Ok text) × (Wanted text → ⊥) × (e ≡ record { kind = kinds.Header; span = whole_line number text }))
 
--- the first fault of a line that has to be there: it is missing, or it has this fault
+-- the first fault of a required line: it is missing, or it has this fault
 abbrev pub IsNextFault : (ℕ → List ℕ → TextFault → Type 0) → ℕ → List (List ℕ) → TextFault → Type 0
 IsNextFault Fault number [] e = e ≡ missing_line number
 IsNextFault Fault number (raw ∷ raws) e = Fault number raw e
 
--- the state behind these items
+-- the state after these items
 abbrev pub state_behind : {S A : Type 0} → (S → A → S) → S → List A → S
 state_behind after state [] = state
 state_behind after state (item ∷ items) = state_behind after (after state item) items
 
--- the first fault of lines that are read one after the other: those before are spelled so, and it is that of the next
--- one
+-- the first fault of lines that are read one after the other: those before are spelled so, and it is the fault of the
+-- next one
 pub record IsFaultAmong {S A : Type 0} (R : S → A → List ℕ → Type 0) (Fault : S → List ℕ → TextFault
     → Type 0) (after : S → A → S) (state : S)
     (raws : List (List ℕ)) (e : TextFault) : Type 0 where

@@ -10,7 +10,7 @@ use Rattle.line_fields.specs.Faults.{missing_line}
 use Rattle.line_fields.specs.Word.{Rest, rest_of}
 use Rattle.line_fields.specs.Reading.{◌>>=◌}
 
--- a line ends by LF or CR LF
+-- a line ends with LF or CR LF
 abbrev pub IsEnding : List ℕ → Type 0
 IsEnding end = (end ≡ 10 ∷ []) ⊎ (end ≡ 13 ∷ 10 ∷ [])
 
@@ -30,7 +30,7 @@ NoReturn text = 0 < length text → slice_index text (length text - 1) ≡ 13 �
 abbrev pub IsRaw : List ℕ → Type 0
 IsRaw raw = (text : List ℕ) × HasNoFeed text × Ends raw text
 
--- the bytes are the line of that number with this text: ended, and within the limits
+-- the bytes are the line with that number and this text: ended, and within the limits
 pub record IsLine (number : ℕ) (text raw : List ℕ) : Type 0 where
   pub ends : Ends raw text
   pub short : length text ≤ 140000
@@ -69,7 +69,7 @@ exact_text number wanted text =
 unfoldable pub expect_line : ℕ → List ℕ → List ℕ → Result (Unit {0}) TextFault
 expect_line number wanted raw = line_text number raw >>= λ text. exact_text number wanted text
 
--- the next line of a text, which has to be there
+-- the next line of a text, which must exist
 abbrev pub next_raw : ℕ → List (List ℕ) → Result (List ℕ × List (List ℕ)) TextFault
 next_raw number [] = Err (missing_line number)
 next_raw number (raw ∷ raws) = Ok (raw, raws)

@@ -1,4 +1,4 @@
--- Bytes that pairs of digits spell, and pairs of digits as which bytes are printed.
+-- Bytes spelled by pairs of digits, and the pairs of digits that bytes are printed as.
 use Rattle.std.specs.Prelude.{◌≡◌, ℕ, ◌+◌, ◌*◌, ◌/◌, ◌%◌, ◌<◌, List, slice_index, Some}
 use Rattle.std.specs.Result.{result_ok}
 use Rattle.hex.specs.Hex.{lower_digits, pair_value}

@@ -7,7 +7,7 @@ use Rattle.line_fields.specs.Word.{Rest}
 abbrev pub texts : Rest → List (List ℕ)
 texts r = map (λ w. w.text) r.words
 
--- what is read is spelled so; and what is spelled so is read, where what follows it is as Follows says
+-- what is read is spelled so; and what is spelled so is read, if what follows it satisfies Follows
 pub record IsReaderBefore (Follows : List (List ℕ) → Type 0) {A : Type 0} (read : Rest
     → Result (A × Rest) TextFault) (R : A →
     List (List ℕ) → Type 0) : Type 0 where
@@ -28,6 +28,6 @@ Nothing more = more ≡ []
 abbrev pub IsReader : {A : Type 0} → (Rest → Result (A × Rest) TextFault) → (A → List (List ℕ) → Type 0) → Type 0
 IsReader read R = IsReaderBefore Any read R
 
--- a reader of the last fields of a line, one of which may be there or not
+-- a reader of the last fields of a line, one of which is optional
 abbrev pub IsLastReader : {A : Type 0} → (Rest → Result (A × Rest) TextFault) → (A → List (List ℕ) → Type 0) → Type 0
 IsLastReader read R = IsReaderBefore Nothing read R

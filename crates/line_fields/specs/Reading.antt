@@ -1,4 +1,4 @@
--- Reading a line from left to right, with the first fault that is met.
+-- Reading a line from left to right, up to the first fault.
 use Rattle.std.specs.Prelude.{◌≡◌, ℕ, ◌==◌, ◌&&◌, Bool, nat_le, if◌then◌else◌, List, [], ◌∷◌, length, Option, Some}
 use Rattle.std.specs.Prelude.{None, Result, Ok, Err}
 use Rattle.std.specs.Str.{bytes_eq}
@@ -20,7 +20,7 @@ abbrev pub Fails : {Y : Type 0} → FaultKind → TextFault → Result Y TextFau
 Fails OutOfMemory e read = Unit {0}
 Fails kind e read = read ≡ Err e
 
--- what a function returned, seen by view, is what reading gives, unless memory ran out
+-- what a function returned, seen by view, is the result of reading, unless memory ran out
 abbrev pub Gives : {X Y : Type 0} → (X → Y) → Result X TextFault → Result Y TextFault → Type 0
 Gives view (Ok x) read = read ≡ Ok (view x)
 Gives view (Err e) read = Fails e.kind e read
@@ -33,7 +33,7 @@ fault_at kind w = record { kind = kind; span = record { line = w.line; start = w
 abbrev pub missing : Rest → TextFault
 missing r = record { kind = Field; span = record { line = r.line; start = r.stop; stop = r.stop } }
 
--- the first field and those after it, or this fault where there is none
+-- the first field and those after it, or this fault if there is none
 abbrev pub first_of : TextFault → ℕ → ℕ → List Word → Result (Word × Rest) TextFault
 first_of none line stop [] = Err none
 first_of none line stop (w ∷ ws) = Ok (w, record { line = line; stop = stop; words = ws })
@@ -42,7 +42,7 @@ first_of none line stop (w ∷ ws) = Ok (w, record { line = line; stop = stop; w
 abbrev pub next_field : Rest → Result (Word × Rest) TextFault
 next_field r = first_of (missing r) r.line r.stop r.words
 
--- the text is the decimal spelling of a number, which lies within the limits
+-- the text is the decimal spelling of a number, which is within the limits
 abbrev pub is_number : ℕ → ℕ → List ℕ → ℕ → Bool
 is_number least most text n = bytes_eq text (decimal n) && nat_le least n && nat_le n most
 
@@ -69,13 +69,13 @@ ended_by (w ∷ ws) = Err (fault_at Field w)
 unfoldable pub no_more : Rest → Result (Unit {0}) TextFault
 no_more r = ended_by r.words
 
--- this value where nothing is left, else what is read
+-- this value if nothing is left, else what is read
 abbrev pub or_end : {A : Type 0} → A → (Rest → Result (A × Rest) TextFault) → List Word → Rest
     → Result (A × Rest) TextFault
 or_end a read [] r = Ok (a, r)
 or_end a read (w ∷ ws) r = read r
 
--- a value that the field may spell, and Field where it does not
+-- a value that the field may spell, and Field if it doesn't
 abbrev pub or_fault : {A : Type 0} → TextFault → Option A → Result A TextFault
 or_fault e (Some x) = Ok x
 or_fault e None = Err e

@@ -9,7 +9,7 @@ pub record Word : Type 0 where
   pub start : ℕ
   pub stop : ℕ
 
--- one space stands between two fields
+-- one space is between two fields
 abbrev pub words_from : ℕ → ℕ → List (List ℕ) → List Word
 words_from line at [] = []
 words_from line at (text ∷ texts) = record { text = text; line = line; start = at; stop = at + length text } ∷ words_from line (at + length text + 1) texts
@@ -23,7 +23,7 @@ words_left line at text =
 abbrev pub words_of : ℕ → List ℕ → List Word
 words_of line text = words_left line 0 text
 
--- what is left of a line: the fields, and the column at which the line ends
+-- the rest of a line: the fields, and the column at which the line ends
 pub record Rest : Type 0 where
   pub line : ℕ
   pub stop : ℕ
@@ -40,7 +40,7 @@ pub record IsSlice (line : List ℕ) (at : ℕ) (w : Word) : Type 0 where
   pub within : w.stop ≤ length line
   pub text : w.text ≡ take (w.stop - w.start) (drop w.start line)
 
--- each field is a slice, which begins one space behind the one before
+-- each field is a slice that begins one space after the one before
 abbrev pub AreSlices : List ℕ → ℕ → List Word → Type 0
 AreSlices line at [] = Unit {0}
 AreSlices line at (w ∷ ws) = IsSlice line at w × AreSlices line (w.stop + 1) ws

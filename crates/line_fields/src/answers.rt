@@ -33,7 +33,7 @@ enum AnswerWord {
     State,
 }
 
-// The answer's first word that is written so.
+// The answer's first word with this spelling.
 fn answer_word_named(text: &[u8]) -> Option<AnswerWord>
     ensures { result ≡ kind_named answer_name all_answer_words text.now }
 {
@@ -77,7 +77,7 @@ fn answer_word(fields: &mut Fields) -> Result<AnswerWord, TextFault>
     }
 }
 
-/// An answer, which is the last of its line, since a number may follow `ok`.
+/// An answer, which is the last part of its line, since a number may follow `ok`.
 #[tactic(auto, unfolding(crate::specs::AnswerFields::answer_field))]
 pub fn answer(alloc: Global, fields: &mut Fields) -> Result<Answer, TextFault>
     ensures { Gives (λ answer. (answer, fields.new)) result (answer_field fields.old) }

@@ -15,8 +15,8 @@ const FIRST: [usize; 16] = [0, 2, 4, 6, 8, 10, 12, 14, 16, 18, 20, 22, 24, 26, 2
 
 const SECOND: [usize; 16] = [1, 3, 5, 7, 9, 11, 13, 15, 17, 19, 21, 23, 25, 27, 29, 31];
 
-/// Writes the bytes that a text spells, and returns how many it wrote: all, or those of the blocks before the first one
-/// with a byte that is no digit, or none of a text that is shorter than a block.
+/// Writes the bytes that a text spells, and returns how many it wrote. That is all of them, or those of the blocks
+/// before the first block with a byte that is not a digit; none if the text is shorter than a block.
 pub(crate) fn write_blocks(text: &[u8], bytes: &mut [u8]) -> usize
     requires { length text.now ≡ 2 * length bytes.old }
     ensures spelled { AreSpelled text.now bytes.new result }
@@ -51,14 +51,14 @@ fn block_bytes(digits: u8x32) -> (u8x16, bool)
     (high * u8x16::splat(16) + low, are_below_16(high, low))
 }
 
-// The value of each digit; 16 or more for a byte that is none.
+// The value of each digit; 16 or more for a byte that is not a digit.
 #[inline(always)]
 fn values(digits: u8x16) -> u8x16
     ensures len { length result ≡ 16 }
     ensures values { (k : ℕ) → k < 16 → slice_index result k < 16
         → hex_digit_value (slice_index digits k) ≡ Some (slice_index result k) }
 {
-    // The digits 0 to 9 alone make a sum from 246 on, and the letters alone a difference below 6.
+    // Only the digits 0 to 9 make a sum from 246 on, and only the letters a difference below 6.
     let sum = digits + u8x16::splat(246 - b'0');
     let difference = (digits & u8x16::splat(0xdf)) - u8x16::splat(b'A');
     let number = sum.simd_max(u8x16::splat(6)) - u8x16::splat(246);

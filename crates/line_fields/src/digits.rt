@@ -11,7 +11,7 @@ use crate::blocks::write_blocks;
 use case_forms::OutOfMemory;
 use std::alloc::Global;
 
-// What stands for a byte that is no digit.
+// The value for a byte that is not a digit.
 const NO_DIGIT: u8 = 16;
 
 // The value of each byte as a digit in hex, in either case.
@@ -29,7 +29,7 @@ const DIGITS: [u8; 256] = [
     16, 16, 16, 16, 16, 16, 16, 16, 16, 16, 16, 16, 16, 16,
 ];
 
-/// The number whose decimal digits these are, without sign and leading zeros; None if they are no such number below
+/// The number with these decimal digits, without sign and leading zeros. `None` if they are not such a number below
 /// 2^64.
 pub fn decimal_value(text: &[u8]) -> Option<u64>
     ensures found { IfSome result (λ n. text.now ≡ decimal n) }
@@ -51,7 +51,7 @@ pub fn decimal_value(text: &[u8]) -> Option<u64>
     Some(value)
 }
 
-/// The bytes that a text spells in hex, with digits of either case; None where it spells none.
+/// The bytes that a text spells in hex, with digits of either case. `None` if it spells none.
 pub fn hex_bytes(alloc: Global, text: &[u8]) -> Result<Option<Vec<u8>>, OutOfMemory>
     ensures { IfOk result (λ read. option_map (λ bytes. bytes.items) read ≡ result_ok (decode_of text.now)) }
 {
@@ -71,7 +71,7 @@ fn write_bytes(text: &[u8], bytes: &mut [u8]) -> bool
     ensures { MatchBool result (result_ok (decode_of text.now) ≡ Some bytes.new) (result_ok (decode_of text.now)
         ≡ None) }
 {
-    // Byte by byte goes a short text, and a block with a byte that is no digit, up to that byte.
+    // A short text is read byte by byte, and so is a block with a byte that is not a digit, up to that byte.
     for i in write_blocks(text, bytes)..bytes.len() {
         let Some(byte) = byte_of(text[2 * i], text[2 * i + 1]) else {
             return false;

@@ -1,4 +1,4 @@
-//! Why a text cannot be read, and where.
+//! Why a text can't be read, and where.
 
 ghost use Rattle.std.specs.Prelude.{◌≡◌};
 ghost use Rattle.line_fields.specs.Faults.{kind_name, missing_line};
@@ -9,28 +9,28 @@ use segment::SegFault;
 use std::alloc::{AllocError, AllocFailed};
 use thiserror::Error;
 
-/// What is wrong.
+/// The kind of a fault.
 #[derive(Clone, Copy, Debug, PartialEq, Eq)]
 pub enum FaultKind {
     /// A line of the header has another word, another count of fields, or is missing.
     Header,
-    /// A field is missing, empty or one too many, or its word is not known.
+    /// A field is missing, empty or one too many, or its word is unknown.
     Field,
-    /// A number is badly written or out of its limits.
+    /// A number is not written in decimal as required, or is outside its limits.
     Number,
-    /// Hex digits are badly written, or their bytes are too many.
+    /// Hex digits are wrong, or there are too many bytes.
     Hex,
-    /// Bytes in hex are no segment, for this reason.
+    /// Bytes in hex are not a segment, for this reason.
     Segment(SegFault),
     /// A moment is below that of the line before.
     MomentFalls,
-    /// A line has more than 140,000 bytes, its end not counted.
+    /// A line has more than 140,000 bytes, not counting its end.
     LineTooLong,
     /// The last line has no LF.
     Cut,
-    /// A line is numbered above 10,000,000.
+    /// The number of a line is above 10,000,000.
     TooManyLines,
-    /// Memory ran out; nothing is wrong with the text.
+    /// Memory ran out; the text may be valid.
     OutOfMemory,
 }
 
@@ -67,7 +67,7 @@ fn segment_fault_name(fault: SegFault) -> &'static str
     }
 }
 
-/// The first fault of a text, and its place. If memory ran out the place says nothing.
+/// The first fault of a text, and its place. If memory ran out, the place has no meaning.
 #[derive(Clone, Copy, Debug, PartialEq, Eq, Error)]
 #[error("line {}, columns {} to {}: {kind:?}", .span.line, .span.start, .span.stop)]
 pub struct TextFault {
@@ -76,7 +76,7 @@ pub struct TextFault {
 }
 
 impl TextFault {
-    /// The fault of a line of the header that the text ends before.
+    /// The fault for a missing line of the header.
     pub fn missing_line(number: u64) -> TextFault
         ensures { result ≡ missing_line number }
     {
@@ -90,7 +90,7 @@ impl TextFault {
         }
     }
 
-    /// No line is at fault if memory runs out.
+    /// If memory runs out, no line is at fault.
     pub fn out_of_memory() -> TextFault
         ensures { result.kind ≡ FaultKind.OutOfMemory }
     {
@@ -121,10 +121,10 @@ impl<T: Drop> From<AllocFailed<T>> for TextFault {
     }
 }
 
-/// Why a text that is read line by line cannot be read on.
+/// Why a text that is read line by line can't be read further.
 #[derive(Clone, Copy, Debug, PartialEq, Eq, Error)]
 pub enum SourceFault {
-    /// What was read is at fault, or memory ran out.
+    /// The text that was read has a fault, or memory ran out.
     #[error("{0}")]
     Text(TextFault),
     /// A read failed.
@@ -142,8 +142,8 @@ impl From<TextFault> for SourceFault {
     }
 }
 
-/// The fault of a text in memory. A read of it fails only where its `Counted` made 2^50 reads before, more than any
-/// text takes that memory holds. That is reported as if memory had run out.
+/// The fault of a text in memory. A read of it fails only if its `Counted` made 2^50 reads before, more than any text
+/// in memory needs. That is reported as if memory had run out.
 impl From<SourceFault> for TextFault {
     ghost use Rattle.line_fields.specs.Faults.{IsTextFault};
 

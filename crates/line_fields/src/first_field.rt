@@ -9,13 +9,13 @@ ghost use Rattle.line_fields.specs.FirstField.{field_len};
 use memchr::memchr;
 use std::simd::prelude::*;
 
-// How many bytes of a field are looked at one by one, before its end is searched.
+// How many bytes of a field are examined one by one, before its end is searched.
 const SHORT: usize = 16;
 
 // How many digits of a number are read without a test of its size.
 const MAX_DIGITS: usize = 19;
 
-// How many bytes are read at once where a number may begin.
+// How many bytes are read at once if a number may begin there.
 const BLOCK: usize = 8;
 
 // The weights of digits: the eight that begin `n` places before the first zero are those of `n` digits.
@@ -51,7 +51,7 @@ fn long_field_len(text: &[u8]) -> usize
     memchr(b' ', text).unwrap_or(text.len())
 }
 
-/// The number that the first field of a text spells, and the count of its digits. The count is 0 if the field spells no
+/// The number that the first field of a text spells, and its count of digits. The count is 0 if the field spells no
 /// number, or has more than 19 digits.
 #[inline(never)]
 pub(crate) fn plain_number(text: &[u8]) -> (u64, usize)
@@ -71,7 +71,7 @@ pub(crate) fn plain_number(text: &[u8]) -> (u64, usize)
     (u64::from(value), count)
 }
 
-// The number that the digits in front of a text spell, and their count, which is 8 if they are 8 or more.
+// The number that the digits at the front of a text spell, and their count, which is 8 if there are 8 or more.
 #[inline(always)]
 fn front_number(text: &[u8]) -> (u32, usize)
     requires { 8 ≤ length text.now }

@@ -13,7 +13,7 @@ const BLOCK: usize = 16;
 // The digits, in lower case.
 const DIGITS: [u8; 16] = *b"0123456789abcdef";
 
-// The places of the digits of pairs, where all first ones stand before all second ones.
+// The places of the digits of pairs, given all first digits before all second digits.
 const PAIRS: [usize; 32] = [
     0, 16, 1, 17, 2, 18, 3, 19, 4, 20, 5, 21, 6, 22, 7, 23, 8, 24, 9, 25, 10, 26, 11, 27, 12, 28,
     13, 29, 14, 30, 15, 31,
@@ -24,14 +24,14 @@ pub(crate) fn write_digits(bytes: &[u8], digits: &mut [u8])
     requires { length digits.old ≡ 2 * length bytes.now }
     ensures { digits.new ≡ encode_lower bytes.now }
 {
-    // Bytes that are fewer than a block go one by one.
+    // Fewer bytes than a block are written one by one.
     for i in write_blocks(bytes, digits)..bytes.len() {
         digits[2 * i] = DIGITS[(bytes[i] / 16) as usize];
         digits[2 * i + 1] = DIGITS[(bytes[i] % 16) as usize];
     }
 }
 
-// Writes the digits of all bytes, or of none if they are fewer than a block, and returns of how many it wrote them.
+// Writes the digits of all bytes, or of none if there are fewer than a block, and returns for how many it wrote them.
 fn write_blocks(bytes: &[u8], digits: &mut [u8]) -> usize
     requires { length digits.old ≡ 2 * length bytes.now }
     ensures printed { ArePrinted bytes.now digits.new result }
@@ -70,7 +70,7 @@ fn digits_of(values: u8x16) -> u8x16
     ensures digits { (k : ℕ) → k < 16 → slice_index values k < 16
         → slice_index result k ≡ slice_index lower_digits (slice_index values k) }
 {
-    // The letters stand 39 places behind where the digits would go on.
+    // The letters begin 39 places after the point where the digits would continue.
     let letters = values
         .simd_gt(u8x16::splat(9))
         .select(u8x16::splat(39), u8x16::splat(0));

@@ -1,21 +1,20 @@
-//! What the texts of a trace and of a witness have in common: lines, fields, answers, and what is wrong with them.
+//! The common parts of the texts of traces and witnesses: lines, fields, answers, and faults.
 //!
-//! A text is read line by line; here a line's bytes become a cursor over its fields, each with its columns. A reader of
-//! some value takes fields from the cursor, and answers the first fault with its place. Each reader is stated as a
-//! function on the list of the fields that are left (specs/Reading.antt), and what it reads is spelled as
-//! specs/Spelling.antt and specs/Answers.antt say: each field is a text that stands as it is, or bytes in hex, whose
-//! digits may be of either case.
+//! A text is read line by line; this crate turns a line's bytes into a cursor over its fields, each with its columns. A
+//! reader of a value reads fields from the cursor, and returns the first fault with its place. Each reader is specified
+//! as a function on the list of the remaining fields (`specs/Reading`). `specs/Spelling` and `specs/Answers` define how
+//! values are spelled: each field is a fixed text, or bytes in hex with digits of either case.
 //!
 //! - `fault`: why a text can't be read, and where
 //! - `digits`: numbers in decimal and bytes in hex, digit by digit
 //! - `first_field`: where the first field of a text ends, and the number that it spells
 //! - `hex_digits`: bytes as digits in hex
 //! - `fields`: the cursor, and the numbers, hosts and bytes that it reads
-//! - `lines`: a line's end and its limits, and lines that have to stand as they are
-//! - `reading`: the next line of a text, of which one line is kept in memory
+//! - `lines`: a line's end and its limits, and lines with a fixed text
+//! - `reading`: the next line of a text, of which only one line is kept in memory
 //! - `states`, `timers`: the names of states and of timers
-//! - `answers`: the answers of calls, which both texts have
-//! - `printing`: words, numbers and answers as bytes at the end of a `Vec`
+//! - `answers`: the answers of calls, which are in both texts
+//! - `printing`: words, numbers and answers, appended to a `Vec` as bytes
 #![tactic(auto)]
 
 mod answers;

@@ -1,4 +1,4 @@
-//! The lines of a text: their ends, their limits, and lines that have to stand as they are.
+//! The lines of a text: their ends, their limits, and lines with a fixed text.
 
 ghost use Rattle.std.specs.Prelude.{◌≡◌};
 ghost use Rattle.bstr.specs.Text.{without_terminator};
@@ -9,7 +9,7 @@ use crate::fault::{FaultKind, TextFault};
 use crate::fields::{Fields, is_text};
 use case_forms::Span;
 
-// How many bytes a line may have, its end not counted.
+// How many bytes a line may have, not counting its end.
 pub(crate) const MAX_LINE: usize = 140_000;
 
 // The number of the last line that a text may have.
@@ -27,7 +27,7 @@ pub fn without_line_end(raw: &[u8]) -> (&[u8], bool)
     }
 }
 
-/// The text of the line of that number, whose bytes are given with the line's end. LineTooLong, Cut and TooManyLines
+/// The text of the line with that number, whose bytes are given with the line's end. LineTooLong, Cut and TooManyLines
 /// are tested in this order, each at the whole line.
 #[tactic(auto, unfolding(crate::specs::Lines::line_text))]
 pub fn checked_line(number: u64, raw: &[u8]) -> Result<&[u8], TextFault>
@@ -60,7 +60,8 @@ pub fn checked_line(number: u64, raw: &[u8]) -> Result<&[u8], TextFault>
     Ok(text)
 }
 
-/// The fields of the line of that number, whose bytes are given with the line's end, with the faults of `checked_line`.
+/// The fields of the line with that number, whose bytes are given with the line's end, with the faults of
+/// `checked_line`.
 #[tactic(auto, unfolding(crate::specs::Lines::line_rest))]
 pub fn checked_fields(number: u64, raw: &[u8]) -> Result<Fields<'_>, TextFault>
     ensures { Gives (λ fields. fields) result (line_rest number raw.now) }
@@ -69,7 +70,7 @@ pub fn checked_fields(number: u64, raw: &[u8]) -> Result<Fields<'_>, TextFault>
     Ok(Fields::new(number, text))
 }
 
-/// Asks that the text of a line is exactly this one. Another text is Header, at the whole line.
+/// Checks that the text of a line is exactly this one. Any other text is Header, at the whole line.
 #[tactic(auto, unfolding(crate::specs::Lines::expect_line))]
 pub fn expect_line(number: u64, wanted: &str, raw: &[u8]) -> Result<(), TextFault>
     ensures { Gives (λ u. u) result (expect_line number wanted.now raw.now) }

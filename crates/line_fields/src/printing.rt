@@ -1,4 +1,4 @@
-//! Words, numbers and answers, as bytes at the end of a `Vec`. If memory runs out a part may have been written.
+//! Words, numbers and answers, appended to a `Vec` as bytes. If memory runs out, a part may have been written.
 
 ghost use Rattle.std.specs.Prelude.{◌≡◌, [], ◌∷◌, ◌++◌, OnOk};
 ghost use Rattle.std.specs.Fmt.{decimal};

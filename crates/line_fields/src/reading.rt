@@ -1,4 +1,4 @@
-//! The next line of a text that is read as its lines are requested.
+//! The next line of a text whose lines are read on request.
 
 ghost use Rattle.std.specs.Prelude.{◌≡◌, ◌≢◌, Err, true, false, OnOk};
 ghost use Rattle.counted.specs.Counting.{left_of, failures_of, one_more};
@@ -11,8 +11,8 @@ use case_forms::Span;
 use counted::Counted;
 use std::io::BufRead;
 
-/// The next line with its end, of a text whose next line has this number, and whether there is one. A line that is too
-/// long is not kept.
+/// The next line with its end, of a text whose next line has this number; the answer is whether there is one. A line
+/// that is too long isn't kept.
 #[inline(always)]
 pub fn next_line<B: BufRead>(
     source: &mut Counted<B>,
@@ -28,7 +28,7 @@ pub fn next_line<B: BufRead>(
     ensures read { result ≡ Err SourceFault.Read → failures_of source.new ≡ one_more (failures_of source.old) }
     ensures same { result ≢ Err SourceFault.Read → failures_of source.new ≡ failures_of source.old }
 {
-    // An end has two bytes at most.
+    // An end has at most two bytes.
     match source.read_line(MAX_LINE + 2, line) {
         Ok(None) => Ok(false),
         Ok(Some(0)) => Ok(true),
@@ -48,7 +48,7 @@ pub fn next_line<B: BufRead>(
     }
 }
 
-/// The next line with its end, where one has to be. A missing one is Header at its number, columns 0 to 0.
+/// The next line with its end, which must exist. A missing one is Header at its number, columns 0 to 0.
 pub fn require_line<B: BufRead>(
     source: &mut Counted<B>,
     number: u64,

@@ -28,7 +28,7 @@ pub fn state_name(state: State) -> &'static str
     }
 }
 
-// The state of that name.
+// The state with that name.
 fn state_named(text: &[u8]) -> Option<State>
     ensures { result ≡ kind_named state_name all_states text.now }
 {
@@ -59,7 +59,7 @@ fn state_named(text: &[u8]) -> Option<State>
     }
 }
 
-/// The next field, which is the name of a state.
+/// The next field, the name of a state. The error is Field if it is missing or is no name.
 pub(crate) fn state(fields: &mut Fields) -> Result<State, TextFault>
     ensures { Gives (λ state. (state, fields.new)) result (kind_field state_name all_states fields.old) }
 {

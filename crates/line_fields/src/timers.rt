@@ -21,7 +21,7 @@ pub fn timer_name(timer: Timer) -> &'static str
     }
 }
 
-/// The next field, which is the name of a timer.
+/// The next field, the name of a timer. The error is Field if it is missing or is no name.
 pub fn timer(fields: &mut Fields) -> Result<Timer, TextFault>
     ensures { Gives (λ timer. (timer, fields.new)) result (kind_field timer_name all_timers fields.old) }
 {
