@@ -36,14 +36,14 @@ send_fields r = do
   bytes ← hex_field 65535 socket.1
   Ok (calls.Send socket.0 bytes.0, bytes.1)
 
--- a socket number and the greatest count of bytes that are asked for
+-- a socket number and the greatest count of bytes that are requested
 unfoldable pub recv_fields : Rest → Result (Call × Rest) TextFault
 recv_fields r = do
   socket ← number_field 0 4294967295 r
   max ← number_field 1 65535 socket.1
   Ok (calls.Recv socket.0 max.0, max.1)
 
--- a socket number alone
+-- only a socket number
 abbrev pub socket_field : (ℕ → Call) → Rest → Result (Call × Rest) TextFault
 socket_field call r = do
   socket ← number_field 0 4294967295 r

@@ -40,7 +40,7 @@ call_word (calls.Close socket) = words.Close
 call_word (calls.Abort socket) = words.Abort
 call_word (calls.Status socket) = words.Status
 
--- the fields behind the first word
+-- the fields after the first word
 abbrev pub call_tail : Call → List Piece
 call_tail (calls.Listen host port backlog) = number (host_number host) ∷ number port ∷ number backlog ∷ []
 call_tail (calls.Connect host local remote) = number (host_number host) ∷ number local ∷ number remote ∷ []

@@ -52,7 +52,7 @@ port form = then_form (numeric 1 65535) form
 abbrev pub word32 : Form → Form
 word32 form = then_form (numeric 0 4294967295) form
 
--- what stands behind the first word of a call
+-- what follows the first word of a call
 abbrev pub call_form : Version → CallWord → Form
 call_form v words.Listen = host v (port (then_form (numeric 0 65535) End))
 call_form v words.Open = host v (port (port End))
@@ -65,7 +65,7 @@ call_form v words.Close = word32 End
 call_form v words.Abort = word32 End
 call_form v words.Status = word32 End
 
--- what stands behind the letter
+-- what follows the letter
 abbrev pub event_form : Version → Letter → Form
 event_form v letters.B = choice call_name all_call_words (call_form v)
 event_form v letters.E = answer_last
@@ -73,7 +73,7 @@ event_form v letters.O = host v (then_form segment_digits End)
 event_form v letters.I = host v (then_form segment_digits End)
 event_form v letters.T = host v (port (port (then_form (named timer_name all_timers) End)))
 
--- an event line behind one of that moment
+-- an event line after one of that moment
 abbrev pub line_form : Version → ℕ → Form
 line_form v before = then_form (rising before) (word32 (choice letter_name all_letters (event_form v)))
 

@@ -12,11 +12,11 @@ use Rattle.line_fields.specs.Spelling.{Piece, number, AreWritten, joined}
 use Rattle.trace_reader.specs.Events.{event_pieces, IsEvent}
 use Rattle.trace_reader.specs.EventFields.{event_field}
 
--- what a line is read by: the moment of the line before, and the line's own number
+-- the parameters of a line: the moment of the line before, and the line's own number
 abbrev pub Place : Type 0
 Place = ℕ × ℕ
 
--- the place behind a line
+-- the place after a line
 abbrev pub behind : Place → Line → Place
 behind place line = (line.moment, place.1 + 1)
 
@@ -48,7 +48,7 @@ moment_field before r = do
   m ← moment_value before w.0
   Ok (m, w.1)
 
--- moment, thread and event, and no field more
+-- moment, thread and event, and no more fields
 abbrev pub event_fields : Version → ℕ → Rest → Result (ℕ × ℕ × Event) TextFault
 event_fields v before r = do
   moment ← moment_field before r

@@ -32,7 +32,7 @@ event_letter (events.Sent host wire) = letters.O
 event_letter (events.Came host wire) = letters.I
 event_letter (events.Expired host local remote timer) = letters.T
 
--- the fields behind the letter
+-- the fields after the letter
 abbrev pub event_tail : Event → List Piece
 event_tail (events.CallBegin call) = call_pieces call
 event_tail (events.CallEnd answer) = answer_pieces answer
@@ -45,7 +45,7 @@ event_tail (events.Expired host local remote timer) =
 abbrev pub event_pieces : Event → List Piece
 event_pieces event = plain (letter_name (event_letter event)) ∷ event_tail event
 
--- the limits of an event in a text of this version; the bytes of a segment stand for it
+-- the limits of an event in a text of this version; the bytes of a segment encode it
 abbrev pub IsEvent : Version → Event → Type 0
 IsEvent v (events.CallBegin call) = IsCall v call
 IsEvent v (events.CallEnd answer) = IsAnswer answer

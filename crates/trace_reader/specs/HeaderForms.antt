@@ -18,7 +18,7 @@ use Rattle.trace_reader.specs.Headers.{judged_name, all_judged, first_words, hea
 abbrev pub IsFirstText : List ℕ → Type 0
 IsFirstText text = (v : Version) × (text ≡ joined (first_words v))
 
--- each other line is a name, and what stands behind it
+-- each other line is a name, and what follows it
 pub record Row : Type 0 where
   pub name : List ℕ
   pub value : Want
@@ -56,15 +56,15 @@ header_rows v =
     ∷ row (codes "extra") (numeric 0 65535)
     ∷ late_rows v
 
--- the fields are the name, this value, and these behind it
+-- the fields are the name, this value, and these after it
 abbrev pub AreNamed : Row → List Word → Word → List Word → Type 0
 AreNamed r words value more = (name : Word) × (words ≡ name ∷ value ∷ more) × (name.text ≡ r.name)
 
--- the fields are the name and a value, which is as wanted
+-- the fields are the name and a value that fits
 abbrev pub Fits : Row → List Word → Type 0
 Fits r words = (value : Word) × AreNamed r words value [] × (r.value value ≡ None)
 
--- the first fault of the fields: another name, or no value behind it, which is Header; or a bad value; or a field too
+-- the first fault of the fields: another name, or no value after it, which is Header; or a bad value; or a field too
 -- many, which is Header
 pub data Breaks (r : Row) (header : TextFault) (words : List Word) (e : TextFault) : Type 0 where
   Other : ((value : Word) (more : List Word) → AreNamed r words value more → ⊥) → e ≡ header → Breaks r header words e
@@ -74,25 +74,25 @@ pub data Breaks (r : Row) (header : TextFault) (words : List Word) (e : TextFaul
   More : (value next : Word) (more : List Word) → AreNamed r words value (next ∷ more) → r.value value ≡ None
       → e ≡ header → Breaks r header words e
 
--- the line of that number has this form
+-- the line with that number has this form
 abbrev pub IsRow : Row → ℕ → List ℕ → Type 0
 IsRow r number raw = (rest : Rest) × (line_rest number raw ≡ Ok rest) × Fits r rest.words
 
--- its first fault: that of the line as a whole, or else that of its fields, where Header stands at the whole line
+-- its first fault: that of the line as a whole, or else that of its fields, with Header at the whole line
 abbrev pub IsRowFault : Row → ℕ → List ℕ → TextFault → Type 0
 IsRowFault r number raw e =
     IsWholeFault number raw e ⊎ ((rest : Rest) × (line_rest number raw ≡ Ok rest)
     × Breaks r (header_fault number rest) rest.words e)
 
--- these lines have these forms, from the line of that number on
+-- these lines have these forms, from the line with that number on
 abbrev pub AreRows : ℕ → List Row → List (List ℕ) → Type 0
 AreRows number [] [] = Unit {0}
 AreRows number [] (raw ∷ raws) = ⊥
 AreRows number (r ∷ rows) [] = ⊥
 AreRows number (r ∷ rows) (raw ∷ raws) = IsRow r number raw × AreRows (number + 1) rows raws
 
--- the first fault of lines that have to have these forms, from the line of that number on: those before have theirs,
--- and the next one is missing or has this fault
+-- the first fault of lines that must have these forms, from the line with that number on: those before have theirs, and
+-- the next one is missing or has this fault
 pub record IsRowsFault (number : ℕ) (rows : List Row) (raws : List (List ℕ)) (e : TextFault) : Type 0 where
   pub done : List Row
   pub next : Row
@@ -104,8 +104,8 @@ pub record IsRowsFault (number : ℕ) (rows : List Row) (raws : List (List ℕ))
   pub good : AreRows number done front
   pub fault : IsNextFault (IsRowFault next) (number + length done) rest e
 
--- the first fault of the header with which these lines begin: of the first line; or that names a version, and it is
--- that of the others
+-- the first fault of the header at the beginning of these lines: that of the first line; or, if that names a version,
+-- the fault of the others
 pub data IsHeaderFault (raws : List (List ℕ)) (e : TextFault) : Type 0 where
   First : IsNextFault (IsTextFaultOf IsFirstText) 1 raws e → IsHeaderFault raws e
   Rows : (v : Version) (first : List ℕ) (others : List (List ℕ)) → raws ≡ first ∷ others

@@ -36,7 +36,7 @@ first_words v = codes "trace" ∷ version_text v ∷ []
 abbrev pub begins_trace : Version → List ℕ → Bool
 begins_trace v raw = is_ended raw && bytes_eq (without_terminator raw) (joined (first_words v))
 
--- the version that the first of these lines names, 1 where it names none
+-- the version in the first of these lines, 1 if it names none
 abbrev pub version_named : List (List ℕ) → Version
 version_named [] = One
 version_named (raw ∷ raws) =
@@ -54,7 +54,7 @@ initial_number Rfc6928 = 6928
 abbrev pub initial_words : Initial → List (List ℕ)
 initial_words initial = codes "initial" ∷ decimal (initial_number initial) ∷ []
 
--- the fields of the line that names the one host that is recorded
+-- the fields of the line that says that only host 0 is recorded
 abbrev pub half_words : List (List ℕ)
 half_words = codes "half" ∷ decimal 0 ∷ []
 
@@ -68,11 +68,11 @@ judged_name Full = codes "full"
 judged_name Recovery = codes "recovery"
 judged_name Nothing = codes "none"
 
--- all of these
+-- all of these words
 abbrev pub all_judged : List Judged
 all_judged = Full ∷ Recovery ∷ Nothing ∷ []
 
--- the fields of the line that says it
+-- the fields of the line with that word
 abbrev pub congestion_words : Judged → List (List ℕ)
 congestion_words congestion = codes "congestion" ∷ judged_name congestion ∷ []
 
@@ -105,21 +105,21 @@ pub record IsHeader (h : Header) : Type 0 where
   pub extra : h.extra ≤ 65535
   -- version 1 names no other
   pub initial : h.version ≡ One → h.initial ≡ Rfc5681
-  -- a header that doesn't say it judges all of congestion control
+  -- a header without that line judges all of congestion control
   pub congestion : says_congestion h.version ≡ false → h.congestion ≡ Full
 
--- each line with its bytes, numbered on
+-- each line with its bytes, numbered consecutively
 abbrev pub AreLines : ℕ → List (List (List ℕ)) → List (List ℕ) → Type 0
 AreLines number [] [] = Unit {0}
 AreLines number [] (raw ∷ raws) = ⊥
 AreLines number (ws ∷ lines) [] = ⊥
 AreLines number (ws ∷ lines) (raw ∷ raws) = IsLine number (joined ws) raw × AreLines (number + 1) lines raws
 
--- a line of the header that has another word or another count of fields
+-- a line of the header with another word or another count of fields
 abbrev pub header_fault : ℕ → Rest → TextFault
 header_fault number r = record { kind = kinds.Header; span = record { line = number; start = 0; stop = r.stop } }
 
--- the fields behind a name, of which there has to be one, and the fault of another count of them
+-- the fields after a name, of which there must be one, and the fault for another count of them
 abbrev pub some_left : TextFault → List Word → Rest → Result (Rest × TextFault) TextFault
 some_left fault [] r = Err fault
 some_left fault (w ∷ ws) r = Ok (r, fault)
@@ -131,12 +131,12 @@ named_rest number name raw = do
   w ← next_field r
   if bytes_eq w.0.text name then some_left (header_fault number r) w.1.words w.1 else Err (header_fault number r)
 
--- a value, where no field is left
+-- a value, if no field is left
 abbrev pub alone : {A : Type 0} → TextFault → A → List Word → Result A TextFault
 alone fault a [] = Ok a
 alone fault a (w ∷ ws) = Err fault
 
--- a line of the header: its name, and the value that is read behind it
+-- a line of the header: its name, and the value that is read after it
 unfoldable pub value_line : {A : Type 0} → ℕ → List ℕ → (Rest → Result (A × Rest) TextFault) → List ℕ
     → Result A TextFault
 value_line number name read raw = do
@@ -152,7 +152,7 @@ next_value number name read raws = do
   a ← value_line number name read raw.0
   Ok (a, raw.1)
 
--- the version whose first line has this text, else Header; of both of version 4 that of two hosts
+-- the version with this text as its first line, else Header; for version 4, that of two hosts
 abbrev pub version_in : List ℕ → Result Version TextFault
 version_in text =
     if bytes_eq text (joined (first_words One)) then Ok One
@@ -165,7 +165,7 @@ version_in text =
 unfoldable pub first_version : List ℕ → Result Version TextFault
 first_version raw = line_text 1 raw >>= version_in
 
--- the first line, which has to stand as it is in some version
+-- the first line, which must be that of some version
 unfoldable pub first_line : List (List ℕ) → Result (Version × List (List ℕ)) TextFault
 first_line raws = do
   raw ← next_raw 1 raws
@@ -191,7 +191,7 @@ initial_field r = do
 abbrev pub initial_line : List (List ℕ) → Result (Initial × List (List ℕ)) TextFault
 initial_line raws = next_value 7 (codes "initial") initial_field raws
 
--- the next line, which names the one host that is recorded: host 0
+-- the next line, which says that only host 0 is recorded
 abbrev pub half_line : List (List ℕ) → Result (ℕ × List (List ℕ)) TextFault
 half_line raws = next_value 8 (codes "half") (number_field 0 0) raws
 
@@ -203,22 +203,22 @@ hosts_line raws = next_value 8 (codes "hosts") (number_field 1 2) raws
 abbrev pub congestion_line : List (List ℕ) → Result (Judged × List (List ℕ)) TextFault
 congestion_line raws = next_value 9 (codes "congestion") (kind_field judged_name all_judged) raws
 
--- version 4 with so many hosts
+-- version 4 with this many hosts
 abbrev pub hosted : ℕ → Version
 hosted count = if count == 1 then FourHalf else Four
 
--- what the late lines say
+-- the content of the late lines
 abbrev pub late : Version → Initial → Judged → LateLines
 late version initial congestion = record { version = version; initial = initial; congestion = congestion }
 
--- what the lines of version 3 after line 6 say
+-- the content of the lines of version 3 after line 6
 abbrev pub half_lines : List (List ℕ) → Result (LateLines × List (List ℕ)) TextFault
 half_lines raws = do
   initial ← initial_line raws
   half ← half_line initial.1
   Ok (late Three initial.0 Full, half.1)
 
--- and those of version 4, by which its version is known
+-- and that of the lines of version 4, which determine its version
 abbrev pub judged_lines : List (List ℕ) → Result (LateLines × List (List ℕ)) TextFault
 judged_lines raws = do
   initial ← initial_line raws
@@ -226,7 +226,7 @@ judged_lines raws = do
   congestion ← congestion_line hosts.1
   Ok (late (hosted hosts.0) initial.0 congestion.0, congestion.1)
 
--- what the lines say that version 1 doesn't have; there it is always the same
+-- the content of the lines that version 1 doesn't have; for version 1 it is always the same
 abbrev pub late_lines : Version → List (List ℕ) → Result (LateLines × List (List ℕ)) TextFault
 late_lines One raws = Ok (late One Rfc5681 Full, raws)
 late_lines Two raws = do
@@ -236,7 +236,7 @@ late_lines Three raws = half_lines raws
 late_lines Four raws = judged_lines raws
 late_lines FourHalf raws = judged_lines raws
 
--- the header of these numbers, and of what the late lines say
+-- the header with these numbers, and the content of the late lines
 abbrev pub header_with : (skew msl grain minrto extra : ℕ) → LateLines → Header
 header_with skew msl grain minrto extra late = record {
   version = late.version;
@@ -249,7 +249,7 @@ header_with skew msl grain minrto extra late = record {
   congestion = late.congestion;
 }
 
--- the header, and the lines behind it
+-- the header, and the lines after it
 unfoldable pub header_of : List (List ℕ) → Result (Header × List (List ℕ)) TextFault
 header_of raws = do
   version ← first_line raws

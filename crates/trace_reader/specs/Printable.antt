@@ -22,23 +22,23 @@ use Rattle.trace_reader.specs.EventLines.{line_pieces}
 abbrev pub HasBytes : Line → Type 0
 HasBytes l = AllByRecursion IsBytePiece (event_pieces l.event)
 
--- the numbers and the event of a line are within the limits of this version (that of a half case names host 0 alone),
--- and its bytes are bytes
+-- the numbers and the event of a line are within the limits of this version (only host 0 in a half case), and its bytes
+-- are bytes
 pub record IsPrintableLine (v : Version) (l : Line) : Type 0 where
   pub moment : l.moment ≤ 1000000000000000000
   pub thread : l.thread ≤ 4294967295
   pub event : IsEvent v l.event
   pub bytes : HasBytes l
 
--- header and lines are within their limits, the lines are numbered on, no moment falls, and the last line is one that a
--- text may have
+-- header and lines are within their limits, the lines are numbered consecutively, no moment falls, and the last line
+-- has a number that a text may have
 pub record IsPrintableTrace (t : Trace) : Type 0 where
   pub header : IsHeader t.header
   pub recorded : IsTrace t
   pub few : first_event_line t.header + length t.lines ≤ 10000001
   pub lines : AllByRecursion (IsPrintableLine t.header.version) t.lines
 
--- what the types of values in memory say of an event: numbers have their bits, and the bytes of a segment stand for it
+-- what the types of an event's values ensure: numbers are in their ranges, and the bytes of a segment encode it
 abbrev pub HasEventBits : Event → Type 0
 HasEventBits (events.CallBegin call) = HasCallBits call
 HasEventBits (events.CallEnd answer) = HasAnswerBits answer
@@ -46,13 +46,13 @@ HasEventBits (events.Sent host wire) = IsSegment wire.bytes wire.seg
 HasEventBits (events.Came host wire) = IsSegment wire.bytes wire.seg
 HasEventBits (events.Expired host local remote timer) = Has16 local × Has16 remote
 
--- what they say of a line
+-- what they ensure of a line
 pub record IsInMemory (l : Line) : Type 0 where
   pub thread : Has32 l.thread
   pub event : HasEventBits l.event
   pub bytes : HasBytes l
 
--- the limits of an event that no type says: hosts of this version, ports from 1 on, and how many bytes
+-- the limits of an event that no type ensures: hosts of this version, ports from 1 on, and how many bytes
 abbrev pub IsCallOf : Version → Call → Type 0
 IsCallOf v (calls.Listen host port backlog) = IsHost v host
 IsCallOf v (calls.Connect host local remote) = IsHost v host
@@ -65,7 +65,7 @@ IsWithinEvent v (events.Sent host wire) = IsHost v host
 IsWithinEvent v (events.Came host wire) = IsHost v host
 IsWithinEvent v (events.Expired host local remote timer) = IsHost v host × (1 ≤ local) × (1 ≤ remote)
 
--- and of a line, and of a trace: numbers alone
+-- and of a line, and of a trace: only numbers
 pub record IsWithinLine (v : Version) (l : Line) : Type 0 where
   pub moment : l.moment ≤ 1000000000000000000
   pub event : IsWithinEvent v l.event

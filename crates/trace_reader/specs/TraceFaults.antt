@@ -8,7 +8,7 @@ use Rattle.trace_reader.specs.HeaderForms.{IsHeaderFault}
 use Rattle.trace_reader.specs.Headers.{IsHeader, AreLines, header_words}
 use Rattle.trace_reader.specs.TraceText.{first_place}
 
--- that of its header; or the text begins with a header, and it is that of the event lines behind it
+-- that of its header; or, if the text begins with a header, that of the event lines after it
 pub data IsTraceFault (text : List ℕ) (e : TextFault) : Type 0 where
   Headers : IsHeaderFault (lines_of text) e → IsTraceFault text e
   Events : (h : Header) (heads raws : List (List ℕ)) → lines_of text ≡ heads ++ raws → IsHeader h

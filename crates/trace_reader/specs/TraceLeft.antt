@@ -32,7 +32,7 @@ place_of r = (r.before, r.number)
 abbrev pub version_of : {A : Type 0} → TraceReader A → Version
 version_of r = r.version
 
--- the fault that was met, if one was
+-- the fault that was met, if any
 abbrev pub fault_of : {A : Type 0} → TraceReader A → Option SourceFault
 fault_of r = r.fault
 
@@ -44,11 +44,11 @@ IsFresh r = fault_of r ≡ None → place_of r ≡ (0, 1)
 abbrev pub IsBegun : {A : Type 0} → TraceReader A → Type 0
 IsBegun r = fault_of r ≡ None → 1 < r.number
 
--- what the text of a fresh reader gives, where its bytes are known
+-- what the text of a new reader gives, if its bytes are known
 abbrev pub trace_left : {A : Type 0} → (A → Option (List ℕ)) → TraceReader A → Option (Result Trace TextFault)
 trace_left known r = option_map trace_of (left_of known r.source)
 
--- the event lines that are left, or the first fault among them, where the bytes are known
+-- the event lines that are left, or the first fault among them, if the bytes are known
 abbrev pub lines_left : {A : Type 0} → (A → Option (List ℕ)) → TraceReader A → Option (Result (List Line) TextFault)
 lines_left known r =
     option_map (read_lines (line_of (version_of r)) behind (place_of r)) (rows_of (left_of known r.source))
@@ -57,13 +57,13 @@ lines_left known r =
 abbrev pub with_header : Header → Result (List Line) TextFault → Result Trace TextFault
 with_header h lines = lines >>= λ ls. Ok (record { header = h; lines = ls })
 
--- the whole trace begins with this header, and these lines are behind it
+-- the whole trace begins with this header, followed by these lines
 abbrev pub Begins : Option (Result Trace TextFault) → Option (Result (List Line) TextFault) → Header → Type 0
 Begins None lines h = Unit {0}
 Begins (Some whole) None h = ⊥
 Begins (Some whole) (Some lines) h = whole ≡ with_header h lines
 
--- a line that stands at a place
+-- a line at a place
 pub record StandsAt (place : Place) (line : Line) : Type 0 where
   pub number : line.number ≡ place.1
   pub rises : place.0 ≤ line.moment

@@ -1,4 +1,4 @@
--- Which text stands for which trace.
+-- Which text is the text of which trace.
 use Rattle.std.specs.Prelude.{◌≡◌, ℕ, List, ◌++◌, Result, Ok}
 use Rattle.std.specs.List.{concat}
 use Rattle.bstr.specs.Text.{lines_of}
@@ -16,7 +16,7 @@ use Rattle.trace_reader.specs.EventLines.{Place, behind, IsEventLine, line_of}
 abbrev pub first_place : Header → Place
 first_place h = (0, first_event_line h)
 
--- the text is the joined spellings of the header's lines and of the event lines
+-- the text consists of the spellings of the header's lines and of the event lines
 pub record IsTraceText (t : Trace) (text : List ℕ) : Type 0 where
   pub headers : List (List ℕ)
   pub events : List (List ℕ)
@@ -25,7 +25,7 @@ pub record IsTraceText (t : Trace) (text : List ℕ) : Type 0 where
   pub are_events : AreSpelled (IsEventLine t.header.version) behind (first_place t.header) t.lines events
   pub joined : text ≡ concat (headers ++ events)
 
--- the event lines behind a header
+-- the event lines after a header
 abbrev pub events_of : Header → List (List ℕ) → Result (List Line) TextFault
 events_of h raws = read_lines (line_of h.version) behind (first_place h) raws
 

@@ -14,7 +14,7 @@ const MAX_BACKLOG: u64 = 65_535;
 // The greatest count of bytes of one `send`.
 const MAX_SEND: usize = 65_535;
 
-// The greatest count of bytes that one `recv` may ask for.
+// The greatest count of bytes that one `recv` may request.
 const MAX_RECV: u64 = 65_535;
 
 // The first word of a call.

@@ -42,7 +42,7 @@ fn event_letter(fields: &mut Fields) -> Result<Letter, TextFault>
     }
 }
 
-// A host, and a segment that was seen there.
+// A host, and a segment that was observed there.
 #[tactic(auto, unfolding(crate::specs::EventFields::host_wire))]
 fn host_wire(
     alloc: Global,
@@ -88,9 +88,9 @@ fn event(alloc: Global, version: Version, fields: &mut Fields) -> Result<Event, 
     }
 }
 
-/// The event line of that number in a text of this version, whose bytes are given with the line's end. `before` is the
-/// moment of the event line before it, in microseconds, or 0 if there is none; a moment below it is MomentFalls at its
-/// field. Fields are looked at from left to right, and a field too many last.
+/// The event line with that number in a text of this version, whose bytes are given with the line's end. `before` is
+/// the moment of the event line before it, in microseconds, or 0 if there is none; a moment below it is MomentFalls at
+/// its field. Fields are checked from left to right, and the count of fields last.
 #[tactic(auto, unfolding(crate::specs::EventLines::line_of))]
 #[inline(always)]
 pub fn event_line(

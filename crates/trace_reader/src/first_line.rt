@@ -28,7 +28,7 @@ pub(crate) fn first_text(version: Version) -> &'static str
     }
 }
 
-// Whether a line, given with its end, is exactly the first line of a trace of this version, ended by LF or CR LF.
+// Whether a line, given with its end, is exactly the first line of a trace of this version, ended with LF or CR LF.
 fn begins_trace(version: Version, raw: &[u8]) -> bool
     ensures { result ≡ begins_trace version raw.now }
 {
@@ -36,8 +36,8 @@ fn begins_trace(version: Version, raw: &[u8]) -> bool
     ended && is_text(text, first_text(version))
 }
 
-/// The version that the first line of a text names, if this line is ended; version 1 if it names none. A trace of
-/// version 4 has its version with two hosts, since only its line 8 says how many were recorded.
+/// The version in the first line of a text, if this line has an end; version 1 if it names none. A trace of version 4
+/// counts as one of two hosts here, since only its line 8 says how many were recorded.
 pub fn version_named(text: &[u8]) -> Version
     ensures { result ≡ version_named (lines_of text.now) }
 {
@@ -49,7 +49,7 @@ pub fn version_named(text: &[u8]) -> Version
     }
 }
 
-// The version whose first line this is; of version 4 the one with two hosts. Another text is Header, at the whole line.
+// The version with this first line; for version 4, the one with two hosts. Any other text is Header, at the whole line.
 #[tactic(auto, unfolding(crate::specs::Headers::first_version))]
 fn first_version(raw: &[u8]) -> Result<Version, TextFault>
     ensures { Gives (λ version. version) result (first_version raw.now) }

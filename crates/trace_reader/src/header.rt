@@ -23,7 +23,7 @@ const MAX_MINRTO: u64 = 60_000_000;
 
 const MAX_EXTRA: u64 = 65_535;
 
-/// The header of a text, whose lines are taken.
+/// The header of a text, whose lines it reads. The error is the first fault, or a read that failed.
 pub(crate) fn header<A: BufRead>(
     source: &mut Counted<A>,
     line: &mut Vec<u8>,

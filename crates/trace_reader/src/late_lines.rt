@@ -1,4 +1,4 @@
-//! The header's lines after line 6, which version 1 doesn't have.
+//! The lines of the header after line 6, which version 1 doesn't have.
 
 ghost use Rattle.std.specs.Prelude.{◌≡◌, ◌≢◌, Err, codes};
 ghost use Rattle.counted.specs.Counting.{left_of, failures_of, one_more};
@@ -18,7 +18,7 @@ use std::io::BufRead;
 // The number of the line that names the RFC of the first congestion window.
 const INITIAL_LINE: u64 = 7;
 
-// The number of the line that names the one host that is recorded.
+// The number of the line that says that only one host is recorded.
 const HALF_LINE: u64 = 8;
 
 // The number of the line that says how many hosts were recorded.
@@ -27,7 +27,7 @@ const HOSTS_LINE: u64 = 8;
 // The number of the line that says how much of congestion control is judged.
 const CONGESTION_LINE: u64 = 9;
 
-/// What the header's lines after line 6 say, or what is true of a version that doesn't have them.
+/// The content of the header's lines after line 6, or the values for a version that doesn't have them.
 #[derive(Clone, Copy)]
 pub(crate) struct LateLines {
     pub(crate) version: Version,
@@ -35,7 +35,7 @@ pub(crate) struct LateLines {
     pub(crate) congestion: Judged,
 }
 
-// The next field, which names one of the two RFCs by its number. Another number is Number.
+// The next field, one of the two RFCs by number. Any other number is Number.
 #[tactic(auto, unfolding(crate::specs::Headers::initial_field))]
 fn initial_field(fields: &mut Fields) -> Result<Initial, TextFault>
     ensures { Gives (λ initial. (initial, fields.new)) result (initial_field fields.old) }
@@ -48,7 +48,7 @@ fn initial_field(fields: &mut Fields) -> Result<Initial, TextFault>
     }
 }
 
-// The RFC of the line that is `initial` and its number.
+// The RFC of a line made of `initial` and a number.
 #[tactic(auto, unfolding(crate::specs::Headers::value_line))]
 fn named_initial(raw: &[u8]) -> Result<Initial, TextFault>
     ensures { Gives (λ initial. initial) result (value_line 7 (codes "initial") initial_field raw.now) }
@@ -61,7 +61,7 @@ fn named_initial(raw: &[u8]) -> Result<Initial, TextFault>
     Ok(initial)
 }
 
-// The RFC of the next line, which is `initial` and its number.
+// The RFC of the next line, which is `initial` and a number.
 #[tactic(auto, unfolding(crate::specs::Headers::next_value))]
 fn next_initial<A: BufRead>(
     source: &mut Counted<A>,
@@ -93,7 +93,7 @@ fn judged(fields: &mut Fields) -> Result<Judged, TextFault>
     }
 }
 
-// How much of congestion control is judged, by the line that is `congestion` and the word for it.
+// How much of congestion control is judged, from a line made of `congestion` and a word.
 #[tactic(auto, unfolding(crate::specs::Headers::value_line))]
 fn named_congestion(raw: &[u8]) -> Result<Judged, TextFault>
     ensures { Gives (λ word. word) result
@@ -107,7 +107,7 @@ fn named_congestion(raw: &[u8]) -> Result<Judged, TextFault>
     Ok(congestion)
 }
 
-// How much of congestion control is judged, by the next line, which is `congestion` and the word for it.
+// How much of congestion control is judged, from the next line, which is `congestion` and a word.
 #[tactic(auto, unfolding(crate::specs::Headers::next_value))]
 fn next_congestion<A: BufRead>(
     source: &mut Counted<A>,
@@ -123,7 +123,7 @@ fn next_congestion<A: BufRead>(
     Ok(congestion)
 }
 
-// The version of a text of version 4 by the count of hosts that were recorded.
+// The version of a text of version 4, given the count of recorded hosts.
 fn hosted(hosts: u64) -> Version
     ensures { result ≡ hosted hosts }
 {
@@ -134,7 +134,7 @@ fn hosted(hosts: u64) -> Version
     }
 }
 
-// The RFC of the first congestion window, and after it the line `half 0`, which says that host 0 alone is recorded.
+// The RFC of the first congestion window, and after it the line `half 0`, which says that only host 0 is recorded.
 fn half_lines<A: BufRead>(
     source: &mut Counted<A>,
     line: &mut Vec<u8>,
@@ -173,7 +173,7 @@ fn judged_lines<A: BufRead>(
     })
 }
 
-/// What the next lines say, if the version has some.
+/// The content of the late lines, if the version has any.
 pub(crate) fn late_lines<A: BufRead>(
     source: &mut Counted<A>,
     line: &mut Vec<u8>,

@@ -1,4 +1,4 @@
-//! What the reader answers is the first fault.
+//! The reader returns the first fault.
 
 ghost use Rattle.std.specs.Prelude.{◌≡◌, ◌↔◌, ℕ, List, Err};
 ghost use Rattle.case_forms.specs.declared.version.Version.{Version};
@@ -11,31 +11,31 @@ ghost use Rattle.trace_reader.specs.Headers.{header_of};
 ghost use Rattle.trace_reader.specs.TraceFaults.{IsTraceFault};
 ghost use Rattle.trace_reader.specs.TraceText.{trace_of};
 
-/// An event line is read with this fault exactly where it is its first one: that of the line as a whole, or else that
-/// of the first field that doesn't fit the form of an event line.
+/// Reading an event line gives this fault if and only if it is the line's first one: that of the line as a whole, or
+/// else that of the first field that doesn't fit the form of an event line.
 pub fn event_line_faults()
     ensures { (v : Version) (place : Place) (raw : List ℕ) (e : TextFault) → (line_of v place raw ≡ Err e)
         ↔ IsLineFault v place raw e }
 {}
 
-/// Event lines from a place on are read with this fault exactly where it is the first fault of the first of them that
-/// has one, and those before it are spelled as event lines.
+/// Reading event lines from a place on gives this fault if and only if it is the first fault of the first line that has
+/// one, and those before it are spelled as event lines.
 pub fn first_event_fault()
     ensures { (v : Version) (place : Place) (raws : List (List ℕ)) (e : TextFault)
         → (read_lines (line_of v) behind place raws ≡ Err e)
         ↔ IsEventsFault v place raws e }
 {}
 
-/// The header of a text, given by its lines, is read with this fault exactly where it is the header's first one: that
-/// of the first line, which is missing, has a fault as a whole or names no version; or that line is there, those after
-/// it are each a name and a value as their version wants them, and the next one is missing or has this fault as a whole
-/// or by its form.
+/// Reading a header, given by its lines, gives this fault if and only if it is the header's first one. That is the
+/// fault of the first line, which is missing, has a fault as a whole or names no version. Or the first line is right,
+/// those after it are each a name and a value as their version requires, and the next one is missing or has this fault
+/// as a whole or by its form.
 pub fn header_faults()
     ensures { (raws : List (List ℕ)) (e : TextFault) → (header_of raws ≡ Err e) ↔ IsHeaderFault raws e }
 {}
 
-/// A text is read as a trace with this fault exactly where it is the text's first one: that of its header; or the text
-/// begins with a header, and it is that of the event lines after it.
+/// Reading a text as a trace gives this fault if and only if it is the text's first one: that of its header, or, if the
+/// text begins with a header, that of the event lines after it.
 pub fn trace_faults()
     ensures { (text : List ℕ) (e : TextFault) → (trace_of text ≡ Err e) ↔ IsTraceFault text e }
 {}

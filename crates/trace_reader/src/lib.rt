@@ -1,4 +1,4 @@
-//! The text of a trace: what stands in it is read, with the first fault and its place, and printed again.
+//! The text of a trace: reading it, with the first fault and its place, and printing it.
 //!
 //! ```text
 //! let trace = read_trace(alloc, text)?;
@@ -6,20 +6,20 @@
 //! let printed = print_trace(alloc, &trace)?;
 //! ```
 //!
-//! - `Trace`, `Header`, `Line`, `Event`, `Call`, `Answer`, `Wire`: what a trace says
-//! - `read_trace`: a whole text; `TextFault`, `FaultKind`, `Span`: the first fault, and where it stands
-//! - `TraceReader`: a text whose lines are read as they are requested; `SourceFault`: a fault, or a read that failed
+//! - `Trace`, `Header`, `Line`, `Event`, `Call`, `Answer`, `Wire`: the contents of a trace
+//! - `read_trace`: a whole text; `TextFault`, `FaultKind`, `Span`: the first fault, and its place
+//! - `TraceReader`: a text whose lines are read on request; `SourceFault`: a fault, or a read that failed
 //! - `print_trace`: the text of a trace
 //!
-//! A text is six lines of a header, seven in version 2, eight in version 3 and nine in version 4, and after them event
-//! lines. specs/TraceText.antt says which text stands for which trace, and is the file to read first; the forms of the
-//! lines stand in specs/Headers.antt, specs/EventLines.antt, specs/Events.antt and specs/Calls.antt. Whether the trace
-//! can be explained is `checker`'s; here a line is only what it says.
+//! A text has a header of six lines (seven in version 2, eight in version 3, nine in version 4), followed by event
+//! lines. `specs/TraceText` defines which text is the text of which trace; read it first. `specs/Headers`,
+//! `specs/EventLines`, `specs/Events` and `specs/Calls` define the forms of the lines. This crate only reads lines;
+//! `checker` decides whether a trace can be explained.
 //!
 //! Private modules:
 //!
-//! - `reading`: the reader of a whole text, by the reader of `stream`
-//! - `stream`: the reader of a text whose lines are read as they are requested
+//! - `reading`: the reader of a whole text, using the reader of `stream`
+//! - `stream`: the reader of a text whose lines are read on request
 //! - `header`: the header, by its lines
 //! - `first_line`: the first line, which names the version
 //! - `late_lines`: the lines after line 6, which version 1 doesn't have
@@ -28,7 +28,7 @@
 //! - `calls`: the calls that a thread may begin
 //! - `wires`: segments in hex
 //! - `printing`: the printer of a trace; `header_printing`: that of its header
-//! - `laws`: the fault that is answered is the first one, by tables of what each field has to be (`specs/HeaderForms`,
+//! - `laws`: the reported fault is the first one, by tables of what each field must be (`specs/HeaderForms`,
 //!   `specs/EventForms`)
 #![tactic(auto)]
 

@@ -10,8 +10,8 @@ use counted::Counted;
 use line_fields::{FaultKind, Fields, SourceFault, Span, TextFault, checked_fields, require_line};
 use std::io::BufRead;
 
-/// The fields of a line after its name, of which there is one at least, and the fault of another count of fields. It is
-/// Header at the whole line, as another name is.
+/// The fields of a line after its name, at least one, and the fault for another count of fields. That is Header at the
+/// whole line, as for another name.
 #[tactic(auto, unfolding(crate::specs::Headers::named_rest))]
 pub(crate) fn named_rest<'a>(
     number: u64,

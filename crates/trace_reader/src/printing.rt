@@ -135,7 +135,7 @@ fn push_line(out: &mut Vec<u8>, line: &Line) -> Result<(), OutOfMemory>
     Ok(())
 }
 
-/// The text of a trace, each line ended by LF.
+/// The text of a trace, each line ended with LF. The error means that memory ran out.
 pub fn print_trace(alloc: Global, trace: &Trace) -> Result<Vec<u8>, OutOfMemory>
     ensures text { IfOk result (λ text. text.items ≡ trace_text trace.now) }
     ensures memory { IfOk result (λ text. AllByRecursion IsInMemory trace.now.lines) }
@@ -149,12 +149,12 @@ pub fn print_trace(alloc: Global, trace: &Trace) -> Result<Vec<u8>, OutOfMemory>
     Ok(out)
 }
 
-/// A trace that some text stands for is read again from what is printed, with the same spans.
+/// If a trace has a text, reading what is printed gives the trace again, with the same spans.
 pub fn print_law()
     ensures { (t : Trace) (text : List ℕ) → IsTraceText t text → IsTraceText t (trace_text t) }
 {}
 
-/// A trace is printed as a text that stands for it, with the spans of that text, exactly if it is within the limits.
+/// A trace is printed as its text, with the spans of that text, if and only if it is within the limits.
 pub fn printable_law()
     ensures printed { (t : Trace) → IsPrintableTrace t → IsTraceText (with_columns t) (trace_text t) }
     ensures read { (t : Trace) → IsPrintableTrace t → trace_of (trace_text t) ≡ Ok (with_columns t) }
@@ -166,7 +166,7 @@ fn slice_bytes(bytes: &[u8])
     ensures { (i : ℕ) → slice_index bytes.now i < 256 }
 {}
 
-// So are those of bytes in memory of their own.
+// So are those of owned bytes.
 fn own_bytes(bytes: &segment::Bytes)
     ensures { (i : ℕ) → slice_index bytes.now i < 256 }
 {
@@ -182,7 +182,7 @@ fn call_bytes(call: &Call)
     }
 }
 
-/// An event's bytes are bytes, as the types of values in memory say.
+/// An event's bytes are bytes, as the types of its values ensure.
 pub fn event_bytes(event: &Event)
     ensures { AllByRecursion IsBytePiece (event_pieces event.now) }
 {
@@ -201,12 +201,12 @@ fn bits16(n: u16)
     ensures { Has16 n }
 {}
 
-// And one of 32.
+// The same for one of 32 bits.
 fn bits32(n: u32)
     ensures { Has32 n }
 {}
 
-// The numbers of a call have the bits of their types.
+// The numbers of a call are in the ranges of their types.
 fn call_bits(call: &Call)
     ensures { HasCallBits call.now }
 {
@@ -229,7 +229,7 @@ fn call_bits(call: &Call)
     }
 }
 
-// So has that of an answer.
+// The same for that of an answer.
 fn answer_bits(answer: &Answer)
     ensures { HasAnswerBits answer.now }
 {
@@ -238,7 +238,7 @@ fn answer_bits(answer: &Answer)
     }
 }
 
-// And those of an event; and the bytes of a segment stand for it.
+// The same for those of an event; and the bytes of a segment encode it.
 fn event_bits(event: &Event)
     ensures { HasEventBits event.now }
 {
@@ -253,8 +253,8 @@ fn event_bits(event: &Event)
     }
 }
 
-/// A line is as the types of values in memory say: its numbers have their bits, its bytes are bytes, and those of a
-/// segment stand for it.
+/// The types of a line's values ensure these limits: its numbers are in their ranges, its bytes are bytes, and those of
+/// a segment encode it.
 pub fn line_in_memory(line: &Line)
     ensures { IsInMemory line.now }
 {

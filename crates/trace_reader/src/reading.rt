@@ -25,15 +25,15 @@ fn read(alloc: Global, text: &[u8]) -> Result<Trace, TextFault>
     Ok(Trace { header, lines })
 }
 
-/// The trace that a text stands for, or the text's first fault with its place.
+/// The trace that a text spells, or the text's first fault with its place.
 pub fn read_trace(alloc: Global, text: &[u8]) -> Result<Trace, TextFault>
     // What is read is spelled so.
     ensures found { IfOk result (λ trace. IsTraceText trace text.now) }
     // What is spelled so is read, unless memory runs out.
     ensures only { (t : Trace) → IsTraceText t text.now → Gives (λ trace. trace) result (Ok t) }
-    // Which fault it is.
+    // Which fault is returned.
     ensures exact { Gives (λ trace. trace) result (trace_of text.now) }
-    // The lines are numbered on, and no moment falls.
+    // The lines are numbered consecutively, and no moment falls.
     ensures recorded { IfOk result IsTrace }
 {
     read(alloc, text)

@@ -1,4 +1,4 @@
-//! The reader of a trace whose lines are read as they are requested.
+//! The reader of a trace whose lines are read on request.
 
 ghost use Rattle.std.specs.Prelude.{◌≡◌, ◌≢◌, IfOk, OnOk, IfSome, Some, None, Err};
 ghost use Rattle.counted.specs.Counting.{one_more};
@@ -18,8 +18,8 @@ use line_fields::{SourceFault, next_line};
 use std::alloc::Global;
 use std::io::BufRead;
 
-/// A trace whose lines are read as they are requested, first its header. Of the text one line is kept in memory. After
-/// a fault each later call answers that fault.
+/// A trace whose lines are read on request, first its header. Only one line of the text is kept in memory. After a
+/// fault, each later call returns that fault.
 #[derive(Drop)]
 pub struct TraceReader<A> {
     alloc: Global,
@@ -36,7 +36,7 @@ pub struct TraceReader<A> {
 }
 
 impl<A> TraceReader<A> {
-    /// A reader of a whole text, of which nothing is read yet.
+    /// A reader of a whole text, of which nothing has been read yet.
     pub fn new(alloc: Global, source: Counted<A>) -> TraceReader<A>
         ensures source { source_of result ≡ source }
         ensures fresh { IsFresh result }
@@ -53,14 +53,14 @@ impl<A> TraceReader<A> {
         }
     }
 
-    /// The source, of which what was requested is read, and no more.
+    /// The source, of which only what was requested has been read.
     pub fn into_source(self) -> Counted<A>
         ensures { result ≡ source_of self }
     {
         self.source
     }
 
-    // What was read; a fault is kept for the calls to come.
+    // Returns what was read; a fault is kept for later calls.
     #[inline(always)]
     fn keep_fault<T>(&mut self, read: Result<T, SourceFault>) -> Result<T, SourceFault>
         requires { fault_of self.old ≡ None }
@@ -79,7 +79,7 @@ impl<A> TraceReader<A> {
 }
 
 impl<A: BufRead> TraceReader<A> {
-    /// The header, which is read before any line.
+    /// Reads the header, which comes before any event line.
     pub fn header(&mut self) -> Result<Header, SourceFault>
         requires { IsFresh self.old }
         ensures header { fault_of self.old ≡ None
@@ -107,7 +107,7 @@ impl<A: BufRead> TraceReader<A> {
         Ok(header)
     }
 
-    /// The next event line, or none at the end of the text. The header is read before.
+    /// The next event line, or `None` at the end of the text. The header must have been read.
     #[inline(always)]
     pub fn next(&mut self) -> Result<Option<Line>, SourceFault>
         requires { IsBegun self.old }
@@ -132,8 +132,8 @@ impl<A: BufRead> TraceReader<A> {
         Ok(item)
     }
 
-    /// The next event line becomes the item, or none at the end of the text; after a fault the item may be anything.
-    /// The header is read before. So a line is not handed on from call to call.
+    /// Reads the next event line into the item, or `None` at the end of the text. After a fault, the item may be
+    /// anything. The header must have been read. This avoids moving the line from call to call.
     #[inline(always)]
     pub fn next_into(&mut self, item: &mut Option<Line>) -> Result<(), SourceFault>
         requires { IsBegun self.old }
@@ -160,7 +160,7 @@ impl<A: BufRead> TraceReader<A> {
         self.keep_fault(read)
     }
 
-    // The next event line becomes the item, if no fault was met.
+    // Reads the next event line into the item, if no fault was met.
     #[inline(always)]
     fn read_into(&mut self, item: &mut Option<Line>) -> Result<(), SourceFault>
         ensures next { OnOk result

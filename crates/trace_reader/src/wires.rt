@@ -8,8 +8,7 @@ use line_fields::{FaultKind, Fields, TextFault};
 use segment::{SegFault, decode};
 use std::alloc::Global;
 
-/// The next field, which is a segment in hex. Bad digits are Hex; bytes that are no segment are Segment, with the
-/// reason.
+/// The next field, a segment in hex. Wrong digits are Hex; bytes that are not a segment are Segment, with the reason.
 #[tactic(auto, using(crate::proofs::WireLemmas::wire_field_is))]
 pub(crate) fn wire(alloc: Global, fields: &mut Fields) -> Result<Wire, TextFault>
     ensures { Gives (λ wire. (wire, fields.new)) result (wire_field fields.old) }
