@@ -1,4 +1,4 @@
--- The flags of a segment that is made, as letters.
+-- The flags of a segment to build, as letters.
 use Rattle.std.specs.Prelude.{ℕ, Bool, true, false, ◌==◌, ◌&&◌, nat_lt, if◌then◌else◌, List, [], ◌∷◌, ◌++◌, length}
 use Rattle.std.specs.Prelude.{Option, Some, None, Result, Ok, codes}
 use Rattle.std.specs.Str.{bytes_eq}
@@ -19,7 +19,7 @@ letters_of f =
     letter_if f.ack (codes "A")
     ++ (letter_if f.rst (codes "R") ++ (letter_if f.syn (codes "S") ++ letter_if f.fin (codes "F")))
 
--- letters, and a dash where there are none
+-- letters, and a dash if there are none
 abbrev pub or_dash : List ℕ → List ℕ
 or_dash [] = codes "-"
 or_dash (b ∷ bs) = b ∷ bs
@@ -32,12 +32,12 @@ flags_text f = or_dash (letters_of f)
 abbrev pub no_flags : Flags
 no_flags = record { ack = false; rst = false; syn = false; fin = false }
 
--- whether a text begins with this letter, and the text behind it
+-- whether a text begins with this letter, and the text after it
 abbrev pub behind_letter : ℕ → List ℕ → Bool × List ℕ
 behind_letter letter [] = (false, [])
 behind_letter letter (b ∷ bs) = if b == letter then (true, bs) else (false, b ∷ bs)
 
--- the flags whose letters the text is, at least one; A, R, S and F are 65, 82, 83 and 70
+-- the flags spelled by these letters, at least one; A, R, S and F are 65, 82, 83 and 70
 abbrev pub letters_named : List ℕ → Option Flags
 letters_named text =
     let ack = behind_letter 65 text in
@@ -46,7 +46,7 @@ letters_named text =
     let fin = behind_letter 70 syn.1 in
     if nat_lt 0 (length text) && length fin.1 == 0 then Some (record { ack = ack.0; rst = rst.0; syn = syn.0; fin = fin.0 }) else None
 
--- the flags that a field names, and Field where it names none
+-- the flags that a field names, and Field if it names none
 abbrev pub flags_value : Word → Result Flags TextFault
 flags_value w = if bytes_eq w.text (codes "-") then Ok no_flags else or_fault (fault_at Field w) (letters_named w.text)
 

@@ -29,7 +29,7 @@ effect_label r = do
   answer ← answer_field thread.1
   Ok (D thread.0 answer.0, answer.1)
 
--- an endpoint, and what the segment is that it makes
+-- an endpoint, and the plan of the segment that it builds
 unfoldable pub segment_label : Version → Rest → Result (Label NamedLine × Rest) TextFault
 segment_label v r = do
   at ← endpoint_field v r
@@ -53,7 +53,7 @@ segment_label v r = do
     start.1,
   )
 
--- an inbox entry, the congestion window, whether data are kept, and whether the time is sampled
+-- an inbox entry, the congestion window, whether data is kept, and whether the round trip is measured
 unfoldable pub taking_label : Version → Rest → Result (Label NamedLine × Rest) TextFault
 taking_label v r = do
   entry ← entry_field v r
@@ -68,7 +68,7 @@ dropping_label v r = do
   entry ← entry_field v r
   Ok (K entry.0.0 entry.0.1, entry.1)
 
--- an inbox entry that is answered by a reset
+-- an inbox entry that is answered with a reset
 abbrev pub refusing_label : Version → Rest → Result (Label NamedLine × Rest) TextFault
 refusing_label v r = do
   entry ← entry_field v r

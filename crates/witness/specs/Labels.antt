@@ -49,7 +49,7 @@ AreExtras Bare = Unit {0}
 AreExtras (One x) = x ≤ 4294967295
 AreExtras (Two x y) = (x ≤ 4294967295) × (y ≤ 4294967295)
 
--- the field of an initial send sequence number, which may be missing
+-- the field of an optional initial send sequence number
 abbrev pub iss_pieces : Option Word → List Piece
 iss_pieces None = []
 iss_pieces (Some iss) = number iss.0 ∷ []
@@ -59,12 +59,12 @@ abbrev pub IsIss : Option Word → Type 0
 IsIss None = Unit {0}
 IsIss (Some iss) = iss.0 ≤ 4294967295
 
--- the field of a shift, which may be missing
+-- the field of an optional shift
 abbrev pub shift_pieces : Option ℕ → List Piece
 shift_pieces None = []
 shift_pieces (Some shift) = number shift ∷ []
 
--- the limits of an initial send sequence number and of the shift behind it
+-- the limits of an initial send sequence number and of the shift after it
 abbrev pub IsStart : Version → Option Word → Option ℕ → Type 0
 IsStart v iss shift = IsIss iss × IfSome shift (IsShift v iss)
 
@@ -84,13 +84,13 @@ endpoint_pieces host local remote = number (host_number host) ∷ number local �
 abbrev pub entry_pieces : Host → ℕ → List Piece
 entry_pieces host line = number (host_number host) ∷ number line ∷ []
 
--- the fields of what a segment is that is made
+-- the fields of the plan of a segment to build
 abbrev pub segment_pieces : SegmentPlan → List Piece
 segment_pieces plan =
     number plan.pos ∷ number plan.len ∷ plain (flags_text plan.flags) ∷ number plan.window
     ∷ (iss_pieces plan.iss ++ shift_pieces plan.shift)
 
--- the fields of a label behind its first word
+-- the fields of a label after its first word
 abbrev pub label_tail : Label NamedLine → List Piece
 label_tail (L line) = number line.number ∷ extras_pieces line.extras
 label_tail (D thread answer) = number thread ∷ answer_pieces answer

@@ -25,12 +25,12 @@ pub record IsPrintableStep (v : Version) (s : Step) : Type 0 where
   pub label : IsLabel v s.label
   pub bytes : HasBytes s
 
--- the steps are within their limits, and the last line is one that a text may have
+-- the steps are within their limits, and the last line has a number that a text may have
 pub record IsPrintableWitness (w : Witness) : Type 0 where
   pub few : length w.steps ≤ 9999999
   pub steps : AllByRecursion (IsPrintableStep w.version) w.steps
 
--- what the types of values in memory say of a label: its numbers have their bits
+-- what the types of a label's values ensure: its numbers are in their ranges
 abbrev pub HasLabelBits : Label NamedLine → Type 0
 HasLabelBits (L line) = AreExtras line.extras
 HasLabelBits (D thread answer) = Has32 thread × HasAnswerBits answer
@@ -40,12 +40,12 @@ HasLabelBits (K host line) = Unit {0}
 HasLabelBits (R host line) = Unit {0}
 HasLabelBits (F host x) = Has16 x.lport × Has16 x.rport × Has32 x.cwnd × Has32 x.ssthresh
 
--- what they say of a step
+-- what they ensure of a step
 pub record IsInMemory (s : Step) : Type 0 where
   pub label : HasLabelBits s.label
   pub bytes : HasBytes s
 
--- the limits of a label that no type says: hosts of this version, ports from 1 on, lines that a trace may have,
+-- the limits of a label that no type ensures: hosts of this version, ports from 1 on, lines that a trace may have,
 -- positions, and how many bytes
 abbrev pub IsWithinLabel : Version → Label NamedLine → Type 0
 IsWithinLabel v (L line) = Has32 line.number
@@ -57,7 +57,7 @@ IsWithinLabel v (K host line) = IsEntry v host line
 IsWithinLabel v (R host line) = IsEntry v host line
 IsWithinLabel v (F host x) = IsHost v host × (1 ≤ x.lport) × (1 ≤ x.rport)
 
--- and of a step, and of a witness: numbers alone
+-- and of a step, and of a witness: only numbers
 pub record IsWithinStep (v : Version) (s : Step) : Type 0 where
   pub moment : s.moment ≤ 1000000000000000000
   pub label : IsWithinLabel v s.label
@@ -66,15 +66,15 @@ pub record IsWithinWitness (w : Witness) : Type 0 where
   pub few : length w.steps ≤ 9999999
   pub steps : AllByRecursion (IsWithinStep w.version) w.steps
 
--- each shift that these steps tell is one that may be told
+-- each shift in these steps may be given
 abbrev pub TellShifts : Version → List Step → Type 0
 TellShifts v steps = AllByRecursion (λ s. TellsShift v s.label) steps
 
--- a step with the span that it has as the line of that number
+-- a step with the span that it has as the line with that number
 abbrev pub step_at : ℕ → Step → Step
 step_at number s = record s { span = whole_line number (joined (piece_texts (step_pieces s))) }
 
--- steps with the spans that they have in the printed text, from the line of that number on
+-- steps with the spans that they have in the printed text, from the line with that number on
 abbrev pub steps_at : ℕ → List Step → List Step
 steps_at number [] = []
 steps_at number (s ∷ steps) = step_at number s ∷ steps_at (number + 1) steps

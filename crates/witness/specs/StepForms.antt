@@ -35,15 +35,15 @@ host v form = then_form (numeric 0 (greatest_host v)) form
 abbrev pub endpoint : Version → Form → Form
 endpoint v form = host v (then_form (numeric 1 65535) (then_form (numeric 1 65535) form))
 
--- the shift behind an initial send sequence number
+-- the shift after an initial send sequence number
 abbrev pub shift_form : Version → Form
 shift_form v = if scales v then Maybe (then_form (numeric 0 14) End) else End
 
--- what stands behind the window of a made segment
+-- what follows the window of a segment to build
 abbrev pub start_form : Version → Form
 start_form v = Maybe (word32 (shift_form v))
 
--- what stands behind the first word of a label
+-- what follows the first word of a label
 abbrev pub label_form : Version → LabelWord → Form
 label_form v words.Line = word32 (Maybe (word32 (Maybe (word32 End))))
 label_form v words.Effect = word32 answer_last
@@ -59,16 +59,16 @@ label_form v words.Recovery = endpoint v (word32 (word32 End))
 abbrev pub step_form : Version → Form
 step_form v = then_form (numeric 0 1000000000000000000) (choice label_name all_label_words (label_form v))
 
--- the first fault of the step in the line of that number
+-- the first fault of the step in the line with that number
 abbrev pub IsStepFault : Version → ℕ → List ℕ → TextFault → Type 0
 IsStepFault v number raw e = IsFaultOf (step_form v) number raw e
 
--- the first fault of steps from the line of that number on
+-- the first fault of steps from the line with that number on
 abbrev pub IsStepsFault : Version → ℕ → List (List ℕ) → TextFault → Type 0
 IsStepsFault v number raws e = IsFaultAmong (IsStepText v) (IsStepFault v) number_after number raws e
 
--- the first fault of a witness: of its first line, which has to name the version; or that line is there, and it is that
--- of the steps
+-- the first fault of a witness: that of its first line, which must name the version; or, if that is right, the fault of
+-- the steps
 pub data IsWitnessFault (v : Version) (text : List ℕ) (e : TextFault) : Type 0 where
   First : IsNextFault (IsTextFaultOf (λ line. line ≡ first_text v)) 1 (lines_of text) e → IsWitnessFault v text e
   Steps : (first : List ℕ) (raws : List (List ℕ)) → lines_of text ≡ first ∷ raws → IsLine 1 (first_text v) first

@@ -16,7 +16,7 @@ use Rattle.witness.specs.LabelFields.{label_field}
 abbrev pub step_pieces : Step → List Piece
 step_pieces s = number s.moment ∷ label_pieces s.label
 
--- the bytes, with their end, are the line of that number that spells the step in this version; its span is the whole
+-- the bytes, with their end, are the line with that number that spells the step in this version; its span is the whole
 -- line
 pub record IsStepText (v : Version) (number : ℕ) (s : Step) (raw : List ℕ) : Type 0 where
   pub texts : List (List ℕ)
@@ -26,7 +26,7 @@ pub record IsStepText (v : Version) (number : ℕ) (s : Step) (raw : List ℕ) :
   pub label : IsLabel v s.label
   pub span : s.span ≡ whole_line number (joined texts)
 
--- moment and label, and no field more
+-- moment and label, and no more fields
 abbrev pub step_fields : Version → Rest → Result (ℕ × Label NamedLine) TextFault
 step_fields v r = do
   moment ← number_field 0 1000000000000000000 r
@@ -34,7 +34,7 @@ step_fields v r = do
   end ← no_more label.1
   Ok (moment.0, label.0)
 
--- the step of the line of that number, or the line's first fault
+-- the step in the line with that number, or the line's first fault
 unfoldable pub step_of : Version → ℕ → List ℕ → Result Step TextFault
 step_of v number raw = do
   r ← line_rest number raw

@@ -38,7 +38,7 @@ number_or_first (Some number) = number
 abbrev pub number_of : {B : Type 0} → StepReader B → ℕ
 number_of r = number_or_first r.number
 
--- the fault that was met, if one was
+-- the fault that was met, if any
 abbrev pub fault_of : {B : Type 0} → StepReader B → Option SourceFault
 fault_of r = r.fault
 
@@ -46,7 +46,7 @@ fault_of r = r.fault
 abbrev pub version_of : {B : Type 0} → StepReader B → Version
 version_of r = r.version
 
--- the lines behind the first, which has to stand as it is
+-- the lines after the first, which has a fixed text
 abbrev pub first_line : Version → List (List ℕ) → Result (List (List ℕ)) TextFault
 first_line v raws = next_raw 1 raws >>= λ raw. expect_line 1 (first_text v) raw.0 >>= λ begun. Ok raw.1
 
@@ -59,11 +59,11 @@ abbrev pub steps_from : Version → Option ℕ → List (List ℕ) → Result (L
 steps_from v None raws = steps_of (witness_in v raws)
 steps_from v (Some number) raws = read_lines (step_of v) number_after number raws
 
--- the steps that are left, or the first fault among them, where the bytes are known
+-- the steps that are left, or the first fault among them, if the bytes are known
 abbrev pub steps_left : {B : Type 0} → (B → Option (List ℕ)) → StepReader B → Option (Result (List Step) TextFault)
 steps_left known r = option_map (steps_from r.version r.number) (rows_of (left_of known r.source))
 
--- a step that stands in the line of that number, in this version
+-- a step in the line with that number, in this version
 pub record StandsAt (v : Version) (number : ℕ) (step : Step) : Type 0 where
   pub within : IsWithinLimits step.label
   pub shifts : TellsShift v step.label

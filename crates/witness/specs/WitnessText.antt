@@ -1,4 +1,4 @@
--- Which text stands for which witness.
+-- Which text is the text of which witness.
 use Rattle.std.specs.Prelude.{◌≡◌, ℕ, ◌+◌, if◌then◌else◌, List, [], ◌∷◌, ◌++◌, Result, Ok}
 use Rattle.std.specs.List.{concat}
 use Rattle.bstr.specs.Text.{lines_of}
@@ -14,7 +14,7 @@ use Rattle.line_fields.specs.Folding.{read_lines, AreSpelled}
 use Rattle.witness.specs.FirstLine.{first_text, begins_witness}
 use Rattle.witness.specs.Steps.{IsStepText, step_of}
 
--- the number of the line behind a step's line
+-- the number of the line after a step's line
 abbrev pub number_after : ℕ → Step → ℕ
 number_after number s = number + 1
 
@@ -38,8 +38,8 @@ witness_in v raws = do
 unfoldable pub witness_for : Version → List ℕ → Result Witness TextFault
 witness_for v text = witness_in v (lines_of text)
 
--- the version that the first of these lines names, of both of version 4 that of two hosts; where it names none, the
--- text is read for version 1, and its first line is the fault
+-- the version in the first of these lines, for version 4 that of two hosts; if it names none, the text is read for
+-- version 1, and its first line is the fault
 abbrev pub version_named : List (List ℕ) → Version
 version_named [] = One
 version_named (raw ∷ raws) =
@@ -48,10 +48,10 @@ version_named (raw ∷ raws) =
     else if begins_witness Four raw then Four
     else One
 
--- a witness as its text alone shows it: one of version 4 as one of two hosts
+-- a witness as its text alone shows it: one of version 4 counts as one of two hosts
 abbrev pub seen_alone : Witness → Witness
 seen_alone w = record w { version = named_as w.version }
 
--- the witness of a text, whichever version it is of, or the text's first fault
+-- the witness of a text, whatever its version, or the text's first fault
 abbrev pub witness_of : List ℕ → Result Witness TextFault
 witness_of text = witness_for (version_named (lines_of text)) text

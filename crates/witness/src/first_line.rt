@@ -1,4 +1,4 @@
-//! The line that a witness begins with.
+//! The first line of a witness.
 
 ghost use Rattle.std.specs.Prelude.{◌≡◌, ◌↔◌, IsTrue};
 ghost use Rattle.line_fields.specs.Lines.{Ends};
@@ -19,7 +19,7 @@ pub(crate) fn first_text(version: Version) -> &'static str
     }
 }
 
-/// Whether a line, given with its end, is exactly the first line of a witness of this version, ended by LF or CR LF.
+/// Whether a line, given with its end, is exactly the first line of a witness of this version, ended with LF or CR LF.
 pub fn begins_witness(version: Version, raw: &[u8]) -> bool
     ensures value { result ≡ begins_witness version raw.now }
     ensures exact { IsTrue result ↔ Ends raw.now (first_text version) }

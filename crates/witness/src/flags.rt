@@ -1,4 +1,4 @@
-//! The flags of a segment that is made: letters of `ARSF` in this order, or `-` where none is set.
+//! The flags of a segment to build: letters of `ARSF` in this order, or `-` if none is set.
 
 ghost use Rattle.std.specs.Prelude.{◌≡◌, [], ◌∷◌, ◌++◌, OnOk};
 ghost use Rattle.line_fields.specs.Reading.{Gives};
@@ -19,7 +19,7 @@ fn behind_letter(letter: u8, text: &[u8]) -> (bool, &[u8])
     }
 }
 
-// The flags whose letters the text is, at least one.
+// The flags spelled by these letters, at least one.
 fn letters_named(text: &[u8]) -> Option<Flags>
     ensures { result ≡ letters_named text.now }
 {
@@ -33,7 +33,7 @@ fn letters_named(text: &[u8]) -> Option<Flags>
     Some(Flags { ack, rst, syn, fin })
 }
 
-// The next field, which names flags. Another letter, another order and a letter that stands twice are Field.
+// The next field, which names flags. Another letter, another order and a repeated letter are Field.
 #[tactic(auto, unfolding(crate::specs::Flags::flags_field))]
 pub(crate) fn flags(fields: &mut Fields) -> Result<Flags, TextFault>
     ensures { Gives (λ flags. (flags, fields.new)) result (flags_field fields.old) }

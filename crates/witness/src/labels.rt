@@ -31,7 +31,7 @@ enum LabelWord {
     Recovery,
 }
 
-// The label's first word that a field is.
+// The first word of a label that a field spells.
 fn label_word_named(name: &Token) -> Option<LabelWord>
     ensures { result ≡ kind_named label_name all_label_words name.now.text.now }
 {
@@ -85,7 +85,7 @@ fn effect_label(alloc: Global, fields: &mut Fields) -> Result<Label<NamedLine>, 
     Ok(Label::D { thread, answer })
 }
 
-// An endpoint, and what the segment is that it makes.
+// An endpoint, and the plan of the segment that it builds.
 #[tactic(auto, unfolding(crate::specs::LabelFields::segment_label))]
 fn segment_label(version: Version, fields: &mut Fields) -> Result<Label<NamedLine>, TextFault>
     ensures { Gives (λ label. (label, fields.new)) result (segment_label version fields.old) }
@@ -109,7 +109,8 @@ fn segment_label(version: Version, fields: &mut Fields) -> Result<Label<NamedLin
     Ok(Label::M { host, plan })
 }
 
-// An inbox entry, and what its taking leaves: the congestion window, and whether data are kept and the time is sampled.
+// An inbox entry, and the choice when it is processed: the congestion window, and whether data is kept and the round
+// trip measured.
 #[tactic(auto, unfolding(crate::specs::LabelFields::taking_label))]
 fn taking_label(version: Version, fields: &mut Fields) -> Result<Label<NamedLine>, TextFault>
     ensures { Gives (λ label. (label, fields.new)) result (taking_label version fields.old) }
@@ -139,7 +140,7 @@ fn recovery_label(version: Version, fields: &mut Fields) -> Result<Label<NamedLi
     Ok(Label::F { host, recovery })
 }
 
-// A label, which is the last of its line. An unknown word is Field.
+// A label, the last part of its line. An unknown word is Field.
 #[tactic(auto, unfolding(crate::specs::LabelFields::label_field))]
 pub(crate) fn label(
     alloc: Global,

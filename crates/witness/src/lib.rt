@@ -6,29 +6,29 @@
 //! let printed = print_witness(alloc, &witness)?;
 //! ```
 //!
-//! - `Witness`, `Step`, `Label`: what a witness says; `SegmentPlan`, `TakeChoice`, `NamedLine`: what labels hold
-//! - `read_witness`: a whole text; `TextFault`, `FaultKind`, `Span`: the first fault, and where it stands
-//! - `StepReader`: a text whose steps are read as they are requested; `SourceFault`: a fault, or a read that failed
-//! - `print_witness`: the text of a witness, which is read again as the same witness; `push_witness`: the same, at the
-//!   end of a `Vec`
+//! - `Witness`, `Step`, `Label`: the contents of a witness; `SegmentPlan`, `TakeChoice`, `NamedLine`: the contents of
+//!   labels
+//! - `read_witness`: a whole text; `TextFault`, `FaultKind`, `Span`: the first fault, and its place
+//! - `StepReader`: a text whose steps are read on request; `SourceFault`: a fault, or a read that failed
+//! - `print_witness`: the text of a witness, which reads back as the same witness; `push_witness`: the same, appended
+//!   to a `Vec`
 //!
-//! A text is bytes. Its first line is `witness 1`, `witness 2`, `witness 3` or `witness 4`, by its version, and each
+//! A text is bytes. Its first line is `witness 1`, `witness 2`, `witness 3` or `witness 4`, by its version. Each
 //! further line is a step: a moment in microseconds and a label, one of `L`, `D`, `M`, `T`, `K`, `R` and `F` with its
-//! fields. What a text stands for is stated in specs/WitnessText.antt (`IsWitnessText`), which is the file to read
-//! first; how a label is spelled in specs/Labels.antt; which fault comes first, and where, by `witness_of` in the
-//! first. Whether moments rise and lines are named once is not checked here: that is `interval_order`'s. Lines, fields
-//! and answers are `line_fields`'.
+//! fields. `specs/WitnessText` defines which text is the text of which witness (`IsWitnessText`), and which fault comes
+//! first (`witness_of`); read it first. `specs/Labels` defines how a label is spelled. `interval_order` checks whether
+//! moments rise and each line is used once. `line_fields` reads lines, fields and answers.
 //!
 //! Private modules:
 //!
-//! - `reading`: one step, and a whole witness, by the reader of `stream`
-//! - `stream`: the reader of a text whose steps are read as they are requested
-//! - `first_line`: the line that a witness begins with
+//! - `reading`: one step, and a whole witness, using the reader of `stream`
+//! - `stream`: the reader of a text whose steps are read on request
+//! - `first_line`: the first line of a witness
 //! - `labels`: what a step does
-//! - `parts`: the parts of labels: endpoints, inbox entries, yes or no, numbers that may be missing
-//! - `flags`: the flags of a segment that is made, as letters
+//! - `parts`: the parts of labels: endpoints, inbox entries, yes or no, optional numbers
+//! - `flags`: the flags of a segment to build, as letters
 //! - `printing`: the text of a witness
-//! - `laws`: the fault that is answered is the first one, by tables of what each field has to be (`specs/StepForms`)
+//! - `laws`: the reported fault is the first one, by tables of what each field must be (`specs/StepForms`)
 #![tactic(auto)]
 
 mod first_line;

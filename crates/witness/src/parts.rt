@@ -1,4 +1,4 @@
-//! The parts of labels: what the fields after a label's first word are made of.
+//! The parts of labels: the fields after a label's first word.
 
 ghost use Rattle.line_fields.specs.Reading.{Gives};
 ghost use Rattle.witness.specs.Parts.{endpoint_field, entry_field, bit_field, extras_field, start_field};
@@ -21,7 +21,7 @@ pub(crate) fn endpoint(version: Version, fields: &mut Fields) -> Result<(Host, u
     Ok((host, local, remote))
 }
 
-// A host, and the number of the line by which a segment came to its inbox.
+// A host, and the number of the line by which a segment arrived in its inbox.
 #[tactic(auto, unfolding(crate::specs::Parts::entry_field))]
 pub(crate) fn entry(version: Version, fields: &mut Fields) -> Result<(Host, u64), TextFault>
     ensures { Gives (λ entry. (entry, fields.new)) result (entry_field version fields.old) }
@@ -39,7 +39,7 @@ pub(crate) fn bit(fields: &mut Fields) -> Result<bool, TextFault>
     Ok(fields.number(0, 1)? == 1)
 }
 
-// The numbers after a line's number, at most two. A further field is always a number, and a third is left.
+// The numbers after a line's number, at most two. A further field must be a number; a third field is left.
 #[tactic(auto, unfolding(crate::specs::Parts::extras_field))]
 pub(crate) fn extras(fields: &mut Fields) -> Result<Extras, TextFault>
     ensures { Gives (λ extras. (extras, fields.new)) result (extras_field fields.old) }
@@ -55,8 +55,8 @@ pub(crate) fn extras(fields: &mut Fields) -> Result<Extras, TextFault>
     Ok(Extras::Two(first, second))
 }
 
-// The initial send sequence number after a segment's window, if there is a further field, and if windows may be scaled
-// the shift, if there is one more. These fields are always numbers.
+// The initial send sequence number after a segment's window, if there is another field; and the shift, if there is one
+// more and windows may be scaled. These fields must be numbers.
 #[tactic(auto, unfolding(crate::specs::Parts::start_field))]
 pub(crate) fn start(
     version: Version,

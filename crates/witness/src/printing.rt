@@ -67,7 +67,7 @@ fn push_extras(out: &mut Vec<u8>, extras: Extras) -> Result<(), OutOfMemory>
     }
 }
 
-// Writes what the segment is that an endpoint makes, each field after a space.
+// Writes the plan of the segment that an endpoint builds, each field after a space.
 fn push_segment(out: &mut Vec<u8>, plan: SegmentPlan) -> Result<(), OutOfMemory>
     ensures { OnOk result (out.new.items ≡ out.old.items ++ printed_behind (segment_pieces plan)) }
 {
@@ -79,7 +79,7 @@ fn push_segment(out: &mut Vec<u8>, plan: SegmentPlan) -> Result<(), OutOfMemory>
     Ok(())
 }
 
-// Writes an initial send sequence number and a shift, if there are, each after a space.
+// Writes an initial send sequence number and a shift, if given, each after a space.
 fn push_start(out: &mut Vec<u8>, iss: Option<Word>, shift: Option<u8>) -> Result<(), OutOfMemory>
     ensures { OnOk result (out.new.items ≡ out.old.items ++ printed_behind (iss_pieces iss ++ shift_pieces shift)) }
 {
@@ -145,7 +145,7 @@ fn push_step(out: &mut Vec<u8>, step: &Step) -> Result<(), OutOfMemory>
     push_end(out)
 }
 
-/// The text of a witness, each line ended by LF.
+/// The text of a witness, each line ended with LF. The error means that memory ran out.
 pub fn print_witness(alloc: Global, witness: &Witness) -> Result<Vec<u8>, OutOfMemory>
     ensures text { IfOk result (λ bytes. bytes.items ≡ witness_text witness.now) }
     ensures memory { IfOk result (λ bytes. AllByRecursion IsInMemory witness.now.steps) }
@@ -155,7 +155,7 @@ pub fn print_witness(alloc: Global, witness: &Witness) -> Result<Vec<u8>, OutOfM
     Ok(out)
 }
 
-/// Writes the text of a witness. If memory runs out a part may have been written.
+/// Appends the text of a witness. If memory runs out, a part may have been written.
 pub fn push_witness(out: &mut Vec<u8>, witness: &Witness) -> Result<(), OutOfMemory>
     ensures text { OnOk result (out.new.items ≡ out.old.items ++ witness_text witness.now) }
     ensures memory { OnOk result (AllByRecursion IsInMemory witness.now.steps) }
@@ -169,17 +169,17 @@ pub fn push_witness(out: &mut Vec<u8>, witness: &Witness) -> Result<(), OutOfMem
     Ok(())
 }
 
-/// A witness of the same version that says what some text says, wherever its spans are, is printed as a text that
-/// stands for the same.
+/// If a witness has the contents of some text in the same version, wherever its spans are, it is printed as a text with
+/// the same contents.
 pub fn print_law()
     ensures { (v w : Witness) (text : List ℕ) → IsWitnessText v text → without_spans v ≡ without_spans w
         → IsWitnessText v (witness_text w) }
 {}
 
-/// A witness is printed as a text that stands for it, with the spans of that text, exactly if it is within the limits.
+/// A witness is printed as its text, with the spans of that text, if and only if it is within the limits.
 pub fn printable_law()
     ensures printed { (w : Witness) → IsPrintableWitness w → IsWitnessText (with_columns w) (witness_text w) }
-    // It is read again in its version, and alone as one of the version that its first line names.
+    // It reads back in its version, and without a trace as the version that its first line names.
     ensures read { (w : Witness) → IsPrintableWitness w
         → witness_for w.version (witness_text w) ≡ Ok (with_columns w) }
     ensures alone { (w : Witness) → IsPrintableWitness w
@@ -192,7 +192,7 @@ fn slice_bytes(bytes: &[u8])
     ensures { (i : ℕ) → slice_index bytes.now i < 256 }
 {}
 
-/// A label's bytes are bytes, as the types of values in memory say.
+/// A label's bytes are bytes, as the types of its values ensure.
 pub fn label_bytes(label: &Label<NamedLine>)
     ensures { AllByRecursion IsBytePiece (label_pieces label.now) }
 {
@@ -210,12 +210,12 @@ fn bits16(n: u16)
     ensures { Has16 n }
 {}
 
-// And one of 32.
+// The same for one of 32 bits.
 fn bits32(n: u32)
     ensures { Has32 n }
 {}
 
-// The extra numbers of a line have the bits of their types.
+// The extra numbers of a line are in the ranges of their types.
 fn extras_bits(extras: Extras)
     ensures { AreExtras extras }
 {
@@ -229,7 +229,7 @@ fn extras_bits(extras: Extras)
     }
 }
 
-// So has the number of an answer.
+// The same for the number of an answer.
 fn answer_bits(answer: &Answer)
     ensures { HasAnswerBits answer.now }
 {
@@ -238,7 +238,7 @@ fn answer_bits(answer: &Answer)
     }
 }
 
-// And those of a plan.
+// The same for those of a plan.
 fn plan_bits(plan: SegmentPlan)
     ensures { HasPlanBits plan }
 {
@@ -250,7 +250,7 @@ fn plan_bits(plan: SegmentPlan)
     }
 }
 
-// And those of a label.
+// The same for those of a label.
 fn label_bits(label: &Label<NamedLine>)
     ensures { HasLabelBits label.now }
 {
@@ -272,7 +272,7 @@ fn label_bits(label: &Label<NamedLine>)
     }
 }
 
-/// A step is as the types of values in memory say: its numbers have their bits, and its bytes are bytes.
+/// The types of a step's values ensure these limits: its numbers are in their ranges, and its bytes are bytes.
 pub fn step_in_memory(step: &Step)
     ensures { IsInMemory step.now }
 {

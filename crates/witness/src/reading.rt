@@ -17,7 +17,7 @@ use counted::Counted;
 use line_fields::{TextFault, checked_fields};
 use std::alloc::Global;
 
-/// The step of the line of that number in this version, whose bytes are given with the line's end. Its span is the
+/// The step in the line with that number in this version, whose bytes are given with the line's end. Its span is the
 /// whole line.
 #[tactic(auto, unfolding(crate::specs::Steps::step_of))]
 #[inline(always)]
@@ -58,7 +58,7 @@ fn read(alloc: Global, version: Version, text: &[u8]) -> Result<Witness, TextFau
     Ok(Witness { version, steps })
 }
 
-// The version that the first line of a text names, of version 4 the one with two hosts; or the first if it names none.
+// The version in the first line of a text, for version 4 the one with two hosts; version 1 if it names none.
 fn version_named(text: &[u8]) -> Version
     ensures { result ≡ version_named (lines_of text.now) }
 {
@@ -70,33 +70,33 @@ fn version_named(text: &[u8]) -> Version
     }
 }
 
-/// The witness that a text stands for, whichever version it is of, or the text's first fault. A first line that names
-/// no version is Header. No fault says that moments fall.
+/// The witness that a text spells, whatever its version, or the text's first fault. A first line that names no version
+/// is Header. Falling moments are not a fault.
 ///
-/// A text of version 4 is read in the forms of two hosts: only its trace says whether host 0 alone was recorded.
+/// A text of version 4 is read in the forms of two hosts: only its trace says whether only host 0 was recorded.
 pub fn read_witness(alloc: Global, text: &[u8]) -> Result<Witness, TextFault>
     // What is read is spelled so.
     ensures found { IfOk result (λ w. IsWitnessText w text.now) }
     // What is spelled so is read, unless memory runs out; of version 4 in the forms of two hosts.
     ensures only { (w : Witness) → IsWitnessText w text.now → Gives (λ w. w) result (Ok (seen_alone w)) }
-    // It keeps the limits on the count of its steps, on the positions that they name and on the shifts that they tell.
+    // It keeps to the limits on the count of its steps, on their positions and on their shifts.
     ensures limits { IfOk result IsWitness }
-    // Which fault it is.
+    // Which fault is returned.
     ensures exact { Gives (λ w. w) result (witness_of text.now) }
 {
     read(alloc, version_named(text), text)
 }
 
-/// The witness that a text stands for to a trace of this version, or the text's first fault. A witness of another
-/// version has the fault of its first line, Header.
+/// The witness that a text spells for a trace of this version, or the text's first fault. A witness of another version
+/// has the fault of its first line, Header.
 pub fn read_witness_for(alloc: Global, version: Version, text: &[u8]) -> Result<Witness, TextFault>
     // What is read is spelled so, and of this version.
     ensures found { IfOk result (λ w. (w.version ≡ version) × IsWitnessText w text.now) }
     // What is spelled so is read, unless memory runs out.
     ensures only { (w : Witness) → w.version ≡ version → IsWitnessText w text.now → Gives (λ w. w) result (Ok w) }
-    // It keeps the limits on the count of its steps, on the positions that they name and on the shifts that they tell.
+    // It keeps to the limits on the count of its steps, on their positions and on their shifts.
     ensures limits { IfOk result IsWitness }
-    // Which fault it is.
+    // Which fault is returned.
     ensures exact { Gives (λ w. w) result (witness_for version text.now) }
 {
     read(alloc, version, text)

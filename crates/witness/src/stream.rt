@@ -1,4 +1,4 @@
-//! The reader of a witness whose steps are read as they are requested.
+//! The reader of a witness whose steps are read on request.
 
 ghost use Rattle.std.specs.Prelude.{◌≡◌, ◌≢◌, IfOk, OnOk, IfSome, Some, None, Err};
 ghost use Rattle.counted.specs.Counting.{left_of, failures_of, one_more};
@@ -21,8 +21,8 @@ use std::io::BufRead;
 // The number of the line of the first step.
 const FIRST_STEP: u64 = 2;
 
-/// A witness of some version, whose steps are read as they are requested. Of the text one line is kept in memory. After
-/// a fault each later call answers that fault.
+/// A witness of some version, whose steps are read on request. Only one line of the text is kept in memory. After a
+/// fault, each later call returns that fault.
 #[derive(Drop)]
 pub struct StepReader<B> {
     alloc: Global,
@@ -35,7 +35,7 @@ pub struct StepReader<B> {
     fault: Option<SourceFault>,
 }
 
-// The first line, which has to stand as it is.
+// The first line, which has a fixed text.
 fn first_line<B: BufRead>(
     source: &mut Counted<B>,
     line: &mut Vec<u8>,
@@ -52,8 +52,8 @@ fn first_line<B: BufRead>(
 }
 
 impl<B> StepReader<B> {
-    /// A reader of a whole text for a trace of this version, of which nothing is read yet. A witness of another version
-    /// has the fault of its first line, Header.
+    /// A reader of a whole text for a trace of this version, of which nothing has been read yet. A witness of another
+    /// version has the fault of its first line, Header.
     pub fn new(alloc: Global, version: Version, source: Counted<B>) -> StepReader<B>
         ensures source { source_of result ≡ source }
         ensures version { version_of result ≡ version }
@@ -70,14 +70,14 @@ impl<B> StepReader<B> {
         }
     }
 
-    /// The source, of which what was requested is read, and no more.
+    /// The source, of which only what was requested has been read.
     pub fn into_source(self) -> Counted<B>
         ensures { result ≡ source_of self }
     {
         self.source
     }
 
-    // What was read; a fault is kept for the calls to come.
+    // Returns what was read; a fault is kept for later calls.
     #[inline(always)]
     fn keep_fault(
         &mut self,
@@ -99,7 +99,7 @@ impl<B> StepReader<B> {
 }
 
 impl<B: BufRead> StepReader<B> {
-    /// The next step, or none at the end of the text.
+    /// The next step, or `None` at the end of the text.
     #[inline(always)]
     pub fn next(&mut self) -> Result<Option<Step>, SourceFault>
         ensures next { fault_of self.old ≡ None → IfOk result
