@@ -1,4 +1,4 @@
--- Lines that come behind those that were offered.
+-- Lines after those that were offered.
 use Rattle.case_forms.specs.declared.trace.Header.{Header}
 use Rattle.std.specs.Prelude.{◌≡◌, ◌≤◌, ◌<◌, ℕ, ◌+◌, Bool, false, not, ◌&&◌, nat_le, ◌||◌, ◌==◌, if◌then◌else◌, List}
 use Rattle.std.specs.Prelude.{◌++◌, length}
@@ -9,11 +9,11 @@ use Rattle.verdict.specs.declared.rule.Rule.TheVariants.{LineRange, ThreadOrder,
 use Rattle.interval_order.specs.Orders.{Move, Order, is_placed}
 use Rattle.interval_order.specs.OrderRules.{extras_of, moment_falls}
 
--- no step takes a line from this number on
+-- no step uses a line from this number on
 abbrev pub TakesBelow : ℕ → List Move → Type 0
 TakesBelow next moves = (n : ℕ) → next ≤ n → is_placed moves n ≡ false
 
--- the moment of none of these lines is reached
+-- the moments of all these lines are later
 abbrev pub AreLater : ℕ → List Line → Type 0
 AreLater moment lines = AllByRecursion (λ line. moment < line.moment) lines
 
@@ -29,8 +29,8 @@ waits o thread = list_any (λ e. e.1.thread == thread) o.held
 abbrev pub is_among : ℕ → List Line → Bool
 is_among thread lines = list_any (λ line. line.thread == thread) lines
 
--- the least rule that a step breaks which takes a line whose moment is not reached, told whether a line of its thread
--- stands before it that is not offered either
+-- the lowest-numbered rule broken by a step that uses a line of a later moment, given whether an earlier line of its
+-- thread isn't offered yet either
 abbrev pub late_by : Order → Bool → Line → ℕ → ℕ → Rule
 late_by o behind line extras moment =
     if not (extras == extras_of o.header.version line.event) then LineRange
@@ -38,7 +38,7 @@ late_by o behind line extras moment =
     else if moment_falls o moment then MomentFalls
     else MomentOff
 
--- the same, where these lines stand between those that were offered and that line
+-- the same, if these lines are between those that were offered and that line
 abbrev pub late_rule : Order → List Line → Line → ℕ → ℕ → Rule
 late_rule o between line extras moment = late_by o (is_among line.thread between) line extras moment
 
@@ -46,6 +46,6 @@ late_rule o between line extras moment = late_by o (is_among line.thread between
 abbrev pub IsTimed : Header → ℕ → Line → Type 0
 IsTimed header moment line = (line.moment ≤ moment) × (moment ≤ line.moment + header.skew)
 
--- the line may be taken at that moment, or in time before it
+-- the line may be used at that moment, or at an earlier one within its time
 abbrev pub is_current : Header → ℕ → Line → Bool
 is_current header moment line = nat_le line.moment moment && nat_le moment (line.moment + header.skew)

@@ -14,9 +14,8 @@ use Rattle.verdict.specs.declared.rule.Rule.TheVariants.{LineRange, LineAgain, T
 use Rattle.verdict.specs.declared.rule.Rule.TheVariants.{Overdue}
 use Rattle.interval_order.specs.Orders.{Take, Move, Order, held_line, is_offered}
 
--- how many extra numbers follow the number of a line of this kind: one for a segment that goes out, that of the segment
--- made;
--- one for a segment that comes in, that of its O line, which a half case doesn't have; two for a retransmission timeout
+-- how many extra numbers follow the number of a line of this kind: one for a segment sent, that of the built segment;
+-- one for a segment that arrives, that of its O line, which a half case doesn't have; two for a retransmission timeout
 abbrev pub extras_of : Version → Event → ℕ
 extras_of v (CallBegin call) = 0
 extras_of v (CallEnd answer) = 0
@@ -25,7 +24,7 @@ extras_of v (Came host wire) = if is_half v then 0 else 1
 extras_of v (Expired host local remote Rto) = 2
 extras_of v (Expired host local remote _) = 0
 
--- it names no event line, or one that is not placed with another count of extra numbers than its kind has
+-- it names no event line, or an unplaced one with another count of extra numbers than its kind needs
 abbrev pub line_range : Order → Option Take → Bool
 line_range o None = false
 line_range o (Some t) =
@@ -37,7 +36,7 @@ abbrev pub line_again : Order → Option Take → Bool
 line_again o None = false
 line_again o (Some t) = is_offered o t.number && is_none (held_line o t.number)
 
--- a line of the thread that stands before line n is not placed
+-- a line of the thread before line n is not placed
 abbrev pub has_earlier : Order → ℕ → ℕ → Bool
 has_earlier o n thread = list_any (λ e. nat_lt e.0 n && e.1.thread == thread) o.held
 
@@ -46,11 +45,11 @@ abbrev pub thread_order : Order → Option Take → Bool
 thread_order o None = false
 thread_order o (Some t) = option_map_or (λ line. has_earlier o t.number line.thread) (held_line o t.number) false
 
--- the step is below the step before
+-- the step's moment is before that of the step before
 abbrev pub moment_falls : Order → ℕ → Bool
 moment_falls o moment = nat_lt moment o.last
 
--- the step is below its line's moment, or above it by more than the skew
+-- the step's moment is before its line's, or after it by more than the skew
 abbrev pub moment_off : Order → ℕ → Option Take → Bool
 moment_off o moment None = false
 moment_off o moment (Some t) =
@@ -69,7 +68,7 @@ has_overdue o moment = list_any (is_overdue o moment) o.held
 abbrev pub first_overdue : Order → ℕ → Option ℕ
 first_overdue o moment = option_map (λ e. e.0) (find (is_overdue o moment) o.held)
 
--- each rule of order, the least first, with whether the step breaks it
+-- each rule of order, lowest-numbered first, with whether the step breaks it
 abbrev pub order_rules : Order → Move → List (Rule × Bool)
 order_rules o move =
     (LineRange, line_range o move.take) ∷ (LineAgain, line_again o move.take) ∷ (ThreadOrder, thread_order o move.take)

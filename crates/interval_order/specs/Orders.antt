@@ -8,17 +8,17 @@ use Rattle.case_forms.specs.declared.trace.Header.{Header}
 use Rattle.case_forms.specs.declared.trace.Line.{Line}
 use Rattle.case_forms.specs.Traces.{first_event_line, numbered}
 
--- the line that a step takes: its number, and how many extra numbers follow it
+-- the line that a step uses: its number, and how many extra numbers follow it
 pub record Take : Type 0 where
   pub number : ℕ
   pub extras : ℕ
 
--- a step as the order of lines sees it: its moment, and what it takes, which is nothing for a hidden step
+-- a step as the order of lines sees it: its moment, and the line it uses, which is none for a hidden step
 pub record Move : Type 0 where
   pub moment : ℕ
   pub take : Option Take
 
--- a step that takes a line
+-- a step that uses a line
 abbrev pub taking : ℕ → ℕ → ℕ → Move
 taking moment number extras = record { moment = moment; take = Some (record { number = number; extras = extras }) }
 
@@ -26,15 +26,15 @@ taking moment number extras = record { moment = moment; take = Some (record { nu
 abbrev pub passing : ℕ → Move
 passing moment = record { moment = moment; take = None }
 
--- whether the step takes the line of that number
+-- whether the step uses the line of that number
 abbrev pub takes : ℕ → Move → Bool
 takes n move = option_map_or (λ t. t.number == n) move.take false
 
--- whether one of the steps takes it
+-- whether one of the steps uses it
 abbrev pub is_placed : List Move → ℕ → Bool
 is_placed moves n = list_any (takes n) moves
 
--- the lines that none of the steps takes, each with its number
+-- the lines that none of the steps uses, each with its number
 abbrev pub unplaced : Header → List Line → List Move → List (ℕ × Line)
 unplaced header lines moves = filter (λ e. not (is_placed moves e.0)) (numbered header lines)
 
@@ -44,7 +44,7 @@ last_moment [] = 0
 last_moment (s ∷ []) = s.moment
 last_moment (s ∷ t ∷ moves) = last_moment (t ∷ moves)
 
--- What the rules of order ask.
+-- The state that the rules of order depend on.
 pub record Order : Type 0 where
   pub header : Header
   -- the number after the last line

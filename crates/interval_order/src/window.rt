@@ -1,15 +1,15 @@
-//! The lines that no step has taken yet.
+//! The lines that no step has used yet.
 //!
-//! A line that is offered, or a step, costs the logarithm of the number of threads, whatever numbers a text gives them.
+//! Offering a line, or a step, takes time logarithmic in the number of threads, whatever numbers a text gives them.
 //! Nothing is scanned:
 //!
-//! - Lines wait in a queue by their numbers. A line that was placed keeps its slot there while one before it waits, so
-//!   there are as many slots as lines were offered from the first that waits on. If no line is overdue, their moments
+//! - Lines wait in a queue by their numbers. A placed line keeps an empty slot as long as an earlier line is waiting,
+//!   so there are as many slots as lines offered from the first waiting one on. If no line is overdue, their moments
 //!   are at most the skew before the last step.
-//! - Each line that waits names the line of its thread that was offered before it. The lines of a thread are placed in
-//!   their order, so those that wait are its last ones, and one of them is the first exactly where the line that it
-//!   names does not wait.
-//! - Moments don't fall along the lines, so some line is overdue exactly where the first that waits is.
+//! - Each waiting line names the line of its thread that was offered before it. The lines of a thread are placed in
+//!   order, so the waiting ones are its last. One of them is the first if and only if the line that it names doesn't
+//!   wait.
+//! - Moments don't fall along the lines, so some line is overdue if and only if the first waiting one is.
 
 ghost use Rattle.std.specs.Prelude.{◌≡◌, ℕ, ◌+◌, ◌<◌, ◌≤◌, ◌^◌, [], length, All, IsSome, IfOk, OnOk, OnErr, IfSome};
 ghost use Rattle.std.specs.Prelude.{None, Some, false, cond, is_some, nat_eq, nat_lt, slice_get};
@@ -41,9 +41,9 @@ struct Waiting {
 #[derive(Drop)]
 pub struct Window {
     header: Header,
-    /// The lines that wait, by their numbers.
+    /// The waiting lines, by number.
     waiting: Queue<Waiting>,
-    /// The number of the last line of each thread that was offered.
+    /// The number of each thread's last offered line.
     latest: Table<u64>,
     /// The moment of the last step.
     last: u64,
@@ -78,9 +78,9 @@ impl Window {
         }
     }
 
-    /// One more line of the trace, at its end: its number is the next one, `first_event_line` of the header for the
-    /// first line and one more for each after it, up to 2^64 - 2, and its moment is not below that of any line that
-    /// waits. If memory runs out, the window is as it was.
+    /// Adds a line at the end of the trace. Its number is the next one: `first_event_line` of the header for the first
+    /// line and one more for each after it, up to 2^64 - 2. Its moment is not below that of any waiting line. If memory
+    /// runs out, the window doesn't change.
     pub fn offer(&mut self, line: Line) -> Result<(), OutOfMemory>
         requires number { line.number ≡ self.old.next }
         requires room { self.old.next + 1 < 2 ^ 64 }
@@ -92,8 +92,8 @@ impl Window {
         self.offer_from(&mut item)
     }
 
-    /// The same with a line that is taken from the item, if one is there: so it is not handed on. What the item is then
-    /// is not said.
+    /// The same with a line that is taken from the item, if there is one, to avoid moving it. The item's value
+    /// afterwards isn't specified.
     pub fn offer_from(&mut self, item: &mut Option<Line>) -> Result<(), OutOfMemory>
         requires number { IfSome item.old (λ line. line.number ≡ self.old.next) }
         requires room { IfSome item.old (λ line. self.old.next + 1 < 2 ^ 64) }
@@ -114,8 +114,8 @@ impl Window {
         Ok(())
     }
 
-    /// Takes a line for a step at this moment, which is followed by that many extra numbers. The window no longer holds
-    /// it. Where the step breaks a rule of order, the least of them is the error, and the window is as it was.
+    /// Uses a line for a step at this moment, with this many extra numbers. The window no longer holds the line. If the
+    /// step breaks rules of order, the error is the lowest-numbered of them, and the window doesn't change.
     pub fn place(&mut self, line: u64, extras: u8, moment: u64) -> Result<Line, Rule>
         ensures rule { result_err result ≡ first_broken (order_rules self.old (taking moment line extras)) }
         ensures line { IfOk result (λ taken. held_line self.old line ≡ Some taken) }
@@ -133,8 +133,8 @@ impl Window {
         }
     }
 
-    /// A hidden step at this moment. Where it breaks a rule of order, the least of them is the error, and the window is
-    /// as it was.
+    /// A hidden step at this moment. If it breaks rules of order, the error is the lowest-numbered of them, and the
+    /// window doesn't change.
     pub fn pass(&mut self, moment: u64) -> Result<(), Rule>
         ensures rule { result_err result ≡ first_broken (order_rules self.old (passing moment)) }
         ensures ok { OnOk result (self.new ≡ order_after self.old (passing moment)) }
@@ -157,8 +157,8 @@ impl Window {
         self.waiting.len()
     }
 
-    /// The number of the first line that may not wait until this moment, if there is one. If there is none, and no line
-    /// that waits has a later moment, each has one that is at most the skew earlier.
+    /// The number of the first line that may not wait until this moment. `None` means that there is none: then, if no
+    /// waiting line has a later moment, each has one at most the skew earlier.
     pub fn overdue(&self, moment: u64) -> Option<u64>
         ensures first { result ≡ first_overdue self.now moment }
         ensures current { result ≡ None → All (λ e. e.1.moment ≤ moment) self.now.held
@@ -174,8 +174,8 @@ impl Window {
         is_held(&self.waiting, latest_of(&self.latest, thread))
     }
 
-    /// The least rule that a step breaks which takes this line, where the line is not offered yet and the step's moment
-    /// is below the line's. `is_behind` says whether a line of its thread stands before it that is not offered either.
+    /// The lowest-numbered rule broken by a step that uses this line, if the line is not offered yet and the step's
+    /// moment is before the line's. `is_behind` says whether an earlier line of its thread isn't offered yet either.
     pub fn late_rule(&self, line: &Line, is_behind: bool, extras: u8, moment: u64) -> Rule
         ensures { result ≡ late_by self.now is_behind line.now extras moment }
     {
@@ -191,7 +191,7 @@ impl Window {
         Rule::MomentOff
     }
 
-    /// The number of the next line that is to be offered.
+    /// The number of the next line to be offered.
     pub fn next_number(&self) -> u64
         ensures { result ≡ self.now.next }
     {
@@ -207,7 +207,7 @@ impl Window {
 }
 
 impl Window {
-    // The least rule of order that is broken by a step that takes a line.
+    // The lowest-numbered rule of order broken by a step that uses a line.
     fn admit(&self, number: u64, extras: u8, moment: u64) -> Result<(), Rule>
         ensures rule { result_err result ≡ first_broken (order_rules self.now (taking moment number extras)) }
         ensures held { OnOk result (IsSome (held_line self.now number)) }
@@ -269,7 +269,7 @@ impl Window {
     }
 }
 
-// Whether the line waits that is named, if one is.
+// Whether the named line waits, if one is named.
 fn is_held(waiting: &Queue<Waiting>, number: Option<u64>) -> bool
     ensures { result ≡ is_some (option_and_then (waiting_at waiting.now.entries) number) }
 {
@@ -286,7 +286,7 @@ fn latest_of(latest: &Table<u64>, thread: u32) -> Option<u64>
     latest.get(u64::from(thread)).copied()
 }
 
-// The number of the last line of a thread, if one was offered. There is room for another one then.
+// The number of the last line of a thread, if one was offered. The table then has room for another one.
 fn latest_with_room(latest: &mut Table<u64>, thread: u32) -> Result<Option<u64>, OutOfMemory>
     ensures previous { IfOk result (λ previous. previous ≡ latest_in latest.old.entries thread) }
     ensures room { OnOk result (HasRoom latest.new thread) }
@@ -299,7 +299,7 @@ fn latest_with_room(latest: &mut Table<u64>, thread: u32) -> Result<Option<u64>,
     Ok(previous)
 }
 
-// A line is the last one of its thread.
+// Records a line as the last one of its thread.
 fn remember_last_line(latest: &mut Table<u64>, thread: u32, number: u64)
     requires { HasRoom latest.old thread }
     ensures { (t : ℕ) → latest_in latest.new.entries t
