@@ -12,11 +12,13 @@ use Rattle.line_fields.specs.declared.fault.TextFault.{TextFault}
 -- a fault of the line as a whole: it is too long; or else it has no end; or else it is one line too many
 pub data IsWholeFault (number : ℕ) (raw : List ℕ) (e : TextFault) : Type 0 where
   TooLong : 140000 < length (without_terminator raw) → e
-      ≡ record { kind = kinds.LineTooLong; span = whole_line number (without_terminator raw) } → IsWholeFault number raw e
+      ≡ record { kind = kinds.LineTooLong; span = whole_line number (without_terminator raw) }
+      → IsWholeFault number raw e
   Cut : length (without_terminator raw) ≤ 140000 → is_ended raw ≡ false → e
       ≡ record { kind = kinds.Cut; span = whole_line number (without_terminator raw) } → IsWholeFault number raw e
   TooMany : length (without_terminator raw) ≤ 140000 → is_ended raw ≡ true → 10000000 < number → e
-      ≡ record { kind = kinds.TooManyLines; span = whole_line number (without_terminator raw) } → IsWholeFault number raw e
+      ≡ record { kind = kinds.TooManyLines; span = whole_line number (without_terminator raw) }
+      → IsWholeFault number raw e
 
 -- the first fault of a line of this form: that of the line as a whole, or else that of the first of its fields that
 -- doesn't fit the form
@@ -28,7 +30,8 @@ IsFaultOf form number raw e =
 abbrev pub IsTextFaultOf : (List ℕ → Type 0) → ℕ → List ℕ → TextFault → Type 0
 IsTextFaultOf Wanted number raw e =
     IsWholeFault number raw e
-    ⊎ ((text : List ℕ) × (line_text number raw ≡ Ok text) × (Wanted text → ⊥) × (e ≡ record { kind = kinds.Header; span = whole_line number text }))
+    ⊎ ((text : List ℕ) × (line_text number raw ≡ Ok text) × (Wanted text → ⊥)
+    × (e ≡ record { kind = kinds.Header; span = whole_line number text }))
 
 -- the first fault of a required line: it is missing, or it has this fault
 abbrev pub IsNextFault : (ℕ → List ℕ → TextFault → Type 0) → ℕ → List (List ℕ) → TextFault → Type 0

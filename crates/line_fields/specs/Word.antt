@@ -12,7 +12,9 @@ pub record Word : Type 0 where
 -- one space is between two fields
 abbrev pub words_from : ℕ → ℕ → List (List ℕ) → List Word
 words_from line at [] = []
-words_from line at (text ∷ texts) = record { text = text; line = line; start = at; stop = at + length text } ∷ words_from line (at + length text + 1) texts
+words_from line at (text ∷ texts) =
+    record { text = text; line = line; start = at; stop = at + length text }
+    ∷ words_from line (at + length text + 1) texts
 
 -- the fields of a line from a column on, which may be one past its end
 abbrev pub words_left : ℕ → ℕ → List ℕ → List Word

@@ -16,7 +16,8 @@ in_front item (Some items) = Some (item ∷ items)
 abbrev pub option_items : (List ℕ → Option (List Item)) → ℕ → List ℕ → Option (List Item)
 option_items items kind [] = None
 option_items items kind (len ∷ rest) =
-    if nat_le 2 len && nat_le len (length rest + 2) then in_front (option kind (take (len - 2) rest)) (items (drop (len - 2) rest))
+    if nat_le 2 len && nat_le len (length rest + 2)
+    then in_front (option kind (take (len - 2) rest)) (items (drop (len - 2) rest))
     else None
 
 -- the items of a list of options, which has fewer bytes than this number

@@ -62,7 +62,8 @@ NamesAt k steps p number = (x : Stamped k.shape) × (slice_get steps p ≡ Some 
 
 -- steps are a placement of lines that are numbered from the first on: moments don't fall, each line is used in time and
 -- once, no other line is used, the lines are in order, and in each thread calls take turns
-pub record Placement (k : Kernel) (skew first : ℕ) (lines : List (Line k.shape)) (steps : List (Stamped k.shape)) : Type 0 where
+pub record Placement (k : Kernel) (skew first : ℕ) (lines : List (Line k.shape))
+    (steps : List (Stamped k.shape)) : Type 0 where
   pub moments : MomentsRise k 0 steps
   pub taken : (i : ℕ) (line : Line k.shape) → slice_get lines i ≡ Some line → (p : ℕ)
       × TakesLine k skew (first + i) line steps p

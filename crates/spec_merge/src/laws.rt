@@ -61,7 +61,8 @@ pub fn merged_books_have_the_consequences()
         AreFirstSteps h first zeros ones (steps ++ x ∷ []) → AcknowledgedWasTaken h steps x }
     ensures edges { (h : Header) (first : ℕ) (zeros ones : List TcpEntry) (steps : List (Stamped tcp_shape))
         (moment : ℕ) (host : Host)
-        (m : SegmentPlan) → AreFirstSteps h first zeros ones (steps ++ record { moment = moment; step = At host (Makes m) } ∷ []) →
+        (m : SegmentPlan) →
+        AreFirstSteps h first zeros ones (steps ++ record { moment = moment; step = At host (Makes m) } ∷ []) →
         NewDataFits (world_at_end h steps) host m }
     ensures windows { (h : Header) (first : ℕ) (zeros ones : List TcpEntry) (steps : List (Stamped tcp_shape))
         (x : Stamped tcp_shape) →

@@ -7,7 +7,8 @@ use Rattle.spec_network.specs.Hosts.{Kernel, Turn, Idle, Called, Answered, Step,
 abbrev pub TakesTurn : (k : Kernel) → ℕ → Turn k.shape → Step k.shape → (Turn k.shape → Type 0) → Type 0
 TakesTurn k t turn (Begin line u c) rest = (t ≡ u → turn ≡ Idle) × rest (if t == u then Called c else turn)
 TakesTurn k t turn (Finish line u a) rest =
-    (t ≡ u → (b : k.shape.Answer) × (turn ≡ Answered b) × (k.differs b a ≡ false)) × rest (if t == u then Idle else turn)
+    (t ≡ u → (b : k.shape.Answer) × (turn ≡ Answered b) × (k.differs b a ≡ false))
+    × rest (if t == u then Idle else turn)
 TakesTurn k t turn (Effect u a) rest =
     (t ≡ u → (c : k.shape.Call) × (turn ≡ Called c)) × rest (if t == u then Answered a else turn)
 TakesTurn k t turn (At host d) rest = rest turn

@@ -31,7 +31,9 @@ abbrev pub listener_taker : HostTcp → Emission → Taker
 listener_taker b m = option_map_or (λ l. AtListener l) (listener_on b m.rport) Nobody
 
 abbrev pub endpoint_taker : HostTcp → Emission → ℕ → Taker
-endpoint_taker b m i = option_map_or (λ e. if is_closed e.state then listener_taker b m else AtEndpoint i e) (slice_get b.endpoints i) (listener_taker b m)
+endpoint_taker b m i =
+    option_map_or (λ e. if is_closed e.state then listener_taker b m else AtEndpoint i e)
+    (slice_get b.endpoints i) (listener_taker b m)
 
 abbrev pub taker : HostTcp → Emission → Taker
 taker b m = option_map_or (endpoint_taker b m) (place_of b m.rport m.lport) (listener_taker b m)
@@ -52,7 +54,8 @@ taker_rules h me b how m moment (AtEndpoint i e) = endpoint_rules h me b how (as
 
 abbrev pub endpoint_taken : Header → Endpoint → TakeChoice → Emission → ℕ → Endpoint
 endpoint_taken h e how m moment =
-    if m.flags.rst then was_reset e how moment else if is_syn_sent e.state then on_syn h e how m moment else taken h e how m moment
+    if m.flags.rst then was_reset e how moment
+    else if is_syn_sent e.state then on_syn h e how m moment else taken h e how m moment
 
 -- a child whose SYN is acknowledged joins its listener's queue
 abbrev pub joined : HostTcp → ℕ → Endpoint → Emission → List Listener

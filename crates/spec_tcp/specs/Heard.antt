@@ -20,7 +20,13 @@ abbrev pub far_name : EndpointId
 far_name = record { host = One; number = 0 }
 
 abbrev pub told_flags : Segment → Flags
-told_flags s = record { ack = has_flag s.flags Ack; rst = has_flag s.flags Rst; syn = has_flag s.flags Syn; fin = has_flag s.flags Fin }
+told_flags s =
+    record {
+      ack = has_flag s.flags Ack;
+      rst = has_flag s.flags Rst;
+      syn = has_flag s.flags Syn;
+      fin = has_flag s.flags Fin;
+    }
 
 -- no segment carries more bytes: its length field has 16 bits (RFC 9293, 3.7.1, and RFC 791, 3.1)
 abbrev pub most_bytes : ℕ

@@ -60,7 +60,11 @@ endpoint_made e m moment = record e {
   iss = option_or e.iss m.iss;
   shift = given_shift e m;
   transmissions = made e.transmissions m.pos (making_length m) moment;
-  window = record e.window { rcv_adv = if m.flags.ack then max e.window.rcv_adv (rcv_nxt e + own_window e m) else e.window.rcv_adv };
+  window =
+      record e.window {
+        rcv_adv = if m.flags.ack then max e.window.rcv_adv (rcv_nxt e + own_window e m)
+            else e.window.rcv_adv;
+      };
   probe_due = e.probe_due && not (has_new_bytes e m);
   timers = timed e.timers m moment;
 }

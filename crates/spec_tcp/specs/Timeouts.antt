@@ -40,7 +40,8 @@ has_more e = nat_lt e.stream.snd_una (end_of e.stream.accepted + flag_count e.st
 -- waits for the peer's FIN (specific to this profile)
 abbrev pub may_give_up : Endpoint → Bool
 may_give_up e =
-    (nat_lt e.stream.snd_una (snd_max e) || is_some e.timers.persist_armed) && nat_le 3 e.unanswered_expiries || e.closed && is_fin_wait_2 e.state
+    (nat_lt e.stream.snd_una (snd_max e) || is_some e.timers.persist_armed) && nat_le 3 e.unanswered_expiries
+    || e.closed && is_fin_wait_2 e.state
 
 -- the timer is off, or its conditions are not met
 abbrev pub is_off : Endpoint → Timer → Bool
@@ -69,8 +70,12 @@ after_rto e growth moment = record e {
 
 -- a probe is due (RFC 9293, 3.8.6.1)
 abbrev pub after_persist : Endpoint → ℕ → Endpoint
-after_persist e moment =
-    record e { recover = snd_max e; probe_due = true; timers = expired e.timers Persist moment; unanswered_expiries = e.unanswered_expiries + 1 }
+after_persist e moment = record e {
+  recover = snd_max e;
+  probe_due = true;
+  timers = expired e.timers Persist moment;
+  unanswered_expiries = e.unanswered_expiries + 1;
+}
 
 abbrev pub after_expiry : Endpoint → Expired → ℕ → Endpoint
 after_expiry e (expireds.Rto growth) moment = after_rto e growth moment

@@ -20,7 +20,8 @@ use Rattle.spec_tcp_laws.specs.Runs.{world_at_end, is_socket_of, told_to, was_to
 
 -- the step processes a segment at this endpoint, not a reset, and keeps its data; as the endpoint reads it, this cell
 -- is at this position of the peer's stream
-pub record Carries (h : Header) (w : World tcp_shape) (step : Step tcp_shape) (me : EndpointId) (position : ℕ) (cell : Cell) : Type 0 where
+pub record Carries (h : Header) (w : World tcp_shape) (step : Step tcp_shape) (me : EndpointId)
+    (position : ℕ) (cell : Cell) : Type 0 where
   pub line : ℕ
   pub how : TakeChoice
   pub segment : Emission

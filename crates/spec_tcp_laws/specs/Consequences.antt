@@ -24,7 +24,8 @@ abbrev pub HasStream : Both (HostState tcp_shape) → EndpointId → (Stream →
 HasStream hosts me P = (e : Endpoint) × (find hosts me ≡ Some e) × P e.stream
 
 -- what reads returned is a prefix of what the sends of the peer accepted
-pub record BeginsWhatPeerSent (h : Header) (steps : List (Stamped tcp_shape)) (socket : ℕ) (peer : EndpointId) : Type 0 where
+pub record BeginsWhatPeerSent (h : Header) (steps : List (Stamped tcp_shape)) (socket : ℕ)
+    (peer : EndpointId) : Type 0 where
   pub accepted : HasStream (world_at_end h steps).hosts peer (λ t. accepted_by h peer steps ≡ t.accepted)
   pub prefix : IsPrefixOf (told_to h socket steps) (accepted_by h peer steps)
 

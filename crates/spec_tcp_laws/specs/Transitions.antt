@@ -94,7 +94,8 @@ MakesReset w step me =
     (place_of (pick w.hosts me.host).body m.lport m.rport ≡ Some me.number)
 
 -- a step may lead from the state of an endpoint to this one
-pub data MayLead (w : World tcp_shape) (step : Step tcp_shape) (me : EndpointId) (e : Endpoint) (t : State) : Type 0 where
+pub data MayLead (w : World tcp_shape) (step : Step tcp_shape) (me : EndpointId) (e : Endpoint)
+    (t : State) : Type 0 where
   Stays : t ≡ e.state → MayLead w step me e t
   ByClose : CallsOn closed_number w step me.host (EndpointAt me.number) → close_leads e.state t ≡ true
       → MayLead w step me e t

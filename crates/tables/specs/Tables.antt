@@ -58,7 +58,8 @@ abbrev pub place_in : List (ℕ × ℕ) → List (ℕ × Option ℕ) → ℕ →
 place_in risen others number = option_or (lookup (nat_eq number) risen) (led_in others number)
 
 -- each number leads to its only entry; the rising numbers do rise, and no number above the greatest has an entry
-pub record IsPlaced {V : Type 0} (top : Option ℕ) (risen : List (ℕ × ℕ)) (others : List (ℕ × Option ℕ)) (entries : List (ℕ × V)) : Type 0 where
+pub record IsPlaced {V : Type 0} (top : Option ℕ) (risen : List (ℕ × ℕ)) (others : List (ℕ × Option ℕ))
+    (entries : List (ℕ × V)) : Type 0 where
   pub leads : (number : ℕ) → place_in risen others number ≡ place_of entries number
   pub rises : IsRising risen
   pub below : (number : ℕ) → is_above top number ≡ true → AreBelow risen (length risen) number

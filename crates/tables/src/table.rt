@@ -52,7 +52,8 @@ impl<V> Model for Table<V> {
 
     ghost invariant = { λ t. IsPlaced t.index.top t.index.risen.items t.index.others.entries t.entries.items
         × AreHinted t.index.hints.items t.entries.items
-        × IsReady t.index.top (length t.entries.items < vec_capacity t.entries) (length t.index.risen.items < vec_capacity t.index.risen) t.index.others.entries t.ready };
+        × IsReady t.index.top (length t.entries.items < vec_capacity t.entries)
+        (length t.index.risen.items < vec_capacity t.index.risen) t.index.others.entries t.ready };
 }
 
 impl<V: Drop> Table<V> {

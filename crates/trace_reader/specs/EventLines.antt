@@ -62,4 +62,10 @@ unfoldable pub line_of : Version → Place → List ℕ → Result Line TextFaul
 line_of v place raw = do
   r ← line_rest place.1 raw
   f ← event_fields v place.0 r
-  Ok (record { number = place.1; moment = f.0; thread = f.1; event = f.2; span = record { line = place.1; start = 0; stop = r.stop } })
+  Ok (record {
+    number = place.1;
+    moment = f.0;
+    thread = f.1;
+    event = f.2;
+    span = record { line = place.1; start = 0; stop = r.stop };
+  })

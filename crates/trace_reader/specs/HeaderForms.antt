@@ -28,7 +28,9 @@ row name value = record { name = name; value = value }
 
 -- 5681 or 6928
 abbrev pub initial_want : Want
-initial_want w = unless_empty w (if bytes_eq w.text (codes "5681") || bytes_eq w.text (codes "6928") then None else Some kinds.Number)
+initial_want w =
+    unless_empty w (if bytes_eq w.text (codes "5681") || bytes_eq w.text (codes "6928") then None
+    else Some kinds.Number)
 
 -- the lines of version 4 after line 6
 abbrev pub judged_rows : List Row

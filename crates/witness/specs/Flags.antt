@@ -44,7 +44,9 @@ letters_named text =
     let rst = behind_letter 82 ack.1 in
     let syn = behind_letter 83 rst.1 in
     let fin = behind_letter 70 syn.1 in
-    if nat_lt 0 (length text) && length fin.1 == 0 then Some (record { ack = ack.0; rst = rst.0; syn = syn.0; fin = fin.0 }) else None
+    if nat_lt 0 (length text) && length fin.1 == 0
+    then Some (record { ack = ack.0; rst = rst.0; syn = syn.0; fin = fin.0 })
+    else None
 
 -- the flags that a field names, and Field if it names none
 abbrev pub flags_value : Word → Result Flags TextFault

@@ -73,7 +73,8 @@ fn own_window(endpoint: &Endpoint, making: &SegmentPlan) -> u32
 
 // How far its own windows then reached.
 pub(crate) fn own_edge(endpoint: &Endpoint, making: &SegmentPlan) -> u64
-    ensures { result ≡ (if making.now.flags.ack then max endpoint.now.window.rcv_adv (rcv_nxt endpoint.now + own_window endpoint.now making.now)
+    ensures { result ≡ (if making.now.flags.ack
+        then max endpoint.now.window.rcv_adv (rcv_nxt endpoint.now + own_window endpoint.now making.now)
         else endpoint.now.window.rcv_adv) }
 {
     let edge = endpoint.window.rcv_adv;

@@ -34,7 +34,9 @@ after_shut e = record e { stream = record e.stream { ended = true }; state = end
 
 -- `close`: like `shut`, and an endpoint in SYN-SENT is CLOSED
 abbrev pub after_close : Endpoint → Endpoint
-after_close e = record (if is_syn_sent e.state then shut_down (record e { stream = record e.stream { ended = true } }) else after_shut e) { closed = true }
+after_close e =
+    record (if is_syn_sent e.state then shut_down (record e { stream = record e.stream { ended = true } })
+    else after_shut e) { closed = true }
 
 -- an abort in these states makes a reset due (RFC 9293, 3.10.5)
 abbrev pub resets_at_abort : State → Bool

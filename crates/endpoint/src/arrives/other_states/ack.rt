@@ -69,7 +69,8 @@ pub(crate) fn may_sample(endpoint: &Endpoint, m: &Arrived<'_>) -> bool
 
 // In SYN-SENT only an acknowledgment of the SYN measures it.
 pub(crate) fn is_no_sample(endpoint: &Endpoint, m: &Arrived<'_>) -> bool
-    ensures { result ≡ (m.now.flags.rst || not m.now.flags.ack || retransmitted endpoint.now.transmissions endpoint.now.stream.snd_una 1) }
+    ensures { result ≡ (m.now.flags.rst || not m.now.flags.ack
+        || retransmitted endpoint.now.transmissions endpoint.now.stream.snd_una 1) }
 {
     m.flags().rst
         || !m.flags().ack

@@ -20,10 +20,12 @@ pub(crate) fn timers_before(
     m: &Arrived<'_>,
     moment: u64,
 ) -> Timers
-    ensures { let measured = timeout_after_ack header.now endpoint.now (how.sample && is_new_ack endpoint.now m.now) m.now.ack
-        (acknowledges_syn endpoint.now m.now) moment in
-        let running = rto_after_ack measured (snd_una_after_segment endpoint.now m.now == snd_max endpoint.now) (is_new_ack endpoint.now m.now) moment in
-        result ≡ (if takes_window endpoint.now m.now then persist_after_window running m.now.window moment else running) }
+    ensures { let measured = timeout_after_ack header.now endpoint.now
+        (how.sample && is_new_ack endpoint.now m.now) m.now.ack (acknowledges_syn endpoint.now m.now) moment in
+        let running = rto_after_ack measured (snd_una_after_segment endpoint.now m.now == snd_max endpoint.now)
+        (is_new_ack endpoint.now m.now) moment in
+        result ≡ (if takes_window endpoint.now m.now then persist_after_window running m.now.window moment
+        else running) }
 {
     let is_new = is_new_ack(endpoint, m);
     let syn = acknowledges_syn(endpoint, m);

@@ -28,7 +28,8 @@ acked e m = m.ack - e.stream.snd_una
 -- a duplicate acknowledgment (RFC 5681, 2)
 abbrev pub is_duplicate : Endpoint → Emission → Bool
 is_duplicate e m =
-    nat_lt e.stream.snd_una (snd_max e) && segment_length m == 0 && not m.flags.rst && m.ack == e.stream.snd_una && peer_window e m == e.window.snd_wnd
+    nat_lt e.stream.snd_una (snd_max e) && segment_length m == 0 && not m.flags.rst && m.ack == e.stream.snd_una
+    && peer_window e m == e.window.snd_wnd
 
 -- a round trip is measured by a new acknowledgment of positions that were sent once (RFC 6298, 3)
 abbrev pub may_sample : Endpoint → Emission → Bool

@@ -12,7 +12,10 @@ abbrev pub kept_start : Endpoint → Emission → ℕ
 kept_start e m = max (rcv_nxt e) (first_byte m)
 
 abbrev pub kept_bytes : Endpoint → TakeChoice → Emission → List ℕ
-kept_bytes e how m = if how.keep then slice_range m.payload (kept_start e m - first_byte m) (min (fin_place m) e.window.rcv_adv - first_byte m) else []
+kept_bytes e how m =
+    if how.keep
+    then slice_range m.payload (kept_start e m - first_byte m) (min (fin_place m) e.window.rcv_adv - first_byte m)
+    else []
 
 abbrev pub receive_after : Endpoint → TakeChoice → Emission → Receiving
 receive_after e how m = kept e.stream.receive (kept_start e m) (kept_bytes e how m) (keeps_fin e how m)

@@ -18,7 +18,8 @@ is_unread e m = not m.flags.syn && not m.is_reset_reply && not (same_bool m.scal
 -- SYN sets it (RFC 9293, 3.10.7.4)
 abbrev pub takes_window : Endpoint → Emission → Bool
 takes_window e m =
-    nat_le e.stream.snd_una m.ack && (acknowledges_syn e m || nat_lt e.window.snd_wl1 m.pos || e.window.snd_wl1 == m.pos && nat_le e.window.snd_wl2 m.ack)
+    nat_le e.stream.snd_una m.ack && (acknowledges_syn e m || nat_lt e.window.snd_wl1 m.pos
+    || e.window.snd_wl1 == m.pos && nat_le e.window.snd_wl2 m.ack)
 
 abbrev pub window_after_segment : Endpoint → Emission → SendWindow
 window_after_segment e m =
