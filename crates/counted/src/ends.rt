@@ -183,7 +183,8 @@ impl<B: BufRead> Counted<B> {
     ghost use Rattle.std.specs.Io.KnownBytes.{Consumes, IsAtEnd};
     ghost use Rattle.counted.specs.Counting.{left_of, failures_of, calls_of, one_call_more, one_more};
 
-    /// Appends the bytes of one read, and returns whether the input is at its end, which is so if there are none.
+    /// Appends the bytes of one read, and returns whether the input is at its end, which is so if there are none. After
+    /// an error, `buf` doesn't change.
     pub fn append_piece(&mut self, buf: &mut Vec<u8>) -> Result<bool, ReadFault>
         ensures appends { StartsWith buf.new.items buf.old.items }
         ensures bytes { Consumes (left_of B.remaining self.old) (left_of B.remaining self.new)

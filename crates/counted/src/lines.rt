@@ -79,6 +79,7 @@ impl<B: BufRead> Counted<B> {
 
     /// Reads one line with its LF, or all that is left if no LF follows. Of a line of more than `most` bytes, only the
     /// last may be kept; the answer is how many bytes came before those. `None` means the end of the input.
+    /// After an error, `line` has what was kept before it.
     #[inline(always)]
     pub fn read_line(&mut self, most: usize, line: &mut Vec<u8>) -> Result<Option<u64>, ReadFault>
         requires { most < 2 ^ 32 }

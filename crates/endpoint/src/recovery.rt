@@ -47,8 +47,8 @@ fn is_bad_recovery(endpoint: &Endpoint, cwnd: u32, ssthresh: u32, moment: u64) -
         || greatest.0 < cwnd as u64
 }
 
-/// The greatest congestion window, if this slow start threshold is chosen, and the greatest slow start threshold with
-/// which fast recovery may begin at a moment in microseconds, all in bytes (RFC 5681, 3.2, steps 2 to 4).
+/// The greatest congestion window and slow start threshold with which fast recovery may begin at a moment in
+/// microseconds, all in bytes (RFC 5681, 3.2, steps 2 to 4). The window is the one for this chosen threshold.
 pub fn greatest_recovery(endpoint: &Endpoint, ssthresh: u32, moment: u64) -> (u64, u64)
     ensures { result ≡ greatest endpoint.now.control (recovery_signal endpoint.now ssthresh)
         (at_moment endpoint.now moment) }

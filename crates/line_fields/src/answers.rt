@@ -77,7 +77,7 @@ fn answer_word(fields: &mut Fields) -> Result<AnswerWord, TextFault>
     }
 }
 
-/// An answer, which is the last part of its line, since a number may follow `ok`.
+/// An answer, which is the last part of its line, since a number may follow `ok`. The error is the first fault.
 #[tactic(auto, unfolding(crate::specs::AnswerFields::answer_field))]
 pub fn answer(alloc: Global, fields: &mut Fields) -> Result<Answer, TextFault>
     ensures { Gives (λ answer. (answer, fields.new)) result (answer_field fields.old) }

@@ -51,7 +51,8 @@ pub fn decimal_value(text: &[u8]) -> Option<u64>
     Some(value)
 }
 
-/// The bytes that a text spells in hex, with digits of either case. `None` if it spells none.
+/// The bytes that a text spells in hex, with digits of either case. `None` if it spells none. The error means that
+/// memory ran out.
 pub fn hex_bytes(alloc: Global, text: &[u8]) -> Result<Option<Vec<u8>>, OutOfMemory>
     ensures { IfOk result (λ read. option_map (λ bytes. bytes.items) read ≡ result_ok (decode_of text.now)) }
 {

@@ -12,7 +12,7 @@ use counted::Counted;
 use std::io::BufRead;
 
 /// The next line with its end, of a text whose next line has this number; the answer is whether there is one. A line
-/// that is too long isn't kept.
+/// that is too long isn't kept. The error is a failed read, or that memory ran out.
 #[inline(always)]
 pub fn next_line<B: BufRead>(
     source: &mut Counted<B>,

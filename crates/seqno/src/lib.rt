@@ -2,7 +2,7 @@
 //!
 //! A position counts what a host sends on one connection: its SYN has position 0, data byte k has position 1 + k, its
 //! FIN the position after the last byte. Positions don't wrap. Their numbers do: they go up from a base, the initial
-//! sequence number, modulo 2^32. Nothing here takes memory.
+//! sequence number, modulo 2^32. Nothing here allocates memory.
 //!
 //! - `word`: a number on the wire, from a position and back
 //! - `window`: ranges of positions

@@ -67,7 +67,7 @@ flight e = snd_max e - e.stream.snd_una
 abbrev pub is_up : Endpoint → Bool
 is_up e = nat_le 1 e.stream.snd_una && nat_le 1 (rcv_nxt e)
 
--- the positions that a segment takes: its bytes, its SYN and its FIN (RFC 9293, 3.3.1: SEG.LEN)
+-- the positions that a segment occupies: its bytes, its SYN and its FIN (RFC 9293, 3.3.1: SEG.LEN)
 abbrev pub flag_count : Bool → ℕ
 flag_count true = 1
 flag_count false = 0

@@ -82,7 +82,7 @@ impl<'a> Arrived<'a> {
         self.made.sender
     }
 
-    /// Its sender's peer, as the sender knew it then.
+    /// Its sender's peer, as the sender knew it then. `None` means that the sender didn't know its peer.
     pub fn peer_at_send(&self) -> Option<EndpointId>
         ensures { result ≡ self.now.peer_at_send }
     {
@@ -166,7 +166,7 @@ impl<'a> Arrived<'a> {
         self.made.scale
     }
 
-    /// How many positions it takes: its bytes, its SYN and its FIN (RFC 9293, 3.3.1: SEG.LEN).
+    /// How many positions it occupies: its bytes, its SYN and its FIN (RFC 9293, 3.3.1: SEG.LEN).
     pub fn length(&self) -> u128
         ensures value { result ≡ segment_length self.now }
         ensures small { result < 2 ^ 65 }

@@ -256,7 +256,7 @@ pub struct Emission {
 }
 
 impl Emission {
-    /// How many positions it takes: its bytes, its SYN and its FIN (RFC 9293, 3.3.1: SEG.LEN).
+    /// How many positions it occupies: its bytes, its SYN and its FIN (RFC 9293, 3.3.1: SEG.LEN).
     pub fn length(&self) -> u128
         ensures value { result ≡ segment_length self.now }
         ensures small { result < 2 ^ 65 }

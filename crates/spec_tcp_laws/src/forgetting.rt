@@ -7,8 +7,8 @@ pub fn forgetting_is_free()
     ensures { ForgettingIsFree }
 {}
 
-/// A run that forgets after each step is permitted if and only if the whole one is, breaks the same rule first, and
-/// ends in what is kept of its end.
+/// A run that forgets after each step is permitted if and only if the whole one is, and breaks the same rule first. It
+/// ends in what is kept of the whole one's end.
 pub fn runs_forget()
     ensures { RunsForget }
 {}

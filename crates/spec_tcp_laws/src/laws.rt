@@ -61,9 +61,9 @@ pub fn new_data_fits()
         Permitted (tcp h) moment w (At host (Makes m)) → NewDataFits w host m }
 {}
 
-/// Processing a segment, an expiry of the retransmission timer and the beginning of fast recovery leave the congestion
-/// window and the slow start threshold at or below what the endpoint's profile allows then, even if a loss lowers it.
-/// Every other step leaves all of congestion control unchanged. No step changes a profile.
+/// Three steps leave the congestion window and the slow start threshold at or below what the endpoint's profile then
+/// allows, even if a loss lowers it. These are processing a segment, an expiry of the retransmission timer, and the
+/// beginning of fast recovery. Every other step leaves all of congestion control unchanged. No step changes a profile.
 pub fn windows_follow()
     ensures { (h : Header) (moment : ℕ) (w : World tcp_shape) (step : Step tcp_shape) → Permitted (tcp h) moment w step
         → WindowsFollow h moment w step }
@@ -84,8 +84,8 @@ pub fn states_follow()
     ensures { (h : Header) (moment : ℕ) (w : World tcp_shape) (step : Step tcp_shape) → StatesFollow h moment w step }
 {}
 
-/// No step of a run decreases an endpoint's oldest unacknowledged position, the position after all that it sent, the
-/// next position that it expects from its peer, or the greatest position that its windows reached (RFC 9293, 3.3.1).
+/// A step of a run never decreases these positions of an endpoint (RFC 9293, 3.3.1): the oldest unacknowledged one; the
+/// one after all that it sent; the next one that it expects from its peer; and the greatest that its windows reached.
 pub fn positions_never_fall()
     ensures { (h : Header) (steps : List (Stamped tcp_shape)) (x : Stamped tcp_shape)
         → Lawful (tcp h) (start (tcp h)) steps →

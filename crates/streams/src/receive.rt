@@ -93,7 +93,7 @@ impl ReceiveBuffer {
 
     /// Accepts these bytes from this position on, which is not below the next, and a FIN after them if there is one.
     /// Positions that were received earlier don't change. Nothing is accepted at or after a FIN, and no FIN at or below
-    /// a position that was received.
+    /// a position that was received. If memory runs out, nothing changes.
     pub fn keep(&mut self, position: u64, bytes: &[u8], fin: bool) -> Result<(), AllocError>
         requires met { 1 ≤ next self.old }
         requires next { next self.old ≤ position }

@@ -79,7 +79,7 @@ impl<A> TraceReader<A> {
 }
 
 impl<A: BufRead> TraceReader<A> {
-    /// Reads the header, which comes before any event line.
+    /// Reads the header, which comes before any event line. The error is the first fault, or a failed read.
     pub fn header(&mut self) -> Result<Header, SourceFault>
         requires { IsFresh self.old }
         ensures header { fault_of self.old ≡ None
@@ -107,7 +107,8 @@ impl<A: BufRead> TraceReader<A> {
         Ok(header)
     }
 
-    /// The next event line, or `None` at the end of the text. The header must have been read.
+    /// The next event line, or `None` at the end of the text. The header must have been read. The error is the first
+    /// fault, or a failed read.
     #[inline(always)]
     pub fn next(&mut self) -> Result<Option<Line>, SourceFault>
         requires { IsBegun self.old }

@@ -4,7 +4,7 @@ use crate::fate::{Fate, LoseEach, WireFate};
 use crate::held_back::HeldBack;
 use std::alloc::{AllocError, Global};
 
-// The fates of five segments, where each so many is lost: `x` for a lost one, `.` for another.
+// The fates of five segments if each `every`-th is lost: `x` for a lost one, `.` for another.
 fn fates(every: u32) -> [char; 5] {
     let mut fate = LoseEach::new(every);
     let mut mark = || match fate.next() {
@@ -29,8 +29,8 @@ fn none_is_lost(rt: HostRuntime) {
     assert_eq!(rt; fates(0), ['.', '.', '.', '.', '.']);
 }
 
-// Which segments go out late in each turn, where segments have the numbers 1 to 6 and the given ones are held back
-// after so many further ones.
+// Which segments are sent late in each turn. Segments have the numbers 1 to 6; those in `holds` are held back until
+// that many further ones were pumped.
 fn late(alloc: Global, holds: &[(u64, u32)]) -> Result<Vec<(u64, u64)>, AllocError> {
     let mut held = HeldBack::new(alloc);
     let mut gone = Vec::new(alloc);

@@ -18,7 +18,7 @@ use line_fields::{TextFault, checked_fields};
 use std::alloc::Global;
 
 /// The step in the line with that number in this version, whose bytes are given with the line's end. Its span is the
-/// whole line.
+/// whole line. The error is the line's first fault.
 #[tactic(auto, unfolding(crate::specs::Steps::step_of))]
 #[inline(always)]
 pub fn read_step(

@@ -99,7 +99,7 @@ impl<B> StepReader<B> {
 }
 
 impl<B: BufRead> StepReader<B> {
-    /// The next step, or `None` at the end of the text.
+    /// The next step, or `None` at the end of the text. The error is the first fault, or a failed read.
     #[inline(always)]
     pub fn next(&mut self) -> Result<Option<Step>, SourceFault>
         ensures next { fault_of self.old ≡ None → IfOk result

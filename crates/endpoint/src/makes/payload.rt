@@ -8,7 +8,7 @@ ghost use Rattle.std.specs.Prelude.{◌≡◌, ◌≤◌};
 use case_forms::SegmentPlan;
 use spec_tcp::Endpoint;
 
-/// How many positions a segment takes: its bytes, its SYN and its FIN.
+/// How many positions a segment occupies: its bytes, its SYN and its FIN.
 pub(crate) fn making_length(making: &SegmentPlan) -> u64
     ensures value { result ≡ making_length making.now }
     ensures small { result ≤ 65537 }

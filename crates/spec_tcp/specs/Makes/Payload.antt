@@ -4,7 +4,7 @@ use Rattle.case_forms.specs.declared.steps.SegmentPlan.{SegmentPlan}
 use Rattle.streams.specs.Sent.{end_of}
 use Rattle.spec_tcp.specs.Endpoints.{Endpoint, snd_max, flag_count}
 
--- the positions that it takes (RFC 9293, 3.3.1: SEG.LEN)
+-- the positions that it occupies (RFC 9293, 3.3.1: SEG.LEN)
 abbrev pub making_length : SegmentPlan → ℕ
 making_length m = m.len + flag_count m.flags.syn + flag_count m.flags.fin
 

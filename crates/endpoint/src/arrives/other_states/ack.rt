@@ -44,7 +44,7 @@ pub(crate) fn acked(endpoint: &Endpoint, m: &Arrived<'_>) -> u64
     m.ack().saturating_sub(endpoint.stream.snd_una)
 }
 
-/// Whether it is a duplicate acknowledgment: data is outstanding, and the segment takes no position and carries nothing
+/// Whether it is a duplicate acknowledgment: data is outstanding, and the segment has no positions and carries nothing
 /// new (RFC 5681, 2).
 pub(crate) fn is_duplicate(endpoint: &Endpoint, m: &Arrived<'_>) -> bool
     ensures { result ≡ is_duplicate endpoint.now m.now }
